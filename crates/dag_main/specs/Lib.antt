@@ -1,0 +1,3 @@
+pub mod FileSet
+pub mod Rehearsal
+pub mod Report

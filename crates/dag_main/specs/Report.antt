@@ -1,0 +1,40 @@
+-- The report of a run.
+use Rattle.std.specs.Prelude.{ℕ, zero, suc, ℤ, List, [], ◌++◌, Option, Some, None, codes}
+use Rattle.std.specs.Fmt.{decimal, signed_decimal}
+use Rattle.node_machine.specs.declared.State.{State}
+use Rattle.node_machine.specs.declared.State.TheVariants.{Done, Error, NotRun}
+use Rattle.run_plan.specs.Plan.{Plan, node_at, count_of}
+use Rattle.sched_core.specs.Fate.{Fate}
+
+-- a node that came to no end waits for its parents
+abbrev pub state_word : State → List ℕ
+state_word Done = codes "DONE"
+state_word Error = codes "ERROR"
+state_word NotRun = codes "NOT_READY"
+
+-- the value of the last attempt, or a dash where none ended
+abbrev pub value_text : Option ℤ → List ℕ
+value_text None = codes "-"
+value_text (Some value) = signed_decimal value
+
+-- `name STATE attempts=n value=v`
+abbrev pub status_line : List ℕ → State → ℕ → Option ℤ → List ℕ
+status_line name state attempts value =
+    name ++ (codes " " ++ (state_word state ++ (codes " attempts=" ++ (decimal attempts ++ (codes " value=" ++ (value_text value ++ codes "\n"))))))
+
+-- the line of a node that comes to this fate
+abbrev pub fate_line : List ℕ → Fate → List ℕ
+fate_line name fate = status_line name fate.state fate.attempts fate.value
+
+-- the lines of the nodes below n
+abbrev pub fate_lines : Plan → (ℕ → Fate) → ℕ → List ℕ
+fate_lines plan fates zero = []
+fate_lines plan fates (suc n) = fate_lines plan fates n ++ fate_line (node_at plan n).name (fates n)
+
+-- `result N`
+abbrev pub result_line : ℕ → List ℕ
+result_line status = codes "result " ++ (decimal status ++ codes "\n")
+
+-- the lines of all nodes in plan order, and the exit status
+abbrev pub report_of : Plan → (ℕ → Fate) → ℕ → List ℕ
+report_of plan fates status = fate_lines plan fates (count_of plan) ++ result_line status

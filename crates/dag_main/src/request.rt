@@ -1,0 +1,62 @@
+//! The command line.
+
+use clap::{Arg, ArgAction, Command, Error};
+use std::alloc::{AllocError, Global};
+
+/// What the words of a command line ask for.
+#[derive(Clone, Copy, Debug)]
+pub enum Request<'a> {
+    /// `rehearse DAG [OUTCOMES]`, and no words at all, which is `rehearse -`: the path of the DAG
+    /// file, `-` for standard input, and that of the table of outcomes.
+    Rehearse {
+        dag: &'a str,
+        outcomes: Option<&'a str>,
+    },
+}
+
+fn rehearse_command<'a>(alloc: Global) -> Result<Command<'a>, AllocError> {
+    Command::new(alloc, "rehearse")
+        .about("Runs a DAG file at the outcomes of a table, and starts no program")
+        .arg(
+            Arg::new(alloc, "DAG")
+                .required(true)
+                .action(ArgAction::Set)
+                .help("The DAG file, - for standard input"),
+        )?
+        .arg(
+            Arg::new(alloc, "OUTCOMES").action(ArgAction::Set).help(
+                "Lines `name attempt PRE|JOB|POST outcome`; without it all phases exit with 0",
+            ),
+        )
+}
+
+fn dagrun_command<'a>(alloc: Global) -> Result<Command<'a>, AllocError> {
+    Command::new(alloc, "dagrun")
+        .about("A workflow manager for job graphs on one machine")
+        .subcommand_required(true)
+        .disable_help_subcommand(true)
+        .subcommand(rehearse_command(alloc)?)
+}
+
+/// Reads the words of a command line, of which the first is the program's name.
+///
+/// What is refused, a call for help too, is clap's error with its text.
+pub fn read_words<'a>(alloc: Global, words: &'a [&'a str]) -> Result<Request<'a>, Error> {
+    if words.len() <= 1 {
+        return Ok(Request::Rehearse {
+            dag: "-",
+            outcomes: None,
+        });
+    }
+    let matches = dagrun_command(alloc)?.try_get_matches_from(words)?;
+    match matches.subcommand() {
+        Some((_, found)) => Ok(Request::Rehearse {
+            dag: found.get_str("DAG").unwrap_or("-"),
+            outcomes: found.get_str("OUTCOMES"),
+        }),
+        None => Ok(Request::Rehearse {
+            dag: "-",
+            outcomes: None,
+        }),
+    }
+}

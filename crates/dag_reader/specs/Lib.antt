@@ -1,0 +1,9 @@
+pub mod Word
+pub mod Words
+pub mod LineReader
+pub mod Keywords
+pub mod Numbers
+pub mod Lines
+pub mod Fault
+pub mod Reading
+pub mod Grammar

@@ -1,0 +1,161 @@
+//! What the lines of a file say.
+
+use crate::span::Span;
+use crate::word::{Word, Words};
+use std::fmt;
+
+/// The node that a setting is for.
+#[derive(Debug, Drop)]
+pub enum Target {
+    /// The node of this name.
+    Node(Word),
+
+    /// Each node that a JOB line of the same file declares: the word ALL_NODES, in any case.
+    AllNodes(Span),
+}
+
+/// When a script of a node runs.
+#[derive(Clone, Copy, Debug, PartialEq, Eq)]
+pub enum ScriptKind {
+    /// Before the node's job.
+    Pre,
+
+    /// After the node's job.
+    Post,
+}
+
+/// What one line of a DAG file says, as the chapter "DAG input file commands" of the HTCondor
+/// manual has it.
+#[derive(Debug, Drop)]
+pub enum Command {
+    /// `JOB name file [DIR dir] [NOOP] [DONE]`: a node and its submit file.
+    Job {
+        name: Word,
+        file: Word,
+        dir: Option<Word>,
+        noop: bool,
+        done: bool,
+    },
+
+    /// `PARENT name.. CHILD name..`: each child depends on each parent.
+    ParentChild {
+        parents: Words,
+        children: Words,
+    },
+
+    /// `SCRIPT PRE|POST node program word..`: a program that runs before or after the job.
+    Script {
+        kind: ScriptKind,
+        node: Target,
+        program: Word,
+        arguments: Words,
+    },
+
+    /// `RETRY node n [UNLESS-EXIT v]`: how often a failed node is repeated, from 0 to 1,000,000,
+    /// and the value that ends this.
+    Retry {
+        node: Target,
+        retries: u32,
+        unless_exit: Option<i32>,
+    },
+
+    /// `PRE_SKIP node v`: the value of the PRE script, not 0, that skips the job.
+    PreSkip {
+        node: Target,
+        value: i32,
+    },
+
+    /// `PRIORITY node k`: how early a node starts; higher is earlier.
+    Priority {
+        node: Target,
+        priority: i32,
+    },
+
+    /// `CATEGORY node category`: the category, of 1 to 255 bytes, that a node belongs to.
+    Category {
+        node: Target,
+        category: Word,
+    },
+
+    /// `MAXJOBS category n`: how many jobs of a category run at once, from 1 to 1,000,000.
+    MaxJobs {
+        category: Word,
+        limit: u32,
+    },
+
+    /// `ABORT-DAG-ON node v [RETURN r]`: the value of the node that aborts the DAG, and the exit
+    /// status that is returned then.
+    AbortDagOn {
+        node: Target,
+        value: i32,
+        status: Option<u8>,
+    },
+
+    /// `FINAL name file [DIR dir] [NOOP]`: the node that runs last.
+    Final {
+        name: Word,
+        file: Word,
+        dir: Option<Word>,
+        noop: bool,
+    },
+
+    /// `SPLICE name file [DIR dir]`: the nodes of another file.
+    Splice {
+        name: Word,
+        file: Word,
+        dir: Option<Word>,
+    },
+}
+
+/// What a user is told of a line that is no fault.
+///
+/// It is displayed as what happens to the line, as `ignored`: who knows the file's name writes
+/// `{file}:{} {warning}` of `warning.span().line`.
+#[derive(Clone, Copy, Debug, PartialEq, Eq)]
+pub enum Warning {
+    /// The line begins with this word, and has no effect: DOT, JOBSTATE_LOG, NODE_STATUS_FILE or
+    /// SET_JOB_ATTR.
+    Ignored(Span),
+}
+
+impl Warning {
+    ghost use Rattle.std.specs.Prelude.{◌≡◌};
+    ghost use Rattle.dag_reader.specs.declared.command.Warning.TheVariants.{Ignored};
+
+    /// The first word of the line.
+    pub fn span(&self) -> Span
+        ensures { self.now ≡ Ignored result }
+    {
+        match *self {
+            Warning::Ignored(span) => span,
+        }
+    }
+}
+
+impl fmt::Display for Warning {
+    fn fmt<W: fmt::Write>(&self, f: &mut fmt::Formatter<W>) -> fmt::Result {
+        match self {
+            Warning::Ignored(_) => write!(f, "ignored"),
+        }
+    }
+}
+
+/// What one line means.
+#[derive(Drop)]
+pub(crate) enum Meaning {
+    /// Nothing: a comment, or a line with no words.
+    Nothing,
+
+    /// A command.
+    Says(Command),
+
+    /// Nothing, and the user is told so.
+    Warns(Warning),
+}
+
+/// The commands of a file and its warnings, both in the order of their lines.
+#[derive(Debug, Drop)]
+pub struct DagFile {
+    pub commands: Vec<Command>,
+    pub warnings: Vec<Warning>,
+}

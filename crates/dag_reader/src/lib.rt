@@ -1,0 +1,21 @@
+//! Reads the lines of a DAGMan input file.
+#![tactic(auto)]
+
+mod command;
+mod dag_file;
+mod fault;
+mod fields;
+pub mod laws;
+mod line;
+mod reading;
+mod span;
+mod token;
+mod word;
+
+pub use command::{Command, DagFile, ScriptKind, Target, Warning};
+pub use dag_file::{line_text, read_dag, split_line};
+pub use fault::{LineFault, ReadFault};
+pub use line::LineReader;
+pub use span::Span;
+pub use token::Token;
+pub use word::{Word, Words};

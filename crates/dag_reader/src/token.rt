@@ -1,0 +1,205 @@
+//! A word that still stands in its line, and what it can be.
+
+ghost use Rattle.std.specs.Prelude.{◌≡◌, IfOk};
+ghost use Rattle.std.specs.Option.{option_map};
+
+use crate::command::Target;
+use crate::span::Span;
+use crate::word::Word;
+use std::alloc::{AllocError, Global};
+
+/// A word that still stands in its line, and its place.
+#[derive(Clone, Copy, Debug)]
+pub struct Token<'a> {
+    pub text: &'a str,
+    pub span: Span,
+}
+
+impl Token<'_> {
+    ghost use Rattle.dag_reader.specs.LineReader.{word_of};
+    ghost use Rattle.std.specs.Prelude.{length};
+    ghost use Rattle.std.specs.List.{list_any};
+    ghost use Rattle.dag_reader.specs.Reading.{target_of};
+    ghost use Rattle.dag_reader.specs.Numbers.{integer, count, positive, nonzero};
+    ghost use Rattle.dag_reader.specs.Keywords.{is_keyword, joins_names, is_left_out, is_one_of, left_out_files, left_out_services, left_out_settings, is_ignored, ignored_keywords, is_left_out_script, left_out_scripts, is_category, is_name, is_target, is_inline, is_comment};
+
+    /// Whether the word is this keyword, in any case of ASCII letters.
+    #[tactic(auto, unfolding(crate::specs::Keywords::is_keyword))]
+    pub fn is(&self, keyword: &str) -> bool
+        ensures { result ≡ is_keyword keyword.now (word_of self.now) }
+    {
+        self.text.eq_ignore_ascii_case(keyword)
+    }
+
+    /// Whether the word is a command that this program leaves out.
+    #[tactic(auto, unfolding(crate::specs::Keywords::is_left_out))]
+    pub(crate) fn is_left_out(&self) -> bool
+        ensures { result ≡ is_left_out (word_of self.now) }
+    {
+        self.is_one_of_files() || self.is_one_of_services() || self.is_one_of_settings()
+    }
+
+    fn is_one_of_files(&self) -> bool
+        ensures { result ≡ is_one_of left_out_files (word_of self.now) }
+    {
+        self.is("SUBDAG")
+            || self.is("INCLUDE")
+            || self.is("CONFIG")
+            || self.is("ENV")
+            || self.is("SUBMIT-DESCRIPTION")
+    }
+
+    fn is_one_of_services(&self) -> bool
+        ensures { result ≡ is_one_of left_out_services (word_of self.now) }
+    {
+        self.is("PROVISIONER")
+            || self.is("SERVICE")
+            || self.is("CONNECT")
+            || self.is("PIN_IN")
+            || self.is("PIN_OUT")
+    }
+
+    fn is_one_of_settings(&self) -> bool
+        ensures { result ≡ is_one_of left_out_settings (word_of self.now) }
+    {
+        self.is("SAVE_POINT_FILE") || self.is("REJECT") || self.is("DONE") || self.is("VARS")
+    }
+
+    /// Whether a line that begins with the word is read and has no effect.
+    #[tactic(auto, unfolding(crate::specs::Keywords::is_ignored))]
+    pub(crate) fn is_ignored(&self) -> bool
+        ensures { result ≡ is_ignored (word_of self.now) }
+    {
+        self.is("DOT")
+            || self.is("JOBSTATE_LOG")
+            || self.is("NODE_STATUS_FILE")
+            || self.is("SET_JOB_ATTR")
+    }
+
+    /// Whether the word is a kind of script that this program leaves out.
+    #[tactic(auto, unfolding(crate::specs::Keywords::is_left_out_script))]
+    pub(crate) fn is_left_out_script(&self) -> bool
+        ensures { result ≡ is_left_out_script (word_of self.now) }
+    {
+        self.is("HOLD") || self.is("DEFER") || self.is("DEBUG")
+    }
+
+    /// Whether the word can name a category.
+    #[tactic(auto, unfolding(crate::specs::Keywords::is_category))]
+    pub(crate) fn is_category(&self) -> bool
+        ensures { result ≡ is_category (word_of self.now) }
+    {
+        self.text.len() <= 255
+    }
+
+    /// Whether the word can name a node.
+    #[tactic(auto, unfolding(crate::specs::Keywords::is_name))]
+    pub(crate) fn is_name(&self) -> bool
+        ensures { result ≡ is_name (word_of self.now) }
+    {
+        self.text.len() <= 255
+            && !self.joins_names()
+            && !self.is("PARENT")
+            && !self.is("CHILD")
+            && !self.is("ALL_NODES")
+    }
+
+    /// Whether the word can stand for a node or for all nodes.
+    #[tactic(auto, unfolding(crate::specs::Keywords::is_target))]
+    pub(crate) fn is_target(&self) -> bool
+        ensures { result ≡ is_target (word_of self.now) }
+    {
+        self.is_name() || self.is("ALL_NODES")
+    }
+
+    /// What the word stands for.
+    pub(crate) fn to_target(&self, alloc: Global) -> Result<Target, AllocError>
+        ensures { IfOk result (λ t. t ≡ target_of (word_of self.now)) }
+    {
+        if self.is("ALL_NODES") {
+            return Ok(Target::AllNodes(self.span));
+        }
+        Ok(Target::Node(self.to_word(alloc)?))
+    }
+
+    /// Whether a full stop or a plus stands in the word.
+    fn joins_names(&self) -> bool
+        ensures { result ≡ list_any joins_names (word_of self.now).text }
+    {
+        self.text
+            .as_bytes()
+            .iter()
+            .any(|b| *b == b'.' || *b == b'+')
+    }
+
+    /// Whether the word begins a submit description within the line.
+    #[tactic(auto, unfolding(crate::specs::Keywords::is_inline))]
+    pub(crate) fn is_inline(&self) -> bool
+        ensures { result ≡ is_inline (word_of self.now) }
+    {
+        match self.text.as_bytes() {
+            [b'{', ..] => true,
+            [b'@', b'=', ..] => true,
+            _ => false,
+        }
+    }
+
+    /// Whether a line that begins with the word is a comment: it begins with `#`.
+    #[tactic(auto, unfolding(crate::specs::Keywords::is_comment))]
+    pub fn is_comment(&self) -> bool
+        ensures { result ≡ is_comment (word_of self.now) }
+    {
+        match self.text.as_bytes() {
+            [b'#', ..] => true,
+            _ => false,
+        }
+    }
+
+    /// The number from 0 to `most` that the word spells, if it spells one.
+    ///
+    /// A number is one sign or none, and then decimal digits, leading zeros among them.
+    pub fn count(&self, most: u32) -> Option<u32>
+        ensures { result ≡ count most (word_of self.now).text }
+    {
+        match self.integer() {
+            Some(n) if n >= 0 && n as u32 <= most => Some(n as u32),
+            _ => None,
+        }
+    }
+
+    /// The number from 1 to `most` that the word spells.
+    pub(crate) fn positive_count(&self, most: u32) -> Option<u32>
+        ensures { result ≡ positive (count most (word_of self.now).text) }
+    {
+        match self.count(most) {
+            Some(n) if n > 0 => Some(n),
+            _ => None,
+        }
+    }
+
+    /// The `i32` that the word spells, if it isn't 0.
+    pub(crate) fn nonzero_integer(&self) -> Option<i32>
+        ensures { result ≡ nonzero (integer (word_of self.now).text) }
+    {
+        match self.integer() {
+            Some(n) if n != 0 => Some(n),
+            _ => None,
+        }
+    }
+
+    /// The `i32` that the word spells, if it spells one.
+    ///
+    /// A number is one sign or none, and then decimal digits, leading zeros among them.
+    pub fn integer(&self) -> Option<i32>
+        ensures { result ≡ integer (word_of self.now).text }
+    {
+        self.text.parse::<i32>().ok()
+    }
+
+    /// The word with a text of its own.
+    pub(crate) fn to_word(&self, alloc: Global) -> Result<Word, AllocError>
+        ensures { IfOk result (λ w. w ≡ word_of self.now) }
+    {
+        Word::new(alloc, self.text, self.span)
+    }
+}

@@ -1,0 +1,27 @@
+//! dagrun: a workflow manager for job graphs on one machine.
+#![tactic(auto)]
+
+use dag_main::run;
+use std::alloc::Global;
+use std::process::ExitCode;
+use std::{env, io};
+
+fn main(rt: HostRuntime) -> ExitCode {
+    match run_words(&rt) {
+        Ok(status) => ExitCode::from(status),
+        Err(error) => {
+            let _ = eprintln!(&rt; "dagrun: {error}");
+            ExitCode::from(125u8)
+        }
+    }
+}
+
+/// Runs the command of the words that the program is given, and answers the exit status.
+fn run_words(rt: &HostRuntime) -> io::Result<u8> {
+    let mut owned = Vec::new(rt.alloc());
+    for word in env::args(rt)? {
+        owned.push(word)?;
+    }
+    let words: Vec<&str> = owned.iter().map(|word| word.as_str()).collect(rt.alloc())?;
+    Ok(run(rt, &words))
+}

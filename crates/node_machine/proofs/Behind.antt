@@ -1,0 +1,97 @@
+-- What a node's run answers, for the phases behind which it stands.
+use Rattle.std.proofs.Common.{◌≡◌, ℕ, Bool, true, false, not, ◌&&◌, ◌||◌, List, [], ◌∷◌, ◌++◌, Option, Some, None, is_none, refl, sym, ap, ◌∙◌, subst, eq-eqb, if◌then◌else◌}
+use Rattle.std.specs.Prelude.{IsSome}
+use Rattle.std.proofs.lemmas.Bool.{and_from}
+use Rattle.node_machine.proofs.Trees.{got}
+use Rattle.node_machine.specs.declared.Phase.{Phase}
+use Rattle.node_machine.specs.declared.Outcome.{Outcome}
+use Rattle.node_machine.specs.declared.Outcome.TheVariants.{Exit}
+use Rattle.node_machine.specs.declared.Ended.{Ended}
+use Rattle.node_machine.specs.declared.Course.{Course}
+use Rattle.node_machine.specs.declared.Stand.{Stand}
+use Rattle.node_machine.specs.declared.State.TheVariants.{Done, Error, NotRun}
+use Rattle.node_machine.specs.Story.{ends_with, may_end_with, is_noop_job, is_exit_0, is_that_phase, is_history, next_after, is_good_after, value_after, state_after, attempts_ended_after}
+use Rattle.node_machine.specs.Stand.{next_of, ended_by, state_by, stand_before, step, stand_after}
+use Rattle.node_machine.specs.NodeProgress.{NodeProgress, IsPossible}
+use Rattle.node_machine.specs.NodeRun.{StandsAfter, counted_at, end_at, with_end}
+use Rattle.node_machine.proofs.Standing.{steps-next, steps-good, steps-value, steps-ended}
+use Rattle.node_machine.proofs.Paces.{steps-push, step-attempt, may-go_on-push}
+
+state-of : (o : Option Phase) (attempt : ℕ) (good : Bool)
+    → (if is_none o then (if good then Done else Error) else NotRun)
+    ≡ (if is_none o && good then Done else if is_none o then Error else NotRun)
+state-of None attempt true = refl
+state-of None attempt false = refl
+state-of (Some phase) attempt good = refl
+
+none-of : (stand : Stand) (o : Option Phase) → is_none (next_of stand o) ≡ is_none o
+none-of stand None = refl
+none-of stand (Some phase) = refl
+
+-- what the job of a NOOP may end with is Exit 0, and so counts as it was told
+pub may-end : (course : Course) (phase : Phase) (outcome : Outcome) → may_end_with course phase (ends_with course phase outcome) ≡ true
+may-end course phase outcome = go (is_noop_job course phase)
+  where
+    go : (b : Bool) → (not b || is_exit_0 (if b then Exit 0 else outcome)) ≡ true
+    go true = eq-eqb 0 0 refl
+    go false = refl
+
+module _ (run : NodeProgress) (es : List Ended) (s : StandsAfter run es) where
+  pub next-behind : next_of run.stand run.stand.phase ≡ next_after run.course es
+  next-behind = (λ j. next_of (s.stand j) (s.stand j).phase) ∙ sym (steps-next run.course es s.history)
+
+  pub value-behind : run.stand.value ≡ value_after run.course es
+  value-behind = ap (λ (t : Stand). t.value) s.stand ∙ sym (steps-value run.course es s.history)
+
+  pub attempts-behind : ended_by run.stand ≡ attempts_ended_after run.course es
+  attempts-behind = ap ended_by s.stand ∙ sym (steps-ended run.course es s.history)
+
+  abbrev there : Stand
+  there = stand_after run.course es
+
+  pub state-behind : state_by run.stand ≡ state_after run.course es
+  state-behind =
+      ap state_by s.stand ∙ state-of there.phase there.attempt there.good
+      ∙ (λ j. if sym (steps-good run.course es s.history) j then Done else if sym (none-of there there.phase) j then Error else NotRun)
+      ∙ (λ j. if is_good_after run.course es then Done else if is_none (sym (steps-next run.course es s.history) j) then Error else NotRun)
+
+  -- the phase that comes next ends
+  pub end-behind : (phase : Phase) → run.stand.phase ≡ Some phase → (outcome : Outcome) → (new : NodeProgress)
+      → new ≡ record { course = run.course; stand = step run.course run.stand (counted_at run.course run.stand.phase outcome); running = false }
+      → StandsAfter new (with_end run.course es outcome)
+  end-behind phase is outcome new e = subst (λ (n : NodeProgress). StandsAfter n (with_end run.course es outcome)) (sym e) here
+    where
+      next : next_after run.course es ≡ Some (run.stand.attempt, phase)
+      next = sym next-behind ∙ ap (next_of run.stand) is
+
+      last : Ended
+      last = got run.stand.attempt phase (ends_with run.course phase outcome)
+
+      grown : with_end run.course es outcome ≡ es ++ last ∷ []
+      grown = ap (λ o. es ++ end_at run.course o outcome) next
+
+      that : is_that_phase (next_after run.course es) last ≡ true
+      that = ap (λ o. is_that_phase o last) next ∙ and_from _ _ (eq-eqb run.stand.attempt run.stand.attempt refl) (eq-eqb _ _ refl)
+
+      here : StandsAfter (record { course = run.course; stand = step run.course run.stand (counted_at run.course run.stand.phase outcome); running = false }) (with_end run.course es outcome)
+      here = record {
+        history = subst (λ t. is_history run.course t ≡ true) (sym grown)
+            (may-go_on-push run.course [] es last s.history that (may-end run.course phase outcome));
+        stand =
+            (λ j. step run.course (s.stand j) (counted_at run.course (is j) outcome))
+            ∙ sym (steps-push run.course (stand_before run.course 0 None false) es last)
+            ∙ ap (stand_after run.course) (sym grown);
+      }
+
+-- what a node that ran is after an ending
+pub possible-behind : (run : NodeProgress) (outcome : Outcome) → IsPossible run
+    → IsPossible (record { course = run.course; stand = step run.course run.stand (counted_at run.course run.stand.phase outcome); running = false })
+possible-behind run outcome p = record {
+  allowed = step-attempt run.course run.stand (counted_at run.course run.stand.phase outcome) p.allowed;
+  next = λ bad. absurd cc;
+}
+
+-- what runs has a next phase
+pub some-phase : (o : Option Phase) → IsSome o → (phase : Phase) × (o ≡ Some phase)
+some-phase None i = absurd cc
+some-phase (Some phase) i = (phase, refl)

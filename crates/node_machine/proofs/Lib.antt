@@ -1,0 +1,9 @@
+pub mod Trees
+pub mod Beginnings
+pub mod Standing
+pub mod Behind
+pub mod Paces
+pub mod TableEntries
+pub mod OutcomeWords
+pub mod OutcomeLines
+pub mod Possible

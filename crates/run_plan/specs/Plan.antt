@@ -1,0 +1,64 @@
+-- A plan as contracts see it.
+use Rattle.std.specs.Prelude.{ℕ, ℤ, pos, zero, suc, ◌<◌, ◌+◌, ◌^◌, nat_lt, IsTrue, Bool, true, false, ◌&&◌, List, [], length, Option, None, unwrap_or, slice_get}
+use Rattle.std.specs.List.{Contains, list_all}
+use Rattle.node_machine.specs.declared.Course.{Course}
+
+-- a node: its name, what the files say of its attempts, whether it is done from the start, its parents' numbers,
+-- the status of an abort that it causes, its priority and the number of its category
+pub record NodeSpec : Type 0 where
+  pub name : List ℕ
+  pub course : Course
+  pub done : Bool
+  pub parents : List ℕ
+  pub abort_return : Option ℕ
+  pub priority : ℤ
+  pub category : Option ℕ
+
+-- the ordinary nodes by their numbers, and the FINAL node, which has the next number
+pub record Plan : Type 0 where
+  pub nodes : List NodeSpec
+  pub final_node : Option NodeSpec
+
+-- no node
+abbrev pub no_node : NodeSpec
+no_node = record {
+  name = [];
+  course = record { pre = false; noop = true; post = false; retries = 0; unless_exit = None; pre_skip = None; abort_on = None };
+  done = true;
+  parents = [];
+  abort_return = None;
+  priority = pos 0;
+  category = None;
+}
+
+abbrev pub node_at : Plan → ℕ → NodeSpec
+node_at plan node = unwrap_or (slice_get plan.nodes node) (unwrap_or plan.final_node no_node)
+
+abbrev pub count_of : Plan → ℕ
+count_of plan = length plan.nodes
+
+-- every number below n
+abbrev pub all_below : (ℕ → Bool) → ℕ → Bool
+all_below test zero = true
+all_below test (suc n) = test n && all_below test n
+
+-- each parent of an ordinary node is an ordinary node of a lower rank, so no node is its own ancestor
+abbrev pub IsRankedBy : (ℕ → ℕ) → Plan → Type 0
+IsRankedBy rank plan =
+    (node : ℕ) → node < count_of plan → (parent : ℕ) → Contains (node_at plan node).parents parent
+    → (parent < count_of plan) × (rank parent < rank node)
+
+-- a node, or one above it
+pub data IsAtOrAbove (plan : Plan) : ℕ → ℕ → Type 0 where
+  at : {node : ℕ} → IsAtOrAbove plan node node
+  above : {node parent top : ℕ} → Contains (node_at plan node).parents parent → IsAtOrAbove plan parent top → IsAtOrAbove plan node top
+
+-- each parent of a node is an ordinary node
+abbrev pub has_parents_below : ℕ → NodeSpec → Bool
+has_parents_below count node = list_all (λ parent. nat_lt parent count) node.parents
+
+-- a plan whose nodes have numbers of 32 bits, and parents among the ordinary nodes
+pub record IsWellFormed (plan : Plan) : Type 0 where
+  pub few : length plan.nodes + 2 < 2 ^ 32
+  pub parents : IsTrue (list_all (has_parents_below (length plan.nodes)) plan.nodes)
+  pub final_parents : IsTrue (has_parents_below (length plan.nodes) (unwrap_or plan.final_node no_node))

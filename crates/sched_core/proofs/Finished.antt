@@ -1,0 +1,206 @@
+-- What a finished run shows of each node.
+use Rattle.std.proofs.Common.{◌≡◌, ℕ, zero, suc, ◌<◌, inl, inr, Bool, true, false, not, ◌&&◌, ◌||◌, List, [], ◌∷◌, ◌==◌, Option, Some, None, is_none, refl, sym, ap, ◌∙◌, arith, lt-ltb, eqb-true, if◌then◌else◌}
+use Rattle.std.proofs.lemmas.Bool.{eqb-false, and_parts, false≢true, not-true}
+use mathlib.Core.Path.{fun_ext}
+use Rattle.std.specs.List.{list_all, Contains}
+use Rattle.node_machine.specs.declared.Phase.{Phase}
+use Rattle.node_machine.specs.declared.Outcome.{Outcome}
+use Rattle.node_machine.specs.declared.Key.{Key}
+use Rattle.node_machine.specs.declared.Course.{Course}
+use Rattle.node_machine.specs.Story.{Table, story, last_of, is_good, attempts_after, next_after, is_good_after, value_after, attempts_ended_after}
+use Rattle.node_machine.proofs.Beginnings.{Fits, whole-good, whole-phases, whole-count, whole-value, nil-next, nil-good, nil-count, nil-value}
+use Rattle.sched_core.specs.declared.Record.{Record}
+use Rattle.sched_core.specs.declared.Record.TheVariants.{Life, Launch, End, Finish}
+use Rattle.node_machine.specs.declared.State.TheVariants.{Done, Error, NotRun}
+use Rattle.run_plan.specs.Plan.{Plan, node_at, count_of, all_below, IsRankedBy}
+use Rattle.sched_core.specs.Run.{table_of, history, key_at, next, is_done, outstanding, is_aborted, may_follow, is_lawful, is_finished, may_launch, is_ready, is_final_ready, is_free, is_nothing, is_among}
+use Rattle.sched_core.specs.Fate.{Fate, is_done_state, without_attempts, told_by, fate_by, AreFates, shown}
+use Rattle.sched_core.proofs.Tests.{all-at, all-from}
+use Rattle.sched_core.proofs.Sound.{Sound, sound, ParentsDone}
+
+fate-eq : (a b : Fate) → a.state ≡ b.state → a.history ≡ b.history → a.attempts ≡ b.attempts → a.value ≡ b.value → a ≡ b
+fate-eq a b p q n r = λ j. record { state = p j; history = q j; attempts = n j; value = r j }
+
+all_below-at : (test : ℕ → Bool) (n : ℕ) → all_below test n ≡ true → (k : ℕ) → k < n → test k ≡ true
+all_below-at test zero h k lt = absurd (omega arith)
+all_below-at test (suc n) h k lt = go (k == n) refl (λ less. all_below-at test n (and_parts _ _ h).1 k less)
+  where
+    go : (b : Bool) → (k == n) ≡ b → (k < n → test k ≡ true) → test k ≡ true
+    go true e below = ap test (eqb-true k n e) ∙ (and_parts _ _ h).0
+    go false e below = below (let ne = eqb-false k n e in omega arith)
+
+-- a run in which nothing is outstanding and no phase of an ordinary node may be launched
+record Settled (plan : Plan) (past : List Record) : Type 0 where
+  nothing : outstanding plan past ≡ []
+  unready : (node : ℕ) → node < count_of plan → is_ready plan past node ≡ false
+  calm : is_aborted plan past ≡ false
+
+module _ (plan : Plan) (past : List Record) where
+  pub state-done : (node : ℕ) → is_done_state (shown plan past node).state ≡ is_done plan past node
+  state-done node = elim (is_done plan past node) as (λ b. is_done_state (if b then Done else if is_none (next plan past node) then Error else NotRun) ≡ b) [
+    | true ↦ refl
+    | false ↦ elim (is_none (next plan past node)) as (λ b. is_done_state (if b then Error else NotRun) ≡ false) [ true ↦ refl | false ↦ refl ]
+  ]
+
+  parents-done : (node : ℕ) → list_all (λ parent. is_done_state (shown plan past parent).state) (node_at plan node).parents ≡ list_all (is_done plan past) (node_at plan node).parents
+  parents-done node = ap (λ test. list_all test (node_at plan node).parents) (fun_ext state-done)
+
+none-at : (node : ℕ) (o : Option (ℕ × Phase)) → is_none (key_at node o) ≡ is_none o
+none-at node None = refl
+none-at node (Some p) = refl
+
+none-from : (node : ℕ) (o : Option (ℕ × Phase)) → key_at node o ≡ None → o ≡ None
+none-from node None e = refl
+none-from node (Some p) e = cc
+
+module _ (plan : Plan) (past : List Record) (s : Sound plan past) (node : ℕ) where
+  abbrev course : Course
+  course = (node_at plan node).course
+
+  done-at_start : (node_at plan node).done ≡ true → shown plan past node ≡ without_attempts Done
+  done-at_start h =
+      fate-eq (shown plan past node) (without_attempts Done)
+      (λ j. if (h j || is_good_after course (history past node)) then Done else if is_none (next plan past node) then Error else NotRun)
+      (s.idle node h)
+      (ap (attempts_ended_after course) (s.idle node h) ∙ nil-count course)
+      (ap (value_after course) (s.idle node h) ∙ nil-value course)
+
+  not_begun : (node_at plan node).done ≡ false → history past node ≡ [] → shown plan past node ≡ without_attempts NotRun
+  not_begun h empty =
+      fate-eq (shown plan past node) (without_attempts NotRun)
+      (λ j. if (h j || good j) then Done else if some j then Error else NotRun)
+      empty
+      (ap (attempts_ended_after course) empty ∙ nil-count course)
+      (ap (value_after course) empty ∙ nil-value course)
+    where
+      good : is_good_after course (history past node) ≡ false
+      good = ap (is_good_after course) empty ∙ nil-good course
+
+      some : is_none (next plan past node) ≡ false
+      some = (λ j. is_none (if h j then None else key_at node (next_after course (empty j)))) ∙ none-at node (next_after course []) ∙ nil-next course
+
+  whole : (column : ℕ → Phase → Outcome) → Fits course (history past node) column
+      → (node_at plan node).done ≡ false → next plan past node ≡ None → shown plan past node ≡ told_by (story course column)
+  whole column g h none =
+      fate-eq (shown plan past node) (told_by (story course column))
+      (λ j. if (h j || whole-good course (history past node) (s.fits node) over column g j) then Done else if is_none (none j) then Error else NotRun)
+      (whole-phases course (history past node) (s.fits node) over column g)
+      (whole-count course (history past node) (s.fits node) over column g)
+      (whole-value course (history past node) (s.fits node) over column g)
+    where
+      over : next_after course (history past node) ≡ None
+      over = none-from node (next_after course (history past node)) ((λ j. if sym h j then None else key_at node (next_after course (history past node))) ∙ none)
+
+  module _ (q : Settled plan past) (lt : node < count_of plan) where
+    no_next : ParentsDone plan past node → next plan past node ≡ None
+    unfolding is_ready
+    no_next ready = go (next plan past node) refl
+      where
+        free : is_free plan past (next plan past node) ≡ false
+        free = (λ j. (not (sym q.calm j) && sym ready j) && is_free plan past (next plan past node)) ∙ q.unready node lt
+
+        go : (o : Option Key) → next plan past node ≡ o → next plan past node ≡ None
+        go None e = e
+        go (Some key) e =
+            absurd (false≢true (sym free ∙ ap (is_free plan past) e ∙ ap (λ keys. not (is_among key keys)) q.nothing))
+
+    settled-fate : (table : Table) → Fits (node_at plan node).course (history past node) (table node)
+        → shown plan past node ≡ fate_by plan table (shown plan past) node
+    settled-fate table f = go (node_at plan node).done refl (list_all (is_done plan past) (node_at plan node).parents) refl
+      where
+        told : Fate
+        told = told_by (story course (table node))
+
+        go : (b : Bool) → (node_at plan node).done ≡ b → (c : Bool) → list_all (is_done plan past) (node_at plan node).parents ≡ c
+            → shown plan past node ≡ (if (node_at plan node).done then without_attempts Done
+            else if list_all (λ parent. is_done_state (shown plan past parent).state) (node_at plan node).parents then told else without_attempts NotRun)
+        go true h c e = done-at_start h ∙ (λ j. if sym h j then without_attempts Done else if list_all (λ parent. is_done_state (shown plan past parent).state) (node_at plan node).parents then told else without_attempts NotRun)
+        go false h true e = whole (table node) f h (no_next e) ∙ (λ j. if sym h j then without_attempts Done else if sym (parents-done plan past node ∙ e) j then told else without_attempts NotRun)
+        go false h false e =
+            elim (s.begun node lt) [
+              | inl empty ↦ not_begun h empty ∙ (λ j. if sym h j then without_attempts Done else if sym (parents-done plan past node ∙ e) j then told else without_attempts NotRun)
+              | inr ready ↦ absurd (false≢true (sym e ∙ ready))
+            ]
+
+may-launch : (plan : Plan) (past : List Record) (node : ℕ) → node < count_of plan → may_launch plan past node ≡ is_ready plan past node
+unfolding may_launch
+may-launch plan past node lt = λ j. if lt-ltb node (count_of plan) lt j then is_ready plan past node else (node == count_of plan) && is_final_ready plan past
+
+settled : (plan : Plan) (past : List Record) (status : ℕ) → may_follow plan past (Finish status) ≡ true → is_aborted plan past ≡ false → Settled plan past
+unfolding may_follow
+settled plan past status h calm =
+    let p : (_ ≡ true) × (all_below (λ n. not (may_launch plan past n)) (suc (count_of plan)) ≡ true) = and_parts _ _ (and_parts _ _ h).0 in
+    let q = and_parts _ (is_nothing (outstanding plan past)) p.0 in
+    record {
+      nothing = empty (outstanding plan past) q.1;
+      unready = λ node lt. idle node lt (all_below-at (λ n. not (may_launch plan past n)) (suc (count_of plan)) p.1 node (omega arith));
+      calm = calm;
+    }
+  where
+    empty : (keys : List Key) → is_nothing keys ≡ true → keys ≡ []
+    empty [] e = refl
+    empty (key ∷ keys) e = absurd (false≢true e)
+
+    idle : (node : ℕ) → node < count_of plan → not (may_launch plan past node) ≡ true → is_ready plan past node ≡ false
+    idle node lt e = sym (may-launch plan past node lt) ∙ not-true _ e
+
+-- Finish changes nothing that is shown
+aborted-silent : (plan : Plan) (past : List Record) (status : ℕ) → is_aborted plan (Finish status ∷ past) ≡ is_aborted plan past
+unfolding is_aborted
+aborted-silent plan past status = refl
+
+pub finished-fates : (plan : Plan) (records : List Record) (table : Table) → is_finished plan records ≡ true → is_aborted plan records ≡ false
+    → ((node : ℕ) → Fits (node_at plan node).course (history records node) (table node))
+    → AreFates plan table (shown plan records)
+finished-fates plan [] table h calm f node lt = absurd (false≢true h)
+finished-fates plan (Life ∷ past) table h calm f node lt = absurd (false≢true h)
+finished-fates plan (Launch key number ∷ past) table h calm f node lt = absurd (false≢true h)
+finished-fates plan (End key outcome ∷ past) table h calm f node lt = absurd (false≢true h)
+finished-fates plan (Finish status ∷ past) table h calm f node lt =
+    let p = and_parts _ _ h in
+    let q = settled plan past status p.1 (sym (aborted-silent plan past status) ∙ calm) in
+    settled-fate plan past (sound plan past p.0) node q lt table (f node)
+
+pub lawful_part : (plan : Plan) (records : List Record) → is_finished plan records ≡ true → is_lawful plan records ≡ true
+lawful_part plan records h = (and_parts _ _ h).1
+
+-- the fates by the list's own table
+pub own-fates : (plan : Plan) (records : List Record) → is_finished plan records ≡ true → is_aborted plan records ≡ false
+    → AreFates plan (table_of records) (shown plan records)
+own-fates plan records h calm = finished-fates plan records (table_of records) h calm (sound plan records (lawful_part plan records h)).fits
+
+-- a node that is done in a lawful list has the fate Done by the list's table
+module _ (plan : Plan) (records : List Record) (lawful : is_lawful plan records ≡ true) (rank : ℕ → ℕ) (ranked : IsRankedBy rank plan) (fates : ℕ → Fate) (are : AreFates plan (table_of records) fates) where
+  done-below : (bound node : ℕ) → rank node < bound → node < count_of plan → is_done plan records node ≡ true → is_done_state (fates node).state ≡ true
+  unfolding is_good_after attempts_after
+  done-below zero node low lt done = absurd (omega arith)
+  done-below (suc bound) node low lt done =
+      ap (λ (f : Fate). is_done_state f.state) (are node lt)
+      ∙ go (node_at plan node).done refl
+      (λ ready. all-from (λ parent. is_done_state (fates parent).state) (node_at plan node).parents (λ parent c.
+      let r = ranked node lt parent c in
+      let q : rank parent < rank node = r.1 in
+      done-below bound parent (omega arith) r.0 (all-at (is_done plan records) (node_at plan node).parents ready parent c.0 c.1 c.2)))
+    where
+      s : Sound plan records
+      s = sound plan records lawful
+
+      go : (b : Bool) → (node_at plan node).done ≡ b
+          → (ParentsDone plan records node → list_all (λ parent. is_done_state (fates parent).state) (node_at plan node).parents ≡ true)
+          → is_done_state (fate_by plan (table_of records) fates node).state ≡ true
+      go true h tests = λ j. is_done_state (if h j then without_attempts Done else if list_all (λ parent. is_done_state (fates parent).state) (node_at plan node).parents then told_by (story (node_at plan node).course (table_of records node)) else without_attempts NotRun).state
+      go false h tests =
+          elim (s.begun node lt) [
+            | inl empty ↦ absurd (false≢true (sym (ap (λ (f : Fate). is_done_state f.state) (not_begun plan records s node h empty)) ∙ state-done plan records node ∙ done))
+            | inr ready ↦
+                (λ j. is_done_state (if h j then without_attempts Done else if tests ready j then told_by (story (node_at plan node).course (table_of records node)) else without_attempts NotRun).state)
+                ∙ ap (λ good. is_done_state (if good then Done else Error)) (and_parts (is_none (next_after (node_at plan node).course (history records node))) (is_good (last_of (attempts_after (node_at plan node).course (history records node)))) ((λ j. sym h j || is_good_after (node_at plan node).course (history records node)) ∙ done)).1
+          ]
+
+  -- so a node has begun only where the fate of each parent is Done
+  pub begun-fates : (node : ℕ) → node < count_of plan → (history records node ≡ [] → ⊥) → (parent : ℕ) → Contains (node_at plan node).parents parent → is_done_state (fates parent).state ≡ true
+  begun-fates node lt begun parent c =
+      elim ((sound plan records lawful).begun node lt) [
+        | inl empty ↦ absurd (begun empty)
+        | inr ready ↦ done-below (suc (rank parent)) parent (omega arith) (ranked node lt parent c).0 (all-at (is_done plan records) (node_at plan node).parents ready parent c.0 c.1 c.2)
+      ]

@@ -1,0 +1,14 @@
+pub mod Keys
+pub mod Tests
+pub mod Sound
+pub mod Finished
+pub mod Matching
+pub mod LivesLemmas
+pub mod RoundsLemmas
+pub mod Namesakes
+pub mod Sweeps
+pub mod Held
+pub mod Shown
+pub mod Leaf
+pub mod Moves
+pub mod Bounds

@@ -1,0 +1,230 @@
+-- What a core adds and chooses.
+use Rattle.std.proofs.Common.{nat_lt, ◌≡◌, ℕ, suc, ◌+◌, ◌<◌, ◌≤◌, Bool, true, false, not, ◌&&◌, ◌||◌, List, [], ◌∷◌, ◌++◌, length, take, drop, reverse, ◌==◌, Option, Some, None, refl, sym, ap, ◌∙◌, subst, arith, eq-eqb, eqb-true, if◌then◌else◌}
+use Rattle.std.proofs.lemmas.Bool.{and_parts, and_from, not-true, false≢true, false_from_ne_true}
+use Rattle.std.proofs.Math.Seq.{take-append_seam}
+use Rattle.node_machine.specs.declared.Key.{Key}
+use Rattle.node_machine.specs.declared.Outcome.{Outcome}
+use Rattle.node_machine.specs.Story.{phase_number}
+use Rattle.node_machine.proofs.Beginnings.{nil-value}
+use Rattle.run_plan.specs.Plan.{Plan, node_at, count_of}
+use Rattle.node_machine.specs.NodeProgress.{NodeProgress}
+use Rattle.sched_core.specs.declared.Record.{Record}
+use Rattle.sched_core.specs.declared.Choice.TheVariants as choices
+use Rattle.sched_core.specs.declared.Choice.{Choice}
+use Rattle.sched_core.specs.declared.Record.TheVariants.{Life, Launch, End, Finish}
+use Rattle.sched_core.specs.Run.{next, is_met, has_abort_value, is_aborted, outstanding, without, is_among, is_next, is_free, is_nothing, is_open, is_ready, is_final_ready, may_launch, may_follow, is_lawful, job_launches, launch_number, exit_status}
+use Rattle.sched_core.specs.Core.{Shows, AreFresh, IsChoice, nothing_launchable, is_running, runs_after, aborted_after, jobs_after, launchable}
+use Rattle.sched_core.proofs.Keys.{Each, each_among, each_without, same-self}
+use Rattle.sched_core.proofs.Sound.{sound}
+use Rattle.sched_core.proofs.Held.{Within, outstanding-within, among-is, launch-within, launched-within, end-within}
+use Rattle.sched_core.proofs.Shown.{shows-after}
+use Rattle.sched_core.proofs.Leaf.{key-node}
+use Rattle.sched_core.proofs.Sweeps.{all_below-from, all_below-not}
+
+-- no more launches of jobs than records
+pub jobs-few : (past : List Record) → job_launches past ≤ length past
+jobs-few [] = omega arith
+jobs-few (Life ∷ past) = let h = jobs-few past in omega arith
+jobs-few (End key outcome ∷ past) = let h = jobs-few past in omega arith
+jobs-few (Finish status ∷ past) = let h = jobs-few past in omega arith
+jobs-few (Launch key number ∷ past) = go (phase_number key.phase == 1) (jobs-few past)
+  where
+    go : (b : Bool) → job_launches past ≤ length past → (if b then 1 else 0) + job_launches past ≤ suc (length past)
+    go true h = omega arith
+    go false h = omega arith
+
+-- a written part of a list that is the whole
+written : {A : Type 0} (new old : List A) (len : ℕ) → length new ≡ len → take len (new ++ drop (length new) old) ≡ new
+written new old len n = ap (λ m. take m (new ++ drop (length new) old)) (sym n) ∙ take-append_seam new (drop (length new) old)
+
+pub add-shown : (plan : Plan) (records records' : List Record) (entry : Record) (old slice new : List NodeProgress) (len : ℕ) (aborted flag : Bool) (jobs jobs' : ℕ)
+    → Shows plan (reverse records) old aborted jobs → may_follow plan (reverse records) entry ≡ true
+    → slice ≡ old → length slice ≡ len → new ≡ runs_after plan slice aborted entry → flag ≡ aborted_after plan slice aborted entry
+    → jobs' ≡ jobs_after jobs entry → reverse records' ≡ entry ∷ reverse records
+    → Shows plan (reverse records') (take len (new ++ drop (length new) old)) flag jobs'
+add-shown plan records records' entry old slice new len aborted flag jobs jobs' s h same size n f g r =
+    subst (λ t. Shows plan t (take len (new ++ drop (length new) old)) flag jobs') (sym r)
+    (subst (λ t. Shows plan (entry ∷ reverse records) t flag jobs') (sym whole)
+    (subst (λ t. Shows plan (entry ∷ reverse records) (runs_after plan old aborted entry) t jobs') (sym (f ∙ ap (λ l. aborted_after plan l aborted entry) same))
+    (subst (λ t. Shows plan (entry ∷ reverse records) (runs_after plan old aborted entry) (aborted_after plan old aborted entry) t) (sym g) now)))
+  where
+    now : Shows plan (entry ∷ reverse records) (runs_after plan old aborted entry) (aborted_after plan old aborted entry) (jobs_after jobs entry)
+    now = shows-after plan (reverse records) old aborted jobs s entry h
+
+    is_new : new ≡ runs_after plan old aborted entry
+    is_new = n ∙ ap (λ l. runs_after plan l aborted entry) same
+
+    whole : take len (new ++ drop (length new) old) ≡ runs_after plan old aborted entry
+    whole =
+        let a : length new ≡ suc (count_of plan) = ap length is_new ∙ now.many in
+        let b : length old ≡ suc (count_of plan) = s.many in
+        let c : length old ≡ len = sym (ap length same) ∙ size in
+        written new old len (omega arith) ∙ is_new
+
+calm-at_first : (plan : Plan) → is_aborted plan [] ≡ false
+unfolding is_aborted
+calm-at_first plan =
+    ap not (all_below-from (λ node. not (has_abort_value plan [] node)) (count_of plan)
+    (λ node lt. λ j. not (is_met (node_at plan node).course.abort_on (nil-value (node_at plan node).course j))))
+
+pub fresh-shown : (plan : Plan) (runs : List NodeProgress) → AreFresh plan runs → Shows plan [] runs false 0
+fresh-shown plan runs f = record {
+  many = f.many;
+  runs_are = f.each;
+  aborted_is = sym (calm-at_first plan);
+  jobs_are = refl;
+  lawful = refl;
+}
+
+-- a node that may be launched has a next phase
+free-next : (plan : Plan) (past : List Record) (o : Option Key) → is_free plan past o ≡ true → (key : Key) × (o ≡ Some key)
+free-next plan past None h = absurd (false≢true h)
+free-next plan past (Some key) h = (key, refl)
+
+ready-next : (plan : Plan) (past : List Record) (node : ℕ) → is_ready plan past node ≡ true → (key : Key) × (next plan past node ≡ Some key)
+unfolding is_ready
+ready-next plan past node h = free-next plan past (next plan past node) (and_parts _ _ h).1
+
+final-next : (plan : Plan) (past : List Record) → is_final_ready plan past ≡ true → (key : Key) × (next plan past (count_of plan) ≡ Some key)
+unfolding is_final_ready
+final-next plan past h = free-next plan past (next plan past (count_of plan)) (and_parts _ _ (and_parts _ _ (and_parts _ _ h).0).0).1
+
+launch-next : (plan : Plan) (past : List Record) (node : ℕ) → may_launch plan past node ≡ true → (key : Key) × (next plan past node ≡ Some key)
+unfolding may_launch
+launch-next plan past node h = go (nat_lt node (count_of plan)) refl
+  where
+    go : (b : Bool) → nat_lt node (count_of plan) ≡ b → (key : Key) × (next plan past node ≡ Some key)
+    go true lt = ready-next plan past node ((λ j. if sym lt j then is_ready plan past node else (node == count_of plan) && is_final_ready plan past) ∙ h)
+    go false ge =
+        let p = and_parts _ _ ((λ j. if sym ge j then is_ready plan past node else (node == count_of plan) && is_final_ready plan past) ∙ h) in
+        subst (λ n. (key : Key) × (next plan past n ≡ Some key)) (sym (eqb-true node (count_of plan) p.0)) (final-next plan past p.1)
+
+pub not-launchable : (plan : Plan) (past : List Record) (node : ℕ) → launchable plan past node ≡ None → may_launch plan past node ≡ false
+not-launchable plan past node e = go (may_launch plan past node) refl
+  where
+    go : (b : Bool) → may_launch plan past node ≡ b → may_launch plan past node ≡ false
+    go false h = h
+    go true h =
+        let k = launch-next plan past node h in
+        let bad : None ≡ Some k.0 = sym e ∙ (λ j. if h j then next plan past node else None) ∙ k.1 in
+        absurd cc
+
+pub launchable-next : (plan : Plan) (past : List Record) (node : ℕ) (key : Key) → launchable plan past node ≡ Some key
+    → (may_launch plan past node ≡ true) × (next plan past node ≡ Some key)
+launchable-next plan past node key e = go (may_launch plan past node) refl
+  where
+    go : (b : Bool) → may_launch plan past node ≡ b → (may_launch plan past node ≡ true) × (next plan past node ≡ Some key)
+    go true h = (h, (λ j. if sym h j then next plan past node else None) ∙ e)
+    go false h =
+        let bad : None ≡ Some key = (λ j. if sym h j then next plan past node else None) ∙ e in
+        absurd cc
+
+pub start-follows : (plan : Plan) (past : List Record) (node : ℕ) (key : Key) → is_open past ≡ true → launchable plan past node ≡ Some key
+    → may_follow plan past (Launch key (launch_number past key)) ≡ true
+unfolding may_follow
+start-follows plan past node key open_now e =
+    let p = launchable-next plan past node key e in
+    let n : key.node ≡ node = key-node plan past node key p.1 in
+    and_from _ _ (and_from _ _ (and_from _ _ open_now (subst (λ m. may_launch plan past m ≡ true) (sym n) p.0))
+    (ap (λ o. is_next o key) (subst (λ m. next plan past m ≡ Some key) (sym n) p.1) ∙ same-self key))
+    (eq-eqb (launch_number past key) (launch_number past key) refl)
+
+-- what is chosen may follow
+pub finish-follows : (plan : Plan) (past : List Record) (status : ℕ) → is_open past ≡ true → IsChoice plan past (choices.Finish status)
+    → may_follow plan past (Finish status) ≡ true
+unfolding may_follow
+finish-follows plan past status open_now c =
+    and_from _ _ (and_from _ _ (and_from _ _ open_now c.1) c.0) (eq-eqb status (exit_status plan past) c.2)
+
+pub chosen-follows : (plan : Plan) (past : List Record) (key : Key) → is_open past ≡ true → IsChoice plan past (choices.Start key)
+    → may_follow plan past (Launch key (launch_number past key)) ≡ true
+chosen-follows plan past key open_now c = start-follows plan past key.node key open_now c.0
+
+-- what is of no node of the plan may not follow
+pub launch-outside : (plan : Plan) (past : List Record) (key : Key) (number : ℕ) → count_of plan < key.node → may_follow plan past (Launch key number) ≡ false
+launch-outside plan past key number lt = false_from_ne_true _ (λ h. let w = launched-within plan past key number h in omega arith)
+
+pub end-outside : (plan : Plan) (past : List Record) (key : Key) (outcome : Outcome) → is_lawful plan past ≡ true → count_of plan < key.node → may_follow plan past (End key outcome) ≡ false
+end-outside plan past key outcome lawful lt = false_from_ne_true _ (λ h. let w = end-within plan past key outcome lawful h in omega arith)
+
+pub among-outside : (plan : Plan) (past : List Record) (key : Key) → is_lawful plan past ≡ true → count_of plan < key.node → is_among key (outstanding plan past) ≡ false
+among-outside plan past key lawful lt = false_from_ne_true _ (λ h. let w : key.node < suc (count_of plan) = each_among (Within plan) key (outstanding plan past) (outstanding-within plan past lawful) h in omega arith)
+
+pub among-shown : (plan : Plan) (past : List Record) (key : Key) → is_lawful plan past ≡ true
+    → (is_running plan past key.node && is_next (next plan past key.node) key) ≡ is_among key (outstanding plan past)
+among-shown plan past key lawful = sym (among-is plan past key (outstanding plan past) (sound plan past lawful).held)
+
+-- no launch of these keys among the records
+abbrev pub launches_none : List Key → List Record → Bool
+launches_none keys [] = true
+launches_none keys (Launch key number ∷ past) = not (is_among key keys) && launches_none keys past
+launches_none keys (Life ∷ past) = launches_none keys past
+launches_none keys (End key outcome ∷ past) = launches_none keys past
+launches_none keys (Finish status ∷ past) = launches_none keys past
+
+none-among : (plan : Plan) (keys : List Key) (past : List Record) → launches_none keys past ≡ true → Each (λ key. is_among key keys ≡ false) (outstanding plan past)
+none-among plan keys [] h = tt
+none-among plan keys (Life ∷ past) h = tt
+none-among plan keys (Launch key number ∷ past) h =
+    let p = and_parts _ _ h in (not-true _ p.0, none-among plan keys past p.1)
+none-among plan keys (Finish status ∷ past) h = none-among plan keys past h
+none-among plan keys (End key outcome ∷ past) h = go (is_aborted plan (End key outcome ∷ past) && not (is_aborted plan past)) (none-among plan keys past h)
+  where
+    go : (b : Bool) → Each (λ k. is_among k keys ≡ false) (outstanding plan past) → Each (λ k. is_among k keys ≡ false) (if b then [] else without key (outstanding plan past))
+    go true e = tt
+    go false e = each_without (λ k. is_among k keys ≡ false) (λ k. is_among k keys ≡ false) key (λ other s w. w) (outstanding plan past) e
+
+-- so nothing is outstanding where none of what is outstanding was launched
+pub oldest-none : (plan : Plan) (past : List Record) → launches_none (outstanding plan past) past ≡ true → is_nothing (outstanding plan past) ≡ true
+oldest-none plan past h = go (outstanding plan past) (none-among plan (outstanding plan past) past h)
+  where
+    go : (keys : List Key) → Each (λ k. is_among k keys ≡ false) keys → is_nothing keys ≡ true
+    go [] e = refl
+    go (key ∷ keys) e = absurd (false≢true (sym e.0 ∙ (λ j. same-self key j || is_among key keys)))
+
+same-number : (m n : ℕ) → (m < n → ⊥) → (n < m → ⊥) → m ≡ n
+same-number m n below above = omega arith
+
+-- one answer alone is the choice
+pub choice-one : (plan : Plan) (past : List Record) (a b : Choice) → IsChoice plan past a → IsChoice plan past b → a ≡ b
+choice-one plan past (choices.Start key) b c d = started-one b d
+  where
+    launched : may_launch plan past key.node ≡ true
+    launched = (launchable-next plan past key.node key c.0).0
+
+    within : key.node < suc (count_of plan)
+    within = launch-within plan past key.node launched
+
+    -- a node that may be launched is among those below the bound
+    clash : (n : ℕ) → key.node < n → nothing_launchable plan past n ≡ true → ⊥
+    clash n lt nothing = false≢true (sym (all_below-not (λ node. not (may_launch plan past node)) n key.node lt (ap not launched)) ∙ nothing)
+
+    started-one : (b : Choice) → IsChoice plan past b → choices.Start key ≡ b
+    started-one choices.Wait d = absurd (clash (suc (count_of plan)) within d.0)
+    started-one (choices.Finish status) d = absurd (clash (suc (count_of plan)) within d.0)
+    started-one (choices.Start other) d =
+        let other_launched : may_launch plan past other.node ≡ true = (launchable-next plan past other.node other d.0).0 in
+        let below : key.node < other.node → ⊥ = λ lt. clash other.node lt d.1 in
+        let above : other.node < key.node → ⊥ = λ lt.
+        false≢true (sym (all_below-not (λ node. not (may_launch plan past node)) key.node other.node lt (ap not other_launched)) ∙ c.1) in
+        let same : key.node ≡ other.node = same-number key.node other.node below above in
+        let one : Some key ≡ Some other = sym c.0 ∙ ap (launchable plan past) same ∙ d.0 in
+        cc
+choice-one plan past choices.Wait b c d = waiting-one b d
+  where
+    waiting-one : (b : Choice) → IsChoice plan past b → choices.Wait ≡ b
+    waiting-one choices.Wait d = refl
+    waiting-one (choices.Finish status) d = absurd (false≢true (sym c.1 ∙ d.1))
+    waiting-one (choices.Start key) d =
+        let launched : may_launch plan past key.node ≡ true = (launchable-next plan past key.node key d.0).0 in
+        absurd (false≢true (sym (all_below-not (λ node. not (may_launch plan past node)) (suc (count_of plan)) key.node
+        (launch-within plan past key.node launched) (ap not launched)) ∙ c.0))
+choice-one plan past (choices.Finish status) b c d = finished-one b d
+  where
+    finished-one : (b : Choice) → IsChoice plan past b → choices.Finish status ≡ b
+    finished-one choices.Wait d = absurd (false≢true (sym d.1 ∙ c.1))
+    finished-one (choices.Finish other) d = ap choices.Finish (c.2 ∙ sym d.2)
+    finished-one (choices.Start key) d =
+        let launched : may_launch plan past key.node ≡ true = (launchable-next plan past key.node key d.0).0 in
+        absurd (false≢true (sym (all_below-not (λ node. not (may_launch plan past node)) (suc (count_of plan)) key.node
+        (launch-within plan past key.node launched) (ap not launched)) ∙ c.0))

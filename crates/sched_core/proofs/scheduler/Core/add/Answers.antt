@@ -1,0 +1,32 @@
+use Rattle.std.proofs.Common.{◌≡◌, ◌∙◌, true, List, [], ◌∷◌, length, reverse, ap, sym, subst, arith}
+use Rattle.std.proofs.lemmas.List.{length-reverse, reverse-append}
+use Rattle.sched_core.specs.declared.Record.{Record}
+use Rattle.node_machine.specs.NodeProgress.{NodeProgress}
+use Rattle.sched_core.specs.Run.{may_follow}
+use Rattle.sched_core.specs.Core.{Progress, Takes}
+use Rattle.sched_core.proofs.Shown.{shows-takes}
+use Rattle.sched_core.proofs.Moves.{jobs-few, add-shown}
+use Rattle.sched_core.proofs.scheduler.Core.add.Goals as goal
+
+pub count_jobs-self-inside-requires : goal.count_jobs-self-inside-requires
+count_jobs-self-inside-requires c =
+    let few = jobs-few (reverse c.self.inside.records.items) in
+    let size = length-reverse c.self.inside.records.items in
+    let same : length c.deref.result.now ≡ length c.self.inside.records.items = ap (λ (l : List Record). length l) c.deref.ensures.value in
+    omega arith
+
+pub advance-self-inside-requires-clause-takes : goal.advance-self-inside-requires-clause-takes
+advance-self-inside-requires-clause-takes c =
+    let may : may_follow c.self.inside.plan.now (reverse c.self.inside.records.items) c.args.entry ≡ true =
+    subst (λ (v : Progress). may_follow v.plan v.past c.args.entry ≡ true) (sym c.self.view_is) c.requires.lawful in
+    subst (λ (l : List NodeProgress). Takes c.self.inside.plan.now l c.args.entry) (sym c.deref_mut.ensures.value)
+    (shows-takes _ _ _ _ _ c.self.invariant c.args.entry may)
+
+pub invariant_of-self : goal.invariant_of-self
+invariant_of-self c =
+    let may : may_follow c.self.inside.plan.now (reverse c.self.inside.records.items) c.args.entry ≡ true =
+    subst (λ (v : Progress). may_follow v.plan v.past c.args.entry ≡ true) (sym c.self.view_is) c.requires.lawful in
+    add-shown c.self.inside.plan.now c.self.inside.records.items c.push_in_room.new.records.items c.args.entry c.self.inside.runs.items c.deref_mut.result.now
+    c.advance-self-inside.new.runs c.self.inside.runs.len c.self.inside.aborted c.advance-self-inside.result c.self.inside.jobs c.count_jobs-self-inside.result
+    c.self.invariant may c.deref_mut.ensures.value c.deref_mut.ensures.len c.advance-self-inside.ensures.runs c.advance-self-inside.ensures.flag c.count_jobs-self-inside.ensures
+    (ap (λ (l : List Record). reverse l) c.push_in_room.ensures.items ∙ reverse-append c.self.inside.records.items (c.args.entry ∷ []))

@@ -1,0 +1,125 @@
+-- A core as contracts see it, and what it keeps beside its records.
+use Rattle.std.specs.Prelude.{◌≡◌, ℕ, suc, ◌+◌, ◌<◌, Bool, true, false, not, ◌&&◌, ◌||◌, List, [], ◌∷◌, length, map, Option, Some, None, unwrap_or, slice_get, slice_set, IsTrue, IsFalse, ◌==◌, if◌then◌else◌}
+use Rattle.node_machine.specs.declared.Key.{Key}
+use Rattle.node_machine.specs.Story.{phase_number}
+use Rattle.node_machine.specs.Stand.{stand_after, stand_before, next_of}
+use Rattle.node_machine.specs.NodeRun.{started, stopped, ended_with}
+use Rattle.run_plan.specs.Plan.{Plan, no_node, node_at, count_of, all_below}
+use Rattle.node_machine.specs.NodeProgress.{NodeProgress}
+use Rattle.sched_core.specs.declared.Choice.{Choice}
+use Rattle.sched_core.specs.declared.Choice.TheVariants as choices
+use Rattle.sched_core.specs.declared.CoreFault.{CoreFault}
+use Rattle.sched_core.specs.declared.CoreFault.TheVariants.{NotLawful, Finished}
+use Rattle.sched_core.specs.declared.Record.{Record}
+use Rattle.sched_core.specs.declared.Record.TheVariants.{Life, Launch, End, Finish}
+use Rattle.sched_core.specs.Run.{history, next, is_done, outstanding, is_aborted, is_lawful, may_launch, is_nothing, job_launches, is_met, is_over, exit_status}
+
+-- the plan, the records, the newest first, and how many more need no memory
+pub record Progress : Type 0 where
+  pub plan : Plan
+  pub past : List Record
+  pub room : ℕ
+
+-- one of the keys is of this node
+abbrev pub has_key_of : ℕ → List Key → Bool
+has_key_of node [] = false
+has_key_of node (key ∷ keys) = (key.node == node) || has_key_of node keys
+
+-- a phase of the node is outstanding
+abbrev pub is_running : Plan → List Record → ℕ → Bool
+is_running plan past node = has_key_of node (outstanding plan past)
+
+-- what a core keeps of a node
+abbrev pub run_of : Plan → List Record → ℕ → NodeProgress
+run_of plan past node = record {
+  course = (node_at plan node).course;
+  stand = stand_after (node_at plan node).course (history past node);
+  running = is_running plan past node;
+}
+
+abbrev pub idle : NodeProgress
+idle = record { course = no_node.course; stand = stand_before no_node.course 0 None false; running = false }
+
+abbrev pub run_at : List NodeProgress → ℕ → NodeProgress
+run_at runs node = unwrap_or (slice_get runs node) idle
+
+-- whether an ordinary node's abort value stands there
+abbrev pub aborted_in : Plan → List NodeProgress → Bool
+aborted_in plan runs = not (all_below (λ node. not (is_met (node_at plan node).course.abort_on (run_at runs node).stand.value)) (count_of plan))
+
+-- what a record makes of the nodes, of the flag for an abort, and of the number of job launches
+abbrev pub runs_ended : Plan → List NodeProgress → Record → List NodeProgress
+runs_ended plan runs Life = runs
+runs_ended plan runs (Launch key number) = runs
+runs_ended plan runs (End key outcome) = slice_set runs key.node (ended_with (run_at runs key.node) outcome)
+runs_ended plan runs (Finish status) = runs
+
+abbrev pub aborted_after : Plan → List NodeProgress → Bool → Record → Bool
+aborted_after plan runs aborted Life = aborted
+aborted_after plan runs aborted (Launch key number) = aborted
+aborted_after plan runs aborted (End key outcome) = aborted_in plan (runs_ended plan runs (End key outcome))
+aborted_after plan runs aborted (Finish status) = aborted
+
+abbrev pub runs_after : Plan → List NodeProgress → Bool → Record → List NodeProgress
+runs_after plan runs aborted Life = map stopped runs
+runs_after plan runs aborted (Launch key number) = slice_set runs key.node (started (run_at runs key.node))
+runs_after plan runs aborted (End key outcome) =
+    let now = runs_ended plan runs (End key outcome) in
+    if aborted_in plan now && not aborted then map stopped now else now
+runs_after plan runs aborted (Finish status) = runs
+
+abbrev pub jobs_after : ℕ → Record → ℕ
+jobs_after jobs Life = jobs
+jobs_after jobs (Launch key number) = (if phase_number key.phase == 1 then 1 else 0) + jobs
+jobs_after jobs (End key outcome) = jobs
+jobs_after jobs (Finish status) = jobs
+
+-- a launch is of a node of the plan and of its next phase, while none runs; an ending is of one that runs
+abbrev pub Takes : Plan → List NodeProgress → Record → Type 0
+Takes plan runs Life = Unit {0}
+Takes plan runs (Launch key number) =
+    (key.node < suc (count_of plan)) × ((run_at runs key.node).running ≡ false)
+    × (next_of (run_at runs key.node).stand (run_at runs key.node).stand.phase ≡ Some (key.attempt, key.phase))
+Takes plan runs (End key outcome) = (key.node < suc (count_of plan)) × ((run_at runs key.node).running ≡ true)
+Takes plan runs (Finish status) = Unit {0}
+
+-- what a core keeps is what its records say, and these are lawful
+pub record Shows (plan : Plan) (past : List Record) (runs : List NodeProgress) (aborted : Bool) (jobs : ℕ) : Type 0 where
+  pub many : length runs ≡ suc (count_of plan)
+  pub runs_are : (node : ℕ) → node < suc (count_of plan) → run_at runs node ≡ run_of plan past node
+  pub aborted_is : aborted ≡ is_aborted plan past
+  pub jobs_are : jobs ≡ job_launches past
+  pub lawful : IsTrue (is_lawful plan past)
+
+-- what a core keeps before any record
+pub record AreFresh (plan : Plan) (runs : List NodeProgress) : Type 0 where
+  pub many : length runs ≡ suc (count_of plan)
+  pub each : (node : ℕ) → node < suc (count_of plan) → run_at runs node ≡ run_of plan [] node
+
+-- why a record is refused
+abbrev pub fault_after : List Record → CoreFault
+fault_after past = if is_over past then Finished else NotLawful
+
+-- a node's phase that may be launched
+abbrev pub launchable : Plan → List Record → ℕ → Option Key
+launchable plan past node = if may_launch plan past node then next plan past node else None
+
+-- no phase of a node below n may be launched
+abbrev pub nothing_launchable : Plan → List Record → ℕ → Bool
+nothing_launchable plan past n = all_below (λ node. not (may_launch plan past node)) n
+
+-- What is to be done next: the first node's phase that may be launched, in plan order; else, where
+-- something is outstanding, to wait; else to finish with the verdict.
+abbrev pub IsChoice : Plan → List Record → Choice → Type 0
+IsChoice plan past (choices.Start key) =
+    (launchable plan past key.node ≡ Some key) × IsTrue (nothing_launchable plan past key.node)
+IsChoice plan past choices.Wait =
+    IsTrue (nothing_launchable plan past (suc (count_of plan))) × IsFalse (is_nothing (outstanding plan past))
+IsChoice plan past (choices.Finish status) =
+    IsTrue (nothing_launchable plan past (suc (count_of plan))) × IsTrue (is_nothing (outstanding plan past))
+    × (status ≡ exit_status plan past)
+
+-- one mark for each ordinary node: whether it is done
+pub record AreMarks (plan : Plan) (past : List Record) (marks : List Bool) : Type 0 where
+  pub many : length marks ≡ count_of plan
+  pub each : (node : ℕ) → node < count_of plan → unwrap_or (slice_get marks node) false ≡ is_done plan past node

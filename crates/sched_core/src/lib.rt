@@ -1,0 +1,75 @@
+//! Runs of a plan as lists of records: which record may follow, what is to be done next, and
+//! what each node comes to.
+//!
+//! The rules are those of the HTCondor manual, DAGMan workflows, as docs/MANUAL.md states them.
+#![tactic(auto)]
+
+ghost use Rattle.std.specs.Prelude.{◌≡◌};
+ghost use Rattle.sched_core.specs.declared.CoreFault.TheVariants.{Memory};
+
+pub mod examples;
+pub mod laws;
+mod nodes;
+mod scheduler;
+
+use node_machine::{Key, Outcome};
+pub use scheduler::Core;
+use std::alloc::{AllocError, AllocFailed};
+use thiserror::Error;
+
+/// A record of a run.
+#[derive(Clone, Copy, Debug, PartialEq, Eq)]
+pub enum Record {
+    /// A manager begins, or goes on after another one stopped.
+    Life,
+    /// A phase is launched. Launches of jobs are numbered from 1, others have number 0.
+    Launch(Key, u64),
+    /// A phase ends.
+    End(Key, Outcome),
+    /// The run ends with this exit status.
+    Finish(Verdict),
+}
+
+/// The exit status of a run.
+pub type Verdict = u8;
+
+/// What is to be done next.
+#[derive(Clone, Copy, Debug, PartialEq, Eq)]
+pub enum Choice {
+    /// This phase is to be launched.
+    Start(Key),
+    /// Something is outstanding, and nothing can be launched before it ends.
+    Wait,
+    /// Nothing is outstanding and nothing can be launched: the run ends with this verdict.
+    Finish(Verdict),
+}
+
+/// Why a call of a core is refused.
+#[derive(Clone, Copy, Debug, PartialEq, Eq, Error)]
+pub enum CoreFault {
+    /// The record may not follow those that are there.
+    #[error("C1 NotLawful")]
+    NotLawful,
+    /// The run is finished: no record follows its Finish.
+    #[error("C2 Finished")]
+    Finished,
+    /// Memory was refused.
+    #[error("C3 Memory")]
+    Memory,
+}
+
+impl From<AllocError> for CoreFault {
+    ghost from_gives = { λ _ fault. fault ≡ Memory };
+
+    fn from(_e: AllocError) -> CoreFault {
+        CoreFault::Memory
+    }
+}
+
+impl<T: Drop> From<AllocFailed<T>> for CoreFault {
+    ghost from_gives = { λ _ fault. fault ≡ Memory };
+
+    fn from(_e: AllocFailed<T>) -> CoreFault {
+        CoreFault::Memory
+    }
+}

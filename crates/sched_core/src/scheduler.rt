@@ -1,0 +1,542 @@
+//! The scheduler's core: a run of a plan as a lawful list of records.
+
+ghost use Rattle.std.specs.Prelude.{◌≡◌, ℕ, ◌+◌, ◌^◌, ◌<◌, ◌≤◌, List, ◌∷◌, [], ◌==◌, ◌&&◌, ◌||◌, ◌↔◌, not, suc, length, reverse, IsTrue, IsFalse, IsOk, IfOk, IfErr, IfSome, IfNone, OnOk, OnErr, is_some, is_none, nat_le, nat_lt, if◌then◌else◌};
+ghost use Rattle.std.specs.List.{list_all};
+ghost use Rattle.node_machine.specs.Story.{may_end_with, phase_number};
+ghost use Rattle.run_plan.specs.Plan.{node_at, count_of, all_below};
+ghost use Rattle.sched_core.specs.Run.{history, next, is_done, attempts_in, value_in, has_abort_value, is_aborted, outstanding, is_among, is_free, is_nothing, is_ready, is_final_ready, may_launch, job_launches, launch_number, status_of_abort, exit_status, is_over, is_open, may_follow, is_lawful, needs_rescue};
+ghost use Rattle.sched_core.specs.Fate.{shown};
+ghost use Rattle.sched_core.specs.Core.{Progress, Shows, Takes, is_running, has_key_of, runs_after, aborted_after, jobs_after, fault_after, launchable, AreMarks, IsChoice};
+
+use crate::nodes::{
+    both, count_and_one, count_jobs, end_phase, fault_by, fresh_runs, history_of, is_done_at,
+    is_job, is_key, is_met_by, last_is_finish, last_is_open, launch_phase, may_end, next_at,
+    push_in_room, run_of, status_by, stop_all, stop_at_abort,
+};
+use crate::{Choice, CoreFault, Record};
+use node_machine::{Ended, Key, NodeRun, Outcome, State};
+use run_plan::Plan;
+use std::alloc::Global;
+use std::marker::Model;
+
+/// A run of a plan: its records, and where each node stands.
+#[derive(Drop)]
+pub struct Core<'a> {
+    plan: &'a Plan,
+    records: Vec<Record>,
+    runs: Vec<NodeRun>,
+    aborted: bool,
+    jobs: u64,
+}
+
+impl<'a> Model for Core<'a> {
+    ghost use Rattle.std.specs.Prelude.{reverse, ◌-◌, vec_len, vec_capacity};
+    ghost use Rattle.sched_core.specs.Core.{Progress, Shows};
+
+    ghost Value = { Progress };
+
+    ghost view = { λ a. record { plan = a.plan.now; past = reverse a.records.items; room = vec_capacity a.records - vec_len a.records } };
+
+    ghost invariant = { λ a. Shows a.plan.now (reverse a.records.items) a.runs.items a.aborted a.jobs };
+}
+
+/// What a record makes of the nodes; the answer is the flag for an abort.
+fn advance(plan: &Plan, runs: &mut [NodeRun], aborted: bool, entry: Record) -> bool
+    requires many { length runs.old ≡ suc (count_of plan.now) }
+    requires takes { Takes plan.now runs.old entry }
+    ensures runs { runs.new ≡ runs_after plan.now runs.old aborted entry }
+    ensures flag { result ≡ aborted_after plan.now runs.old aborted entry }
+{
+    match entry {
+        Record::Life => {
+            stop_all(runs);
+            aborted
+        }
+        Record::Launch(key, _) => {
+            launch_phase(runs, key);
+            aborted
+        }
+        Record::End(key, outcome) => {
+            end_phase(runs, key.node, outcome);
+            stop_at_abort(plan, runs, aborted)
+        }
+        Record::Finish(_) => aborted,
+    }
+}
+
+impl<'a> Core<'a> {
+    /// The plan that was handed in.
+    pub fn plan(&self) -> &'a Plan
+        ensures { result.now ≡ self.now.plan }
+    {
+        self.plan
+    }
+
+    /// The records of a core are lawful at every moment.
+    pub fn keeps_the_law(&self)
+        ensures { IsTrue (is_lawful self.now.plan self.now.past) }
+    {
+        let _records = &self.records;
+    }
+
+    /// Whether an abort ended the run.
+    pub fn aborted(&self) -> bool
+        ensures { result ≡ is_aborted self.now.plan self.now.past }
+    {
+        self.aborted
+    }
+
+    /// The records, the oldest first.
+    pub fn records(&self) -> &[Record]
+        ensures { reverse result.now ≡ self.now.past }
+    {
+        &self.records
+    }
+
+    /// Whether a node is done, from the start or after a good last attempt.
+    pub fn is_done(&self, node: u32) -> bool
+        requires { node ≤ count_of self.now.plan }
+        ensures { result ≡ is_done self.now.plan self.now.past node }
+    {
+        let plan = self.plan;
+        let run = run_of(&self.runs, node);
+        is_done_at(plan.node(node), &run)
+    }
+
+    /// A node's next phase.
+    pub fn next(&self, node: u32) -> Option<Key>
+        requires { node ≤ count_of self.now.plan }
+        ensures { result ≡ next self.now.plan self.now.past node }
+    {
+        let plan = self.plan;
+        let run = run_of(&self.runs, node);
+        next_at(plan.node(node), node, &run)
+    }
+
+    /// The value of the last attempt of a node that ended.
+    pub fn last_value(&self, node: u32) -> Option<i32>
+        requires { node ≤ count_of self.now.plan }
+        ensures { result ≡ value_in self.now.plan self.now.past node }
+    {
+        let run = run_of(&self.runs, node);
+        run.last_value()
+    }
+
+    /// How many attempts of a node ended.
+    pub fn attempts_ended(&self, node: u32) -> u64
+        requires { node ≤ count_of self.now.plan }
+        ensures { result ≡ attempts_in self.now.plan self.now.past node }
+    {
+        let run = run_of(&self.runs, node);
+        run.attempts_ended()
+    }
+
+    /// Whether a phase of the node is outstanding.
+    pub fn is_running(&self, node: u32) -> bool
+        requires { node ≤ count_of self.now.plan }
+        ensures { result ≡ is_running self.now.plan self.now.past node }
+    {
+        let run = run_of(&self.runs, node);
+        run.is_running()
+    }
+
+    pub fn is_over(&self) -> bool
+        ensures { result ≡ is_over self.now.past }
+    {
+        last_is_finish(&self.records)
+    }
+
+    pub fn is_open(&self) -> bool
+        ensures { result ≡ is_open self.now.past }
+    {
+        last_is_open(&self.records)
+    }
+
+    /// The number of the next launch of a job.
+    pub fn next_launch(&self) -> u64
+        ensures { result ≡ suc (job_launches self.now.past) }
+    {
+        let _more = count_and_one(&self.records);
+        self.jobs + 1
+    }
+
+    /// The number that a launch of this key has.
+    pub fn launch_number(&self, key: &Key) -> u64
+        ensures { result ≡ launch_number self.now.past key.now }
+    {
+        if is_job(key.phase) {
+            self.next_launch()
+        } else {
+            0
+        }
+    }
+
+    fn parents_done(&self, node: u32) -> bool
+        requires { node ≤ count_of self.now.plan }
+        ensures { result ≡ list_all (is_done self.now.plan self.now.past) (node_at self.now.plan node).parents }
+    {
+        let spec = self.plan().node(node);
+        for parent in spec.parents() {
+            if !self.is_done(*parent) {
+                return false;
+            }
+        }
+        true
+    }
+
+    /// Whether a node has a next phase, and it is not outstanding.
+    fn is_free(&self, node: u32) -> bool
+        requires { node ≤ count_of self.now.plan }
+        ensures { result ≡ is_free self.now.plan self.now.past (next self.now.plan self.now.past node) }
+    {
+        let _records = &self.records;
+        match self.next(node) {
+            Some(_) => !self.is_running(node),
+            None => false,
+        }
+    }
+
+    #[tactic(auto, unfolding(crate::specs::Run::is_ready))]
+    fn is_ready(&self, node: u32) -> bool
+        requires { node ≤ count_of self.now.plan }
+        ensures { result ≡ is_ready self.now.plan self.now.past node }
+    {
+        !self.aborted() && self.parents_done(node) && self.is_free(node)
+    }
+
+    fn nothing_ready(&self) -> bool
+        ensures { result ≡ all_below (λ node. not (is_ready self.now.plan self.now.past node)) (count_of self.now.plan) }
+    {
+        for node in 0..self.plan().count() {
+            if self.is_ready(node) {
+                return false;
+            }
+        }
+        true
+    }
+
+    /// Whether nothing of an ordinary node is outstanding.
+    fn no_ordinary_running(&self) -> bool
+        ensures { result ≡ list_all (λ key. nat_le (count_of self.now.plan) key.node) (outstanding self.now.plan self.now.past) }
+    {
+        for node in 0..self.plan().count() {
+            if self.is_running(node) {
+                return false;
+            }
+        }
+        true
+    }
+
+    /// Whether nothing is outstanding.
+    pub fn nothing_running(&self) -> bool
+        ensures { result ≡ is_nothing (outstanding self.now.plan self.now.past) }
+    {
+        let _records = &self.records;
+        for node in 0..self.plan().count() + 1 {
+            if self.is_running(node) {
+                return false;
+            }
+        }
+        true
+    }
+
+    #[tactic(auto, unfolding(crate::specs::Run::is_final_ready))]
+    fn is_final_ready(&self) -> bool
+        ensures { result ≡ is_final_ready self.now.plan self.now.past }
+    {
+        let plan = self.plan();
+        plan.has_final()
+            && self.is_free(plan.count())
+            && self.no_ordinary_running()
+            && (self.aborted() || self.nothing_ready())
+    }
+
+    #[tactic(auto, unfolding(crate::specs::Run::may_launch))]
+    fn may_launch(&self, node: u32) -> bool
+        ensures { result ≡ may_launch self.now.plan self.now.past node }
+    {
+        let count = self.plan().count();
+        if node < count {
+            self.is_ready(node)
+        } else {
+            node == count && self.is_final_ready()
+        }
+    }
+
+    /// Whether this phase is outstanding.
+    fn is_outstanding(&self, key: &Key) -> bool
+        ensures is { result ≡ is_among key.now (outstanding self.now.plan self.now.past) }
+        ensures within { IsTrue result → key.now.node ≤ count_of self.now.plan }
+    {
+        let _records = &self.records;
+        if key.node > self.plan().count() {
+            return false;
+        }
+        both(self.is_running(key.node), is_key(self.next(key.node), key))
+    }
+
+    /// A node's phase that may be launched.
+    pub fn launchable(&self, node: u32) -> Option<Key>
+        requires { node ≤ count_of self.now.plan }
+        ensures is { result ≡ launchable self.now.plan self.now.past node }
+        ensures node { IfSome result (λ key. key.node ≡ node) }
+    {
+        if self.may_launch(node) {
+            self.next(node)
+        } else {
+            None
+        }
+    }
+
+    fn nothing_to_launch(&self) -> bool
+        ensures { result ≡ all_below (λ node. not (may_launch self.now.plan self.now.past node)) (suc (count_of self.now.plan)) }
+    {
+        for node in 0..self.plan().count() + 1 {
+            if self.may_launch(node) {
+                return false;
+            }
+        }
+        true
+    }
+
+    fn all_done(&self) -> bool
+        ensures { result ≡ all_below (is_done self.now.plan self.now.past) (count_of self.now.plan) }
+    {
+        for node in 0..self.plan().count() {
+            if !self.is_done(node) {
+                return false;
+            }
+        }
+        true
+    }
+
+    fn has_abort_value(&self, node: u32) -> bool
+        requires { node ≤ count_of self.now.plan }
+        ensures { result ≡ has_abort_value self.now.plan self.now.past node }
+    {
+        is_met_by(
+            self.plan().node(node).course().abort_on,
+            self.last_value(node),
+        )
+    }
+
+    fn status_of_abort(&self) -> u8
+        ensures { result ≡ status_of_abort self.now.plan self.now.past (count_of self.now.plan) }
+    {
+        let mut left = self.plan().count();
+        while left > 0 {
+            let node = left - 1;
+            if self.has_abort_value(node) {
+                let spec = self.plan().node(node);
+                return status_by(spec.abort_return(), spec.course().abort_on);
+            }
+            left = node;
+        }
+        1
+    }
+
+    /// The exit status of the run if it ends here.
+    pub fn verdict(&self) -> u8
+        ensures { result ≡ exit_status self.now.plan self.now.past }
+    {
+        let plan = self.plan();
+        if plan.has_final() {
+            if self.is_done(plan.count()) { 0 } else { 1 }
+        } else if self.aborted() {
+            self.status_of_abort()
+        } else if self.all_done() {
+            0
+        } else {
+            1
+        }
+    }
+
+    /// Whether a rescue file is to be written.
+    pub fn needs_rescue(&self) -> bool
+        ensures { result ≡ needs_rescue self.now.plan self.now.past }
+    {
+        let plan = self.plan();
+        self.aborted() || !self.all_done() || (plan.has_final() && !self.is_done(plan.count()))
+    }
+
+    #[tactic(auto, unfolding(crate::specs::Run::may_follow))]
+    fn follows(&self, entry: &Record) -> bool
+        ensures { result ≡ may_follow self.now.plan self.now.past entry.now }
+    {
+        match entry {
+            Record::Life => !self.is_over(),
+            Record::Launch(key, number) => self.launch_follows(key, *number),
+            Record::End(key, outcome) => self.end_follows(key, *outcome),
+            Record::Finish(status) => {
+                self.is_open()
+                    && self.nothing_running()
+                    && self.nothing_to_launch()
+                    && *status == self.verdict()
+            }
+        }
+    }
+
+    #[tactic(auto, unfolding(crate::specs::Run::may_follow))]
+    fn launch_follows(&self, key: &Key, number: u64) -> bool
+        ensures { result ≡ may_follow self.now.plan self.now.past (Record.Launch key.now number) }
+    {
+        if key.node > self.plan().count() {
+            return false;
+        }
+        self.is_open()
+            && self.may_launch(key.node)
+            && is_key(self.next(key.node), key)
+            && number == self.launch_number(key)
+    }
+
+    #[tactic(auto, unfolding(crate::specs::Run::may_follow))]
+    fn end_follows(&self, key: &Key, outcome: Outcome) -> bool
+        ensures { result ≡ may_follow self.now.plan self.now.past (Record.End key.now outcome) }
+    {
+        let _records = &self.records;
+        if key.node > self.plan().count() {
+            return false;
+        }
+        self.is_open()
+            && self.is_outstanding(key)
+            && may_end(self.plan().node(key.node), key.phase, outcome)
+    }
+
+    /// Whether a record may follow, and else why not.
+    pub fn accepts(&self, entry: &Record) -> Result<(), CoreFault>
+        ensures ok { IsOk result ↔ IsTrue (may_follow self.now.plan self.now.past entry.now) }
+        ensures err { IfErr result (λ fault. fault ≡ fault_after self.now.past) }
+    {
+        if self.follows(entry) {
+            Ok(())
+        } else {
+            Err(fault_by(self.is_over()))
+        }
+    }
+
+    fn add(&mut self, entry: Record)
+        requires room { 0 < self.old.room }
+        requires lawful { IsTrue (may_follow self.old.plan self.old.past entry) }
+        ensures plan { self.new.plan ≡ self.old.plan }
+        ensures past { self.new.past ≡ entry ∷ self.old.past }
+        ensures room { self.old.room ≤ self.new.room + 1 }
+    {
+        let plan = self.plan;
+        let _more = count_and_one(&self.records);
+        self.jobs = count_jobs(self.jobs, entry);
+        self.aborted = advance(plan, &mut self.runs, self.aborted, entry);
+        push_in_room(&mut self.records, entry);
+    }
+
+    /// Adds a record that may follow. It takes no memory.
+    pub fn apply(&mut self, entry: Record) -> Result<(), CoreFault>
+        requires { 0 < self.old.room }
+        ensures lawful { IsOk result ↔ IsTrue (may_follow self.old.plan self.old.past entry) }
+        ensures plan { self.new.plan ≡ self.old.plan }
+        ensures past { OnOk result (self.new.past ≡ entry ∷ self.old.past) }
+        ensures room { OnOk result (self.old.room ≤ self.new.room + 1) }
+        ensures unchanged { OnErr result (self.new ≡ self.old) }
+        ensures err { IfErr result (λ fault. fault ≡ fault_after self.old.past) }
+    {
+        let answer = self.accepts(&entry);
+        if answer.is_ok() {
+            self.add(entry);
+        }
+        answer
+    }
+
+    /// Makes room for so many records more.
+    pub fn reserve(&mut self, count: usize) -> Result<(), CoreFault>
+        ensures plan { self.new.plan ≡ self.old.plan }
+        ensures past { self.new.past ≡ self.old.past }
+        ensures ok { OnOk result (count ≤ self.new.room) }
+        ensures room { self.old.room ≤ self.new.room }
+        ensures err { IfErr result (λ fault. fault ≡ CoreFault.Memory) }
+    {
+        self.records.reserve(count)?;
+        Ok(())
+    }
+
+    /// A run with no records.
+    pub fn new(alloc: Global, plan: &'a Plan) -> Result<Core<'a>, CoreFault>
+        ensures ok { IfOk result (λ core. (core.plan ≡ plan.now) × (core.past ≡ [])) }
+        ensures err { IfErr result (λ fault. fault ≡ CoreFault.Memory) }
+    {
+        let runs = fresh_runs(alloc, plan)?;
+        Ok(Core {
+            plan,
+            records: Vec::new(alloc),
+            runs,
+            aborted: false,
+            jobs: 0,
+        })
+    }
+
+    /// What is to be done next, in a run that has begun and is not over.
+    pub fn choose(&self) -> Choice
+        requires { IsTrue (is_open self.now.past) }
+        ensures { IsChoice self.now.plan self.now.past result }
+    {
+        for node in 0..self.plan().count() + 1 {
+            match self.launchable(node) {
+                Some(key) => return Choice::Start(key),
+                None => {}
+            }
+        }
+        if self.nothing_running() {
+            Choice::Finish(self.verdict())
+        } else {
+            Choice::Wait
+        }
+    }
+
+    /// The phases of a node that ended, the oldest first.
+    pub fn history(&self, alloc: Global, node: u32) -> Result<Vec<Ended>, CoreFault>
+        ensures ok { IfOk result (λ phases. phases.items ≡ history self.now.past node) }
+        ensures err { IfErr result (λ fault. fault ≡ CoreFault.Memory) }
+    {
+        Ok(history_of(alloc, &self.records, node)?)
+    }
+
+    /// What a node has come to.
+    pub fn node_state(&self, node: u32) -> State
+        requires { node ≤ count_of self.now.plan }
+        ensures { result ≡ (shown self.now.plan self.now.past node).state }
+    {
+        if self.is_done(node) {
+            State::Done
+        } else if self.next(node).is_none() {
+            State::Error
+        } else {
+            State::NotRun
+        }
+    }
+
+    /// Which ordinary nodes are done.
+    pub fn marks(&self, alloc: Global) -> Result<Vec<bool>, CoreFault>
+        ensures ok { IfOk result (λ marks. AreMarks self.now.plan self.now.past marks.items) }
+        ensures err { IfErr result (λ fault. fault ≡ CoreFault.Memory) }
+    {
+        let mut marks = Vec::new(alloc);
+        for node in 0..self.plan().count() {
+            marks.push(self.is_done(node))?;
+        }
+        Ok(marks)
+    }
+
+    /// The phase that is outstanding longest.
+    pub fn oldest(&self) -> Option<Key>
+        ensures some { IfSome result (λ key. IsTrue (is_among key (outstanding self.now.plan self.now.past))) }
+        ensures within { IfSome result (λ key. key.node ≤ count_of self.now.plan) }
+        ensures none { IfNone result (IsTrue (is_nothing (outstanding self.now.plan self.now.past))) }
+    {
+        for entry in self.records() {
+            if let Record::Launch(key, _) = entry {
+                if self.is_outstanding(key) {
+                    return Some(*key);
+                }
+            }
+        }
+        None
+    }
+}
