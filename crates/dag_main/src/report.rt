@@ -1,10 +1,17 @@
 //! The report of a rehearsal.
 
-ghost use Rattle.std.specs.Prelude.{◌≡◌, ◌<◌, ◌++◌, OnOk, IfOk, string_bytes};
-ghost use Rattle.node_machine.specs.OutcomeTable.{HasPossibleOutcomes};
+ghost use Rattle.std.specs.Prelude.{◌≡◌, ◌<◌, ◌++◌, ℕ, List, Some, OnOk, IfOk, IfErr, string_bytes};
+ghost use Rattle.std.specs.Option.{option_map};
+ghost use Rattle.std.specs.Str.Lines.{lines};
+ghost use Rattle.dag_reader.specs.Grammar.{SayAll};
+ghost use Rattle.node_machine.specs.OutcomeTable.{Entry, SameOutcomes, HasPossibleOutcomes};
 ghost use Rattle.run_plan.specs.Plan.{node_at, count_of};
 ghost use Rattle.sched_core.specs.Fate.{shown};
+ghost use Rattle.dag_main.specs.FileSet.{bytes_of};
 ghost use Rattle.dag_main.specs.Report.{state_word, status_line, fate_line, report_of};
+ghost use Rattle.dag_main.specs.Rehearsed.{IsPlanOf, HasEntries, IsRehearsalOf, IsOwed};
+ghost use Rattle.dag_main.specs.Refusals.{ReportsRun, IsReadFault, IsPlanFault, IsTableFault};
+ghost use Rattle.dag_main.specs.declared.fault.RunFault.TheVariants.{Memory};
 
 use crate::fault::RunFault;
 use crate::file_set::FileSet;
@@ -27,20 +34,41 @@ pub struct Answer {
 ///
 /// `outcomes` is the text of the table; without it each phase ends with Exit 0. The report has a
 /// line for each node in plan order, `name STATE attempts=n value=v`, and then `result N`, N the
-/// exit status. Refused are a file that is missing, a line that is not read, lines that make no
-/// plan, a line of the table, in this order, and want of memory.
+/// exit status.
+///
+/// # Errors
+/// A file that is missing, a line that is not read, lines that make no plan, a line of the table,
+/// in this order; and want of memory.
 pub fn rehearse_text(
     alloc: Global,
     files: &FileSet,
     path: &str,
     outcomes: Option<&[u8]>,
-) -> Result<Answer, RunFault> {
+) -> Result<Answer, RunFault>
+    // The report is that of the fates, for these bytes.
+    ensures report { IfOk result (λ answer. (dag : List ℕ) × (bytes_of files.now path.now ≡ Some dag)
+        × IsRehearsalOf dag (option_map (λ b. b.now) outcomes.entry)
+        (string_bytes answer.text) answer.status) }
+
+    // It is refused only where an input is, or for want of memory.
+    ensures refused { IfErr result
+        (IsOwed files.now path.now (option_map (λ b. b.now) outcomes.entry)) }
+{
     let Some(bytes) = files.get(path) else {
         return Err(RunFault::MissingFile(String::from_str(alloc, path)?));
     };
     let plan = plan_of(alloc, path, bytes)?;
     let table = table_of(alloc, outcomes)?;
-    let Ok(core) = run_table(alloc, &plan, &table) else {
+    rehearse_plan(alloc, &plan, &table)
+}
+
+/// The report of a plan at the outcomes of a table.
+fn rehearse_plan(alloc: Global, plan: &Plan, table: &Table) -> Result<Answer, RunFault>
+    requires possible { HasPossibleOutcomes table.now }
+    ensures run { IfOk result (λ answer. ReportsRun plan.now table.now (string_bytes answer.text) answer.status) }
+    ensures err { IfErr result (λ fault. fault ≡ Memory) }
+{
+    let Ok(core) = run_table(alloc, plan, table) else {
         return Err(RunFault::Memory);
     };
     let status = core.verdict();
@@ -50,7 +78,11 @@ pub fn rehearse_text(
     })
 }
 
-fn read(alloc: Global, path: &str, bytes: &[u8]) -> Result<DagFile, RunFault> {
+fn read(alloc: Global, path: &str, bytes: &[u8]) -> Result<DagFile, RunFault>
+    ensures found { IfOk result (λ file.
+        SayAll 1 (lines bytes.now) file.commands.items file.warnings.items) }
+    ensures refused { IfErr result (IsReadFault path.now bytes.now) }
+{
     match read_dag(alloc, bytes) {
         Ok(file) => Ok(file),
         Err(ReadFault::Memory) => Err(RunFault::Memory),
@@ -60,7 +92,10 @@ fn read(alloc: Global, path: &str, bytes: &[u8]) -> Result<DagFile, RunFault> {
     }
 }
 
-fn plan_of(alloc: Global, path: &str, bytes: &[u8]) -> Result<Plan, RunFault> {
+fn plan_of(alloc: Global, path: &str, bytes: &[u8]) -> Result<Plan, RunFault>
+    ensures plan { IfOk result (IsPlanOf bytes.now) }
+    ensures refused { IfErr result (IsPlanFault path.now bytes.now) }
+{
     let file = read(alloc, path, bytes)?;
     match Plan::of_lines(alloc, &file) {
         Ok(plan) => Ok(plan),
@@ -71,7 +106,10 @@ fn plan_of(alloc: Global, path: &str, bytes: &[u8]) -> Result<Plan, RunFault> {
 
 /// The table of a text of outcomes; without a text each phase ends with Exit 0.
 fn table_of(alloc: Global, outcomes: Option<&[u8]>) -> Result<Table, RunFault>
+    ensures entries { IfOk result (λ table. (entries : List Entry)
+        × HasEntries (option_map (λ b. b.now) outcomes.entry) entries × SameOutcomes table entries) }
     ensures possible { IfOk result HasPossibleOutcomes }
+    ensures refused { IfErr result (IsTableFault (option_map (λ b. b.now) outcomes.entry)) }
 {
     match outcomes {
         None => Ok(Table::empty(alloc)),

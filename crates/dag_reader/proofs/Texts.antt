@@ -6,27 +6,29 @@ use Rattle.std.proofs.lemmas.List.{take_all}
 use Rattle.std.proofs.lemmas.List.Elements.{All-from_get_or, All-get_or}
 use Rattle.std.proofs.lemmas.List.Sums.{position_or_len_is, fails_before_first}
 use Rattle.std.proofs.lemmas.Str.{IsUtf8-nil, IsUtf8-from_is_utf8, utf8_valid_len_le, utf8_valid_len-IsUtf8}
-use Rattle.std.specs.List.{All, position, position_or_len}
+use Rattle.std.specs.List.{All, AllByRecursion, position, position_or_len}
 use Rattle.std.specs.Prelude.{unwrap_or, nat_lt, IfOk, IfErr}
 use Rattle.std.specs.Char.{to_ascii_lowercase}
 use Rattle.std.specs.Str.{IsUtf8, is_utf8, str_eq_ignore_ascii_case, bytes_eq, str_to_ascii_lowercase}
 use Rattle.std.specs.Str.Lossy.{utf8_valid_len, valid_len_up_to}
 use Rattle.dag_reader.specs.declared.span.Span.{Span}
 use Rattle.dag_reader.specs.declared.fault.LineFault.{LineFault}
+use Rattle.dag_reader.specs.declared.fault.LineFault.TheVariants.{NotText, UnknownCommand, Unsupported, TooLong}
 use Rattle.dag_reader.specs.declared.fault.ReadFault.{ReadFault}
 use Rattle.dag_reader.specs.declared.fault.ReadFault.TheVariants as faults
 use Rattle.dag_reader.specs.declared.command.Command.{Command}
-use Rattle.dag_reader.specs.declared.command.Command.TheVariants.{Job, ParentChild, Script, Retry, PreSkip, Priority, Category, MaxJobs, AbortDagOn, Final, Splice}
+use Rattle.dag_reader.specs.declared.command.Command.TheVariants.{Job, ParentChild, Script, Retry, PreSkip, Vars, Priority, Category, MaxJobs, AbortDagOn, Final, Splice}
 use Rattle.dag_reader.specs.declared.command.Warning.{Warning}
 use Rattle.dag_reader.specs.declared.command.Warning.TheVariants.{Ignored}
 use Rattle.dag_reader.specs.declared.command.Meaning.{Meaning}
 use Rattle.dag_reader.specs.declared.command.Meaning.TheVariants.{Nothing, Says, Warns}
 use Rattle.dag_reader.specs.Word.{PlacedText}
-use Rattle.dag_reader.specs.Words.{words}
-use Rattle.dag_reader.specs.Keywords.{is_keyword, is_ignored, is_comment, begins_with}
+use Rattle.dag_reader.specs.LineReader.{Left}
+use Rattle.dag_reader.specs.Words.{words, last_of}
+use Rattle.dag_reader.specs.Keywords.{is_keyword, is_one_of, command_keywords, is_left_out, is_ignored, is_comment, begins_with}
 use Rattle.dag_reader.specs.Lines.{is_control, text_len, ends_with_backslash}
-use Rattle.dag_reader.specs.Reading.{◌>>=◌, command_at, text_of, meaning_at, meaning_of, line_at, lines_at, Contents, commands_of, warnings_of, with_meaning, Fails, Gives, span}
-use Rattle.dag_reader.specs.Grammar.{Is, Spells, IsText, WordsMean, Means, SayAll, IsBad, IsFirstBad}
+use Rattle.dag_reader.specs.Reading.{◌>>=◌, command_at, node_setting_at, run_setting_at, text_of, meaning_at, meaning_of, line_at, lines_at, Contents, commands_of, warnings_of, with_meaning, Fails, Gives, span}
+use Rattle.dag_reader.specs.Grammar.{Is, Spells, IsText, WordsMean, Means, SayAll, warning_of, warnings_in, first_fault, HasOrder, IsBad, IsFirstBad}
 use Rattle.dag_reader.proofs.Parts.{bind_ok, chosen, ok_is, rest, one_keyword}
 use Rattle.dag_reader.proofs.Commands.{command_ok, command_again}
 
@@ -149,18 +151,19 @@ begins k b ks is hash dot log status attr = record {
 abbrev HasFirst : List PlacedText → Type 0
 HasFirst ws = (k : PlacedText) × (more : List PlacedText) × (ws ≡ k ∷ more) × Begins k
 
-has_first : (ws : List PlacedText) (c : Command) → Spells c ws → HasFirst ws
-has_first ws (Job name file dir noop done) (k, options, e, is, _, _, _) = (k, _, e, begins k _ _ is refl refl refl refl refl)
-has_first ws (ParentChild parents children) (k, c, e, is, _, _, _, _, _) = (k, _, e, begins k _ _ is refl refl refl refl refl)
-has_first ws (Script kind t program arguments) (k, s, node, e, is, _, _) = (k, _, e, begins k _ _ is refl refl refl refl refl)
-has_first ws (Retry t n v) (k, node, number, ending, e, is, _, _, _) = (k, _, e, begins k _ _ is refl refl refl refl refl)
-has_first ws (PreSkip t v) (k, node, number, e, is, _, _) = (k, _, e, begins k _ _ is refl refl refl refl refl)
-has_first ws (Priority t v) (k, node, number, e, is, _, _) = (k, _, e, begins k _ _ is refl refl refl refl refl)
-has_first ws (Category t category) (k, node, e, is, _, _) = (k, _, e, begins k _ _ is refl refl refl refl refl)
-has_first ws (MaxJobs category n) (k, number, e, is, _, _) = (k, _, e, begins k _ _ is refl refl refl refl refl)
-has_first ws (AbortDagOn t v status) (k, node, number, ending, e, is, _, _, _) = (k, _, e, begins k _ _ is refl refl refl refl refl)
-has_first ws (Final name file dir noop) (k, options, e, is, _, _, _) = (k, _, e, begins k _ _ is refl refl refl refl refl)
-has_first ws (Splice name file dir) (k, options, e, is, _, _) = (k, _, e, begins k _ _ is refl refl refl refl refl)
+has_first : (bytes : List ℕ) (ws : List PlacedText) (c : Command) → Spells bytes c ws → HasFirst ws
+has_first bytes ws (Job name file dir noop done) (k, options, e, is, _, _, _) = (k, _, e, begins k _ _ is refl refl refl refl refl)
+has_first bytes ws (ParentChild parents children) (k, c, e, is, _, _, _, _, _) = (k, _, e, begins k _ _ is refl refl refl refl refl)
+has_first bytes ws (Script kind t program arguments) (k, s, node, e, is, _, _) = (k, _, e, begins k _ _ is refl refl refl refl refl)
+has_first bytes ws (Retry t n v) (k, node, number, ending, e, is, _, _, _) = (k, _, e, begins k _ _ is refl refl refl refl refl)
+has_first bytes ws (PreSkip t v) (k, node, number, e, is, _, _) = (k, _, e, begins k _ _ is refl refl refl refl refl)
+has_first bytes ws (Vars t placement macros) (k, node, more, e, is, _, _, _) = (k, _, e, begins k _ _ is refl refl refl refl refl)
+has_first bytes ws (Priority t v) (k, node, number, e, is, _, _) = (k, _, e, begins k _ _ is refl refl refl refl refl)
+has_first bytes ws (Category t category) (k, node, e, is, _, _) = (k, _, e, begins k _ _ is refl refl refl refl refl)
+has_first bytes ws (MaxJobs category n) (k, number, e, is, _, _) = (k, _, e, begins k _ _ is refl refl refl refl refl)
+has_first bytes ws (AbortDagOn t v status) (k, node, number, ending, e, is, _, _, _) = (k, _, e, begins k _ _ is refl refl refl refl refl)
+has_first bytes ws (Final name file dir noop) (k, options, e, is, _, _, _) = (k, _, e, begins k _ _ is refl refl refl refl refl)
+has_first bytes ws (Splice name file dir) (k, options, e, is, _, _) = (k, _, e, begins k _ _ is refl refl refl refl refl)
 
 begins_first : (first : PlacedText) (ws : List PlacedText) → HasFirst (first ∷ ws) → Begins first
 begins_first first ws (k, more, e, b) = let same : k ≡ first = cc in subst Begins same b
@@ -201,8 +204,8 @@ means_ok bytes (first ∷ ws) end m e =
     (λ whole. ⊎_elim
     (λ yes. subst (WordsMean bytes (first ∷ ws)) (ok_is (Warns (Ignored first.span)) m yes.1) (whole.0, (yes.0, refl)))
     (λ other.
-    let p = bind_ok (command_at first (rest ws end)) some_command m other.1 in
-    subst (WordsMean bytes (first ∷ ws)) (ok_is (Says p.0) m p.2) (whole.0, command_ok first ws end p.0 p.1))
+    let p = bind_ok (command_at bytes first (rest ws end)) some_command m other.1 in
+    subst (WordsMean bytes (first ∷ ws)) (ok_is (Says p.0) m p.2) (whole.0, command_ok bytes first ws end p.0 p.1))
     (chosen (is_ignored first) _ _ (Ok m) whole.1))
     (chosen (ends_with_backslash bytes) _ _ (Ok m) words.1))
     (chosen (is_comment first) _ _ (Ok m) e)
@@ -211,13 +214,13 @@ means_again : (bytes : List ℕ) (ws : List PlacedText) (end : Span) (m : Meanin
 unfolding meaning_at
 means_again bytes [] end Nothing h = refl
 means_again bytes (first ∷ ws) end Nothing h = rw h refl
-means_again bytes [] end (Says c) h = absurd (no_words (has_first [] c h.1))
+means_again bytes [] end (Says c) h = absurd (no_words (has_first bytes [] c h.1))
 means_again bytes (first ∷ ws) end (Says c) h =
     let whole = h.0 in
-    let b = begins_first first ws (has_first (first ∷ ws) c h.1) in
+    let b = begins_first first ws (has_first bytes (first ∷ ws) c h.1) in
     let comment = b.comment in
     let ignored = b.ignored in
-    rw (comment, whole, ignored, command_again first ws end c h.1) refl
+    rw (comment, whole, ignored, command_again bytes first ws end c h.1) refl
 means_again bytes [] end (Warns (Ignored s)) h = absurd h.1
 means_again bytes (first ∷ ws) end (Warns (Ignored s)) (whole, (ignored, same)) =
     rw (ignored_no_comment first ignored, whole, ignored) (ap (λ (x : Span). Ok (Warns (Ignored x))) (sym same))
@@ -227,7 +230,7 @@ unfolding line_at
 line_ok number bytes m e =
     let p = bind_ok (text_of number bytes) _ m e in
     let t = text_ok number bytes p.0 p.1 in
-    (t.1, means_ok bytes (words number 0 bytes) _ m (ap (λ (b : List ℕ). meaning_of bytes (words number 0 b) (span number (length b) (length b))) t.0 ∙ p.2))
+    (t.1, means_ok bytes (words number 0 bytes) _ m (ap (λ (b : List ℕ). meaning_of b (words number 0 b) (span number (length b) (length b))) t.0 ∙ p.2))
 
 line_again : (number : ℕ) (bytes : List ℕ) (m : Meaning) → Means number bytes m → line_at number bytes ≡ Ok m
 unfolding line_at
@@ -253,13 +256,102 @@ lines_again number (line ∷ more) cs ws (first, others, later, one, all, a, b) 
     rw (line_again number line first one, lines_again (number + 1) more others later all)
     (ap (λ (xs : List Command). Ok (contents xs (warnings_of first ++ later))) (sym a) ∙ ap (λ (ys : List Warning). Ok (contents cs ys)) (sym b))
 
+-- Warnings.
+no_warning : (first : PlacedText) (ws : List PlacedText) → is_ignored first ≡ false → [] ≡ warning_of (first ∷ ws)
+no_warning first ws h = rw h refl
+
+comment_not_ignored : (first : PlacedText) → is_comment first ≡ true → is_ignored first ≡ false
+comment_not_ignored first is =
+    ⊎_elim
+    (λ (yes : is_ignored first ≡ true). absurd (false≢true (sym (ignored_no_comment first yes) ∙ is)))
+    (λ (other : is_ignored first ≡ false). other)
+    (cases_Bool (is_ignored first))
+
+warnings_of_words : (bytes : List ℕ) (ws : List PlacedText) (m : Meaning) → WordsMean bytes ws m → warnings_of m ≡ warning_of ws
+warnings_of_words bytes [] Nothing h = refl
+warnings_of_words bytes (first ∷ ws) Nothing h = no_warning first ws (comment_not_ignored first h)
+warnings_of_words bytes [] (Says c) h = refl
+warnings_of_words bytes (first ∷ ws) (Says c) h = let b = begins_first first ws (has_first bytes (first ∷ ws) c h.1) in no_warning first ws b.ignored
+warnings_of_words bytes [] (Warns (Ignored s)) h = absurd h.1
+warnings_of_words bytes (first ∷ ws) (Warns (Ignored s)) (whole, (ignored, same)) = rw ignored (ap (λ (x : Span). Ignored x ∷ []) same)
+
+pub warnings_are : (number : ℕ) (ls : List (List ℕ)) (cs : List Command) (ws : List Warning) → SayAll number ls cs ws → ws ≡ warnings_in number ls
+warnings_are number [] cs ws (a, b) = b
+warnings_are number (line ∷ more) cs ws (first, others, later, one, all, a, b) =
+    b ∙ ap (λ (xs : List Warning). xs ++ later) (warnings_of_words line (words number 0 line) first one.1)
+    ∙ ap (λ (xs : List Warning). warning_of (words number 0 line) ++ xs) (warnings_are (number + 1) more others later all)
+
+pub are_warned : {X : Type 0} (view : X → Contents) (ls : List (List ℕ)) (r : Result X ReadFault) → Gives view r (lines_at 1 ls) → IfOk r (λ x. (view x).warnings ≡ warnings_in 1 ls)
+are_warned view ls (Ok x) h = warnings_are 1 ls (view x).commands (view x).warnings (lines_ok 1 ls (view x) h)
+are_warned view ls (Err e) h = tt
+
 -- where reading stops
 abbrev StopsAt : ℕ → List (List ℕ) → LineFault → Type 0
 StopsAt number ls f = (front : List (List ℕ)) × (line : List ℕ) × (back : List (List ℕ)) × (cs : List Command) × (ws : List Warning)
     × (ls ≡ front ++ line ∷ back) × SayAll number front cs ws × IsBad (number + length front) line f
 
+-- The order of faults.
+err_is : {A : Type 0} (a b : LineFault) (r : Result A LineFault) → r ≡ Err a → r ≡ Err b → b ≡ a
+err_is a b r p q = let same : Err b ≡ Err a = sym q ∙ p in cc
+
+too_long : (number : ℕ) (line : List ℕ) → 65536 < length line → line_at number line ≡ Err (TooLong (span number 65536 (length line)))
+unfolding line_at text_of
+too_long number line long = let test : nat_lt 65536 (length line) ≡ true = grind arith in rw test refl
+
+not_text : (number : ℕ) (line : List ℕ) → length line ≤ 65536 → text_len line < length line → line_at number line ≡ Err (NotText (span number (text_len line) (text_len line + 1)))
+unfolding line_at text_of
+not_text number line fits bad =
+    let short : nat_lt 65536 (length line) ≡ false = grind arith in
+    let test : nat_eq (text_len line) (length line) ≡ false = grind arith in
+    rw (short, test) refl
+
+read_so : (number : ℕ) (line : List ℕ) (first : PlacedText) (ws : List PlacedText) (r : Result Meaning LineFault) → IsText line → words number 0 line ≡ first ∷ ws
+    → meaning_of line (first ∷ ws) (span number (length line) (length line)) ≡ r → line_at number line ≡ r
+unfolding line_at
+read_so number line first ws r text e m = rw (text_again number line text) (ap (λ (xs : List PlacedText). meaning_of line xs (span number (length line) (length line))) e ∙ m)
+
+with_backslash : (line : List ℕ) (first : PlacedText) (ws : List PlacedText) (end : Span) → is_comment first ≡ false → ends_with_backslash line ≡ true → meaning_of line (first ∷ ws) end ≡ Err (Unsupported (last_of first ws).span)
+unfolding meaning_at
+with_backslash line first ws end comment slash = rw (comment, slash) refl
+
+both_false : (a b : Bool) → (a || b) ≡ false → (a ≡ false) × (b ≡ false)
+both_false false b h = (refl, h)
+both_false true b h = absurd (false≢true (sym h))
+
+abbrev NoneOf : List (List ℕ) → PlacedText → Type 0
+NoneOf keywords first = AllByRecursion (λ k. is_keyword k first ≡ false) keywords
+
+none_of : (keywords : List (List ℕ)) (first : PlacedText) → is_one_of keywords first ≡ false → NoneOf keywords first
+none_of [] first h = tt
+none_of (keyword ∷ more) first h = let p = both_false (is_keyword keyword first) (is_one_of more first) h in (p.0, none_of more first p.1)
+
+abbrev refused : LineFault → Result Command LineFault
+refused f = Err f
+
+picked_fault : (b : Bool) (x y : LineFault) → cond b (refused x) (refused y) ≡ refused (cond b x y)
+picked_fault true x y = refl
+picked_fault false x y = refl
+
+no_command : (bytes : List ℕ) (first : PlacedText) (left : Left) → NoneOf command_keywords first → command_at bytes first left ≡ Err (first_fault first)
+unfolding command_at node_setting_at run_setting_at
+no_command bytes first left (a, (b, (c, (d, (e, (f, (g, (h, (i, (j, (k, (l, _)))))))))))) =
+    rw (a, b, c, d, e, f, g, h, i, j, k, l) (picked_fault (is_left_out first) (Unsupported first.span) (UnknownCommand first.span))
+
+with_no_command : (line : List ℕ) (first : PlacedText) (ws : List PlacedText) (end : Span) → is_comment first ≡ false → ends_with_backslash line ≡ false → is_ignored first ≡ false → NoneOf command_keywords first
+    → meaning_of line (first ∷ ws) end ≡ Err (first_fault first)
+unfolding meaning_at
+with_no_command line first ws end comment slash ignored none = rw (comment, slash, ignored, no_command line first (rest ws end) none) refl
+
+has_order : (number : ℕ) (line : List ℕ) (f : LineFault) → line_at number line ≡ Err f → HasOrder number line f
+has_order number line f e = record {
+  too_long = λ long. err_is _ f (line_at number line) (too_long number line long) e;
+  not_text = λ fits bad. err_is _ f (line_at number line) (not_text number line fits bad) e;
+  backslash = λ text first ws is comment slash. err_is _ f (line_at number line) (read_so number line first ws _ text is (with_backslash line first ws _ comment slash)) e;
+  first_word = λ text first ws is comment slash ignored none. err_is _ f (line_at number line) (read_so number line first ws _ text is (with_no_command line first ws _ comment slash ignored (none_of command_keywords first none))) e;
+}
+
 is_bad : (number : ℕ) (line : List ℕ) (f : LineFault) → line_at number line ≡ Err f → IsBad number line f
-is_bad number line f e = (λ m means. let bad : Ok m ≡ Err f = sym (line_again number line m means) ∙ e in cc, e)
+is_bad number line f e = (λ m means. let bad : Ok m ≡ Err f = sym (line_again number line m means) ∙ e in cc, has_order number line f e, e)
 
 bind_err : {A B : Type 0} (r : Result A LineFault) (k : A → Result B LineFault) (f : LineFault) → (r >>= k) ≡ Err f → (r ≡ Err f) ⊎ ((x : A) × (r ≡ Ok x) × (k x ≡ Err f))
 bind_err (Ok x) k f e = inr (x, refl, e)

@@ -1,10 +1,10 @@
 -- Which words spell a command, and which lines spell a file.
-use Rattle.std.specs.Prelude.{◌≡◌, ℕ, ◌+◌, ◌≤◌, ◌⊎◌, true, false, List, [], ◌∷◌, ◌++◌, length, Option, Some, None, Err, codes}
+use Rattle.std.specs.Prelude.{◌≡◌, ℕ, ◌+◌, ◌≤◌, ◌⊎◌, true, false, List, [], ◌∷◌, ◌++◌, length, Option, Some, None, Err, codes, ◌<◌, if◌then◌else◌}
 use Rattle.std.specs.List.{All, AllByRecursion}
 use Rattle.std.specs.Str.{IsUtf8}
 use Rattle.dag_reader.specs.declared.fields.Allowed.{Allowed}
 use Rattle.dag_reader.specs.declared.command.Command.{Command}
-use Rattle.dag_reader.specs.declared.command.Command.TheVariants.{Job, ParentChild, Script, Retry, PreSkip, Priority, Category, MaxJobs, AbortDagOn, Final, Splice}
+use Rattle.dag_reader.specs.declared.command.Command.TheVariants.{Job, ParentChild, Script, Retry, PreSkip, Vars, Priority, Category, MaxJobs, AbortDagOn, Final, Splice}
 use Rattle.dag_reader.specs.declared.command.ScriptKind.{ScriptKind}
 use Rattle.dag_reader.specs.declared.command.ScriptKind.TheVariants.{Pre, Post}
 use Rattle.dag_reader.specs.declared.command.Warning.{Warning}
@@ -14,14 +14,17 @@ use Rattle.dag_reader.specs.declared.command.Meaning.TheVariants.{Nothing, Says,
 use Rattle.dag_reader.specs.declared.command.Target.{Target}
 use Rattle.dag_reader.specs.declared.command.Target.TheVariants.{Node, AllNodes}
 use Rattle.dag_reader.specs.Word.{PlacedText}
-use Rattle.dag_reader.specs.Words.{words}
-use Rattle.dag_reader.specs.Keywords.{is_keyword, is_category, is_ignored, is_name, is_inline, is_comment}
+use Rattle.dag_reader.specs.Words.{words, last_of}
+use Rattle.dag_reader.specs.Keywords.{is_keyword, is_one_of, command_keywords, is_left_out, is_category, is_ignored, is_name, is_inline, is_comment}
 use Rattle.dag_reader.specs.Numbers.{integer, count, positive, nonzero}
-use Rattle.dag_reader.specs.Lines.{is_control, ends_with_backslash}
+use Rattle.dag_reader.specs.Lines.{is_control, text_len, ends_with_backslash}
 use Rattle.dag_reader.specs.declared.fault.LineFault.{LineFault}
+use Rattle.dag_reader.specs.declared.fault.LineFault.TheVariants.{NotText, UnknownCommand, Unsupported, TooLong}
 use Rattle.dag_reader.specs.declared.fault.ReadFault.{ReadFault}
 use Rattle.dag_reader.specs.declared.fault.ReadFault.TheVariants as faults
-use Rattle.dag_reader.specs.Reading.{NodeOptions, no_options, line_at, commands_of, warnings_of}
+use Rattle.dag_reader.specs.MacroReading.{behind}
+use Rattle.dag_reader.specs.MacroGrammar.{SpellsPlaced}
+use Rattle.dag_reader.specs.Reading.{NodeOptions, no_options, span, line_at, commands_of, warnings_of}
 
 abbrev pub Is : List ℕ → PlacedText → Type 0
 Is keyword w = is_keyword keyword w ≡ true
@@ -63,34 +66,37 @@ abbrev pub keyword_of : ScriptKind → List ℕ
 keyword_of Pre = codes "PRE"
 keyword_of Post = codes "POST"
 
--- These words spell this command.
-abbrev pub Spells : Command → List PlacedText → Type 0
-Spells (Job name file dir noop done) ws = (k : PlacedText) × (options : List PlacedText) × (ws ≡ k ∷ name ∷ file ∷ options)
+-- These words of a line with these bytes spell this command.
+abbrev pub Spells : List ℕ → Command → List PlacedText → Type 0
+Spells bytes (Job name file dir noop done) ws = (k : PlacedText) × (options : List PlacedText) × (ws ≡ k ∷ name ∷ file ∷ options)
     × Is (codes "JOB") k × IsName name × IsFile file
     × SpellsOptions (record { noop = true; done = true }) options (record { dir = dir; noop = noop; done = done })
-Spells (ParentChild parents children) ws = (p c : PlacedText) × (ws ≡ p ∷ parents ++ c ∷ children)
+Spells bytes (ParentChild parents children) ws = (p c : PlacedText) × (ws ≡ p ∷ parents ++ c ∷ children)
     × Is (codes "PARENT") p × AreNames parents × (1 ≤ length parents)
     × Is (codes "CHILD") c × AreNames children × (1 ≤ length children)
-Spells (Script kind target program arguments) ws = (s k node : PlacedText) × (ws ≡ s ∷ k ∷ node ∷ program ∷ arguments)
+Spells bytes (Script kind target program arguments) ws = (s k node : PlacedText) × (ws ≡ s ∷ k ∷ node ∷ program ∷ arguments)
     × Is (codes "SCRIPT") s × Is (keyword_of kind) k × SpellsTarget target node
-Spells (Retry target retries unless_exit) ws = (k node n : PlacedText) × (ending : List PlacedText) × (ws ≡ k ∷ node ∷ n ∷ ending)
+Spells bytes (Retry target retries unless_exit) ws = (k node n : PlacedText) × (ending : List PlacedText) × (ws ≡ k ∷ node ∷ n ∷ ending)
     × Is (codes "RETRY") k × SpellsTarget target node × (count 1000000 n.text ≡ Some retries)
     × SpellsKeyed (codes "UNLESS-EXIT") integer unless_exit ending
-Spells (PreSkip target v) ws = (p node n : PlacedText) × (ws ≡ p ∷ node ∷ n ∷ [])
+Spells bytes (PreSkip target v) ws = (p node n : PlacedText) × (ws ≡ p ∷ node ∷ n ∷ [])
     × Is (codes "PRE_SKIP") p × SpellsTarget target node × (nonzero (integer n.text) ≡ Some v)
-Spells (Priority target k) ws = (p node n : PlacedText) × (ws ≡ p ∷ node ∷ n ∷ [])
+Spells bytes (Vars target placement macros) ws = (k node : PlacedText) × (more : List PlacedText) × (ws ≡ k ∷ node ∷ more)
+    × Is (codes "VARS") k × SpellsTarget target node × (1 ≤ length macros)
+    × SpellsPlaced (behind node.span bytes) placement macros
+Spells bytes (Priority target k) ws = (p node n : PlacedText) × (ws ≡ p ∷ node ∷ n ∷ [])
     × Is (codes "PRIORITY") p × SpellsTarget target node × (integer n.text ≡ Some k)
-Spells (Category target category) ws = (k node : PlacedText) × (ws ≡ k ∷ node ∷ category ∷ [])
+Spells bytes (Category target category) ws = (k node : PlacedText) × (ws ≡ k ∷ node ∷ category ∷ [])
     × Is (codes "CATEGORY") k × SpellsTarget target node × (is_category category ≡ true)
-Spells (MaxJobs category limit) ws = (k n : PlacedText) × (ws ≡ k ∷ category ∷ n ∷ [])
+Spells bytes (MaxJobs category limit) ws = (k n : PlacedText) × (ws ≡ k ∷ category ∷ n ∷ [])
     × Is (codes "MAXJOBS") k × (is_category category ≡ true) × (positive (count 1000000 n.text) ≡ Some limit)
-Spells (AbortDagOn target v status) ws = (k node n : PlacedText) × (ending : List PlacedText) × (ws ≡ k ∷ node ∷ n ∷ ending)
+Spells bytes (AbortDagOn target v status) ws = (k node n : PlacedText) × (ending : List PlacedText) × (ws ≡ k ∷ node ∷ n ∷ ending)
     × Is (codes "ABORT-DAG-ON") k × SpellsTarget target node × (integer n.text ≡ Some v)
     × SpellsKeyed (codes "RETURN") (count 255) status ending
-Spells (Final name file dir noop) ws = (k : PlacedText) × (options : List PlacedText) × (ws ≡ k ∷ name ∷ file ∷ options)
+Spells bytes (Final name file dir noop) ws = (k : PlacedText) × (options : List PlacedText) × (ws ≡ k ∷ name ∷ file ∷ options)
     × Is (codes "FINAL") k × IsName name × IsFile file
     × SpellsOptions (record { noop = true; done = false }) options (record { dir = dir; noop = noop; done = false })
-Spells (Splice name file dir) ws = (k : PlacedText) × (options : List PlacedText) × (ws ≡ k ∷ name ∷ file ∷ options)
+Spells bytes (Splice name file dir) ws = (k : PlacedText) × (options : List PlacedText) × (ws ≡ k ∷ name ∷ file ∷ options)
     × Is (codes "SPLICE") k × IsName name
     × SpellsOptions (record { noop = false; done = false }) options (record { dir = dir; noop = false; done = false })
 
@@ -113,7 +119,7 @@ Warn (Ignored s) (first ∷ ws) = (is_ignored first ≡ true) × (s ≡ first.sp
 -- What words mean, the last bytes of whose line are these: nothing, one command, or a warning.
 abbrev pub WordsMean : List ℕ → List PlacedText → Meaning → Type 0
 WordsMean bytes ws Nothing = AreSilent ws
-WordsMean bytes ws (Says c) = (ends_with_backslash bytes ≡ false) × Spells c ws
+WordsMean bytes ws (Says c) = (ends_with_backslash bytes ≡ false) × Spells bytes c ws
 WordsMean bytes ws (Warns w) = (ends_with_backslash bytes ≡ false) × Warn w ws
 
 -- what a line with this number means
@@ -127,9 +133,33 @@ SayAll number (line ∷ more) cs ws = (first : Meaning) × (others : List Comman
     × Means number line first × SayAll (number + 1) more others later
     × (cs ≡ commands_of first ++ others) × (ws ≡ warnings_of first ++ later)
 
--- A line with this number that has this fault: it means nothing that a line may mean.
+-- The warnings of lines, the first of which has this number: one for each line whose first word is that of a line that has
+-- no effect.
+abbrev pub warning_of : List PlacedText → List Warning
+warning_of [] = []
+warning_of (first ∷ ws) = if is_ignored first then Ignored first.span ∷ [] else []
+
+abbrev pub warnings_in : ℕ → List (List ℕ) → List Warning
+warnings_in number [] = []
+warnings_in number (line ∷ more) = warning_of (words number 0 line) ++ warnings_in (number + 1) more
+
+-- The fault of a line whose first word is no command.
+abbrev pub first_fault : PlacedText → LineFault
+first_fault first = if is_left_out first then Unsupported first.span else UnknownCommand first.span
+
+-- The order of faults in a line: its length, its bytes, a backslash at its end unless it is a comment, and its first word.
+-- Behind that the words are read from the left.
+pub record HasOrder (number : ℕ) (line : List ℕ) (f : LineFault) : Type 0 where
+  pub too_long : 65536 < length line → f ≡ TooLong (span number 65536 (length line))
+  pub not_text : length line ≤ 65536 → text_len line < length line → f ≡ NotText (span number (text_len line) (text_len line + 1))
+  pub backslash : IsText line → (first : PlacedText) (ws : List PlacedText) → words number 0 line ≡ first ∷ ws → is_comment first ≡ false
+      → ends_with_backslash line ≡ true → f ≡ Unsupported (last_of first ws).span
+  pub first_word : IsText line → (first : PlacedText) (ws : List PlacedText) → words number 0 line ≡ first ∷ ws → is_comment first ≡ false
+      → ends_with_backslash line ≡ false → is_ignored first ≡ false → is_one_of command_keywords first ≡ false → f ≡ first_fault first
+
+-- A line with this number that has this fault: it means nothing that a line may mean, and the fault is the first from the left.
 abbrev pub IsBad : ℕ → List ℕ → LineFault → Type 0
-IsBad number line f = ((m : Meaning) → Means number line m → ⊥) × (line_at number line ≡ Err f)
+IsBad number line f = ((m : Meaning) → Means number line m → ⊥) × HasOrder number line f × (line_at number line ≡ Err f)
 
 -- The fault is that of a line, and the lines before it have commands and warnings.
 abbrev pub IsFirstBad : List (List ℕ) → ReadFault → Type 0

@@ -12,6 +12,11 @@ is_keyword keyword word = str_eq_ignore_ascii_case word.text keyword
 abbrev pub is_one_of : List (List ℕ) → PlacedText → Bool
 is_one_of keywords word = list_any (λ keyword. is_keyword keyword word) keywords
 
+abbrev pub command_keywords : List (List ℕ)
+command_keywords = codes "JOB" ∷ codes "PARENT" ∷ codes "FINAL" ∷ codes "SPLICE"
+    ∷ codes "SCRIPT" ∷ codes "RETRY" ∷ codes "PRE_SKIP" ∷ codes "VARS" ∷ codes "PRIORITY"
+    ∷ codes "CATEGORY" ∷ codes "MAXJOBS" ∷ codes "ABORT-DAG-ON" ∷ []
+
 abbrev pub left_out_files : List (List ℕ)
 left_out_files = codes "SUBDAG" ∷ codes "INCLUDE" ∷ codes "CONFIG" ∷ codes "ENV" ∷ codes "SUBMIT-DESCRIPTION" ∷ []
 
@@ -19,7 +24,7 @@ abbrev pub left_out_services : List (List ℕ)
 left_out_services = codes "PROVISIONER" ∷ codes "SERVICE" ∷ codes "CONNECT" ∷ codes "PIN_IN" ∷ codes "PIN_OUT" ∷ []
 
 abbrev pub left_out_settings : List (List ℕ)
-left_out_settings = codes "SAVE_POINT_FILE" ∷ codes "REJECT" ∷ codes "DONE" ∷ codes "VARS" ∷ []
+left_out_settings = codes "SAVE_POINT_FILE" ∷ codes "REJECT" ∷ codes "DONE" ∷ []
 
 -- the word is a command that this program leaves out
 unfoldable pub is_left_out : PlacedText → Bool

@@ -5,5 +5,10 @@ pub mod Keywords
 pub mod Numbers
 pub mod Lines
 pub mod Fault
+pub mod Results
+pub mod Macros
+pub mod MacroReading
+pub mod MacroReader
+pub mod MacroGrammar
 pub mod Reading
 pub mod Grammar

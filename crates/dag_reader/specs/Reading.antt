@@ -6,9 +6,10 @@ use Rattle.dag_reader.specs.declared.fault.LineFault.TheVariants.{NotText, Unkno
 use Rattle.dag_reader.specs.declared.fault.ReadFault.{ReadFault}
 use Rattle.dag_reader.specs.declared.fault.ReadFault.TheVariants as faults
 use Rattle.dag_reader.specs.declared.command.Command.{Command}
-use Rattle.dag_reader.specs.declared.command.Command.TheVariants.{Job, ParentChild, Script, Retry, PreSkip, Priority, Category, MaxJobs, AbortDagOn, Final, Splice}
+use Rattle.dag_reader.specs.declared.command.Command.TheVariants.{Job, ParentChild, Script, Retry, PreSkip, Vars, Priority, Category, MaxJobs, AbortDagOn, Final, Splice}
 use Rattle.dag_reader.specs.declared.command.ScriptKind.{ScriptKind}
 use Rattle.dag_reader.specs.declared.command.ScriptKind.TheVariants.{Pre, Post}
+use Rattle.dag_reader.specs.declared.command.Macro.{Macro}
 use Rattle.dag_reader.specs.declared.command.Warning.{Warning}
 use Rattle.dag_reader.specs.declared.command.Warning.TheVariants.{Ignored}
 use Rattle.dag_reader.specs.declared.command.Meaning.{Meaning}
@@ -17,23 +18,20 @@ use Rattle.dag_reader.specs.declared.command.DagFile.{DagFile}
 use Rattle.dag_reader.specs.declared.command.Target.{Target}
 use Rattle.dag_reader.specs.declared.command.Target.TheVariants.{Node, AllNodes}
 use Rattle.dag_reader.specs.Word.{PlacedText}
+pub use Rattle.dag_reader.specs.Results.{◌>>=◌}
 use Rattle.dag_reader.specs.LineReader.{Left, word_of, first_left}
 use Rattle.dag_reader.specs.Keywords.{is_keyword, is_left_out, is_ignored, is_left_out_script, is_category, is_name, is_target, is_inline, is_comment}
 use Rattle.dag_reader.specs.Lines.{text_len, ends_with_backslash}
 use Rattle.std.specs.Str.Lines.{lines}
 use Rattle.dag_reader.specs.Numbers.{count, integer, positive, nonzero}
 use Rattle.dag_reader.specs.Words.{last_of}
+use Rattle.dag_reader.specs.MacroReading.{behind, placement_ahead, macros_ahead}
 use Rattle.dag_reader.specs.declared.fields.Allowed.{Allowed}
 use Rattle.dag_reader.specs.declared.fields.Options.{Options}
 use Rattle.std.specs.Option.{option_map}
 
-infixl 10 ◌>>=◌
-abbrev pub ◌>>=◌ : {A B : Type 0} → Result A LineFault → (A → Result B LineFault) → Result B LineFault
-(Ok x) >>= f = f x
-(Err e) >>= f = Err e
-
 -- What a method returned, seen by view, and what it left are what reading gives.
-abbrev pub Reads : {X Y : Type 0} → (X → Y) → Result X LineFault → Left → Result (Y × Left) LineFault → Type 0
+abbrev pub Reads : {X Y S : Type 0} → (X → Y) → Result X LineFault → S → Result (Y × S) LineFault → Type 0
 Reads view (Ok x) left read = read ≡ Ok (view x, left)
 Reads view (Err f) left read = read ≡ Err f
 
@@ -262,6 +260,19 @@ pre_skip_at left = do
   e ← end_at v.1
   Ok (PreSkip (target_of node.0) v.0)
 
+-- one macro or more
+abbrev pub some_macros : List Macro → Span → Result (List Macro) LineFault
+some_macros [] end = Err (MissingWord end)
+some_macros (m ∷ ms) end = Ok (m ∷ ms)
+
+-- the macros behind the node's word, of a line with these bytes
+unfoldable pub vars_at : List ℕ → Left → Result Command LineFault
+vars_at bytes left = do
+  node ← target_at left
+  read ← macros_ahead (placement_ahead (behind node.0.span bytes)).1
+  macros ← some_macros read node.1.end
+  Ok (Vars (target_of node.0) (placement_ahead (behind node.0.span bytes)).0 macros)
+
 unfoldable pub priority_at : Left → Result Command LineFault
 priority_at left = do
   node ← target_at left
@@ -290,7 +301,7 @@ abort_at left = do
   r ← keyed_left (codes "RETURN") (count 255) v.1
   Ok (AbortDagOn (target_of node.0) v.0 r)
 
--- the command that begins with this word
+-- the command that begins with this word, of a line with these bytes
 unfoldable pub run_setting_at : PlacedText → Left → Result Command LineFault
 run_setting_at first left =
     if is_keyword (codes "CATEGORY") first then category_command_at left
@@ -299,21 +310,22 @@ run_setting_at first left =
     else if is_left_out first then Err (Unsupported first.span)
     else Err (UnknownCommand first.span)
 
-unfoldable pub node_setting_at : PlacedText → Left → Result Command LineFault
-node_setting_at first left =
+unfoldable pub node_setting_at : List ℕ → PlacedText → Left → Result Command LineFault
+node_setting_at bytes first left =
     if is_keyword (codes "SCRIPT") first then script_at left
     else if is_keyword (codes "RETRY") first then retry_at left
     else if is_keyword (codes "PRE_SKIP") first then pre_skip_at left
+    else if is_keyword (codes "VARS") first then vars_at bytes left
     else if is_keyword (codes "PRIORITY") first then priority_at left
     else run_setting_at first left
 
-unfoldable pub command_at : PlacedText → Left → Result Command LineFault
-command_at first left =
+unfoldable pub command_at : List ℕ → PlacedText → Left → Result Command LineFault
+command_at bytes first left =
     if is_keyword (codes "JOB") first then job_at left
     else if is_keyword (codes "PARENT") first then parent_child_at left
     else if is_keyword (codes "FINAL") first then final_at left
     else if is_keyword (codes "SPLICE") first then splice_at left
-    else node_setting_at first left
+    else node_setting_at bytes first left
 
 abbrev pub span : ℕ → ℕ → ℕ → Span
 span line start stop = record { line = line; start = start; stop = stop }
@@ -331,7 +343,7 @@ meaning_at bytes first left =
     if is_comment first then Ok Nothing
     else if ends_with_backslash bytes then Err (Unsupported (last_of first left.words).span)
     else if is_ignored first then Ok (Warns (Ignored first.span))
-    else (command_at first left >>= λ c. Ok (Says c))
+    else (command_at bytes first left >>= λ c. Ok (Says c))
 
 -- the same, also where there is no word
 abbrev pub meaning_of : List ℕ → List PlacedText → Span → Result Meaning LineFault
@@ -342,7 +354,7 @@ meaning_of bytes (first ∷ ws) end = meaning_at bytes first (record { words = w
 unfoldable pub line_at : ℕ → List ℕ → Result Meaning LineFault
 line_at number bytes = do
   text ← text_of number bytes
-  meaning_of bytes (first_left number text).words (first_left number text).end
+  meaning_of text (first_left number text).words (first_left number text).end
 
 -- the commands and the warnings of some lines
 pub record Contents : Type 0 where

@@ -2,7 +2,9 @@
 
 use crate::span::Span;
 use crate::word::{Word, Words};
+use std::alloc::{AllocError, Global};
 use std::fmt;
+use std::marker::Model;
 
 /// The node that a setting is for.
 #[derive(Debug, Drop)]
@@ -22,6 +24,73 @@ pub enum ScriptKind {
 
     /// After the node's job.
     Post,
+}
+
+/// Where the macros of a VARS line stand.
+#[derive(Clone, Copy, Debug, PartialEq, Eq)]
+pub enum Placement {
+    /// Before the assignments of the submit file.
+    Prepend,
+
+    /// Behind them.
+    Append,
+}
+
+/// A macro: its name, and its text without the quotes and the backslashes of escapes. The span of
+/// the text holds its quotes.
+#[derive(Debug, Drop)]
+pub struct Macro {
+    pub name: Word,
+    pub text: Word,
+}
+
+/// Macros, as the line has them. A contract sees the list of them.
+#[derive(Debug, Drop)]
+pub struct Macros {
+    items: Vec<Macro>,
+}
+
+impl Model for Macros {
+    ghost use Rattle.std.specs.Prelude.{List};
+    ghost use Rattle.dag_reader.specs.declared.command.Macro.{Macro};
+
+    ghost Value = { List Macro };
+
+    ghost view = { λ m. m.items.items };
+}
+
+impl Macros {
+    ghost use Rattle.std.specs.Prelude.{◌≡◌, ◌==◌, ◌++◌, [], ◌∷◌, length, IfOk, OnErr};
+
+    /// The macros as a slice.
+    pub fn as_slice(&self) -> &[Macro]
+        ensures { result.now ≡ self.now }
+    {
+        self.items.as_slice()
+    }
+
+    /// Whether there are none.
+    pub fn is_empty(&self) -> bool
+        ensures { result ≡ (length self.now == 0) }
+    {
+        self.items.is_empty()
+    }
+
+    pub(crate) fn new(alloc: Global) -> Macros
+        ensures { result ≡ [] }
+    {
+        Macros {
+            items: Vec::new(alloc),
+        }
+    }
+
+    pub(crate) fn push(&mut self, one: Macro) -> Result<(), AllocError>
+        ensures ok { IfOk result (λ _. self.new ≡ self.old ++ one ∷ []) }
+        ensures err { OnErr result (self.new ≡ self.old) }
+    {
+        self.items.push(one)?;
+        Ok(())
+    }
 }
 
 /// What one line of a DAG file says, as the chapter "DAG input file commands" of the HTCondor
@@ -63,6 +132,13 @@ pub enum Command {
     PreSkip {
         node: Target,
         value: i32,
+    },
+
+    /// `VARS node [PREPEND|APPEND] macro="text" ..`: one macro or more for a node's submit file.
+    Vars {
+        node: Target,
+        placement: Placement,
+        macros: Macros,
     },
 
     /// `PRIORITY node k`: how early a node starts; higher is earlier.

@@ -7,7 +7,7 @@ ghost use Rattle.dag_reader.specs.LineReader.{left_of, word_of};
 ghost use Rattle.dag_reader.specs.Lines.{text_len, is_control, ends_with_backslash};
 ghost use Rattle.dag_reader.specs.declared.command.Command.{Command};
 ghost use Rattle.dag_reader.specs.declared.command.Warning.{Warning};
-ghost use Rattle.dag_reader.specs.Grammar.{SayAll, IsFirstBad};
+ghost use Rattle.dag_reader.specs.Grammar.{SayAll, IsFirstBad, warnings_in};
 ghost use Rattle.dag_reader.specs.Reading.{Gives, Answers, text_of, meaning_at, line_at, contents_of, text_at};
 
 use crate::command::{DagFile, Meaning, Warning};
@@ -39,6 +39,9 @@ pub fn read_dag(alloc: Global, text: &[u8]) -> Result<DagFile, ReadFault>
 
     // A fault is that of the first bad line.
     ensures first_bad { IfErr result (λ e. IsFirstBad (lines text.now) e) }
+
+    // There is one warning for each line that begins with the word of an ignored command.
+    ensures warnings { IfOk result (λ file. file.warnings.items ≡ warnings_in 1 (lines text.now)) }
 
     // Which fault it is: that which reading the words from the left meets first.
     ensures exact { Gives contents_of result (text_at text.now) }
@@ -76,30 +79,30 @@ fn read_line(alloc: Global, number: usize, bytes: &[u8]) -> Result<Meaning, Read
     let Some(first) = line.next_word() else {
         return Ok(Meaning::Nothing);
     };
-    read_words(alloc, bytes, first, &mut line)
+    read_words(alloc, text, first, &mut line)
 }
 
-/// What the words of a line mean, whose first is this one and whose bytes are these.
+/// What the words of a line mean, whose first is this one and whose text is this.
 #[tactic(auto, unfolding(crate::specs::Reading::meaning_at))]
 fn read_words<'a>(
     alloc: Global,
-    bytes: &[u8],
+    text: &str,
     first: Token<'a>,
     line: &mut LineReader<'a>,
 ) -> Result<Meaning, ReadFault>
-    ensures { Gives (λ m. m) result (meaning_at bytes.now (word_of first.entry) (left_of line.old)) }
+    ensures { Gives (λ m. m) result (meaning_at text.now (word_of first.entry) (left_of line.old)) }
 {
     if first.is_comment() {
         return Ok(Meaning::Nothing);
     }
-    if ends_with_backslash(bytes) {
+    if ends_with_backslash(text.as_bytes()) {
         let last = line.last_word(first);
         return Err(ReadFault::Line(LineFault::Unsupported(last.span)));
     }
     if first.is_ignored() {
         return Ok(Meaning::Warns(Warning::Ignored(first.span)));
     }
-    Ok(Meaning::Says(command(alloc, first, line)?))
+    Ok(Meaning::Says(command(alloc, text, first, line)?))
 }
 
 /// The bytes of a line as a text. The line's number, from 1, stands in the fault's span.

@@ -7,12 +7,13 @@ mod fault;
 mod fields;
 pub mod laws;
 mod line;
+mod macro_reader;
 mod reading;
 mod span;
 mod token;
 mod word;
 
-pub use command::{Command, DagFile, ScriptKind, Target, Warning};
+pub use command::{Command, DagFile, Macro, Macros, Placement, ScriptKind, Target, Warning};
 pub use dag_file::{line_text, read_dag, split_line};
 pub use fault::{LineFault, ReadFault};
 pub use line::LineReader;

@@ -91,7 +91,7 @@ fn word_end(bytes: &[u8], at: usize) -> usize
     end
 }
 
-fn is_blank(byte: u8) -> bool
+pub(crate) fn is_blank(byte: u8) -> bool
     ensures { result ≡ is_blank byte }
 {
     byte == b' ' || byte == b'\t'

@@ -3,12 +3,13 @@
 ghost use Rattle.std.specs.Prelude.{◌≡◌, IfOk};
 ghost use Rattle.std.specs.Option.{option_map};
 ghost use Rattle.dag_reader.specs.LineReader.{left_of, word_of};
-ghost use Rattle.dag_reader.specs.Reading.{Gives, job_at, parent_child_at, final_at, splice_at, script_at, retry_at, pre_skip_at, priority_at, category_command_at, max_jobs_at, abort_at, command_at, node_setting_at, run_setting_at};
+ghost use Rattle.dag_reader.specs.Reading.{Gives, job_at, parent_child_at, final_at, splice_at, script_at, retry_at, pre_skip_at, vars_at, priority_at, category_command_at, max_jobs_at, abort_at, command_at, node_setting_at, run_setting_at};
 
 use crate::command::Command;
 use crate::fault::{LineFault, ReadFault};
 use crate::fields::Allowed;
 use crate::line::LineReader;
+use crate::macro_reader::MacroReader;
 use crate::token::Token;
 use crate::word::Word;
 use std::alloc::{AllocError, Global};
@@ -19,10 +20,11 @@ const MOST: u32 = 1_000_000;
 #[tactic(auto, unfolding(crate::specs::Reading::command_at))]
 pub(crate) fn command(
     alloc: Global,
+    text: &str,
     first: Token<'_>,
     line: &mut LineReader<'_>,
 ) -> Result<Command, ReadFault>
-    ensures { Gives (λ c. c) result (command_at (word_of first.entry) (left_of line.old)) }
+    ensures { Gives (λ c. c) result (command_at text.now (word_of first.entry) (left_of line.old)) }
 {
     if first.is("JOB") {
         return job(alloc, line);
@@ -36,17 +38,18 @@ pub(crate) fn command(
     if first.is("SPLICE") {
         return splice(alloc, line);
     }
-    node_setting(alloc, first, line)
+    node_setting(alloc, text, first, line)
 }
 
 /// The setting of a node that begins with the word `first`.
 #[tactic(auto, unfolding(crate::specs::Reading::node_setting_at))]
 fn node_setting(
     alloc: Global,
+    text: &str,
     first: Token<'_>,
     line: &mut LineReader<'_>,
 ) -> Result<Command, ReadFault>
-    ensures { Gives (λ c. c) result (node_setting_at (word_of first.entry) (left_of line.old)) }
+    ensures { Gives (λ c. c) result (node_setting_at text.now (word_of first.entry) (left_of line.old)) }
 {
     if first.is("SCRIPT") {
         return script(alloc, line);
@@ -56,6 +59,9 @@ fn node_setting(
     }
     if first.is("PRE_SKIP") {
         return pre_skip(alloc, line);
+    }
+    if first.is("VARS") {
+        return vars(alloc, text, line);
     }
     if first.is("PRIORITY") {
         return priority(alloc, line);
@@ -191,6 +197,24 @@ fn pre_skip(alloc: Global, line: &mut LineReader<'_>) -> Result<Command, ReadFau
     Ok(Command::PreSkip {
         node: node.to_target(alloc)?,
         value,
+    })
+}
+
+#[tactic(auto, unfolding(crate::specs::Reading::vars_at))]
+fn vars(alloc: Global, text: &str, line: &mut LineReader<'_>) -> Result<Command, ReadFault>
+    ensures { Gives (λ c. c) result (vars_at text.now (left_of line.old)) }
+{
+    let node = line.target()?;
+    let mut ahead = MacroReader::new(text, node.span);
+    let placement = ahead.placement();
+    let macros = ahead.macros(alloc)?;
+    if macros.is_empty() {
+        return Err(ReadFault::Line(LineFault::MissingWord(line.end())));
+    }
+    Ok(Command::Vars {
+        node: node.to_target(alloc)?,
+        placement,
+        macros,
     })
 }
 

@@ -8,6 +8,9 @@ use crate::span::Span;
 use crate::word::Word;
 use std::alloc::{AllocError, Global};
 
+/// The most bytes of a name or a category.
+const LONGEST_NAME: usize = 255;
+
 /// A word that still stands in its line, and its place.
 #[derive(Clone, Copy, Debug)]
 pub struct Token<'a> {
@@ -62,7 +65,7 @@ impl Token<'_> {
     fn is_one_of_settings(&self) -> bool
         ensures { result ≡ is_one_of left_out_settings (word_of self.now) }
     {
-        self.is("SAVE_POINT_FILE") || self.is("REJECT") || self.is("DONE") || self.is("VARS")
+        self.is("SAVE_POINT_FILE") || self.is("REJECT") || self.is("DONE")
     }
 
     /// Whether a line that begins with the word is read and has no effect.
@@ -89,7 +92,7 @@ impl Token<'_> {
     pub(crate) fn is_category(&self) -> bool
         ensures { result ≡ is_category (word_of self.now) }
     {
-        self.text.len() <= 255
+        self.text.len() <= LONGEST_NAME
     }
 
     /// Whether the word can name a node.
@@ -97,7 +100,7 @@ impl Token<'_> {
     pub(crate) fn is_name(&self) -> bool
         ensures { result ≡ is_name (word_of self.now) }
     {
-        self.text.len() <= 255
+        self.text.len() <= LONGEST_NAME
             && !self.joins_names()
             && !self.is("PARENT")
             && !self.is("CHILD")

@@ -1,8 +1,8 @@
 -- A table of outcomes: what each phase of each attempt of each node comes to.
 use Rattle.std.specs.Prelude.{◌≡◌, ℕ, Bool, true, false, ◌&&◌, ◌==◌, List, map, filter, None, unwrap_or, IsTrue}
-use Rattle.node_machine.specs.Story.{is_possible}
 use Rattle.std.specs.List.{last_or}
 use Rattle.std.specs.Str.{bytes_eq}
+use Rattle.node_machine.specs.Story.{is_possible}
 use Rattle.node_machine.specs.declared.Phase.{Phase}
 use Rattle.node_machine.specs.declared.Phase.TheVariants.{Pre, Job, Post}
 use Rattle.node_machine.specs.declared.Outcome.{Outcome}

@@ -20,13 +20,15 @@ phase_keyword Post = codes "POST"
 -- How a phase ended: an exit code alone, the keyword and the number of a signal, or a keyword.
 abbrev pub SpellsOutcome : Outcome → List PlacedText → Type 0
 SpellsOutcome (Exit code) ws = (c : PlacedText) × (ws ≡ c ∷ []) × (count 255 c.text ≡ Some code)
-SpellsOutcome (Signal number) ws = (k n : PlacedText) × (ws ≡ k ∷ n ∷ []) × Is (codes "SIGNAL") k × (1 ≤ number) × (count 127 n.text ≡ Some number)
+SpellsOutcome (Signal number) ws = (k n : PlacedText) × (ws ≡ k ∷ n ∷ []) × Is (codes "SIGNAL") k
+    × (1 ≤ number) × (count 127 n.text ≡ Some number)
 SpellsOutcome NoStart ws = (k : PlacedText) × (ws ≡ k ∷ []) × Is (codes "NOSTART") k
 SpellsOutcome Untold ws = (k : PlacedText) × (ws ≡ k ∷ []) × Is (codes "UNTOLD") k
 
 -- The node's name, which is any word that begins no comment, the attempt, the phase, and how it ended.
 abbrev pub SpellsEntry : Entry → List PlacedText → Type 0
-SpellsEntry entry ws = (name attempt phase : PlacedText) × (outcome : List PlacedText) × (ws ≡ name ∷ attempt ∷ phase ∷ outcome)
+SpellsEntry entry ws = (name attempt phase : PlacedText) × (outcome : List PlacedText)
+    × (ws ≡ name ∷ attempt ∷ phase ∷ outcome)
     × (is_comment name ≡ false) × (entry.name ≡ name.text) × (count 1000000 attempt.text ≡ Some entry.attempt)
     × Is (phase_keyword entry.phase) phase × SpellsOutcome entry.outcome outcome
 
@@ -47,6 +49,7 @@ SayAll number (line ∷ more) entries = (first : Option Entry) × (others : List
 
 -- The line with this number says neither an entry nor nothing, and each line before it does.
 abbrev pub IsFirstBad : List (List ℕ) → ℕ → Type 0
-IsFirstBad ls number = (front : List (List ℕ)) × (line : List ℕ) × (back : List (List ℕ)) × (entries : List Entry)
+IsFirstBad ls number = (front : List (List ℕ)) × (line : List ℕ) × (back : List (List ℕ))
+    × (entries : List Entry)
     × (ls ≡ front ++ line ∷ back) × SayAll 1 front entries × (number ≡ 1 + length front)
     × ((o : Option Entry) → ¬ (Says number line o))

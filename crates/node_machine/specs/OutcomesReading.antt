@@ -43,10 +43,15 @@ outcome_in (c ∷ []) = ending_in c
 outcome_in (k ∷ n ∷ []) = signal_in k n
 outcome_in (k ∷ n ∷ w ∷ ws) = None
 
+abbrev pub entry_with : PlacedText → ℕ → Phase → Outcome → Entry
+entry_with name attempt phase outcome =
+    record { name = name.text; attempt = attempt; phase = phase; outcome = outcome }
+
+-- the entry of this name and attempt, whose phase is the next word
 unfoldable pub phased_in : PlacedText → ℕ → List PlacedText → Option Entry
 phased_in name attempt [] = None
 phased_in name attempt (w ∷ ws) =
-    option_and_then (λ phase. option_map (λ outcome. record { name = name.text; attempt = attempt; phase = phase; outcome = outcome }) (outcome_in ws)) (phase_in w)
+    option_and_then (λ phase. option_map (entry_with name attempt phase) (outcome_in ws)) (phase_in w)
 
 -- the entry whose name is the first word
 unfoldable pub entry_in : PlacedText → List PlacedText → Option Entry

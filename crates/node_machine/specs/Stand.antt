@@ -16,7 +16,8 @@ first_phase_of course = if course.pre then Pre else Job
 
 -- before an attempt
 abbrev pub stand_before : Course → ℕ → Option ℤ → Bool → Stand
-stand_before course i value good = record { attempt = i; phase = Some (first_phase_of course); value = value; good = good }
+stand_before course i value good =
+    record { attempt = i; phase = Some (first_phase_of course); value = value; good = good }
 
 -- an attempt ends: it is the last, or one more follows
 abbrev pub closed : Course → ℕ → ℤ → Bool → Stand
@@ -29,12 +30,13 @@ abbrev pub step_at : Course → Stand → Option Phase → Outcome → Stand
 step_at course stand None outcome = stand
 step_at course stand (Some Pre) outcome =
     if skips course outcome then closed course stand.attempt (pos 0) true
-    else if is_exit_0 outcome then record { attempt = stand.attempt; phase = Some Job; value = stand.value; good = stand.good }
+    else if is_exit_0 outcome then record stand { phase = Some Job }
     else closed course stand.attempt (value_of outcome) false
 step_at course stand (Some Job) outcome =
-    if course.post then record { attempt = stand.attempt; phase = Some Post; value = stand.value; good = stand.good }
+    if course.post then record stand { phase = Some Post }
     else closed course stand.attempt (value_of outcome) (int_eq (value_of outcome) (pos 0))
-step_at course stand (Some Post) outcome = closed course stand.attempt (value_of outcome) (int_eq (value_of outcome) (pos 0))
+step_at course stand (Some Post) outcome =
+    closed course stand.attempt (value_of outcome) (int_eq (value_of outcome) (pos 0))
 
 -- the phase that comes next ends
 abbrev pub step : Course → Stand → Outcome → Stand

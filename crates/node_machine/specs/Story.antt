@@ -104,7 +104,8 @@ ends_with course phase outcome = if is_noop_job course phase then Exit 0 else ou
 
 -- all attempts of a node, by the outcomes that the table has for each attempt and phase
 unfoldable pub story : Course → (ℕ → Phase → Outcome) → List Attempt
-story course outcomes = attempts_from course (λ i phase. ends_with course phase (outcomes i phase)) 0 course.retries
+story course outcomes =
+    attempts_from course (λ i phase. ends_with course phase (outcomes i phase)) 0 course.retries
 
 -- the phases of these attempts
 abbrev pub phases_of : List Attempt → List Ended
@@ -192,7 +193,8 @@ is_that_phase (Some next) e = is_phase e next.0 next.1
 abbrev pub may_go_on : Course → List Ended → List Ended → Bool
 may_go_on course before [] = true
 may_go_on course before (e ∷ es) =
-    is_that_phase (next_after course before) e && may_end_with course e.phase e.outcome && may_go_on course (before ++ e ∷ []) es
+    is_that_phase (next_after course before) e && may_end_with course e.phase e.outcome
+    && may_go_on course (before ++ e ∷ []) es
 
 -- the phases of a node that ended, each the next after those before
 abbrev pub is_history : Course → List Ended → Bool

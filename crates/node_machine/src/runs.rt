@@ -115,11 +115,12 @@ impl NodeRun {
         ensures stops { self.new ≡ stopped self.old }
         ensures refused { IfErr result (λ fault. (fault ≡ NodeFault.NotRunning) × (self.new ≡ self.old)) }
     {
-        if !self.running {
-            return Err(NodeFault::NotRunning);
+        if self.running {
+            self.running = false;
+            Ok(())
+        } else {
+            Err(NodeFault::NotRunning)
         }
-        self.running = false;
-        Ok(())
     }
 
     /// What the node has come to.

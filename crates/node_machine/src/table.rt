@@ -88,6 +88,7 @@ impl Table {
     ghost use Rattle.node_machine.specs.declared.Phase.{Phase};
 
     /// The table without entries, by which each phase ends with Exit 0.
+    #[tactic(auto, unfolding(crate::specs::TableMaps::table_entries, crate::specs::OutcomeTable::outcome_at))]
     pub fn empty(alloc: Global) -> Table
         ensures entries { result ≡ [] }
         ensures exit_0 { (name : List ℕ) (attempt : ℕ) (phase : Phase)

@@ -1,8 +1,7 @@
 //! Names with their numbers.
 
-ghost use Rattle.std.specs.Prelude.{◌≡◌, ◌++◌, ◌∷◌, [], ◌<◌, false, length, IfSome, OnOk, OnErr, position};
-ghost use Rattle.std.specs.List.{list_any};
-ghost use Rattle.std.specs.Str.{bytes_eq};
+ghost use Rattle.std.specs.Prelude.{◌≡◌, ◌++◌, ◌∷◌, [], ◌<◌, false, length, is_some, IfSome, OnOk, OnErr};
+ghost use Rattle.run_plan.specs.Lines.{is_among, place_in};
 
 use indexmap::IndexSet;
 use std::alloc::{AllocError, Global};
@@ -34,7 +33,8 @@ impl NameTable {
 
     /// The number of a name, if it is there.
     pub(crate) fn number_of(&self, name: &str) -> Option<usize>
-        ensures value { result ≡ position (bytes_eq name.now) self.now }
+        ensures known { is_some result ≡ is_among self.now name.now }
+        ensures place { IfSome result (λ number. number ≡ place_in self.now name.now) }
         ensures within { IfSome result (λ number. number < length self.now) }
     {
         self.names.get_index_of(name)
@@ -42,14 +42,14 @@ impl NameTable {
 
     /// Whether a name is there.
     pub(crate) fn has(&self, name: &str) -> bool
-        ensures { result ≡ list_any (bytes_eq name.now) self.now }
+        ensures { result ≡ is_among self.now name.now }
     {
         self.names.contains(name)
     }
 
     /// Adds a name that is not there; it has the next number.
     pub(crate) fn add(&mut self, alloc: Global, name: &str) -> Result<(), AllocError>
-        requires { list_any (bytes_eq name.now) self.old ≡ false }
+        requires { is_among self.old name.now ≡ false }
         ensures ok { OnOk result (self.new ≡ self.old ++ name.now ∷ []) }
         ensures err { OnErr result (self.new ≡ self.old) }
     {

@@ -45,7 +45,9 @@ run_at runs node = unwrap_or (slice_get runs node) idle
 
 -- whether an ordinary node's abort value stands there
 abbrev pub aborted_in : Plan → List NodeProgress → Bool
-aborted_in plan runs = not (all_below (λ node. not (is_met (node_at plan node).course.abort_on (run_at runs node).stand.value)) (count_of plan))
+aborted_in plan runs =
+    not (all_below (λ node. not (is_met (node_at plan node).course.abort_on (run_at runs node).stand.value))
+    (count_of plan))
 
 -- what a record makes of the nodes, of the flag for an abort, and of the number of job launches
 abbrev pub runs_ended : Plan → List NodeProgress → Record → List NodeProgress

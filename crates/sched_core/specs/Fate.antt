@@ -52,7 +52,9 @@ AreFates plan table fates = (node : ℕ) → node < count_of plan → fates node
 abbrev pub shown : Plan → List Record → ℕ → Fate
 shown plan past node =
     record {
-      state = if is_done plan past node then Done else if is_none (next plan past node) then Error else NotRun;
+      state =
+          if is_done plan past node then Done
+          else if is_none (next plan past node) then Error else NotRun;
       history = history past node;
       attempts = attempts_in plan past node;
       value = value_in plan past node;

@@ -31,7 +31,8 @@ key_at node (Some next) = Some (record { node = node; attempt = next.0; phase = 
 -- a node's next phase
 abbrev pub next : Plan → List Record → ℕ → Option Key
 next plan past node =
-    if (node_at plan node).done then None else key_at node (next_after (node_at plan node).course (history past node))
+    if (node_at plan node).done then None
+    else key_at node (next_after (node_at plan node).course (history past node))
 
 -- a node is done from the start, or after a good last attempt
 abbrev pub is_done : Plan → List Record → ℕ → Bool
@@ -59,7 +60,9 @@ unfoldable pub is_aborted : Plan → List Record → Bool
 is_aborted plan past = not (all_below (λ node. not (has_abort_value plan past node)) (count_of plan))
 
 abbrev pub is_same : Key → Key → Bool
-is_same key other = (key.node == other.node) && (key.attempt == other.attempt) && (phase_number key.phase == phase_number other.phase)
+is_same key other =
+    (key.node == other.node) && (key.attempt == other.attempt)
+    && (phase_number key.phase == phase_number other.phase)
 
 abbrev pub is_among : Key → List Key → Bool
 is_among key [] = false
@@ -87,7 +90,8 @@ is_free plan past (Some key) = not (is_among key (outstanding plan past))
 -- an ordinary node's next phase may be launched
 unfoldable pub is_ready : Plan → List Record → ℕ → Bool
 is_ready plan past node =
-    not (is_aborted plan past) && list_all (is_done plan past) (node_at plan node).parents && is_free plan past (next plan past node)
+    not (is_aborted plan past) && list_all (is_done plan past) (node_at plan node).parents
+    && is_free plan past (next plan past node)
 
 -- the FINAL node's next phase may be launched: it is its turn
 unfoldable pub is_final_ready : Plan → List Record → Bool
@@ -160,12 +164,14 @@ is_nothing (key ∷ keys) = false
 unfoldable pub may_follow : Plan → List Record → Record → Bool
 may_follow plan past Life = not (is_over past)
 may_follow plan past (Launch key number) =
-    is_open past && may_launch plan past key.node && is_next (next plan past key.node) key && (number == launch_number past key)
+    is_open past && may_launch plan past key.node && is_next (next plan past key.node) key
+    && (number == launch_number past key)
 may_follow plan past (End key outcome) =
     is_open past && is_among key (outstanding plan past)
     && (is_possible outcome && may_end_with (node_at plan key.node).course key.phase outcome)
 may_follow plan past (Finish status) =
-    is_open past && is_nothing (outstanding plan past) && all_below (λ node. not (may_launch plan past node)) (suc (count_of plan))
+    is_open past && is_nothing (outstanding plan past)
+    && all_below (λ node. not (may_launch plan past node)) (suc (count_of plan))
     && (status == exit_status plan past)
 
 -- each record may follow those before it

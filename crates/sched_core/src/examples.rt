@@ -1,4 +1,5 @@
-//! Runs that are lawful, which show that no premise of a law is empty, and records that are refused.
+//! Runs that are lawful, which show that no premise of a law is empty, and records that are
+//! refused.
 //! No program calls these functions.
 
 ghost use Rattle.std.specs.Prelude.{◌≡◌, ◌≢◌, ℕ, ◌<◌, List, [], ◌∷◌, ◌++◌, map, drop, pos, IsTrue, IsFalse};
@@ -9,7 +10,7 @@ ghost use Rattle.node_machine.specs.Story.{Table, story, phases_of, BeginsWith};
 ghost use Rattle.sched_core.specs.declared.Record.{Record};
 ghost use Rattle.sched_core.specs.declared.Record.TheVariants.{Life, Launch, End, Finish};
 ghost use Rattle.node_machine.specs.declared.Phase.TheVariants.{Job};
-ghost use Rattle.node_machine.specs.declared.Outcome.TheVariants.{Exit};
+ghost use Rattle.node_machine.specs.declared.Outcome.TheVariants.{Exit, Signal};
 ghost use Rattle.node_machine.specs.declared.State.TheVariants.{Done, Error, NotRun};
 ghost use Rattle.run_plan.specs.Plan.{Plan, node_at, count_of, IsRankedBy};
 ghost use Rattle.sched_core.specs.Run.{table_of, history, is_done, is_lawful, is_finished, is_aborted, is_launched, may_follow};
@@ -27,24 +28,37 @@ pub fn examples()
     ensures lost_launch_ranked { IsRankedBy (λ node. node) two_nodes }
     ensures two_lives { AreLives two_nodes its_lives }
     ensures diamond { IsTrue (is_finished diamond diamond_run) }
-    ensures diamond_states { map (λ node. (shown diamond diamond_run node).state) (0 ∷ 1 ∷ 2 ∷ 3 ∷ []) ≡ Done ∷ Done ∷ Done ∷ Done ∷ [] }
+    ensures diamond_states { map (λ node. (shown diamond diamond_run node).state)
+        (0 ∷ 1 ∷ 2 ∷ 3 ∷ []) ≡ Done ∷ Done ∷ Done ∷ Done ∷ [] }
     ensures abort { IsTrue (is_finished abort_plan abort_run) }
     ensures abort_aborted { IsTrue (is_aborted abort_plan abort_run) }
-    ensures abort_states { map (λ node. (shown abort_plan abort_run node).state) (0 ∷ 1 ∷ 2 ∷ []) ≡ Error ∷ NotRun ∷ Done ∷ [] }
+    ensures abort_states { map (λ node. (shown abort_plan abort_run node).state)
+        (0 ∷ 1 ∷ 2 ∷ []) ≡ Error ∷ NotRun ∷ Done ∷ [] }
     ensures namesakes { Agree plan_p (first_fails 1) plan_q (first_fails 2) 1 2 }
     ensures two_rounds { AreRounds (round_of (Exit 0) 0 ∷ round_of (Exit 1) 1 ∷ []) }
     ensures noop { IsTrue (is_finished noop_plan noop_run) }
     ensures noop_outcomes { IsRunBy noop_plan noop_table noop_run }
-    ensures noop_values { map (λ node. (shown noop_plan noop_run node).value) (0 ∷ 1 ∷ 2 ∷ []) ≡ Some (pos 2) ∷ None ∷ Some (pos 0) ∷ [] }
+    ensures noop_values { map (λ node. (shown noop_plan noop_run node).value)
+        (0 ∷ 1 ∷ 2 ∷ []) ≡ Some (pos 2) ∷ None ∷ Some (pos 0) ∷ [] }
 {}
 
-/// What is no run: a child before its parent, a launch twice, an ending that nothing had, Finish while a phase may be launched, another attempt after the last, a launch after an abort.
+/// What is no run: a child before its parent, a launch twice, an ending that nothing had, Finish while
+/// a phase may be launched, another attempt after the last, a signal that there is not, a launch
+/// after an abort.
 pub fn refusals()
     ensures child_first { IsFalse (may_follow diamond (Life ∷ []) (Launch (key 1 0 Job) 1)) }
-    ensures launched_twice { IsFalse (may_follow diamond (Launch (key 0 0 Job) 1 ∷ Life ∷ []) (Launch (key 0 0 Job) 2)) }
-    ensures not_running { IsFalse (may_follow diamond (Life ∷ Launch (key 0 0 Job) 1 ∷ Life ∷ []) (End (key 0 0 Job) (Exit 0))) }
+    ensures launched_twice { IsFalse (may_follow diamond
+        (Launch (key 0 0 Job) 1 ∷ Life ∷ []) (Launch (key 0 0 Job) 2)) }
+    ensures not_running { IsFalse (may_follow diamond
+        (Life ∷ Launch (key 0 0 Job) 1 ∷ Life ∷ []) (End (key 0 0 Job) (Exit 0))) }
+    ensures no_signal { IsFalse (may_follow diamond
+        (Launch (key 0 0 Job) 1 ∷ Life ∷ []) (End (key 0 0 Job) (Signal 128))) }
     ensures too_early { IsFalse (may_follow diamond (Life ∷ []) (Finish 1)) }
-    ensures no_retry { IsFalse (may_follow diamond (End (key 0 0 Job) (Exit 1) ∷ Launch (key 0 0 Job) 1 ∷ Life ∷ []) (Launch (key 0 1 Job) 2)) }
-    ensures failed { IsTrue (may_follow diamond (End (key 0 0 Job) (Exit 1) ∷ Launch (key 0 0 Job) 1 ∷ Life ∷ []) (Finish 1)) }
-    ensures after_abort { IsFalse (may_follow abort_plan (drop 3 abort_run) (Launch (key 1 0 Job) 3)) }
+    ensures no_retry { IsFalse (may_follow diamond
+        (End (key 0 0 Job) (Exit 1) ∷ Launch (key 0 0 Job) 1 ∷ Life ∷ [])
+        (Launch (key 0 1 Job) 2)) }
+    ensures failed { IsTrue (may_follow diamond
+        (End (key 0 0 Job) (Exit 1) ∷ Launch (key 0 0 Job) 1 ∷ Life ∷ []) (Finish 1)) }
+    ensures after_abort { IsFalse (may_follow abort_plan
+        (drop 3 abort_run) (Launch (key 1 0 Job) 3)) }
 {}

@@ -23,51 +23,89 @@ ghost use Rattle.sched_core.specs.Rounds.{Round, AreRounds, RoundsAgree, WasMark
 ghost use Rattle.sched_core.specs.Example.{key, two_nodes, its_run, its_lives, diamond, diamond_run, abort_plan, abort_run, noop_plan, noop_table, noop_run, plan_p, plan_q, first_fails, round_of};
 ghost use Rattle.node_machine.specs.declared.Key.{Key};
 
-/// At every moment each node has the beginning of its story behind it, and only nodes whose parents are done have begun.
+/// At every moment each node has the beginning of its story behind it, and only nodes whose parents
+/// are done have begun.
 pub fn histories()
-    ensures prefix { (plan : Plan) (records : List Record) → IsTrue (is_lawful plan records) → (node : ℕ) → BeginsWith (phases_of (story (node_at plan node).course (table_of records node))) (history records node) }
-    ensures parents { (plan : Plan) (records : List Record) → IsTrue (is_lawful plan records) → (node : ℕ) → node < count_of plan → history records node ≢ [] → IsTrue (list_all (is_done plan records) (node_at plan node).parents) }
-    ensures parents_fates { (plan : Plan) (rank : ℕ → ℕ) → IsRankedBy rank plan → (records : List Record) → IsTrue (is_lawful plan records) → (fates : ℕ → Fate) → AreFates plan (table_of records) fates → (node : ℕ) → node < count_of plan → history records node ≢ [] → (parent : ℕ) → Contains (node_at plan node).parents parent → IsTrue (is_done_state (fates parent).state) }
+    ensures prefix { (plan : Plan) (records : List Record) → IsTrue (is_lawful plan records) →
+        (node : ℕ) →
+        BeginsWith (phases_of (story (node_at plan node).course (table_of records node)))
+            (history records node) }
+    ensures parents { (plan : Plan) (records : List Record) → IsTrue (is_lawful plan records) →
+        (node : ℕ) → node < count_of plan → history records node ≢ [] →
+        IsTrue (list_all (is_done plan records) (node_at plan node).parents) }
+    ensures parents_fates { (plan : Plan) (rank : ℕ → ℕ) → IsRankedBy rank plan →
+        (records : List Record) → IsTrue (is_lawful plan records) →
+        (fates : ℕ → Fate) → AreFates plan (table_of records) fates →
+        (node : ℕ) → node < count_of plan → history records node ≢ [] →
+        (parent : ℕ) → Contains (node_at plan node).parents parent →
+        IsTrue (is_done_state (fates parent).state) }
 {}
 
-/// A finished run without abort shows of each node the fate that the recursion over its parents reads from its endings.
+/// A finished run without abort shows of each node the fate that the recursion over its parents
+/// reads from its endings.
 pub fn finished_runs()
-    ensures fates { (plan : Plan) (records : List Record) → IsTrue (is_finished plan records) → IsFalse (is_aborted plan records) → AreFates plan (table_of records) (shown plan records) }
-    ensures marks { (plan : Plan) (records : List Record) (node : ℕ) → is_done plan records node ≡ is_done_state (shown plan records node).state }
+    ensures fates { (plan : Plan) (records : List Record) →
+        IsTrue (is_finished plan records) → IsFalse (is_aborted plan records) →
+        AreFates plan (table_of records) (shown plan records) }
+    ensures marks { (plan : Plan) (records : List Record) (node : ℕ) →
+        is_done plan records node ≡ is_done_state (shown plan records node).state }
 {}
 
 /// The recursion over parents has one solution for each plan in which no node is its own ancestor.
 pub fn one_solution()
-    ensures some { (plan : Plan) (table : Table) (rank : ℕ → ℕ) → IsRankedBy rank plan → (fates : ℕ → Fate) × AreFates plan table fates }
-    ensures only { (plan : Plan) (table : Table) (rank : ℕ → ℕ) → IsRankedBy rank plan → (fates other : ℕ → Fate) → AreFates plan table fates → AreFates plan table other → (node : ℕ) → node < count_of plan → fates node ≡ other node }
+    ensures some { (plan : Plan) (table : Table) (rank : ℕ → ℕ) → IsRankedBy rank plan →
+        (fates : ℕ → Fate) × AreFates plan table fates }
+    ensures only { (plan : Plan) (table : Table) (rank : ℕ → ℕ) → IsRankedBy rank plan →
+        (fates other : ℕ → Fate) → AreFates plan table fates → AreFates plan table other →
+        (node : ℕ) → node < count_of plan → fates node ≡ other node }
 {}
 
-/// Whatever lives a run had, its last list shows the fates by the outcomes of the table; each launch, in whatever life, comes at its key's turn.
+/// Whatever lives a run had, its last list shows the fates by the outcomes of the table; each
+/// launch, in whatever life, comes at its key's turn.
 pub fn lives()
     ensures fates { (plan : Plan) (table : Table) (last : Span) (before : List Span) →
-        AreLives plan (last ∷ before) → IsRunBy plan table last.held → AreFates plan table (shown plan last.held) }
-    ensures grows { (plan : Plan) (last : Span) (before : List Span) → AreLives plan (last ∷ before) →
-        (earlier : Span) → Contains before earlier → (more : List Record) × (last.held ≡ more ++ earlier.held) }
-    ensures launches { (plan : Plan) (table : Table) (newer past : List Record) (key : Key) (number : ℕ) →
-        IsTrue (is_lawful plan (newer ++ Launch key number ∷ past)) → HasOutcomesOf plan table past →
-        IsTurnOf plan table key (history past key.node) }
+        AreLives plan (last ∷ before) → IsRunBy plan table last.held →
+        AreFates plan table (shown plan last.held) }
+    ensures grows { (plan : Plan) (last : Span) (before : List Span) →
+        AreLives plan (last ∷ before) → (earlier : Span) → Contains before earlier →
+        (more : List Record) × (last.held ≡ more ++ earlier.held) }
+    ensures launches { (plan : Plan) (table : Table) (newer past : List Record) (key : Key)
+        (number : ℕ) → IsTrue (is_lawful plan (newer ++ Launch key number ∷ past)) →
+        HasOutcomesOf plan table past → IsTurnOf plan table key (history past key.node) }
 {}
 
 /// Two runs whose plans and tables agree on a node and all above it agree on that node.
 pub fn two_runs()
-    ensures fates { (plan plan' : Plan) (table table' : Table) (rank rank' : ℕ → ℕ) → IsRankedBy rank plan → IsRankedBy rank' plan' → (fates fates' : ℕ → Fate) → AreFates plan table fates → AreFates plan' table' fates' → (node node' : ℕ) → node < count_of plan → node' < count_of plan' → Agree plan table plan' table' node node' → fates node ≡ fates' node' }
+    ensures fates { (plan plan' : Plan) (table table' : Table) (rank rank' : ℕ → ℕ) →
+        IsRankedBy rank plan → IsRankedBy rank' plan' →
+        (fates fates' : ℕ → Fate) → AreFates plan table fates → AreFates plan' table' fates' →
+        (node node' : ℕ) → node < count_of plan → node' < count_of plan' →
+        Agree plan table plan' table' node node' → fates node ≡ fates' node' }
     ensures runs { (plan plan' : Plan) (table table' : Table) (rank rank' : ℕ → ℕ) →
-        IsRankedBy rank plan → IsRankedBy rank' plan' → (records records' : List Record) →
+        IsRankedBy rank plan → IsRankedBy rank' plan' →
+        (records records' : List Record) →
         IsRunBy plan table records → IsRunBy plan' table' records' →
         (node node' : ℕ) → node < count_of plan → node' < count_of plan' →
-        Agree plan table plan' table' node node' → shown plan records node ≡ shown plan' records' node' }
+        Agree plan table plan' table' node node' →
+        shown plan records node ≡ shown plan' records' node' }
 {}
 
-/// Rounds over plans and tables that agree on a node and all above it mark it alike, and a mark stays: the node is not launched again.
+/// Rounds over plans and tables that agree on a node and all above it mark it alike, and a mark
+/// stays: the node is not launched again.
 pub fn rounds()
-    ensures agree { (round round' : Round) (before before' : List Round) (rank rank' : ℕ → ℕ) → IsRankedBy rank round.plan → IsRankedBy rank' round'.plan → AreRounds (round ∷ before) → AreRounds (round' ∷ before') → (node node' : ℕ) → node < count_of round.plan → node' < count_of round'.plan → (node_at round.plan node).name ≡ (node_at round'.plan node').name → RoundsAgree (round ∷ before) (round' ∷ before') node node' → is_marked round node ≡ is_marked round' node' }
-    ensures stays { (round : Round) (before : List Round) → AreRounds (round ∷ before) → (node : ℕ) → node < count_of round.plan → WasMarked before node → IsTrue (is_marked round node) }
-    ensures not_again { (round : Round) (before : List Round) → AreRounds (round ∷ before) → (node : ℕ) → node < count_of round.plan → WasMarked before node → IsFalse (is_launched round.last.held node) }
+    ensures agree { (round round' : Round) (before before' : List Round) (rank rank' : ℕ → ℕ) →
+        IsRankedBy rank round.plan → IsRankedBy rank' round'.plan →
+        AreRounds (round ∷ before) → AreRounds (round' ∷ before') →
+        (node node' : ℕ) → node < count_of round.plan → node' < count_of round'.plan →
+        (node_at round.plan node).name ≡ (node_at round'.plan node').name →
+        RoundsAgree (round ∷ before) (round' ∷ before') node node' →
+        is_marked round node ≡ is_marked round' node' }
+    ensures stays { (round : Round) (before : List Round) → AreRounds (round ∷ before) →
+        (node : ℕ) → node < count_of round.plan → WasMarked before node →
+        IsTrue (is_marked round node) }
+    ensures not_again { (round : Round) (before : List Round) → AreRounds (round ∷ before) →
+        (node : ℕ) → node < count_of round.plan → WasMarked before node →
+        IsFalse (is_launched round.last.held node) }
 {}
 
 /// A run ends: each launch and each ending that may follow leaves fewer records to come.

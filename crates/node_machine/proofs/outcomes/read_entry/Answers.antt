@@ -5,18 +5,14 @@ use Rattle.dag_reader.specs.Word.{PlacedText}
 use Rattle.dag_reader.specs.LineReader.{Left, left_of, word_of}
 use Rattle.node_machine.specs.declared.Phase.{Phase}
 use Rattle.node_machine.specs.declared.Outcome.{Outcome}
-use Rattle.node_machine.specs.OutcomeTable.{Entry}
 use Rattle.node_machine.specs.TableMaps.{entry_of}
-use Rattle.node_machine.specs.OutcomesReading.{entry_in, phased_in, phase_in, outcome_in}
+use Rattle.node_machine.specs.OutcomesReading.{entry_with, entry_in, phased_in, phase_in, outcome_in}
 use Rattle.node_machine.proofs.outcomes.read_entry.Goals as goal
 
 with_attempt : (name w : PlacedText) (old : List PlacedText) (ws : List PlacedText) (o : Option ℕ) → old ≡ w ∷ ws → o ≡ count 1000000 w.text
     → option_and_then (λ attempt. phased_in name attempt ws) o ≡ entry_in name old
 unfolding entry_in
 with_attempt name w old ws o e f = ap (λ (x : Option ℕ). option_and_then (λ attempt. phased_in name attempt ws) x) f ∙ sym (ap (entry_in name) e)
-
-abbrev entry_with : PlacedText → ℕ → Phase → Outcome → Entry
-entry_with name attempt phase outcome = record { name = name.text; attempt = attempt; phase = phase; outcome = outcome }
 
 with_phase : (name : PlacedText) (attempt : ℕ) (w : PlacedText) (old : List PlacedText) (ws : List PlacedText) (o : Option Phase) (q : Option Outcome) → old ≡ w ∷ ws → o ≡ phase_in w → q ≡ outcome_in ws
     → option_and_then (λ phase. option_map (entry_with name attempt phase) q) o ≡ phased_in name attempt old

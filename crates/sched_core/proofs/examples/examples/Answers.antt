@@ -1,4 +1,4 @@
-use Rattle.std.proofs.Common.{◌≡◌, ℕ, zero, suc, ◌<◌, arith, refl, inl, inr, take, drop}
+use Rattle.std.proofs.Common.{[], ◌≡◌, ℕ, zero, suc, ◌<◌, arith, refl, inl, inr, take, drop}
 use Rattle.std.proofs.lemmas.Bool.{true≢false}
 use Rattle.sched_core.specs.Example.{its_run, one_job, run_to, round_of}
 use Rattle.run_plan.specs.Plan.{node_at}
@@ -48,7 +48,7 @@ returns-clause-noop_values c = refl
 pub returns-clause-two_lives : goal.returns-clause-two_lives
 unfolding story attempts_after next_after is_good_after value_after is_aborted is_ready is_final_ready may_launch may_follow
 returns-clause-two_lives c =
-    (inl refl, inr (take 7 its_run, refl), refl, (refl, inr (take 3 (drop 8 its_run), refl), refl, tt))
+    (([], refl), inr (take 7 its_run, refl), refl, (refl, inr (take 3 (drop 8 its_run), refl), refl, tt))
 
 pub returns-clause-noop_outcomes : goal.returns-clause-noop_outcomes
 unfolding story attempts_after next_after is_good_after value_after is_aborted is_ready is_final_ready may_launch may_follow

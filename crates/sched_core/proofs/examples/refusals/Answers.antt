@@ -30,3 +30,7 @@ returns-clause-failed c = refl
 pub returns-clause-after_abort : goal.returns-clause-after_abort
 unfolding story attempts_after next_after is_good_after value_after is_aborted is_ready is_final_ready may_launch may_follow
 returns-clause-after_abort c = refl
+
+pub returns-clause-no_signal : goal.returns-clause-no_signal
+unfolding story attempts_after next_after is_good_after value_after is_aborted is_ready is_final_ready may_launch may_follow
+returns-clause-no_signal c = refl

@@ -1,0 +1,13 @@
+//! Tests of `dag_reader` by tables: a text, and what reading it answers.
+#![tactic(auto)]
+
+#[cfg(test)]
+mod commands;
+#[cfg(test)]
+mod faults;
+#[cfg(test)]
+mod lines;
+#[cfg(test)]
+mod macros;
+#[cfg(test)]
+mod shown;

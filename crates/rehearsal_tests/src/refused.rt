@@ -1,0 +1,110 @@
+//! What is refused, and the line that tells it.
+
+use dag_main::{FileSet, Request, read_words, rehearse_text};
+use std::alloc::Global;
+use std::process::Abort;
+use std::test::Fail;
+
+/// What a rehearsal of one file named `-` answers: the fault's line.
+fn fault_of(alloc: Global, dag: &str, outcomes: &str) -> Result<String, Fail> {
+    let mut files = FileSet::new(alloc);
+    files.add(alloc, "-", dag.as_bytes())?;
+    match rehearse_text(alloc, &files, "-", Some(outcomes.as_bytes())) {
+        Ok(_) => Ok(String::from_str(alloc, "not refused")?),
+        Err(fault) => Ok(format!(in alloc; "{fault}")?),
+    }
+}
+
+fn check<R: Abort + AllocGlobal>(rt: &R, rows: &[(&str, &str)]) -> Result<(), Fail> {
+    for (dag, line) in rows {
+        let fault = fault_of(rt.alloc(), dag, "")?;
+        assert_eq!(rt; fault.as_str(), *line);
+    }
+    Ok(())
+}
+
+#[test]
+fn lines(rt: HostRuntime) -> Result<(), Fail> {
+    check(
+        &rt,
+        &[
+            ("FOO A", "L2 UnknownCommand -:1:1"),
+            ("JOB A", "L4 MissingWord -:1:6"),
+            ("JOB a.b x", "L6 BadName -:1:5"),
+            ("\nRETRY A 1000001", "L7 BadNumber -:2:9"),
+        ],
+    )
+}
+
+#[test]
+fn orders(rt: HostRuntime) -> Result<(), Fail> {
+    check(
+        &rt,
+        &[
+            ("JOB A a\nJOB A b", "B1 BadOrder -:2:5"),
+            ("RETRY A 1\nJOB A a", "B1 BadOrder -:1:7"),
+            ("JOB A a\nPARENT A CHILD X", "B1 BadOrder -:2:16"),
+            ("JOB B b\nJOB A a\nPARENT A CHILD B", "B1 BadOrder -:3:8"),
+        ],
+    )
+}
+
+#[test]
+fn not_yet_run(rt: HostRuntime) -> Result<(), Fail> {
+    check(
+        &rt,
+        &[
+            ("JOB A a NOOP", "B2 NotYet"),
+            ("JOB A a\nRETRY A 1 UNLESS-EXIT 2", "B2 NotYet"),
+            ("JOB A a\nPRIORITY A 1", "B2 NotYet"),
+        ],
+    )
+}
+
+#[test]
+fn missing_file(rt: HostRuntime) -> Result<(), Fail> {
+    let alloc = rt.alloc();
+    match rehearse_text(alloc, &FileSet::new(alloc), "x.dag", None) {
+        Ok(_) => panic!(rt; "not refused"),
+        Err(fault) => {
+            let line = format!(in alloc; "{fault}")?;
+            assert_eq!(rt; line.as_str(), "S1 MissingFile x.dag");
+        }
+    }
+    Ok(())
+}
+
+#[test]
+fn table_of_outcomes(rt: HostRuntime) -> Result<(), Fail> {
+    let fault = fault_of(rt.alloc(), "JOB A a", "A 0 JOB 1\nA 0 JOB signal 128\n")?;
+    assert_eq!(rt; fault.as_str(), "N3 BadLine 2");
+    Ok(())
+}
+
+#[test]
+fn dag_before_table(rt: HostRuntime) -> Result<(), Fail> {
+    let fault = fault_of(rt.alloc(), "FOO A", "A 0 JOB")?;
+    assert_eq!(rt; fault.as_str(), "L2 UnknownCommand -:1:1");
+    Ok(())
+}
+
+#[test]
+fn words(rt: HostRuntime) -> Result<(), Fail> {
+    let alloc = rt.alloc();
+    match read_words(alloc, &["dagrun"]) {
+        Ok(Request::Rehearse { dag, outcomes }) => {
+            assert!(rt; dag == "-" && outcomes.is_none());
+        }
+        Err(_) => panic!(rt; "no words are a rehearsal of standard input"),
+    }
+    match read_words(alloc, &["dagrun", "rehearse", "x.dag", "table"]) {
+        Ok(Request::Rehearse { dag, outcomes }) => {
+            assert!(rt; dag == "x.dag" && outcomes == Some("table"));
+        }
+        Err(_) => panic!(rt; "a DAG file and a table are a rehearsal"),
+    }
+    assert!(rt; read_words(alloc, &["dagrun", "rehearse"]).is_err());
+    assert!(rt; read_words(alloc, &["dagrun", "--help"]).is_err());
+    assert!(rt; read_words(alloc, &["dagrun", "fly", "x.dag"]).is_err());
+    Ok(())
+}

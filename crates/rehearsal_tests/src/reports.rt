@@ -1,0 +1,107 @@
+//! Reports by tables: what is printed and the exit status.
+
+use dag_main::{FileSet, rehearse_text};
+use std::process::Abort;
+use std::test::Fail;
+
+const DIAMOND: &str = "JOB A a.sub\nJOB B b.sub\nJOB C c.sub\nJOB D d.sub\n\
+    PARENT A CHILD B C\nPARENT B C CHILD D\n";
+
+/// A DAG, its table of outcomes, and the report and the status that are due.
+struct Row {
+    dag: &'static str,
+    outcomes: &'static str,
+    text: &'static str,
+    status: u8,
+}
+
+fn check<R: Abort + AllocGlobal>(rt: &R, row: &Row) -> Result<(), Fail> {
+    let alloc = rt.alloc();
+    let mut files = FileSet::new(alloc);
+    files.add(alloc, "x.dag", row.dag.as_bytes())?;
+    let answer = rehearse_text(alloc, &files, "x.dag", Some(row.outcomes.as_bytes()))?;
+    assert_eq!(rt; answer.text.as_str(), row.text);
+    assert_eq!(rt; answer.status, row.status);
+    Ok(())
+}
+
+#[test]
+fn diamond_all_good(rt: HostRuntime) -> Result<(), Fail> {
+    check(
+        &rt,
+        &Row {
+            dag: DIAMOND,
+            outcomes: "",
+            text: "A DONE attempts=1 value=0\nB DONE attempts=1 value=0\n\
+                C DONE attempts=1 value=0\nD DONE attempts=1 value=0\nresult 0\n",
+            status: 0,
+        },
+    )
+}
+
+#[test]
+fn diamond_one_fails(rt: HostRuntime) -> Result<(), Fail> {
+    check(
+        &rt,
+        &Row {
+            dag: DIAMOND,
+            outcomes: "C 0 JOB 3\n",
+            text: "A DONE attempts=1 value=0\nB DONE attempts=1 value=0\n\
+                C ERROR attempts=1 value=3\nD NOT_READY attempts=0 value=-\nresult 1\n",
+            status: 1,
+        },
+    )
+}
+
+#[test]
+fn retry_until_good(rt: HostRuntime) -> Result<(), Fail> {
+    check(
+        &rt,
+        &Row {
+            dag: "JOB A a.sub\nRETRY A 2\n",
+            outcomes: "A 0 JOB 1\nA 1 JOB signal 9\n",
+            text: "A DONE attempts=3 value=0\nresult 0\n",
+            status: 0,
+        },
+    )
+}
+
+#[test]
+fn retry_used_up(rt: HostRuntime) -> Result<(), Fail> {
+    check(
+        &rt,
+        &Row {
+            dag: "JOB A a.sub\nRETRY A 0\n",
+            outcomes: "A 0 JOB 1\n",
+            text: "A ERROR attempts=1 value=1\nresult 1\n",
+            status: 1,
+        },
+    )
+}
+
+#[test]
+fn values_of_outcomes(rt: HostRuntime) -> Result<(), Fail> {
+    check(
+        &rt,
+        &Row {
+            dag: "JOB A a\nJOB B b\nJOB C c\nJOB D d\n",
+            outcomes: "A 0 JOB signal 6\nB 0 JOB nostart\nC 0 JOB untold\nD 0 JOB 255\n",
+            text: "A ERROR attempts=1 value=-6\nB ERROR attempts=1 value=-1001\n\
+                C ERROR attempts=1 value=-1000\nD ERROR attempts=1 value=255\nresult 1\n",
+            status: 1,
+        },
+    )
+}
+
+#[test]
+fn empty_dag(rt: HostRuntime) -> Result<(), Fail> {
+    check(
+        &rt,
+        &Row {
+            dag: "# nothing\n",
+            outcomes: "",
+            text: "result 0\n",
+            status: 0,
+        },
+    )
+}
