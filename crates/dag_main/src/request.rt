@@ -1,5 +1,7 @@
 //! The command line.
 
+ghost use Rattle.std.specs.Prelude.{◌≤◌, length, IsOk};
+
 use clap::{Arg, ArgAction, Command, Error};
 use std::alloc::{AllocError, Global};
 
@@ -41,7 +43,9 @@ fn dagrun_command<'a>(alloc: Global) -> Result<Command<'a>, AllocError> {
 /// Reads the words of a command line, of which the first is the program's name.
 ///
 /// What is refused, a call for help too, is clap's error with its text.
-pub fn read_words<'a>(alloc: Global, words: &'a [&'a str]) -> Result<Request<'a>, Error> {
+pub fn read_words<'a>(alloc: Global, words: &'a [&'a str]) -> Result<Request<'a>, Error>
+    ensures no_words { length words.entry.now ≤ 1 → IsOk result }
+{
     if words.len() <= 1 {
         return Ok(Request::Rehearse {
             dag: "-",

@@ -118,7 +118,8 @@ impl<'a> LineReader<'a> {
 
     /// The names up to CHILD, of which the first is read already.
     pub(crate) fn parents(&mut self, alloc: Global, first: Token<'a>) -> Result<Words, ReadFault>
-        ensures { GivesLeft (λ names. names) result (left_of self.new) (with_front (word_of first.entry ∷ []) (parents_left (left_of self.old))) }
+        ensures { GivesLeft (λ names. names) result (left_of self.new)
+            (with_front (word_of first.entry ∷ []) (parents_left (left_of self.old))) }
     {
         let mut names = Words::new(alloc);
         names.push(first.to_word(alloc)?)?;
@@ -136,7 +137,8 @@ impl<'a> LineReader<'a> {
 
     /// The names up to the line's end, of which the first is read already.
     pub(crate) fn children(&mut self, alloc: Global, first: Token<'a>) -> Result<Words, ReadFault>
-        ensures { GivesLeft (λ names. names) result (left_of self.new) (with_front (word_of first.entry ∷ []) (children_left (left_of self.old))) }
+        ensures { GivesLeft (λ names. names) result (left_of self.new)
+            (with_front (word_of first.entry ∷ []) (children_left (left_of self.old))) }
     {
         let mut names = Words::new(alloc);
         names.push(first.to_word(alloc)?)?;

@@ -1,11 +1,12 @@
 //! Lines before their words are read: line ends, lengths, bytes that are no text.
 
 use crate::shown::answer;
+use dag_reader::{LineFault, LineReader, Span, line_text, split_line};
 use std::alloc::{AllocError, Global};
 use std::test::Fail;
 
 /// Bytes, and what reading them answers.
-const ENDS: [(&[u8], &str); 14] = [
+const ENDS: [(&[u8], &str); 15] = [
     (b"", ""),
     (b"\n\r\n \t\n#\n", ""),
     (b"\r\nJOB A a\r\n", "JOB A@2:5 a@2:7 noop=false done=false;"),
@@ -17,6 +18,7 @@ const ENDS: [(&[u8], &str); 14] = [
         b"JOB A a DIR \xC3\xA9\n# \xE2\x82\xAC\n",
         "JOB A@1:5 a@1:7 DIR \u{e9}@1:13 noop=false done=false;",
     ),
+    (b"\xEF\xBB\xBFJOB A a", "L2 UnknownCommand 1:1"),
     (b"#\nJOB A a\r", "L1 NotText 2:8"),
     (b"JOB A a\r\r\n", "L1 NotText 1:8"),
     (b"JOB \xFF\x01", "L1 NotText 1:5"),
@@ -90,5 +92,28 @@ fn lengths(rt: HostRuntime) -> Result<(), Fail> {
             "{front} {count}: {wanted}"
         );
     }
+    Ok(())
+}
+
+/// The words of a line that is no DAG line, one after the other.
+#[test]
+fn words_of_another_line(rt: HostRuntime) -> Result<(), Fail> {
+    let (first, rest) = split_line(b"a JOB +02 -7\r\nb");
+    assert!(rt; rest == b"b");
+    let text = line_text(9, first).ok().ok_or("a text")?;
+    let mut line = LineReader::new(9, text);
+    let name = line.next_word().ok_or("a word")?;
+    assert!(rt; name.text == "a" && !name.is_comment() && !name.is("job"));
+    let phase = line.word().ok().ok_or("a word")?;
+    assert!(rt; phase.is("job") && phase.span.start == 2 && phase.span.stop == 5);
+    assert!(rt; line.count(2) == Ok(2));
+    assert!(rt; line.integer() == Ok(-7));
+    assert!(rt; line.finish() == Ok(()));
+    let end = Span {
+        line: 9,
+        start: 12,
+        stop: 12,
+    };
+    assert!(rt; line.count(2) == Err(LineFault::MissingWord(end)));
     Ok(())
 }

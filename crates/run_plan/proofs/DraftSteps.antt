@@ -1,27 +1,24 @@
 -- What each kind of line makes of a draft.
 use Rattle.std.proofs.Common.{◌≡◌, ◌⊎◌, ℕ, ◌+◌, ◌<◌, Bool, true, false, cond, ◌++◌, List, [], ◌∷◌, length, map, Option, Some, None, Result, Ok, Err, get_or, take, position, refl, sym, ap, ◌∙◌, subst, if◌then◌else◌, ⊎_elim, inl, inr}
-use Rattle.std.proofs.lemmas.Bool.{not-false, cond-true}
+use Rattle.std.proofs.lemmas.Bool.{not-false}
 use Rattle.std.proofs.lemmas.List.{map_push, map_more, take_more}
-use Rattle.std.proofs.lemmas.List.Folds.{find-append, find_at}
-use Rattle.std.proofs.lemmas.Option.{same_Some}
+use Rattle.std.proofs.lemmas.List.Folds.{find-append}
 use Rattle.std.specs.Prelude.{find, OnOk}
-use Rattle.std.specs.List.{list_any}
 use Rattle.std.specs.Option.{option_map, option_or}
 use Rattle.std.specs.Str.{bytes_eq}
 use Rattle.dag_reader.specs.Word.{PlacedText}
 use Rattle.dag_reader.specs.declared.command.Command.{Command}
 use Rattle.dag_reader.specs.declared.command.Command.TheVariants.{Job, ParentChild, Retry}
-use Rattle.dag_reader.specs.declared.command.Target.{Target}
 use Rattle.dag_reader.specs.declared.command.Target.TheVariants.{Node}
 use Rattle.run_plan.specs.declared.PlanFault.{PlanFault}
 use Rattle.run_plan.specs.declared.PlanFault.TheVariants.{Memory}
 use Rattle.run_plan.specs.Plan.{NodeSpec}
-use Rattle.run_plan.specs.Lines.{names_of, is_among, place_in, is_named, parents_of, node_of, job_node, is_unknown, is_below_a_child, misplaced_word, bad_order, line_fault, first_fault, Refuses}
+use Rattle.run_plan.specs.Lines.{names_of, is_among, place_in, is_named, parents_of, node_of, job_node, is_unknown, is_below_a_child, misplaced_word, bad_order, line_fault, Refuses}
 use Rattle.run_plan.specs.Drafts.{IsDraft, places_in, reaches, with_retries, with_parents, changed_at, changed_at_each}
 use Rattle.run_plan.proofs.NameTables.{any_map, position_map}
 use Rattle.run_plan.proofs.NamePlaces.{find_first, find_placed, find_unplaced}
 use Rattle.run_plan.proofs.ParentLists.{parents_twice}
-use Rattle.run_plan.proofs.NodeChanges.{change_one, change_each, changed_for, map_same}
+use Rattle.run_plan.proofs.NodeChanges.{change_one, change_each, map_same}
 use Rattle.run_plan.proofs.LineFacts.{fresh, distinct_names, children_known}
 
 pub on_ok_three : {T E A B C D : Type 0} (r : Result T E) → (A → B → C → D) → OnOk r A → OnOk r B → OnOk r C → OnOk r D

@@ -1,11 +1,11 @@
 -- What is so of lines each of which can stand.
-use Rattle.std.proofs.Common.{◌≡◌, ℕ, zero, ◌+◌, ◌<◌, ◌≤◌, Bool, true, false, not, cond, ◌||◌, ◌++◌, List, [], ◌∷◌, length, map, Option, Some, None, unwrap_or, get_or, take, drop, reverse, nat_lt, nat_le, refl, sym, ap, ◌∙◌, subst, arith, if◌then◌else◌, ⊎_elim, inl, inr}
-use Rattle.std.proofs.lemmas.Bool.{both_ways, or_parts, or_from, or_cases, and_parts, and_from, false_from_ne_true, not-false, cond-false, cond_both, lt-ltb, ltb-true, leb-false}
+use Rattle.std.proofs.Common.{◌≡◌, ℕ, ◌+◌, ◌<◌, Bool, true, false, ◌++◌, List, [], ◌∷◌, length, map, Option, Some, None, get_or, take, drop, reverse, nat_lt, refl, sym, ap, ◌∙◌, subst, arith, if◌then◌else◌, ⊎_elim, inl, inr}
+use Rattle.std.proofs.lemmas.Bool.{both_ways, or_parts, or_cases, and_parts, and_from, false_from_ne_true, not-false, cond-false, cond_both, lt-ltb, ltb-true, leb-false}
 use Rattle.std.proofs.lemmas.List.{take_more, take-append-drop, reverse-append, length-map, get_or-map}
-use Rattle.std.proofs.lemmas.List.Folds.{list_any-append, list_all-map, list_all_at, find-append}
+use Rattle.std.proofs.lemmas.List.Folds.{list_any-append, list_all_at, find-append}
 use Rattle.std.proofs.lemmas.Option.{unwrap_or-slice_get}
-use Rattle.std.specs.Prelude.{find, slice_get}
-use Rattle.std.specs.List.{list_any, list_all, Contains}
+use Rattle.std.specs.Prelude.{find}
+use Rattle.std.specs.List.{list_all, Contains}
 use Rattle.std.specs.Option.{option_map, option_or}
 use Rattle.std.specs.Str.{bytes_eq}
 use Rattle.dag_reader.specs.Word.{PlacedText}
@@ -13,8 +13,8 @@ use Rattle.dag_reader.specs.declared.command.Command.{Command}
 use Rattle.dag_reader.specs.declared.command.Command.TheVariants.{Job, ParentChild, Retry}
 use Rattle.dag_reader.specs.declared.command.Target.TheVariants.{Node}
 use Rattle.run_plan.specs.declared.PlanFault.{PlanFault}
-use Rattle.run_plan.specs.declared.PlanFault.TheVariants.{Memory, NotYet}
-use Rattle.run_plan.specs.Plan.{NodeSpec, no_node, node_at, count_of, IsRankedBy}
+use Rattle.run_plan.specs.declared.PlanFault.TheVariants.{NotYet}
+use Rattle.run_plan.specs.Plan.{NodeSpec, no_node, node_at, IsRankedBy}
 use Rattle.run_plan.specs.Lines.{names_of, is_among, place_in, number_of, is_named, retries_of, parents_of, node_of, plan_of, is_unknown, is_below_a_child, misplaced_word, bad_order, line_fault, first_fault, Refuses}
 use Rattle.run_plan.proofs.NamePlaces.{same_bytes, AreDistinct, distinct_push, place_at, place_grows, find_none_parts, named_among}
 use Rattle.run_plan.proofs.ParentLists.{all_joined}

@@ -1,14 +1,13 @@
 -- Places of names, and the first word that passes a test.
-use Rattle.std.proofs.Common.{◌≡◌, ℕ, zero, suc, ◌+◌, ◌<◌, ◌≤◌, Bool, true, false, not, cond, ◌||◌, ◌++◌, List, [], ◌∷◌, length, map, Option, Some, None, get_or, take, nat_lt, refl, sym, ap, ◌∙◌, subst, arith, if◌then◌else◌, ⊎_elim, position}
-use Rattle.std.proofs.lemmas.Bool.{both_ways, or_parts, or_from, or_cases, false_from_ne_true, true_from_ne_false, not-false}
+use Rattle.std.proofs.Common.{◌≡◌, ℕ, zero, suc, ◌+◌, ◌<◌, ◌≤◌, Bool, true, false, not, cond, ◌||◌, ◌++◌, List, [], ◌∷◌, length, Option, Some, None, get_or, take, nat_lt, refl, sym, ap, ◌∙◌, subst, arith, ⊎_elim, position}
+use Rattle.std.proofs.lemmas.Bool.{both_ways, or_parts, or_from, or_cases, false_from_ne_true, not-false}
 use Rattle.std.proofs.lemmas.Bool.Decides.{nat_tests}
 use Rattle.std.proofs.lemmas.List.Folds.{list_any-append, list_any_at, find_at}
 use Rattle.std.proofs.lemmas.Option.{slice_get-get_or, slice_get_past, cond_some}
 use Rattle.std.proofs.lemmas.Bool.{ltb-true, ltb-false}
 use Rattle.std.proofs.lemmas.Slice.Eq.{bytes_eq-Decides}
-use Rattle.std.specs.Prelude.{find, is_some, IfSome, slice_get}
-use Rattle.std.specs.List.{list_any, list_all, position_or_len}
-use Rattle.std.specs.Option.{option_map, option_or}
+use Rattle.std.specs.Prelude.{find, is_some, IfSome}
+use Rattle.std.specs.List.{list_any, position_or_len}
 use Rattle.std.specs.Str.{bytes_eq}
 use Rattle.dag_reader.specs.Word.{PlacedText}
 use Rattle.run_plan.specs.Lines.{is_among, place_in, is_unknown, is_named}

@@ -2,7 +2,7 @@
 use Rattle.std.proofs.Common.{◌≡◌, ℕ, suc, ◌+◌, ◌<◌, get_or, take, Bool, true, false, not, cond, ◌||◌, ◌++◌, List, [], ◌∷◌, length, map, None, refl, sym, ap, ◌∙◌, subst, arith, if◌then◌else◌}
 use Rattle.std.proofs.lemmas.Bool.{or_parts, cond-false, not-false}
 use Rattle.std.proofs.lemmas.List.{take_more, get_or_default}
-use Rattle.std.specs.Prelude.{find, slice_set, slice_index_or}
+use Rattle.std.specs.Prelude.{find, slice_set}
 use Rattle.std.specs.Str.{bytes_eq}
 use Rattle.dag_reader.specs.Word.{PlacedText}
 use Rattle.run_plan.specs.Plan.{NodeSpec, no_node}

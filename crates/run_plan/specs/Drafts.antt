@@ -1,5 +1,5 @@
 -- What a draft has come to, and how each kind of line changes its nodes.
-use Rattle.std.specs.Prelude.{◌≡◌, ℕ, nat_le, Bool, List, [], ◌∷◌, map, Option, None, slice_set, slice_index_or}
+use Rattle.std.specs.Prelude.{◌≡◌, ℕ, nat_le, Bool, List, [], ◌∷◌, map, None, slice_set, slice_index_or}
 use Rattle.std.specs.List.{list_any}
 use Rattle.dag_reader.specs.Word.{PlacedText}
 use Rattle.dag_reader.specs.declared.command.Command.{Command}

@@ -11,7 +11,6 @@ use Rattle.dag_reader.specs.declared.command.Command.TheVariants.{Job, ParentChi
 use Rattle.dag_reader.specs.declared.command.Target.TheVariants.{Node}
 use Rattle.dag_reader.specs.declared.command.Warning.{Warning}
 use Rattle.dag_reader.specs.declared.command.Warning.TheVariants.{Ignored}
-use Rattle.node_machine.specs.declared.Course.{Course}
 use Rattle.run_plan.specs.declared.PlanFault.{PlanFault}
 use Rattle.run_plan.specs.declared.PlanFault.TheVariants.{BadOrder, NotYet, Memory}
 use Rattle.run_plan.specs.Plan.{NodeSpec, Plan}

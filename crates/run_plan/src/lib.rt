@@ -1,7 +1,7 @@
 //! The plan of a run: its nodes in plan order, and what the files say of each.
 #![tactic(auto)]
 
-ghost use Rattle.std.specs.Prelude.{◌≡◌, ◌+◌, ◌^◌, ◌<◌, ◌≤◌, IsTrue, IfSome, is_some, unwrap_or, nat_lt};
+ghost use Rattle.std.specs.Prelude.{◌≡◌, ◌+◌, ◌^◌, ◌<◌, ◌≤◌, IsTrue, IfSome, IfNone, is_some, unwrap_or, nat_lt, length};
 ghost use Rattle.run_plan.specs.Plan.{node_at, count_of, has_parents_below, no_node};
 ghost use Rattle.std.specs.List.{list_all};
 
@@ -25,7 +25,7 @@ pub enum PlanFault {
     /// A command or an option that is read and not yet run.
     #[error("B2 NotYet")]
     NotYet,
-    /// Memory was refused.
+    /// Memory was refused, or the nodes are 2^32 - 3 or more.
     #[error("P7 Memory")]
     Memory,
 }
@@ -188,7 +188,11 @@ impl Plan {
         nodes: Vec<NodeSpec>,
         final_node: Option<NodeSpec>,
     ) -> Option<Self>
-        ensures { IfSome result (λ plan. plan ≡ record { nodes = nodes.items; final_node = final_node }) }
+        ensures value { IfSome result
+            (λ plan. plan ≡ record { nodes = nodes.items; final_node = final_node }) }
+        ensures none { IsTrue (list_all (has_parents_below (length nodes.items)) nodes.items)
+            → IsTrue (has_parents_below (length nodes.items) (unwrap_or final_node no_node))
+            → IfNone result (2 ^ 32 ≤ length nodes.items + 3) }
     {
         if nodes.len() >= 4_294_967_293 {
             return None;

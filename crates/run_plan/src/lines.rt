@@ -69,7 +69,8 @@ impl Plan {
 
 /// The draft of these lines.
 fn draft_of(alloc: Global, commands: &[Command]) -> Result<Draft, PlanFault>
-    ensures ok { IfOk result (λ draft. IsDraft (reverse commands.now) draft.names draft.nodes.items) }
+    ensures ok { IfOk result
+        (λ draft. IsDraft (reverse commands.now) draft.names draft.nodes.items) }
     ensures err { IfErr result (Refuses (first_fault (reverse commands.now))) }
 {
     let mut draft = Draft {
@@ -116,7 +117,8 @@ impl Draft {
         ensures nodes { OnOk result
             (self.new.nodes.items ≡ self.old.nodes.items ++ job_node name.now.text 0 [] ∷ []) }
         ensures err { IfErr result (λ fault. (fault ≡ PlanFault.Memory)
-            ⊎ ((is_among self.old.names name.now.text ≡ true) × (fault ≡ bad_order name.now))) }
+            ⊎ ((is_among self.old.names name.now.text ≡ true)
+            × (fault ≡ bad_order name.now))) }
     {
         if self.names.has(name.text()) {
             return Err(PlanFault::BadOrder(name.span()));
@@ -146,7 +148,8 @@ impl Draft {
         ensures known { OnOk result (is_unknown self.old.names word.now ≡ false) }
         ensures names { OnOk result (self.new.names ≡ self.old.names) }
         ensures nodes { OnOk result (self.new.nodes.items
-            ≡ changed_at (place_in self.old.names word.now.text) (with_retries retries) self.old.nodes.items) }
+            ≡ changed_at (place_in self.old.names word.now.text) (with_retries retries)
+            self.old.nodes.items) }
         ensures err { IfErr result (λ fault. (fault ≡ PlanFault.Memory)
             ⊎ ((is_unknown self.old.names word.now ≡ true) × (fault ≡ bad_order word.now))) }
     {
@@ -159,8 +162,10 @@ impl Draft {
     /// The numbers of the nodes that these words name.
     fn numbers(&self, alloc: Global, words: &[Word]) -> Result<Vec<u32>, PlanFault>
         ensures known { OnOk result (find (is_unknown self.now.names) words.now ≡ None) }
-        ensures values { IfOk result (λ numbers. numbers.items ≡ places_in self.now.names words.now) }
-        ensures within { IfOk result (λ numbers. All (λ n. n < length self.now.names) numbers.items) }
+        ensures values { IfOk result
+            (λ numbers. numbers.items ≡ places_in self.now.names words.now) }
+        ensures within { IfOk result
+            (λ numbers. All (λ n. n < length self.now.names) numbers.items) }
         ensures err { IfErr result
             (Refuses (option_map bad_order (find (is_unknown self.now.names) words.now))) }
     {
@@ -180,8 +185,8 @@ impl Draft {
         ensures nodes { OnOk result (self.new.nodes.items
             ≡ changed_at_each (places_in self.old.names children.now)
             (with_parents (places_in self.old.names parents.now)) self.old.nodes.items) }
-        ensures err { IfErr result (Refuses
-            (option_map bad_order (misplaced_word self.old.names (ParentChild parents.now children.now)))) }
+        ensures err { IfErr result (Refuses (option_map bad_order
+            (misplaced_word self.old.names (ParentChild parents.now children.now)))) }
     {
         let above = self.numbers(alloc, parents.as_slice())?;
         let below = self.numbers(alloc, children.as_slice())?;
@@ -194,7 +199,8 @@ impl Draft {
 
     /// The plan of the draft, where no line is ignored.
     fn into_plan(self, alloc: Global, ignored: &[Warning]) -> Result<Plan, PlanFault>
-        ensures ok { IfOk result (λ plan. plan ≡ record { nodes = self.nodes.items; final_node = None }) }
+        ensures ok { IfOk result
+            (λ plan. plan ≡ record { nodes = self.nodes.items; final_node = None }) }
         ensures none_ignored { OnOk result (with_ignored ignored.now None ≡ None) }
         ensures err { IfErr result (Refuses (with_ignored ignored.now None)) }
     {
@@ -262,7 +268,8 @@ fn join(numbers: &mut Vec<u32>, others: &[u32]) -> Result<(), AllocError>
 /// Gives the nodes of the numbers `below` the parents of the numbers `above`.
 fn add_parents(nodes: &mut [NodeSpec], below: &[u32], above: &[u32]) -> Result<(), AllocError>
     requires { All (λ child. child < length nodes.old) below.now }
-    ensures { OnOk result (nodes.new ≡ changed_at_each below.now (with_parents above.now) nodes.old) }
+    ensures { OnOk result
+        (nodes.new ≡ changed_at_each below.now (with_parents above.now) nodes.old) }
 {
     for child in below {
         let node = &mut nodes[*child as usize];
@@ -286,7 +293,7 @@ fn first_reaching(below: &[u32], above: &[u32]) -> Option<usize>
 }
 
 /// Whether an ignored line stands above this place.
-fn is_above(ignored: &[Warning], span: Span) -> bool
+fn is_ignored_above(ignored: &[Warning], span: Span) -> bool
     ensures { result ≡ list_any (is_above span) ignored.now }
 {
     for warning in ignored {
@@ -302,7 +309,7 @@ fn first_of(ignored: &[Warning], fault: PlanFault) -> PlanFault
     ensures { result ≡ first_of ignored.now fault }
 {
     match fault {
-        PlanFault::BadOrder(span) if is_above(ignored, span) => PlanFault::NotYet,
+        PlanFault::BadOrder(span) if is_ignored_above(ignored, span) => PlanFault::NotYet,
         fault => fault,
     }
 }

@@ -1,5 +1,5 @@
 -- A core as contracts see it, and what it keeps beside its records.
-use Rattle.std.specs.Prelude.{◌≡◌, ℕ, suc, ◌+◌, ◌<◌, Bool, true, false, not, ◌&&◌, ◌||◌, List, [], ◌∷◌, length, map, Option, Some, None, unwrap_or, slice_get, slice_set, IsTrue, IsFalse, ◌==◌, if◌then◌else◌}
+use Rattle.std.specs.Prelude.{◌≡◌, ℕ, suc, ◌+◌, ◌<◌, Bool, true, false, not, ◌&&◌, ◌||◌, List, [], ◌∷◌, length, map, Option, Some, None, is_some, unwrap_or, slice_get, slice_set, IsTrue, IsFalse, ◌==◌, if◌then◌else◌}
 use Rattle.node_machine.specs.declared.Key.{Key}
 use Rattle.node_machine.specs.Story.{phase_number}
 use Rattle.node_machine.specs.Stand.{stand_after, stand_before, next_of}
@@ -12,7 +12,7 @@ use Rattle.sched_core.specs.declared.CoreFault.{CoreFault}
 use Rattle.sched_core.specs.declared.CoreFault.TheVariants.{NotLawful, Finished}
 use Rattle.sched_core.specs.declared.Record.{Record}
 use Rattle.sched_core.specs.declared.Record.TheVariants.{Life, Launch, End, Finish}
-use Rattle.sched_core.specs.Run.{history, next, is_done, outstanding, is_aborted, is_lawful, may_launch, is_nothing, job_launches, is_met, is_over, exit_status}
+use Rattle.sched_core.specs.Run.{history, next, is_done, outstanding, is_among, is_aborted, is_lawful, may_launch, is_nothing, job_launches, is_met, is_over, exit_status}
 
 -- the plan, the records, the newest first, and how many more need no memory
 pub record Progress : Type 0 where
@@ -120,6 +120,16 @@ IsChoice plan past choices.Wait =
 IsChoice plan past (choices.Finish status) =
     IsTrue (nothing_launchable plan past (suc (count_of plan))) × IsTrue (is_nothing (outstanding plan past))
     × (status ≡ exit_status plan past)
+
+-- of these phases the one that was launched first, counting the launches since the last Life alone
+abbrev pub first_launched : List Key → List Record → Option Key
+first_launched keys [] = None
+first_launched keys (Life ∷ past) = None
+first_launched keys (Launch key number ∷ past) =
+    if is_some (first_launched keys past) || not (is_among key keys) then first_launched keys past
+    else Some key
+first_launched keys (End key outcome ∷ past) = first_launched keys past
+first_launched keys (Finish status ∷ past) = first_launched keys past
 
 -- one mark for each ordinary node: whether it is done
 pub record AreMarks (plan : Plan) (past : List Record) (marks : List Bool) : Type 0 where

@@ -29,7 +29,7 @@ pub fn histories()
     ensures prefix { (plan : Plan) (records : List Record) → IsTrue (is_lawful plan records) →
         (node : ℕ) →
         BeginsWith (phases_of (story (node_at plan node).course (table_of records node)))
-            (history records node) }
+        (history records node) }
     ensures parents { (plan : Plan) (records : List Record) → IsTrue (is_lawful plan records) →
         (node : ℕ) → node < count_of plan → history records node ≢ [] →
         IsTrue (list_all (is_done plan records) (node_at plan node).parents) }

@@ -1,4 +1,4 @@
-use Rattle.std.proofs.Common.{◌∙◌, reverse, take}
+use Rattle.std.proofs.Common.{reverse, take}
 use Rattle.std.proofs.lemmas.Result.{err_from_is_err_and}
 use Rattle.run_plan.proofs.LineFacts.{refused_at}
 use Rattle.run_plan.proofs.lines.draft_of.Goals as goal

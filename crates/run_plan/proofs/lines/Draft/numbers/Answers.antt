@@ -1,11 +1,7 @@
-use Rattle.std.proofs.Common.{◌∙◌, sym, ap, length, ◌++◌, ◌∷◌, [], take, ◌<◌, ℕ, List, subst}
+use Rattle.std.proofs.Common.{sym, length, ◌<◌, ℕ, List, subst}
 use Rattle.std.proofs.lemmas.Result.{err_from_is_err_and}
-use Rattle.std.proofs.lemmas.List.{map_more}
 use Rattle.std.proofs.lemmas.List.Elements.{All-push}
 use Rattle.std.specs.Prelude.{All}
-use Rattle.dag_reader.specs.Word.{PlacedText}
-use Rattle.run_plan.specs.Lines.{place_in}
-use Rattle.run_plan.specs.Drafts.{places_in}
 use Rattle.run_plan.proofs.DraftSteps.{one_known, one_placed, unknown_refused}
 use Rattle.run_plan.proofs.lines.Draft.numbers.Goals as goal
 

@@ -1,0 +1,141 @@
+// The disks under a journal.
+ghost use Rattle.std.specs.Prelude.{◌≤◌, ◌<◌};
+
+use crate::runs::{FAILS_ONCE, RECORDS, add, add_and_fail, add_many, begin, records_on, written};
+use event_journal::{Disk, FileDisk, Fuse, FuseDisk, JournalFault, MemDisk};
+use sched_core::Record;
+use std::alloc::Global;
+use std::fs;
+use std::process::Abort;
+use std::test::Fail;
+
+#[test]
+fn journal_full(rt: HostRuntime) -> Result<(), Fail> {
+    let alloc = rt.alloc();
+    let (disk, append, count) = add_and_fail(alloc, MemDisk::new(alloc, 65), 16)?;
+    assert_eq!(rt; append, Err(JournalFault::DiskFull));
+    assert_eq!(rt; count, Err(JournalFault::Broken));
+    assert_eq!(rt; disk.bytes().get(..64), FAILS_ONCE.get(..64));
+    assert_eq!(rt; disk.bytes().get(64..), Some([0].as_slice()));
+    Ok(())
+}
+
+#[test]
+fn slot_limit(rt: HostRuntime) -> Result<(), Fail> {
+    let alloc = rt.alloc();
+    let (disk, append, count) = add_and_fail(alloc, MemDisk::new(alloc, 1000), 1)?;
+    assert_eq!(rt; append, Err(JournalFault::SlotsFull));
+    assert_eq!(rt; count, Ok(1));
+    assert_eq!(rt; disk.bytes().get(..96), FAILS_ONCE.get(..96));
+    assert_eq!(rt; disk.bytes().get(96..), Some([0].as_slice()));
+    Ok(())
+}
+
+// Leaves a body behind the records whose gate is closed.
+fn staged<D: Disk + Drop>(alloc: Global, disk: D) -> Result<D, JournalFault> {
+    let mut journal = begin(alloc, disk, 16)?;
+    journal.append_body(&Record::Finish(3))?;
+    Ok(journal.into_disk())
+}
+
+#[test]
+fn body_replaced(rt: HostRuntime) -> Result<(), Fail> {
+    let alloc = rt.alloc();
+    let disk = staged(alloc, MemDisk::new(alloc, 1000))?;
+    let disk = written(alloc, disk)?;
+    assert_eq!(rt; disk.bytes(), FAILS_ONCE.as_slice());
+    Ok(())
+}
+
+// Opens, makes a journal and adds a record: twelve calls of the disk.
+fn first_record(alloc: Global, disk: FuseDisk<MemDisk>) -> Result<(), JournalFault> {
+    let mut journal = begin(alloc, disk, 16)?;
+    add(&mut journal, &Record::Life)
+}
+
+fn fails_at(rt: &impl Abort, alloc: Global, calls: u64, fuse: Fuse) {
+    let answer = first_record(alloc, FuseDisk::new(MemDisk::new(alloc, 1000), fuse));
+    if calls < 12 {
+        assert_eq!(rt; answer, Err(JournalFault::Device), "at {calls}");
+    } else {
+        assert_eq!(rt; answer, Ok(()));
+    }
+}
+
+#[test]
+fn each_call_fails_once(rt: HostRuntime) {
+    for calls in 0..13 {
+        fails_at(&rt, rt.alloc(), calls, Fuse::One(calls));
+        fails_at(&rt, rt.alloc(), calls, Fuse::All(calls));
+    }
+}
+
+// The bytes of the gate's write are there before its sync fails.
+#[test]
+fn sync_of_a_gate_fails(rt: HostRuntime) -> Result<(), Fail> {
+    let alloc = rt.alloc();
+    let disk = FuseDisk::new(MemDisk::new(alloc, 1000), Fuse::One(11));
+    let (disk, append, count) = add_and_fail(alloc, disk, 16)?;
+    assert_eq!(rt; append, Err(JournalFault::Device));
+    assert_eq!(rt; count, Err(JournalFault::Broken));
+    let records = records_on(alloc, disk.into_disk())?;
+    assert_eq!(rt; records.as_slice(), &RECORDS[..1]);
+    Ok(())
+}
+
+// Two records for each node: a journal of 640,065 bytes.
+#[test]
+fn many_records(rt: HostRuntime) -> Result<(), Fail> {
+    let alloc = rt.alloc();
+    let count = add_many(alloc, MemDisk::new(alloc, 1_000_000), 10_000)?;
+    assert_eq!(rt; count, 20_000);
+    Ok(())
+}
+
+#[test]
+fn journal_in_a_file(rt: HostRuntime) -> Result<(), Fail> {
+    let alloc = rt.alloc();
+    let name = "journal_in_a_file.test";
+    written(alloc, FileDisk::at(rt, String::from_str(alloc, name)?))?;
+    let bytes = fs::read(&rt, name)?;
+    assert_eq!(rt; bytes.as_slice(), FAILS_ONCE.as_slice());
+    let records = records_on(alloc, FileDisk::at(rt, String::from_str(alloc, name)?))?;
+    assert_eq!(rt; records.as_slice(), RECORDS.as_slice());
+    fs::remove_file(&rt, name)?;
+    Ok(())
+}
+
+#[test]
+fn file_is_missing(rt: HostRuntime) -> Result<(), Fail> {
+    let name = "file_is_missing.test";
+    let mut disk = FileDisk::at(rt, String::from_str(rt.alloc(), name)?);
+    assert_eq!(rt; disk.size(), Ok(0));
+    assert_eq!(rt; disk.sync(), Ok(()));
+    assert!(rt; !fs::exists(&rt, name)?);
+    Ok(())
+}
+
+#[test]
+fn file_in_a_missing_folder(rt: HostRuntime) -> Result<(), Fail> {
+    let alloc = rt.alloc();
+    let disk = FileDisk::at(rt, String::from_str(alloc, "no_such_folder/journal")?);
+    match written(alloc, disk) {
+        Ok(_) => panic!(rt; "a journal in no folder"),
+        Err(fault) => assert_eq!(rt; fault, JournalFault::Device),
+    }
+    Ok(())
+}
+
+#[test]
+fn file_is_cut(rt: HostRuntime) -> Result<(), Fail> {
+    let alloc = rt.alloc();
+    let name = "file_is_cut.test";
+    fs::write(&rt, name, FAILS_ONCE.as_slice())?;
+    let mut disk = FileDisk::at(rt, String::from_str(alloc, name)?);
+    assert_eq!(rt; disk.cut(65), Ok(()));
+    assert_eq!(rt; disk.size(), Ok(65));
+    let bytes = disk.read(alloc)?;
+    assert_eq!(rt; bytes.as_slice(), &FAILS_ONCE[..65]);
+    fs::remove_file(&rt, name)?;
+    Ok(())
+}
