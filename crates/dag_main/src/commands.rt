@@ -6,7 +6,7 @@ use crate::report::{Answer, rehearse_text};
 use crate::request::{Request, read_words};
 use std::alloc::Global;
 use std::fs;
-use std::io::Read;
+use std::io::{ErrorKind, Read};
 use std::rt::Files;
 
 /// The exit status of whatever is refused.
@@ -65,6 +65,7 @@ fn rehearse<R: Files + Input + AllocGlobal>(
 fn read_outcomes<R: Files + AllocGlobal>(rt: &R, path: &str) -> Result<Vec<u8>, RunFault> {
     match fs::read(rt, path) {
         Ok(bytes) => Ok(bytes),
+        Err(error) if error.kind() == ErrorKind::OutOfMemory => Err(RunFault::Memory),
         Err(_) => Err(RunFault::FileRefused(String::from_str(rt.alloc(), path)?)),
     }
 }
@@ -83,6 +84,7 @@ fn add_dag<R: Files + Input + AllocGlobal>(
     }
     match fs::read(rt, path) {
         Ok(bytes) => Ok(files.add(alloc, path, bytes.as_slice())?),
+        Err(error) if error.kind() == ErrorKind::OutOfMemory => Err(RunFault::Memory),
         Err(_) => Ok(()),
     }
 }
@@ -91,6 +93,7 @@ fn read_input<R: Input + AllocGlobal>(rt: &R) -> Result<Vec<u8>, RunFault> {
     let mut bytes = Vec::new(rt.alloc());
     match rt.reader().read_to_end(&mut bytes) {
         Ok(_) => Ok(bytes),
+        Err(error) if error.kind() == ErrorKind::OutOfMemory => Err(RunFault::Memory),
         Err(_) => Err(RunFault::FileRefused(String::from_str(rt.alloc(), "-")?)),
     }
 }

@@ -4,6 +4,7 @@
 mod commands;
 mod fault;
 mod file_set;
+pub mod laws;
 mod rehearsal;
 mod report;
 mod request;

@@ -46,7 +46,7 @@ good entries = Ok entries
 abbrev bad : ℕ → Result (List Entry) ℕ
 bad number = Err number
 
-good_is : (xs ys : List Entry) → good xs ≡ good ys → xs ≡ ys
+pub good_is : (xs ys : List Entry) → good xs ≡ good ys → xs ≡ ys
 good_is xs ys e = cc
 
 bad_is : (m n : ℕ) → bad m ≡ bad n → m ≡ n

@@ -99,7 +99,7 @@ fn lengths(rt: HostRuntime) -> Result<(), Fail> {
 #[test]
 fn words_of_another_line(rt: HostRuntime) -> Result<(), Fail> {
     let (first, rest) = split_line(b"a JOB +02 -7\r\nb");
-    assert!(rt; rest == b"b");
+    assert!(rt; rest == b"b".as_slice());
     let text = line_text(9, first).ok().ok_or("a text")?;
     let mut line = LineReader::new(9, text);
     let name = line.next_word().ok_or("a word")?;

@@ -20,7 +20,8 @@ history (Life ∷ past) node = history past node
 history (Launch key number ∷ past) node = history past node
 history (Finish status ∷ past) node = history past node
 
--- the outcome of each node, attempt and phase that ended; Exit 0 where none did
+-- the outcome of each node, attempt and phase that ended; Exit 0 where none did (in a lawful list no
+-- phase ends twice)
 abbrev pub table_of : List Record → Table
 table_of records node = outcome_in (history records node)
 
@@ -51,7 +52,7 @@ abbrev pub is_met : Option ℤ → Option ℤ → Bool
 is_met setting None = false
 is_met setting (Some value) = is_set_to setting value
 
--- the last attempt of a node has its abort value
+-- the last attempt of a node that ended has its abort value; none follows it
 abbrev pub has_abort_value : Plan → List Record → ℕ → Bool
 has_abort_value plan past node = is_met (node_at plan node).course.abort_on (value_in plan past node)
 
@@ -72,7 +73,8 @@ abbrev pub without : Key → List Key → List Key
 without key [] = []
 without key (other ∷ keys) = if is_same key other then without key keys else other ∷ without key keys
 
--- the phases that were launched in this life and have not ended; an abort ends all
+-- the phases that were launched after the last Life and after the aborting End, if any, and have not
+-- ended, the newest first
 abbrev pub outstanding : Plan → List Record → List Key
 outstanding plan [] = []
 outstanding plan (Life ∷ past) = []
@@ -160,7 +162,9 @@ abbrev pub is_nothing : List Key → Bool
 is_nothing [] = true
 is_nothing (key ∷ keys) = false
 
--- a record may follow
+-- A record may follow: Life anywhere before Finish; a launch of a phase that may be launched, with its
+-- number; an End of what is outstanding, with an outcome that there is, and Exit 0 for the job of a NOOP;
+-- Finish where nothing is outstanding and nothing may be launched, with the verdict.
 unfoldable pub may_follow : Plan → List Record → Record → Bool
 may_follow plan past Life = not (is_over past)
 may_follow plan past (Launch key number) =
