@@ -1,32 +1,64 @@
 #!/usr/bin/env bash
-# Refuses each allocation of a rehearsal in turn: the first, the second, .. until none is refused. Each time the program must
-# either say on standard error that memory is out, print nothing on standard output and end with status 125, or give the report.
-# usage: refused_memory.sh DAGRUN
+# Refuses each allocation in turn, the first, the second, .. until none is refused.
+# - Of a rehearsal: each time the program either says on standard error that memory is out, prints nothing on standard output
+#   and ends with status 125, or gives the report.
+# - Of a writer of a journal: each time it says so and ends with another status than 0, or it appends its records; and then the
+#   journal, opened with ample memory, holds each record that was acknowledged.
+# usage: refused_memory.sh DAGRUN WRITER
 set -u
 top=$(cd -- "$(dirname -- "${BASH_SOURCE[0]}")/.." && pwd)
 program=$(realpath "$1")
+writer=$(realpath "$2")
 work=$(mktemp -d)
 trap 'rm -rf "$work"' EXIT
 cc -shared -fPIC -O1 -o "$work/refuse.so" "$top/tests/refuse_memory.c" -ldl || exit 1
-cd "$top/examples" || exit 1
-expected=$(cat diamond_one_fails.expected)
-refused=0
-for place in $(seq 1 10000); do
-    output=$(REFUSE_AT=$place LD_PRELOAD="$work/refuse.so" "$program" rehearse diamond.dag diamond_one_fails.outcomes 2>"$work/error")
+expected=$(cat "$top/examples/diamond_one_fails.expected")
+
+# rehearse PLACE: whether it went well; sets refused to 1 where the allocation of that place was refused
+rehearse() {
+    local output status
+    cd "$top/examples" || return 1
+    output=$(REFUSE_AT=$1 LD_PRELOAD="$work/refuse.so" "$program" rehearse diamond.dag diamond_one_fails.outcomes 2>"$work/error")
     status=$?
-    if [ "$status" = 1 ] && [ "$output" = "$expected" ] && [ ! -s "$work/error" ]; then
-        # Past the last allocation the report comes again and again.
-        last=$((${last:-0} + 1))
-        [ "$last" -lt 20 ] && continue
-        echo "$refused allocations were refused one by one"
-        exit 0
-    fi
-    last=0
-    if [ "$status" != 125 ] || [ -n "$output" ] || ! grep -qE 'X1 Memory|out of memory' "$work/error"; then
-        echo "allocation $place: status $status, output '$output', error '$(cat "$work/error")'"
-        exit 1
-    fi
-    refused=$((refused + 1))
-done
-echo "the report never came"
-exit 1
+    refused=0
+    [ "$status" = 1 ] && [ "$output" = "$expected" ] && [ ! -s "$work/error" ] && return 0
+    refused=1
+    [ "$status" = 125 ] && [ -z "$output" ] && grep -qE 'X1 Memory|out of memory' "$work/error"
+}
+
+# append PLACE: the same of a writer that appends eight records
+append() {
+    local told status found
+    rm -f "$work/journal"
+    cd "$work" || return 1
+    told=$(REFUSE_AT=$1 LD_PRELOAD="$work/refuse.so" "$writer" journal 8 2>"$work/error" | tail -n 1; exit "${PIPESTATUS[0]}")
+    status=$?
+    refused=0
+    [ "$status" = 0 ] || refused=1
+    found=$("$writer" journal 0) || return 1
+    [ "$found" -ge "${told:-0}" ] && [ "$found" -le 8 ] && { [ "$refused" = 1 ] || [ "$found" = 8 ]; }
+}
+
+# each NAME: NAME at each place, until 20 places in a row refuse nothing
+each() {
+    local place calm=0 count=0
+    for place in $(seq 1 10000); do
+        if ! "$1" "$place"; then
+            echo "$1: allocation $place was refused, and: $(cat "$work/error")"
+            return 1
+        fi
+        if [ "$refused" = 1 ]; then
+            count=$((count + 1))
+            calm=0
+        else
+            calm=$((calm + 1))
+        fi
+        if [ "$calm" = 20 ]; then
+            echo "$1: $count allocations were refused one by one"
+            return 0
+        fi
+    done
+    return 1
+}
+
+each rehearse && each append
