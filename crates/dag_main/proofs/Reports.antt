@@ -1,70 +1,125 @@
 -- The report of a rehearsal is that of the fates.
-use Rattle.std.proofs.Common.{◌≡◌, ℕ, zero, suc, ℤ, false, not, List, [], ◌∷◌, map, reverse, Option, Some, None, unwrap_or, Result, Ok, Err, refl, sym, ap, ◌∙◌, subst, if◌then◌else◌}
-use Rattle.std.specs.Prelude.{slice_get, IfOk}
+use Rattle.std.proofs.Common.{◌≡◌, ℕ, zero, suc, ◌+◌, ℤ, true, false, not, List, [], ◌∷◌, Option, Some, None, is_some, is_none, unwrap_or, Result, Ok, Err, refl, sym, ap, ◌∙◌, subst, if◌then◌else◌}
+use Rattle.std.proofs.lemmas.Bool.{and_parts, false≢true}
+use Rattle.std.specs.Prelude.{slice_get, IfOk, IfErr}
+use Rattle.std.specs.List.{list_all}
+use Rattle.std.specs.Option.{option_map}
 use mathlib.Core.Path.{fun_ext}
-use Rattle.dag_reader.specs.declared.command.Command.{Command}
 use Rattle.node_machine.specs.declared.Phase.{Phase}
 use Rattle.node_machine.specs.Story.{Table}
 use Rattle.node_machine.specs.OutcomeTable.{Entry, SameOutcomes}
-use Rattle.run_plan.specs.Plan.{Plan, no_node, node_at, count_of, all_below}
-use Rattle.run_plan.specs.Lines.{node_of, names_of, plan_of}
+use Rattle.splices.specs.Dag.{Dag}
+use Rattle.splices.specs.declared.flat.FlatNode.{FlatNode}
+use Rattle.splices.specs.declared.flat.AbortSetting.{AbortSetting}
+use Rattle.splices.specs.Opening.{Files}
+use Rattle.run_plan.specs.Plan.{Plan, NodeSpec, no_node, node_at, count_of, all_below}
+use Rattle.run_plan.specs.Specs.{spec_of, specs_from, plan_of}
 use Rattle.sched_core.specs.declared.Record.{Record}
 use Rattle.sched_core.specs.Run.{is_done, is_met, value_in, has_abort_value, is_aborted, status_of_abort, exit_status}
 use Rattle.sched_core.specs.Fate.{AreFates, shown, is_done_state}
+use Rattle.sched_core.specs.TakenSettings.{takes_settings}
 use Rattle.sched_core.proofs.Finished.{state-done}
 use Rattle.sched_core.proofs.Sweeps.{all_below-from, all_below-same}
 use Rattle.dag_main.specs.Rehearsal.{table_by}
-use Rattle.dag_main.specs.Rehearsed.{IsPlanOf, HasEntries, status_of, IsRehearsalOf}
-use Rattle.dag_main.specs.Refusals.{ReportsRun}
+use Rattle.dag_main.specs.Rehearsed.{is_rehearsed, plan_by, HasEntries, status_of, IsRehearsalOf, IsOwed}
+use Rattle.dag_main.specs.Refusals.{ReportsRun, IsPlanOf, IsTableFault}
+use Rattle.dag_main.specs.declared.fault.RunFault.{RunFault}
+use Rattle.dag_main.specs.declared.fault.RunFault.TheVariants.{InFiles, Cycle, NotYet, InTable, FileRefused, Memory}
+use Rattle.dag_main.specs.Report.{warning_lines}
 
--- no node of lines has an abort value
-no-abort : (lines : List Command) (names : List (List ℕ)) (node : ℕ)
-    → (unwrap_or (slice_get (map (node_of lines) names) node) no_node).course.abort_on ≡ None
-no-abort lines [] node = refl
-no-abort lines (name ∷ names) zero = refl
-no-abort lines (name ∷ names) (suc node) = no-abort lines names node
+abbrev no_abort : FlatNode → Type 0
+no_abort node = is_none node.settings.abort ≡ true
+
+unset : (setting : Option AbortSetting) → is_none setting ≡ true → option_map (λ (s : AbortSetting). s.value) setting ≡ None
+unset None is = refl
+unset (Some s) is = absurd (false≢true is)
+
+-- no node has an abort value
+no-abort : (dag : Dag) (number : ℕ) (nodes : List FlatNode) → list_all (λ (n : FlatNode). is_none n.settings.abort) nodes ≡ true → (node : ℕ)
+    → (unwrap_or (slice_get (specs_from dag number nodes) node) no_node).course.abort_on ≡ None
+no-abort dag number [] all node = refl
+no-abort dag number (n ∷ ns) all zero = unset n.settings.abort (and_parts _ _ all).0
+no-abort dag number (n ∷ ns) all (suc node) = no-abort dag (number + 1) ns (and_parts _ _ all).1 node
 
 none-met : (value : Option ℤ) → is_met None value ≡ false
 none-met None = refl
 none-met (Some v) = refl
 
--- so no run of them is aborted
-calm-lines : (lines : List Command) (past : List Record) → is_aborted (plan_of lines) past ≡ false
-unfolding is_aborted
-calm-lines lines past =
-    ap not (all_below-from (λ node. not (has_abort_value (plan_of lines) past node)) (count_of (plan_of lines))
-    (λ node lt. ap not (ap (λ o. is_met o (value_in (plan_of lines) past node)) (no-abort lines (names_of lines) node)
-    ∙ none-met (value_in (plan_of lines) past node))))
+is-none : {X : Type 0} (o : Option X) → is_none o ≡ true → o ≡ None
+is-none None e = refl
+is-none (Some x) e = absurd (false≢true e)
 
--- and its exit status is that of the fates
-status-lines : (lines : List Command) (past : List Record) → exit_status (plan_of lines) past ≡ status_of (plan_of lines) (shown (plan_of lines) past)
-status-lines lines past =
-    (λ j. if calm-lines lines past j then status_of_abort (plan_of lines) past (count_of (plan_of lines))
-    else if all_below (is_done (plan_of lines) past) (count_of (plan_of lines)) then 0 else 1)
-    ∙ (λ j. if all_below-same (is_done (plan_of lines) past) (λ node. is_done_state (shown (plan_of lines) past node).state) (count_of (plan_of lines))
-    (λ node lt. sym (state-done (plan_of lines) past node)) j then 0 else 1)
+module _ (dag : Dag) (order : List ℕ) (run : is_rehearsed dag ≡ true) where
+  abbrev plan : Plan
+  plan = plan_by dag order
+
+  no_final : dag.final_node ≡ None
+  no_final = is-none dag.final_node (and_parts (is_none dag.final_node) _ (and_parts (takes_settings dag) _ run).1).0
+
+  unaborted : list_all (λ (n : FlatNode). is_none n.settings.abort) dag.nodes ≡ true
+  unaborted = (and_parts (is_none dag.final_node) _ (and_parts (takes_settings dag) _ run).1).1
+
+  final_none : plan.final_node ≡ None
+  final_none = ap (option_map (spec_of [])) no_final
+
+  abort_none : (node : ℕ) → (node_at plan node).course.abort_on ≡ None
+  abort_none node = ap (λ (o : Option NodeSpec). (unwrap_or (slice_get plan.nodes node) (unwrap_or o no_node)).course.abort_on) final_none ∙ no-abort dag 0 dag.nodes unaborted node
+
+  -- so no run of the plan is aborted
+  pub calm : (past : List Record) → is_aborted plan past ≡ false
+  unfolding is_aborted
+  calm past =
+      ap not (all_below-from (λ node. not (has_abort_value plan past node)) (count_of plan)
+      (λ node lt. ap not (ap (λ o. is_met o (value_in plan past node)) (abort_none node) ∙ none-met (value_in plan past node))))
+
+  -- and its exit status is that of the fates
+  pub status-is : (past : List Record) → exit_status plan past ≡ status_of plan (shown plan past)
+  status-is past =
+      (λ j. if is_some (final_none j) then (if is_done plan past (count_of plan) then 0 else 1)
+      else if calm past j then status_of_abort plan past (count_of plan)
+      else if all_below (is_done plan past) (count_of plan) then 0 else 1)
+      ∙ (λ j. if all_below-same (is_done plan past) (λ node. is_done_state (shown plan past node).state) (count_of plan)
+      (λ node lt. sym (state-done plan past node)) j then 0 else 1)
 
 same-table : (plan : Plan) (table entries : List Entry) → SameOutcomes table entries → table_by plan table ≡ table_by plan entries
 same-table plan table entries same =
     fun_ext (λ (node : ℕ). fun_ext (λ (attempt : ℕ). fun_ext (λ (phase : Phase). same (node_at plan node).name attempt phase)))
 
-pub rehearsal-of : (dag : List ℕ) (outcomes : Option (List ℕ)) (plan : Plan) (table : List Entry) → IsPlanOf dag plan
+pub rehearsal-of : (files : Files) (path : List ℕ) (outcomes : Option (List ℕ)) (plan : Plan) (table : List Entry) → IsPlanOf files path plan
     → (entries : List Entry) × HasEntries outcomes entries × SameOutcomes table entries
-    → (text : List ℕ) (status : ℕ) → ReportsRun plan table text status → IsRehearsalOf dag outcomes text status
-rehearsal-of dag outcomes plan table (commands, ignored, says, fine, is) (entries, has, same) text status (past, text_is, status_is, fates) = record {
-  plan = plan;
-  entries = entries;
-  fates = shown plan past;
-  is_plan = (commands, ignored, says, fine, is);
-  has_entries = has;
-  are_fates = subst (λ (t : Table). AreFates plan t (shown plan past)) (same-table plan table entries same) (fates calm);
-  text_is = text_is;
-  status_is = status_is ∙ subst (λ (p : Plan). exit_status p past ≡ status_of p (shown p past)) (sym is) (status-lines (reverse commands) past);
-}
-  where
-    calm : is_aborted plan past ≡ false
-    calm = subst (λ (p : Plan). is_aborted p past ≡ false) (sym is) (calm-lines (reverse commands) past)
+    → (text warnings : List ℕ) (status : ℕ) → ReportsRun plan table text status → warnings ≡ warning_lines plan.graph.dag.warnings
+    → IsRehearsalOf files path outcomes text warnings status
+rehearsal-of files path outcomes plan table is (entries, has, same) text warnings status run notes =
+    let run' : ReportsRun (plan_of plan.graph) table text status = subst (λ (p : Plan). ReportsRun p table text status) is.made run in
+    let past = run'.0 in
+    record {
+      dag = plan.graph.dag;
+      order = plan.graph.order;
+      entries = entries;
+      fates = shown (plan_of plan.graph) past;
+      is_dag = is.is_dag;
+      is_run = is.is_run;
+      is_order = is.is_order;
+      has_entries = has;
+      are_fates = subst (λ (t : Table). AreFates (plan_of plan.graph) t (shown (plan_of plan.graph) past)) (same-table (plan_of plan.graph) table entries same) (run'.3 (calm plan.graph.dag plan.graph.order is.is_run past));
+      text_is = run'.1;
+      status_is = run'.2 ∙ status-is plan.graph.dag plan.graph.order is.is_run past;
+      warnings_are = notes;
+    }
 
-pub answered : {A E : Type 0} (P Q : A → Type 0) (result : Result A E) → ((answer : A) → P answer → Q answer) → IfOk result P → IfOk result Q
-answered P Q (Ok answer) more p = more answer p
-answered P Q (Err fault) more p = tt
+pub answered : {A E : Type 0} (P R Q : A → Type 0) (result : Result A E) → ((answer : A) → P answer → R answer → Q answer) → IfOk result P → IfOk result R → IfOk result Q
+answered P R Q (Ok answer) more p r = more answer p r
+answered P R Q (Err fault) more p r = tt
+
+-- Why a rehearsal is refused, once there is a plan.
+pub table-owed : (files : Files) (path : List ℕ) (outcomes : Option (List ℕ)) (plan : Plan) (fault : RunFault) → IsPlanOf files path plan → IsTableFault outcomes fault → IsOwed files path outcomes fault
+table-owed files path outcomes p (InFiles fault) is bad = absurd bad
+table-owed files path outcomes p (Cycle names) is bad = absurd bad
+table-owed files path outcomes p NotYet is bad = absurd bad
+table-owed files path outcomes p (InTable fault) is (text, said, number, at, first) = (p.graph.dag, is.is_dag, is.acyclic, is.is_run, text, said, number, at, first)
+table-owed files path outcomes p (FileRefused refused) is bad = absurd bad
+table-owed files path outcomes p Memory is bad = tt
+
+pub memory-owed : {A : Type 0} (files : Files) (path : List ℕ) (outcomes : Option (List ℕ)) (result : Result A RunFault) → IfErr result (λ fault. fault ≡ Memory) → IfErr result (IsOwed files path outcomes)
+memory-owed files path outcomes (Ok answer) is = tt
+memory-owed files path outcomes (Err fault) is = subst (IsOwed files path outcomes) (sym is) tt

@@ -1,5 +1,5 @@
-pub mod FileSet
 pub mod Rehearsal
 pub mod Report
 pub mod Rehearsed
 pub mod Refusals
+pub mod Checked

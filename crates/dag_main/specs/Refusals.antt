@@ -1,22 +1,24 @@
 -- What the parts of a rehearsal answer.
-use Rattle.std.specs.Prelude.{◌≡◌, ℕ, List, Option, Some, string_bytes, IsFalse}
+use Rattle.std.specs.Prelude.{◌≡◌, ℕ, true, false, List, Option, Some, Ok, Err, IsFalse}
 use Rattle.std.specs.Str.Lines.{lines}
-use Rattle.dag_reader.specs.declared.command.Command.{Command}
-use Rattle.dag_reader.specs.declared.command.Warning.{Warning}
-use Rattle.dag_reader.specs.declared.fault.ReadFault.TheVariants as reading
-use Rattle.dag_reader.specs.Grammar as grammar
 use Rattle.node_machine.specs.OutcomeTable.{Entry}
 use Rattle.node_machine.specs.OutcomesFile as outcomes_file
 use Rattle.node_machine.specs.declared.outcomes.TableFault.TheVariants as table
+use Rattle.splices.specs.Dag.{Dag}
+use Rattle.splices.specs.Opening.{Files}
+use Rattle.splices.specs.Opened.{dag_at}
+use Rattle.dag_graph.specs.Graph.{IsAcyclic, IsOrderOf}
+use Rattle.dag_graph.specs.Cycles.{NamesCycle}
 use Rattle.run_plan.specs.Plan.{Plan}
-use Rattle.run_plan.specs.Lines.{fault_of}
+use Rattle.run_plan.specs.Specs.{plan_of}
 use Rattle.sched_core.specs.declared.Record.{Record}
 use Rattle.sched_core.specs.Run.{exit_status, is_aborted}
 use Rattle.sched_core.specs.Fate.{AreFates, shown}
 use Rattle.dag_main.specs.Rehearsal.{table_by}
+use Rattle.dag_main.specs.Rehearsed.{is_rehearsed}
 use Rattle.dag_main.specs.Report.{report_of}
 use Rattle.dag_main.specs.declared.fault.RunFault.{RunFault}
-use Rattle.dag_main.specs.declared.fault.RunFault.TheVariants.{MissingFile, InFile, InPlan, InTable, FileRefused, Memory}
+use Rattle.dag_main.specs.declared.fault.RunFault.TheVariants.{InFiles, Cycle, NotYet, InTable, FileRefused, Memory}
 
 -- the report and the exit status of some records of the plan, which without abort show the fates
 abbrev pub ReportsRun : Plan → List Entry → List ℕ → ℕ → Type 0
@@ -24,32 +26,29 @@ ReportsRun plan entries text status = (past : List Record)
     × (text ≡ report_of plan (shown plan past) status) × (status ≡ exit_status plan past)
     × (IsFalse (is_aborted plan past) → AreFates plan (table_by plan entries) (shown plan past))
 
-abbrev pub IsReadFault : List ℕ → List ℕ → RunFault → Type 0
-IsReadFault path dag (InFile read fault) =
-    (string_bytes read ≡ path) × grammar.IsFirstBad (lines dag) (reading.Line fault)
-IsReadFault path dag Memory = Unit {0}
-IsReadFault path dag (MissingFile missing) = ⊥
-IsReadFault path dag (InPlan read fault) = ⊥
-IsReadFault path dag (InTable fault) = ⊥
-IsReadFault path dag (FileRefused refused) = ⊥
+-- the plan of files that are rehearsed
+pub record IsPlanOf (files : Files) (path : List ℕ) (plan : Plan) : Type 0 where
+  pub is_dag : dag_at files path ≡ Ok plan.graph.dag
+  pub acyclic : IsAcyclic plan.graph.dag.edges
+  pub is_order : IsOrderOf plan.graph.dag plan.graph.order
+  pub made : plan ≡ plan_of plan.graph
+  pub is_run : is_rehearsed plan.graph.dag ≡ true
 
-abbrev pub IsPlanFault : List ℕ → List ℕ → RunFault → Type 0
-IsPlanFault path dag (InFile read fault) =
-    (string_bytes read ≡ path) × grammar.IsFirstBad (lines dag) (reading.Line fault)
-IsPlanFault path dag (InPlan read fault) =
-    (string_bytes read ≡ path) × (commands : List Command) × (ignored : List Warning)
-    × grammar.SayAll 1 (lines dag) commands ignored × (fault_of commands ignored ≡ Some fault)
-IsPlanFault path dag Memory = Unit {0}
-IsPlanFault path dag (MissingFile missing) = ⊥
-IsPlanFault path dag (InTable fault) = ⊥
-IsPlanFault path dag (FileRefused refused) = ⊥
+-- why there is none
+abbrev pub IsPlanFault : Files → List ℕ → RunFault → Type 0
+IsPlanFault files path (InFiles fault) = dag_at files path ≡ Err fault
+IsPlanFault files path (Cycle names) = (dag : Dag) × (dag_at files path ≡ Ok dag) × NamesCycle dag names
+IsPlanFault files path NotYet = (dag : Dag) × (dag_at files path ≡ Ok dag) × IsAcyclic dag.edges × (is_rehearsed dag ≡ false)
+IsPlanFault files path (InTable fault) = ⊥
+IsPlanFault files path (FileRefused refused) = ⊥
+IsPlanFault files path Memory = Unit {0}
 
 abbrev pub IsTableFault : Option (List ℕ) → RunFault → Type 0
 IsTableFault outcomes (InTable fault) =
     (text : List ℕ) × (outcomes ≡ Some text) × (number : ℕ) × (fault ≡ table.BadLine number)
     × outcomes_file.IsFirstBad (lines text) number
 IsTableFault outcomes Memory = Unit {0}
-IsTableFault outcomes (MissingFile missing) = ⊥
-IsTableFault outcomes (InFile read fault) = ⊥
-IsTableFault outcomes (InPlan read fault) = ⊥
+IsTableFault outcomes (InFiles fault) = ⊥
+IsTableFault outcomes (Cycle names) = ⊥
+IsTableFault outcomes NotYet = ⊥
 IsTableFault outcomes (FileRefused refused) = ⊥

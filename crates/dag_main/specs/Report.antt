@@ -5,6 +5,9 @@ use Rattle.node_machine.specs.declared.State.{State}
 use Rattle.node_machine.specs.declared.State.TheVariants.{Done, Error, NotRun}
 use Rattle.run_plan.specs.Plan.{Plan, node_at, count_of}
 use Rattle.sched_core.specs.Fate.{Fate}
+use Rattle.std.specs.List.{flat_map}
+use Rattle.splices.specs.declared.flat.DagWarning.{DagWarning}
+use Rattle.splices.specs.declared.flat.DagWarning.TheVariants.{Ignored, Overridden}
 
 -- a node that came to no end waits for its parents
 abbrev pub state_word : State → List ℕ
@@ -38,3 +41,11 @@ result_line status = codes "result " ++ (decimal status ++ codes "\n")
 -- the lines of all nodes in plan order, and the exit status
 abbrev pub report_of : Plan → (ℕ → Fate) → ℕ → List ℕ
 report_of plan fates status = fate_lines plan fates (count_of plan) ++ result_line status
+
+-- `warning: FILE:LINE ignored` and `warning: FILE:LINE overridden`
+abbrev pub warning_line : DagWarning → List ℕ
+warning_line (Ignored path line) = codes "warning: " ++ (path ++ (codes ":" ++ (decimal line ++ codes " ignored\n")))
+warning_line (Overridden path line) = codes "warning: " ++ (path ++ (codes ":" ++ (decimal line ++ codes " overridden\n")))
+
+abbrev pub warning_lines : List DagWarning → List ℕ
+warning_lines warnings = flat_map warning_line warnings

@@ -1,12 +1,14 @@
 //! The program's commands over the system's files and streams.
 
+use crate::check::check_text;
 use crate::fault::RunFault;
-use crate::file_set::FileSet;
-use crate::report::{Answer, rehearse_text};
+use crate::loading::files_of;
+use crate::report::rehearse_text;
 use crate::request::{Request, read_words};
+use crate::warnings::Answer;
 use std::alloc::Global;
 use std::fs;
-use std::io::{ErrorKind, Read};
+use std::io::ErrorKind;
 use std::rt::Files;
 
 /// The exit status of whatever is refused.
@@ -15,11 +17,12 @@ const REFUSED: u8 = 125;
 /// Runs the command of these words, of which the first is the program's name, and answers the
 /// exit status.
 ///
-/// What the command prints stands on standard output; a refused command line is told by clap's
-/// text on standard error, a refused input by one line `dagrun: CODE Name detail`, both with
-/// status 125 and nothing on standard output.
+/// What the command prints stands on standard output, its warnings on standard error; a refused
+/// command line is told by clap's text on standard error, a refused input by one line
+/// `dagrun: CODE Name detail`, both with status 125 and nothing on standard output.
 pub fn run<R: Files + Input + Print + Eprint + AllocGlobal>(rt: &R, words: &[&str]) -> u8 {
     match read_words(rt.alloc(), words) {
+        Ok(Request::Check { dag }) => finish(rt, check(rt, dag)),
         Ok(Request::Rehearse { dag, outcomes }) => finish(rt, rehearse(rt, dag, outcomes)),
         Err(error) => {
             let _ = eprint!(rt; "{error}");
@@ -31,10 +34,15 @@ pub fn run<R: Files + Input + Print + Eprint + AllocGlobal>(rt: &R, words: &[&st
 fn finish<R: Print + Eprint>(rt: &R, answer: Result<Answer, RunFault>) -> u8 {
     match answer {
         Ok(answer) => {
+            let warnings = answer.warnings.as_str();
+            let _ = eprint!(rt; "{warnings}");
             let text = answer.text.as_str();
             match print!(rt; "{text}") {
                 Ok(()) => answer.status,
-                Err(_) => REFUSED,
+                Err(error) => {
+                    let _ = eprintln!(rt; "dagrun: standard output: {error}");
+                    REFUSED
+                }
             }
         }
         Err(fault) => {
@@ -44,21 +52,24 @@ fn finish<R: Print + Eprint>(rt: &R, answer: Result<Answer, RunFault>) -> u8 {
     }
 }
 
+fn check<R: Files + Input + AllocGlobal>(rt: &R, dag: &str) -> Result<Answer, RunFault> {
+    let files = files_of(rt, dag)?;
+    check_text(rt.alloc(), &files, dag)
+}
+
 fn rehearse<R: Files + Input + AllocGlobal>(
     rt: &R,
     dag: &str,
     outcomes: Option<&str>,
 ) -> Result<Answer, RunFault> {
-    let alloc = rt.alloc();
     let table = match outcomes {
         Some(path) => Some(read_outcomes(rt, path)?),
         None => None,
     };
-    let mut files = FileSet::new(alloc);
-    add_dag(rt, &mut files, dag)?;
+    let files = files_of(rt, dag)?;
     match &table {
-        Some(bytes) => rehearse_text(alloc, &files, dag, Some(bytes.as_slice())),
-        None => rehearse_text(alloc, &files, dag, None),
+        Some(bytes) => rehearse_text(rt.alloc(), &files, dag, Some(bytes.as_slice())),
+        None => rehearse_text(rt.alloc(), &files, dag, None),
     }
 }
 
@@ -67,33 +78,5 @@ fn read_outcomes<R: Files + AllocGlobal>(rt: &R, path: &str) -> Result<Vec<u8>, 
         Ok(bytes) => Ok(bytes),
         Err(error) if error.kind() == ErrorKind::OutOfMemory => Err(RunFault::Memory),
         Err(_) => Err(RunFault::FileRefused(String::from_str(rt.alloc(), path)?)),
-    }
-}
-
-/// Puts the DAG file into the set; one that can't be read stays missing.
-fn add_dag<R: Files + Input + AllocGlobal>(
-    rt: &R,
-    files: &mut FileSet,
-    path: &str,
-) -> Result<(), RunFault> {
-    let alloc = rt.alloc();
-    if path == "-" {
-        return files
-            .add(alloc, path, read_input(rt)?.as_slice())
-            .map_err(RunFault::from);
-    }
-    match fs::read(rt, path) {
-        Ok(bytes) => Ok(files.add(alloc, path, bytes.as_slice())?),
-        Err(error) if error.kind() == ErrorKind::OutOfMemory => Err(RunFault::Memory),
-        Err(_) => Ok(()),
-    }
-}
-
-fn read_input<R: Input + AllocGlobal>(rt: &R) -> Result<Vec<u8>, RunFault> {
-    let mut bytes = Vec::new(rt.alloc());
-    match rt.reader().read_to_end(&mut bytes) {
-        Ok(_) => Ok(bytes),
-        Err(error) if error.kind() == ErrorKind::OutOfMemory => Err(RunFault::Memory),
-        Err(_) => Err(RunFault::FileRefused(String::from_str(rt.alloc(), "-")?)),
     }
 }

@@ -3,9 +3,9 @@
 ghost use Rattle.std.specs.Prelude.{◌≡◌};
 ghost use Rattle.dag_main.specs.declared.fault.RunFault.TheVariants.{Memory};
 
-use dag_reader::LineFault;
+use dag_reader::Texts;
 use node_machine::TableFault;
-use run_plan::PlanFault;
+use splices::DagFault;
 use std::alloc::{AllocError, AllocFailed};
 use std::error::Error;
 use std::fmt;
@@ -14,12 +14,12 @@ use std::fmt;
 /// behind `dagrun: `.
 #[derive(Debug, Drop)]
 pub enum RunFault {
-    /// The file of this path is missing, or can't be read.
-    MissingFile(String),
-    /// A line of the file of this path is not spelled rightly.
-    InFile(String, LineFault),
-    /// The lines of the file of this path make no plan.
-    InPlan(String, PlanFault),
+    /// The files of the DAG are refused.
+    InFiles(DagFault),
+    /// A node is its own ancestor: the names of a cycle, each a parent of the next.
+    Cycle(Texts),
+    /// A setting is read and not run yet: PRIORITY, MAXJOBS, ABORT-DAG-ON or FINAL.
+    NotYet,
     /// A line of the table of outcomes is not spelled rightly.
     InTable(TableFault),
     /// The system refuses the file of this path.
@@ -31,15 +31,9 @@ pub enum RunFault {
 impl fmt::Display for RunFault {
     fn fmt<W: fmt::Write>(&self, f: &mut fmt::Formatter<W>) -> fmt::Result {
         match self {
-            RunFault::MissingFile(path) => write!(f, "S1 MissingFile {path}"),
-            RunFault::InFile(path, fault) => {
-                let span = fault.span();
-                write!(f, "{fault} {path}:{span}")
-            }
-            RunFault::InPlan(path, PlanFault::BadOrder(span)) => {
-                write!(f, "B1 BadOrder {path}:{span}")
-            }
-            RunFault::InPlan(_, fault) => write!(f, "{fault}"),
+            RunFault::InFiles(fault) => write!(f, "{fault}"),
+            RunFault::Cycle(names) => write!(f, "G1 Cycle{names}"),
+            RunFault::NotYet => write!(f, "B2 NotYet"),
             RunFault::InTable(fault) => write!(f, "{fault}"),
             RunFault::FileRefused(path) => write!(f, "X2 FileRefused {path}"),
             RunFault::Memory => write!(f, "X1 Memory"),

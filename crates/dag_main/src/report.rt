@@ -1,44 +1,38 @@
 //! The report of a rehearsal.
 
-ghost use Rattle.std.specs.Prelude.{◌≡◌, ◌<◌, ◌++◌, ℕ, List, Some, OnOk, IfOk, IfErr, string_bytes};
+ghost use Rattle.std.specs.Prelude.{◌≡◌, ◌<◌, ◌++◌, ℕ, List, OnOk, IfOk, IfErr, string_bytes};
 ghost use Rattle.std.specs.Option.{option_map};
-ghost use Rattle.std.specs.Str.Lines.{lines};
-ghost use Rattle.dag_reader.specs.Grammar.{SayAll};
 ghost use Rattle.node_machine.specs.OutcomeTable.{Entry, SameOutcomes, HasPossibleOutcomes};
+ghost use Rattle.splices.specs.FileSet.{bytes_of};
 ghost use Rattle.run_plan.specs.Plan.{node_at, count_of};
 ghost use Rattle.sched_core.specs.Fate.{shown};
-ghost use Rattle.dag_main.specs.FileSet.{bytes_of};
-ghost use Rattle.dag_main.specs.Report.{state_word, status_line, fate_line, report_of};
-ghost use Rattle.dag_main.specs.Rehearsed.{IsPlanOf, HasEntries, IsRehearsalOf, IsOwed};
-ghost use Rattle.dag_main.specs.Refusals.{ReportsRun, IsReadFault, IsPlanFault, IsTableFault};
+ghost use Rattle.dag_main.specs.Report.{state_word, status_line, fate_line, report_of, warning_lines};
+ghost use Rattle.dag_main.specs.Rehearsed.{HasEntries, IsRehearsalOf, IsOwed};
+ghost use Rattle.dag_main.specs.Refusals.{ReportsRun, IsTableFault};
 ghost use Rattle.dag_main.specs.declared.fault.RunFault.TheVariants.{Memory};
 
 use crate::fault::RunFault;
-use crate::file_set::FileSet;
+use crate::plans::plan_of;
 use crate::rehearsal::run_table;
-use dag_reader::{DagFile, ReadFault, read_dag};
+use crate::warnings::{Answer, warning_text};
 use node_machine::{State, Table, TableFault, read_table};
-use run_plan::{Plan, PlanFault};
+use run_plan::Plan;
 use sched_core::{Core, Verdict};
+use splices::FileSet;
 use std::alloc::{AllocError, Global};
 
-/// What a command prints on standard output, and its exit status.
-#[derive(Debug, Drop)]
-pub struct Answer {
-    pub text: String,
-    pub status: Verdict,
-}
-
-/// Rehearses the DAG file of this path, which stands in the file set: runs its nodes at the
-/// outcomes of a table, with no child and no disk.
+/// Rehearses the DAG file of this path and those of its splices, which stand in the file set: runs
+/// the nodes at the outcomes of a table, with no child and no disk.
 ///
 /// `outcomes` is the text of the table; without it each phase ends with Exit 0. The report has a
 /// line for each node in plan order, `name STATE attempts=n value=v`, and then `result N`, N the
 /// exit status.
 ///
 /// # Errors
-/// A file that is missing, a line that is not read, lines that make no plan, a line of the table,
-/// in this order; and want of memory.
+/// The first fault that opening the files meets (`InFiles`), a cycle (`Cycle`), a setting that is
+/// not run yet (`NotYet`: PRIORITY, MAXJOBS, ABORT-DAG-ON and FINAL), the first bad line of the
+/// table (`InTable`), in this order; and want of memory. After a missing file the caller may add
+/// it and ask again.
 pub fn rehearse_text(
     alloc: Global,
     files: &FileSet,
@@ -46,18 +40,15 @@ pub fn rehearse_text(
     outcomes: Option<&[u8]>,
 ) -> Result<Answer, RunFault>
     // The report is that of the fates, for these bytes.
-    ensures report { IfOk result (λ answer. (dag : List ℕ) × (bytes_of files.now path.now ≡ Some dag)
-        × IsRehearsalOf dag (option_map (λ b. b.now) outcomes.entry)
-        (string_bytes answer.text) answer.status) }
+    ensures report { IfOk result (λ answer. IsRehearsalOf (bytes_of files.now) path.now
+        (option_map (λ b. b.now) outcomes.entry)
+        (string_bytes answer.text) (string_bytes answer.warnings) answer.status) }
 
     // It is refused only where an input is, or for want of memory.
     ensures refused { IfErr result
-        (IsOwed files.now path.now (option_map (λ b. b.now) outcomes.entry)) }
+        (IsOwed (bytes_of files.now) path.now (option_map (λ b. b.now) outcomes.entry)) }
 {
-    let Some(bytes) = files.get(path) else {
-        return Err(RunFault::MissingFile(String::from_str(alloc, path)?));
-    };
-    let plan = plan_of(alloc, path, bytes)?;
+    let plan = plan_of(alloc, files, path)?;
     let table = table_of(alloc, outcomes)?;
     rehearse_plan(alloc, &plan, &table)
 }
@@ -65,7 +56,10 @@ pub fn rehearse_text(
 /// The report of a plan at the outcomes of a table.
 fn rehearse_plan(alloc: Global, plan: &Plan, table: &Table) -> Result<Answer, RunFault>
     requires possible { HasPossibleOutcomes table.now }
-    ensures run { IfOk result (λ answer. ReportsRun plan.now table.now (string_bytes answer.text) answer.status) }
+    ensures run { IfOk result (λ answer.
+        ReportsRun plan.now table.now (string_bytes answer.text) answer.status) }
+    ensures warnings { IfOk result (λ answer.
+        string_bytes answer.warnings ≡ warning_lines plan.now.graph.dag.warnings) }
     ensures err { IfErr result (λ fault. fault ≡ Memory) }
 {
     let Ok(core) = run_table(alloc, plan, table) else {
@@ -74,34 +68,9 @@ fn rehearse_plan(alloc: Global, plan: &Plan, table: &Table) -> Result<Answer, Ru
     let status = core.verdict();
     Ok(Answer {
         text: report_of(alloc, &core, status)?,
+        warnings: warning_text(alloc, plan.graph().flat().warnings())?,
         status,
     })
-}
-
-fn read(alloc: Global, path: &str, bytes: &[u8]) -> Result<DagFile, RunFault>
-    ensures found { IfOk result (λ file.
-        SayAll 1 (lines bytes.now) file.commands.items file.warnings.items) }
-    ensures refused { IfErr result (IsReadFault path.now bytes.now) }
-{
-    match read_dag(alloc, bytes) {
-        Ok(file) => Ok(file),
-        Err(ReadFault::Memory) => Err(RunFault::Memory),
-        Err(ReadFault::Line(fault)) => {
-            Err(RunFault::InFile(String::from_str(alloc, path)?, fault))
-        }
-    }
-}
-
-fn plan_of(alloc: Global, path: &str, bytes: &[u8]) -> Result<Plan, RunFault>
-    ensures plan { IfOk result (IsPlanOf bytes.now) }
-    ensures refused { IfErr result (IsPlanFault path.now bytes.now) }
-{
-    let file = read(alloc, path, bytes)?;
-    match Plan::of_lines(alloc, &file) {
-        Ok(plan) => Ok(plan),
-        Err(PlanFault::Memory) => Err(RunFault::Memory),
-        Err(fault) => Err(RunFault::InPlan(String::from_str(alloc, path)?, fault)),
-    }
 }
 
 /// The table of a text of outcomes; without a text each phase ends with Exit 0.

@@ -8,6 +8,11 @@ use std::alloc::{AllocError, Global};
 /// What the words of a command line ask for.
 #[derive(Clone, Copy, Debug)]
 pub enum Request<'a> {
+    /// `check DAG`: the path of the DAG file, `-` for standard input.
+    Check {
+        dag: &'a str,
+    },
+
     /// `rehearse DAG [OUTCOMES]`, and no words at all, which is `rehearse -`: the path of the DAG
     /// file, `-` for standard input, and that of the table of outcomes.
     Rehearse {
@@ -16,15 +21,23 @@ pub enum Request<'a> {
     },
 }
 
+fn dag_argument<'a>(alloc: Global) -> Arg<'a> {
+    Arg::new(alloc, "DAG")
+        .required(true)
+        .action(ArgAction::Set)
+        .help("The DAG file, - for standard input")
+}
+
+fn check_command<'a>(alloc: Global) -> Result<Command<'a>, AllocError> {
+    Command::new(alloc, "check")
+        .about("Reads a DAG file with its splices, and says whether it is right")
+        .arg(dag_argument(alloc))
+}
+
 fn rehearse_command<'a>(alloc: Global) -> Result<Command<'a>, AllocError> {
     Command::new(alloc, "rehearse")
         .about("Runs a DAG file at the outcomes of a table, and starts no program")
-        .arg(
-            Arg::new(alloc, "DAG")
-                .required(true)
-                .action(ArgAction::Set)
-                .help("The DAG file, - for standard input"),
-        )?
+        .arg(dag_argument(alloc))?
         .arg(
             Arg::new(alloc, "OUTCOMES").action(ArgAction::Set).help(
                 "Lines `name attempt PRE|JOB|POST outcome`; without it all phases exit with 0",
@@ -37,6 +50,7 @@ fn dagrun_command<'a>(alloc: Global) -> Result<Command<'a>, AllocError> {
         .about("A workflow manager for job graphs on one machine")
         .subcommand_required(true)
         .disable_help_subcommand(true)
+        .subcommand(check_command(alloc)?)?
         .subcommand(rehearse_command(alloc)?)
 }
 
@@ -54,6 +68,9 @@ pub fn read_words<'a>(alloc: Global, words: &'a [&'a str]) -> Result<Request<'a>
     }
     let matches = dagrun_command(alloc)?.try_get_matches_from(words)?;
     match matches.subcommand() {
+        Some(("check", found)) => Ok(Request::Check {
+            dag: found.get_str("DAG").unwrap_or("-"),
+        }),
         Some((_, found)) => Ok(Request::Rehearse {
             dag: found.get_str("DAG").unwrap_or("-"),
             outcomes: found.get_str("OUTCOMES"),

@@ -10,6 +10,7 @@ mod line;
 mod macro_reader;
 mod reading;
 mod span;
+mod text;
 mod token;
 mod word;
 
@@ -18,5 +19,6 @@ pub use dag_file::{line_text, read_dag, split_line};
 pub use fault::{LineFault, ReadFault};
 pub use line::LineReader;
 pub use span::Span;
+pub use text::{Text, Texts};
 pub use token::Token;
 pub use word::{Word, Words};

@@ -7,7 +7,7 @@ use Rattle.dag_reader.specs.Word.{PlacedText}
 use Rattle.dag_reader.specs.Words.{words}
 use Rattle.dag_reader.specs.Keywords.{is_comment}
 use Rattle.dag_reader.specs.Reading.{text_of}
-use Rattle.dag_reader.proofs.Texts.{text_ok, text_again}
+use Rattle.dag_reader.proofs.LineTexts.{text_ok, text_again}
 use Rattle.node_machine.specs.declared.outcomes.TableFault.{TableFault}
 use Rattle.node_machine.specs.declared.outcomes.TableFault.TheVariants.{BadLine, Memory}
 use Rattle.node_machine.specs.OutcomeTable.{Entry, is_of, outcome_at, SameOutcomes}

@@ -1,21 +1,46 @@
 //! What a core tells of a finished run.
 
+use dag_graph::Graph;
 use dag_main::run_table;
-use dag_reader::read_dag;
 use node_machine::{Outcome, Phase, read_table};
 use run_plan::Plan;
+use sched_core::Core;
+use splices::{FileSet, open_dag};
+use std::alloc::Global;
 use std::test::Fail;
+
+fn plan_of(alloc: Global, text: &str) -> Result<Plan, Fail> {
+    let mut files = FileSet::new(alloc);
+    files.add(alloc, "x.dag", text.as_bytes())?;
+    let dag = open_dag(alloc, &files, "x.dag")?;
+    let graph = Graph::build(alloc, dag)?;
+    Ok(Plan::build_bare(alloc, graph)?)
+}
+
+#[test]
+fn settings_that_are_run(rt: HostRuntime) -> Result<(), Fail> {
+    let rows = [
+        (
+            "JOB A a NOOP\nJOB B b DONE\nSCRIPT PRE A q\nSCRIPT POST A p\nPRE_SKIP A 1",
+            true,
+        ),
+        ("JOB A a\nRETRY A 1 UNLESS-EXIT 2\nVARS A x=\"y\"", true),
+        ("JOB A a\nABORT-DAG-ON A 1\nFINAL F f\nCATEGORY A c", true),
+        ("JOB A a\nPRIORITY A 0", false),
+        ("JOB A a\nMAXJOBS c 1", false),
+    ];
+    for (text, taken) in rows {
+        let plan = plan_of(rt.alloc(), text)?;
+        assert_eq!(rt; Core::takes(&plan), taken);
+    }
+    Ok(())
+}
 
 #[test]
 fn history_and_marks(rt: HostRuntime) -> Result<(), Fail> {
     let alloc = rt.alloc();
-    let text = b"JOB A a\nJOB B b\nJOB C c\nRETRY B 1\nPARENT A CHILD B\nPARENT B CHILD C\n";
-    let Ok(file) = read_dag(alloc, text) else {
-        panic!(rt; "no DAG file");
-    };
-    let Ok(plan) = Plan::of_lines(alloc, &file) else {
-        panic!(rt; "no plan");
-    };
+    let text = "JOB A a\nJOB B b\nJOB C c\nRETRY B 1\nPARENT A CHILD B\nPARENT B CHILD C\n";
+    let plan = plan_of(alloc, text)?;
     let Ok(table) = read_table(alloc, b"B 0 JOB 1\nB 1 JOB 2\n") else {
         panic!(rt; "no table");
     };

@@ -1,6 +1,7 @@
 //! What is refused, and the line that tells it.
 
-use dag_main::{FileSet, Request, read_words, rehearse_text};
+use dag_main::{Request, read_words, rehearse_text};
+use splices::FileSet;
 use std::alloc::Global;
 use std::process::Abort;
 use std::test::Fail;
@@ -37,14 +38,18 @@ fn lines(rt: HostRuntime) -> Result<(), Fail> {
 }
 
 #[test]
-fn orders(rt: HostRuntime) -> Result<(), Fail> {
+fn files_and_graph(rt: HostRuntime) -> Result<(), Fail> {
     check(
         &rt,
         &[
-            ("JOB A a\nJOB A b", "B1 BadOrder -:2:5"),
-            ("RETRY A 1\nJOB A a", "B1 BadOrder -:1:7"),
-            ("JOB A a\nPARENT A CHILD X", "B1 BadOrder -:2:16"),
-            ("JOB B b\nJOB A a\nPARENT A CHILD B", "B1 BadOrder -:3:8"),
+            ("JOB A a\nJOB A b", "S4 DuplicateName -:2:5"),
+            ("JOB A a\nPARENT A CHILD X", "S5 UnknownNode -:2:16"),
+            ("SPLICE Y no.dag DIR d", "S1 MissingFile d/no.dag"),
+            ("JOB A a\nPARENT A CHILD A", "G1 Cycle A"),
+            (
+                "JOB B b\nJOB A a\nPARENT A CHILD B\nPARENT B CHILD A",
+                "G1 Cycle B A",
+            ),
         ],
     )
 }
@@ -54,11 +59,22 @@ fn not_yet_run(rt: HostRuntime) -> Result<(), Fail> {
     check(
         &rt,
         &[
-            ("JOB A a NOOP", "B2 NotYet"),
-            ("JOB A a\nRETRY A 1 UNLESS-EXIT 2", "B2 NotYet"),
-            ("JOB A a\nPRIORITY A 1", "B2 NotYet"),
+            ("JOB A a\nPRIORITY A 0", "B2 NotYet"),
+            ("JOB A a\nCATEGORY A c\nMAXJOBS c 1", "B2 NotYet"),
+            ("JOB A a\nABORT-DAG-ON A 7", "B2 NotYet"),
+            ("FINAL F f", "B2 NotYet"),
         ],
     )
+}
+
+#[test]
+fn graph_before_what_is_not_run(rt: HostRuntime) -> Result<(), Fail> {
+    let dag = "JOB A a\nPRIORITY A 1\nPARENT A CHILD A";
+    let fault = fault_of(rt.alloc(), dag, "A 0 JOB")?;
+    assert_eq!(rt; fault.as_str(), "G1 Cycle A");
+    let fault = fault_of(rt.alloc(), "JOB A a\nPRIORITY A 1", "A 0 JOB")?;
+    assert_eq!(rt; fault.as_str(), "B2 NotYet");
+    Ok(())
 }
 
 #[test]
@@ -95,14 +111,19 @@ fn words(rt: HostRuntime) -> Result<(), Fail> {
         Ok(Request::Rehearse { dag, outcomes }) => {
             assert!(rt; dag == "-" && outcomes.is_none());
         }
-        Err(_) => panic!(rt; "no words are a rehearsal of standard input"),
+        _ => panic!(rt; "no words are a rehearsal of standard input"),
     }
     match read_words(alloc, &["dagrun", "rehearse", "x.dag", "table"]) {
         Ok(Request::Rehearse { dag, outcomes }) => {
             assert!(rt; dag == "x.dag" && outcomes == Some("table"));
         }
-        Err(_) => panic!(rt; "a DAG file and a table are a rehearsal"),
+        _ => panic!(rt; "a DAG file and a table are a rehearsal"),
     }
+    match read_words(alloc, &["dagrun", "check", "x.dag"]) {
+        Ok(Request::Check { dag }) => assert_eq!(rt; dag, "x.dag"),
+        _ => panic!(rt; "a DAG file is checked"),
+    }
+    assert!(rt; read_words(alloc, &["dagrun", "check", "x.dag", "table"]).is_err());
     assert!(rt; read_words(alloc, &["dagrun", "rehearse"]).is_err());
     assert!(rt; read_words(alloc, &["dagrun", "--help"]).is_err());
     assert!(rt; read_words(alloc, &["dagrun", "fly", "x.dag"]).is_err());

@@ -1,6 +1,7 @@
 //! Reports by tables: what is printed and the exit status.
 
-use dag_main::{FileSet, rehearse_text};
+use dag_main::rehearse_text;
+use splices::FileSet;
 use std::process::Abort;
 use std::test::Fail;
 
@@ -8,6 +9,7 @@ const DIAMOND: &str = "JOB A a.sub\nJOB B b.sub\nJOB C c.sub\nJOB D d.sub\n\
     PARENT A CHILD B C\nPARENT B C CHILD D\n";
 
 /// A DAG, its table of outcomes, and the report and the status that are due.
+#[derive(Drop)]
 struct Row {
     dag: &'static str,
     outcomes: &'static str,
@@ -102,6 +104,72 @@ fn empty_dag(rt: HostRuntime) -> Result<(), Fail> {
             outcomes: "",
             text: "result 0\n",
             status: 0,
+        },
+    )
+}
+
+#[test]
+fn retry_stops_at_unless_exit(rt: HostRuntime) -> Result<(), Fail> {
+    check(
+        &rt,
+        &Row {
+            dag: "JOB A a.sub\nJOB B b.sub\nPARENT A CHILD B\nRETRY A 2 UNLESS-EXIT 3\n",
+            outcomes: "A 0 JOB 1\nA 1 JOB 3\n",
+            text: "A ERROR attempts=2 value=3\nB NOT_READY attempts=0 value=-\nresult 1\n",
+            status: 1,
+        },
+    )
+}
+
+#[test]
+fn post_decides(rt: HostRuntime) -> Result<(), Fail> {
+    let dag = "JOB A a.sub\nSCRIPT POST A p.sh\n";
+    let good = Row {
+        dag,
+        outcomes: "A 0 JOB 5\n",
+        text: "A DONE attempts=1 value=0\nresult 0\n",
+        status: 0,
+    };
+    check(&rt, &good)?;
+    let failed = Row {
+        dag,
+        outcomes: "A 0 POST signal 9\n",
+        text: "A ERROR attempts=1 value=-9\nresult 1\n",
+        status: 1,
+    };
+    check(&rt, &failed)
+}
+
+#[test]
+fn pre_skip(rt: HostRuntime) -> Result<(), Fail> {
+    let dag = "JOB A a.sub\nSCRIPT PRE A q.sh\nSCRIPT POST A p.sh\nPRE_SKIP A 4\n";
+    let skipped = Row {
+        dag,
+        outcomes: "A 0 PRE 4\nA 0 POST 1\n",
+        text: "A DONE attempts=1 value=0\nresult 0\n",
+        status: 0,
+    };
+    check(&rt, &skipped)?;
+    let failed = Row {
+        dag,
+        outcomes: "A 0 PRE 5\n",
+        text: "A ERROR attempts=1 value=5\nresult 1\n",
+        status: 1,
+    };
+    check(&rt, &failed)
+}
+
+#[test]
+fn noop_and_done(rt: HostRuntime) -> Result<(), Fail> {
+    check(
+        &rt,
+        &Row {
+            dag: "JOB A a.sub NOOP\nJOB B b.sub DONE\nJOB C c.sub\nSCRIPT PRE A q.sh\n\
+                SCRIPT POST A p.sh\nPARENT A CHILD B\nPARENT B CHILD C\n",
+            outcomes: "A 0 JOB 7\nA 0 POST 2\n",
+            text: "A ERROR attempts=1 value=2\nB DONE attempts=0 value=-\n\
+                C DONE attempts=1 value=0\nresult 1\n",
+            status: 1,
         },
     )
 }

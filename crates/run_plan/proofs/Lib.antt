@@ -1,8 +1,1 @@
-pub mod Numbers
-pub mod NameTables
-pub mod NamePlaces
-pub mod ParentLists
-pub mod NodeChanges
-pub mod LineFacts
-pub mod DraftSteps
-pub mod DraftPlans
+pub mod PlanFacts

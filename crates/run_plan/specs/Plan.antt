@@ -1,10 +1,11 @@
 -- A plan as contracts see it.
-use Rattle.std.specs.Prelude.{ℕ, ℤ, pos, zero, suc, ◌<◌, ◌+◌, ◌^◌, nat_lt, IsTrue, Bool, true, false, ◌&&◌, List, [], length, Option, None, unwrap_or, slice_get}
+use Rattle.std.specs.Prelude.{ℕ, ℤ, pos, zero, suc, ◌<◌, nat_lt, Bool, true, false, ◌&&◌, List, [], length, Option, None, unwrap_or, slice_get}
 use Rattle.std.specs.List.{Contains, list_all}
+use Rattle.dag_graph.specs.Graph.{Network}
 use Rattle.node_machine.specs.declared.Course.{Course}
 
 -- a node: its name, what the files say of its attempts, whether it is done from the start, its parents' numbers,
--- the status of an abort that it causes, its priority and the number of its category
+-- the status of an abort that it causes, its priority and the name of its category
 pub record NodeSpec : Type 0 where
   pub name : List ℕ
   pub course : Course
@@ -12,12 +13,13 @@ pub record NodeSpec : Type 0 where
   pub parents : List ℕ
   pub abort_return : Option ℕ
   pub priority : ℤ
-  pub category : Option ℕ
+  pub category : Option (List ℕ)
 
--- the ordinary nodes by their numbers, and the FINAL node, which has the next number
+-- the ordinary nodes by their numbers, the FINAL node, which has the next number, and the graph that they were made from
 pub record Plan : Type 0 where
   pub nodes : List NodeSpec
   pub final_node : Option NodeSpec
+  pub graph : Network
 
 -- no node
 abbrev pub no_node : NodeSpec
@@ -56,9 +58,3 @@ pub data IsAtOrAbove (plan : Plan) : ℕ → ℕ → Type 0 where
 -- each parent of a node is an ordinary node
 abbrev pub has_parents_below : ℕ → NodeSpec → Bool
 has_parents_below count node = list_all (λ parent. nat_lt parent count) node.parents
-
--- a plan whose nodes have numbers of 32 bits, and parents among the ordinary nodes
-pub record IsWellFormed (plan : Plan) : Type 0 where
-  pub few : length plan.nodes + 2 < 2 ^ 32
-  pub parents : IsTrue (list_all (has_parents_below (length plan.nodes)) plan.nodes)
-  pub final_parents : IsTrue (has_parents_below (length plan.nodes) (unwrap_or plan.final_node no_node))

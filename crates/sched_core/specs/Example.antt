@@ -9,6 +9,7 @@ use Rattle.node_machine.specs.declared.Course.{Course}
 use Rattle.node_machine.specs.Story.{Table}
 use Rattle.sched_core.specs.declared.Record.{Record}
 use Rattle.sched_core.specs.declared.Record.TheVariants.{Life, Launch, End, Finish}
+use Rattle.dag_graph.specs.Graph.{Network}
 use Rattle.run_plan.specs.Plan.{Plan, NodeSpec}
 use Rattle.sched_core.specs.Lives.{Span}
 use Rattle.sched_core.specs.Rounds.{Round}
@@ -19,11 +20,16 @@ job_alone retries post = record { pre = false; noop = false; post = post; retrie
 abbrev pub node : ℕ → Course → Bool → List ℕ → NodeSpec
 node name course done parents = record { name = name ∷ []; course = course; done = done; parents = parents; abort_return = None; priority = pos 0; category = None }
 
+-- these plans come from no files
+abbrev pub no_graph : Network
+no_graph = record { dag = record { nodes = []; final_node = None; edges = []; categories = []; warnings = [] }; order = [] }
+
 -- A with one retry, and B with a POST script below it
 abbrev pub two_nodes : Plan
 two_nodes = record {
   nodes = node 65 (job_alone 1 false) false [] ∷ node 66 (job_alone 0 true) false (0 ∷ []) ∷ [];
   final_node = None;
+  graph = no_graph;
 }
 
 abbrev pub key : ℕ → ℕ → Phase → Key
@@ -51,6 +57,7 @@ diamond = record {
   nodes = node 65 (job_alone 0 false) false [] ∷ node 66 (job_alone 0 false) false (0 ∷ []) ∷ node 67 (job_alone 0 false) false (0 ∷ [])
       ∷ node 68 (job_alone 0 false) false (1 ∷ 2 ∷ []) ∷ [];
   final_node = None;
+  graph = no_graph;
 }
 
 -- a crash once the launch of B is recorded, and one once the end of B is
@@ -67,6 +74,7 @@ abort_plan = record {
       node 66 (record { pre = false; noop = false; post = false; retries = 3; unless_exit = None; pre_skip = None; abort_on = Some (pos 7) }) false []
       ∷ node 65 (job_alone 0 false) false [] ∷ [];
   final_node = Some (node 70 (job_alone 0 false) false []);
+  graph = no_graph;
 }
 
 abbrev pub abort_run : List Record
@@ -81,6 +89,7 @@ noop_plan = record {
       node 65 (record { pre = true; noop = true; post = true; retries = 0; unless_exit = None; pre_skip = None; abort_on = None }) false []
       ∷ node 66 (job_alone 0 false) true (0 ∷ []) ∷ node 67 (job_alone 0 false) false (1 ∷ []) ∷ [];
   final_node = None;
+  graph = no_graph;
 }
 
 abbrev pub noop_table : Table
@@ -98,6 +107,7 @@ abbrev pub plan_p : Plan
 plan_p = record {
   nodes = node 65 (job_alone 0 false) false [] ∷ node 66 (job_alone 1 false) false (0 ∷ []) ∷ node 89 (job_alone 0 false) false [] ∷ [];
   final_node = None;
+  graph = no_graph;
 }
 
 -- the same A and B behind X
@@ -105,6 +115,7 @@ abbrev pub plan_q : Plan
 plan_q = record {
   nodes = node 88 (job_alone 2 false) false [] ∷ node 65 (job_alone 0 false) false [] ∷ node 66 (job_alone 1 false) false (1 ∷ []) ∷ [];
   final_node = None;
+  graph = no_graph;
 }
 
 -- B fails at its first attempt
@@ -115,7 +126,7 @@ first_fails b node attempt Post = Exit 0
 
 -- a job that fails in one round and is good in the next
 abbrev pub one_job : Plan
-one_job = record { nodes = node 65 (job_alone 0 false) false [] ∷ []; final_node = None }
+one_job = record { nodes = node 65 (job_alone 0 false) false [] ∷ []; final_node = None; graph = no_graph }
 
 abbrev pub run_to : Outcome → ℕ → List Record
 run_to outcome status = reverse (Life ∷ Launch (key 0 0 Job) 1 ∷ End (key 0 0 Job) outcome ∷ Finish status ∷ [])

@@ -6,3 +6,4 @@ pub mod Example
 pub mod Rounds
 pub mod Core
 pub mod Bound
+pub mod TakenSettings

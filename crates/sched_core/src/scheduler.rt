@@ -6,6 +6,7 @@ ghost use Rattle.node_machine.specs.Story.{may_end_with, phase_number};
 ghost use Rattle.run_plan.specs.Plan.{node_at, count_of, all_below};
 ghost use Rattle.sched_core.specs.Run.{history, next, is_done, attempts_in, value_in, has_abort_value, is_aborted, outstanding, is_among, is_free, is_nothing, is_ready, is_final_ready, may_launch, job_launches, launch_number, status_of_abort, exit_status, is_over, is_open, may_follow, is_lawful, needs_rescue};
 ghost use Rattle.sched_core.specs.Fate.{shown};
+ghost use Rattle.sched_core.specs.TakenSettings.{takes_settings};
 ghost use Rattle.sched_core.specs.Core.{Progress, Shows, Takes, is_running, has_key_of, runs_after, aborted_after, jobs_after, fault_after, launchable, first_launched, AreMarks, IsChoice};
 
 use crate::nodes::{
@@ -16,6 +17,7 @@ use crate::nodes::{
 use crate::{Choice, CoreFault, Record};
 use node_machine::{Ended, Key, NodeRun, Outcome, State};
 use run_plan::Plan;
+use splices::FlatNode;
 use std::alloc::Global;
 use std::marker::Model;
 
@@ -64,7 +66,28 @@ fn advance(plan: &Plan, runs: &mut [NodeRun], aborted: bool, entry: Record) -> b
     }
 }
 
+/// Whether no node has a priority.
+fn have_no_priority(nodes: &[FlatNode]) -> bool
+    ensures { result ≡ list_all (λ node. is_none node.settings.priority) nodes.now }
+{
+    for node in nodes {
+        if node.settings.priority.is_some() {
+            return false;
+        }
+    }
+    true
+}
+
 impl<'a> Core<'a> {
+    /// Whether a core runs each setting of the plan's files. It chooses in plan order and knows no
+    /// limits, so those that it does not run are PRIORITY and MAXJOBS.
+    pub fn takes(plan: &Plan) -> bool
+        ensures { result ≡ takes_settings plan.now.graph.dag }
+    {
+        let dag = plan.graph().flat();
+        have_no_priority(dag.nodes()) && dag.categories().is_empty()
+    }
+
     /// The plan that was handed in.
     pub fn plan(&self) -> &'a Plan
         ensures { result.now ≡ self.now.plan }

@@ -1,7 +1,7 @@
 use Rattle.std.proofs.Common.{subst}
 use Rattle.std.specs.Str.Lines.{lines}
 use Rattle.dag_reader.specs.Reading.{Gives, contents_of}
-use Rattle.dag_reader.proofs.Texts.{is_found, lines_again, is_stopped, are_warned}
+use Rattle.dag_reader.proofs.LineTexts.{is_found, lines_again, is_stopped, are_warned}
 use Rattle.dag_reader.proofs.dag_file.read_dag.Goals as goal
 
 pub returns-clause-found : goal.returns-clause-found

@@ -1,4 +1,4 @@
-use Rattle.std.proofs.Common.{[], ◌≡◌, ℕ, zero, suc, ◌<◌, arith, refl, inl, inr, take, drop}
+use Rattle.std.proofs.Common.{[], ◌≡◌, ℕ, zero, suc, ◌<◌, arith, refl, inr, take, drop}
 use Rattle.std.proofs.lemmas.Bool.{true≢false}
 use Rattle.sched_core.specs.Example.{its_run, one_job, run_to, round_of}
 use Rattle.run_plan.specs.Plan.{node_at}

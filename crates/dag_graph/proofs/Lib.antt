@@ -1,0 +1,10 @@
+pub mod Lists
+pub mod Families
+pub mod Ranks
+pub mod Climbs
+pub mod Told
+pub mod Rounds
+pub mod Orders
+pub mod Searches
+pub mod Ancestors
+pub mod NamePlaces

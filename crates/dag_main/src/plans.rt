@@ -1,0 +1,76 @@
+//! The graph and the plan of the files of a DAG.
+
+ghost use Rattle.std.specs.Prelude.{◌≡◌, true, ◌&&◌, is_none, IfOk, IfErr, Ok};
+ghost use Rattle.std.specs.List.{list_all};
+ghost use Rattle.splices.specs.FileSet.{bytes_of};
+ghost use Rattle.splices.specs.Opened.{dag_at};
+ghost use Rattle.dag_graph.specs.Graph.{IsAcyclic};
+ghost use Rattle.dag_main.specs.Rehearsed.{IsGraphFault, is_rehearsed};
+ghost use Rattle.dag_main.specs.Refusals.{IsPlanOf, IsPlanFault};
+
+use crate::fault::RunFault;
+use dag_graph::{Graph, GraphFault};
+use run_plan::Plan;
+use sched_core::Core;
+use splices::{FileSet, FlatDag, FlatNode, SpliceFault, open_dag};
+use std::alloc::Global;
+
+fn dag_of(alloc: Global, files: &FileSet, path: &str) -> Result<FlatDag, RunFault>
+    ensures dag { IfOk result (λ dag. dag_at (bytes_of files.now) path.now ≡ Ok dag) }
+    ensures refused { IfErr result (IsGraphFault (bytes_of files.now) path.now) }
+{
+    match open_dag(alloc, files, path) {
+        Ok(dag) => Ok(dag),
+        Err(SpliceFault::Memory) => Err(RunFault::Memory),
+        Err(SpliceFault::Dag(fault)) => Err(RunFault::InFiles(fault)),
+    }
+}
+
+/// The graph of the files of this path.
+pub(crate) fn graph_of(alloc: Global, files: &FileSet, path: &str) -> Result<Graph, RunFault>
+    ensures graph { IfOk result (λ graph. dag_at (bytes_of files.now) path.now ≡ Ok graph.dag) }
+    ensures acyclic { IfOk result (λ graph. IsAcyclic graph.dag.edges) }
+    ensures refused { IfErr result (IsGraphFault (bytes_of files.now) path.now) }
+{
+    let dag = dag_of(alloc, files, path)?;
+    match Graph::build(alloc, dag) {
+        Ok(graph) => Ok(graph),
+        Err(GraphFault::Memory) => Err(RunFault::Memory),
+        Err(GraphFault::Cycle(names)) => Err(RunFault::Cycle(names)),
+    }
+}
+
+fn have_no_abort(nodes: &[FlatNode]) -> bool
+    ensures { result ≡ list_all (λ node. is_none node.settings.abort) nodes.now }
+{
+    for node in nodes {
+        if node.settings.abort.is_some() {
+            return false;
+        }
+    }
+    true
+}
+
+/// Whether a rehearsal runs each setting of the plan's files.
+fn is_rehearsed(plan: &Plan) -> bool
+    ensures { result ≡ is_rehearsed plan.now.graph.dag }
+{
+    let dag = plan.graph().flat();
+    Core::takes(plan) && dag.final_node().is_none() && have_no_abort(dag.nodes())
+}
+
+/// The plan of the files of this path, each of whose settings a rehearsal runs.
+pub(crate) fn plan_of(alloc: Global, files: &FileSet, path: &str) -> Result<Plan, RunFault>
+    ensures plan { IfOk result (IsPlanOf (bytes_of files.now) path.now) }
+    ensures refused { IfErr result (IsPlanFault (bytes_of files.now) path.now) }
+{
+    let graph = graph_of(alloc, files, path)?;
+    let Ok(plan) = Plan::build_bare(alloc, graph) else {
+        return Err(RunFault::Memory);
+    };
+    if !is_rehearsed(&plan) {
+        return Err(RunFault::NotYet);
+    }
+    let _order = plan.graph().order();
+    Ok(plan)
+}

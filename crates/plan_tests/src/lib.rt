@@ -1,5 +1,0 @@
-//! Tests of the plan of a file's lines.
-#![tactic(auto)]
-
-#[cfg(test)]
-mod tests;

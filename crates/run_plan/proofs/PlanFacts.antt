@@ -1,0 +1,120 @@
+-- The plan of a graph: its nodes by their numbers, and its parents.
+use Rattle.std.proofs.Common.{◌≡◌, ℕ, zero, suc, ◌+◌, ◌<◌, ◌≤◌, Bool, true, false, cond, List, [], ◌∷◌, ◌++◌, length, filter, Option, Some, None, unwrap_or, refl, sym, ap, subst, ◌∙◌, arith, nat_lt, lt-ltb, add-zero, take, get_or}
+use Rattle.std.specs.Prelude.{slice_get}
+use Rattle.std.specs.Option.{option_map}
+use Rattle.std.specs.List.{All, Contains, list_all, list_any, range_with_len}
+use Rattle.std.proofs.lemmas.Bool.{and_parts, and_from}
+use Rattle.std.proofs.lemmas.Grind.{common_steps}
+use Rattle.std.proofs.lemmas.List.{take_more}
+use Rattle.std.proofs.lemmas.List.Elements.{All-nil, All-cons, All-head, All-tail, All-filter, All-contains}
+use Rattle.std.proofs.lemmas.Option.{slice_get_past}
+use Rattle.splices.specs.Dag.{Dag}
+use Rattle.splices.specs.declared.flat.FlatNode.{FlatNode}
+use Rattle.dag_graph.specs.Graph.{Network, IsParent, IsOrderOf, is_edge, rank_in, parents_of}
+use Rattle.dag_graph.proofs.Told.{any_edge}
+use Rattle.run_plan.specs.Plan.{Plan, NodeSpec, no_node, node_at, count_of, has_parents_below, IsRankedBy}
+use Rattle.run_plan.specs.Specs.{spec_of, specs_from, plan_of}
+
+pub specs-length : (dag : Dag) (number : ℕ) (nodes : List FlatNode) → length (specs_from dag number nodes) ≡ length nodes
+specs-length dag number [] = refl
+specs-length dag number (n ∷ ns) = ap (λ (k : ℕ). suc k) (specs-length dag (number + 1) ns)
+
+pub count-is : (graph : Network) → count_of (plan_of graph) ≡ length graph.dag.nodes
+count-is graph = specs-length graph.dag 0 graph.dag.nodes
+
+-- one node more
+pub specs-append : (dag : Dag) (number : ℕ) (xs ys : List FlatNode) → specs_from dag number (xs ++ ys) ≡ specs_from dag number xs ++ specs_from dag (number + length xs) ys
+specs-append dag number [] ys = ap (λ (k : ℕ). specs_from dag k ys) (sym (add-zero number))
+specs-append dag number (x ∷ xs) ys =
+    let shift : number + 1 + length xs ≡ number + suc (length xs) = omega arith in
+    ap (λ (ss : List NodeSpec). spec_of (parents_of dag number) x ∷ ss) (specs-append dag (number + 1) xs ys
+    ∙ ap (λ (k : ℕ). specs_from dag (number + 1) xs ++ specs_from dag k ys) shift)
+
+pub specs-more : (dag : Dag) (nodes : List FlatNode) (i : ℕ) (d : FlatNode) → i < length nodes
+    → specs_from dag 0 (take (i + 1) nodes) ≡ specs_from dag 0 (take i nodes) ++ spec_of (parents_of dag i) (get_or nodes i d) ∷ []
+specs-more dag nodes i d small =
+    let len : length (take i nodes) ≡ i = grind (arith, common_steps) in
+    let start : 0 + length (take i nodes) ≡ i = omega arith in
+    ap (specs_from dag 0) (take_more nodes i d small) ∙ specs-append dag 0 (take i nodes) (get_or nodes i d ∷ [])
+    ∙ ap (λ (k : ℕ). specs_from dag 0 (take i nodes) ++ spec_of (parents_of dag k) (get_or nodes i d) ∷ []) start
+
+pub specs-step : (dag : Dag) (seen : List FlatNode) (i : ℕ) (specs new : List NodeSpec) (spec : NodeSpec) (node : FlatNode) (parents : List ℕ)
+    → seen ≡ dag.nodes → i < length seen → node ≡ get_or seen i node → specs ≡ specs_from dag 0 (take i dag.nodes) → new ≡ specs ++ spec ∷ [] → spec ≡ spec_of parents node → parents ≡ parents_of dag i
+    → new ≡ specs_from dag 0 (take (i + 1) dag.nodes)
+specs-step dag seen i specs new spec node parents same small is specs_are new_is spec_is parents_are =
+    let small_here : i < length dag.nodes = subst (λ (ns : List FlatNode). i < length ns) same small in
+    let node_is : node ≡ get_or dag.nodes i node = is ∙ ap (λ (ns : List FlatNode). get_or ns i node) same in
+    new_is ∙ ap (λ (ss : List NodeSpec). ss ++ spec ∷ []) specs_are
+    ∙ ap (λ (s : NodeSpec). specs_from dag 0 (take i dag.nodes) ++ s ∷ []) (spec_is ∙ ap (λ (ps : List ℕ). spec_of ps node) parents_are ∙ ap (spec_of (parents_of dag i)) node_is)
+    ∙ sym (specs-more dag dag.nodes i node small_here)
+
+-- Parents are ordinary nodes, and each has an edge to its child.
+range_below : (from count n : ℕ) → from + count ≤ n → All (λ k. k < n) (range_with_len from count)
+range_below from zero n fits = All-nil (λ k. k < n)
+range_below from (suc count) n fits = All-cons (λ k. k < n) from (range_with_len (from + 1) count) (omega arith) (range_below (from + 1) count n (omega arith))
+
+all_pass : (q : ℕ → Bool) (xs : List ℕ) → All (λ x. q x ≡ true) (filter q xs)
+all_pass q [] = All-nil (λ x. q x ≡ true)
+all_pass q (x ∷ xs) = go (q x) refl (all_pass q xs)
+  where
+    go : (b : Bool) → q x ≡ b → All (λ y. q y ≡ true) (filter q xs) → All (λ y. q y ≡ true) (cond b (x ∷ filter q xs) (filter q xs))
+    go true e rest = All-cons (λ y. q y ≡ true) x (filter q xs) e rest
+    go false e rest = rest
+
+parents-in : (dag : Dag) (node : ℕ) → All (λ p. p < length dag.nodes) (parents_of dag node)
+parents-in dag node =
+    All-filter (λ p. list_any (is_edge p node) dag.edges) (λ p. p < length dag.nodes) (range_with_len 0 (length dag.nodes)) (range_below 0 (length dag.nodes) (length dag.nodes) (omega arith))
+
+parent-edge : (dag : Dag) (node p : ℕ) → Contains (parents_of dag node) p → IsParent dag.edges p node
+parent-edge dag node p among =
+    any_edge p node dag.edges (All-contains (λ x. list_any (is_edge x node) dag.edges ≡ true) (parents_of dag node) p (all_pass (λ x. list_any (is_edge x node) dag.edges) (range_with_len 0 (length dag.nodes))) among)
+
+all_below : (n : ℕ) (xs : List ℕ) → All (λ p. p < n) xs → list_all (λ p. nat_lt p n) xs ≡ true
+all_below n [] below = refl
+all_below n (x ∷ xs) below =
+    and_from _ _ (lt-ltb x n (All-head (λ p. p < n) x xs below)) (all_below n xs (All-tail (λ p. p < n) x xs below))
+
+specs-below : (dag : Dag) (n number : ℕ) (nodes : List FlatNode) → n ≡ length dag.nodes → list_all (has_parents_below n) (specs_from dag number nodes) ≡ true
+specs-below dag n number [] is = refl
+specs-below dag n number (x ∷ xs) is =
+    and_from _ _ (all_below n (parents_of dag number) (subst (λ (m : ℕ). All (λ p. p < m) (parents_of dag number)) (sym is) (parents-in dag number))) (specs-below dag n (number + 1) xs is)
+
+final-below : (n : ℕ) (final_node : Option FlatNode) → has_parents_below n (unwrap_or (option_map (spec_of []) final_node) no_node) ≡ true
+final-below n None = refl
+final-below n (Some node) = refl
+
+all_get : {A : Type 0} (f : A → Bool) (xs : List A) (d : A) → list_all f xs ≡ true → f d ≡ true → (i : ℕ) → f (unwrap_or (slice_get xs i) d) ≡ true
+all_get f [] d e h i = h
+all_get f (x ∷ xs) d e h zero = (and_parts _ _ e).0
+all_get f (x ∷ xs) d e h (suc i) = all_get f xs d (and_parts _ _ e).1 h i
+
+made-below : (graph : Network) (node : ℕ) → has_parents_below (count_of (plan_of graph)) (node_at (plan_of graph) node) ≡ true
+made-below graph node =
+    all_get (has_parents_below (count_of (plan_of graph))) (plan_of graph).nodes (unwrap_or (plan_of graph).final_node no_node)
+    (specs-below graph.dag (count_of (plan_of graph)) 0 graph.dag.nodes (count-is graph)) (final-below (count_of (plan_of graph)) graph.dag.final_node) node
+
+pub parents-below : (plan : Plan) → plan ≡ plan_of plan.graph → (node : ℕ) → has_parents_below (count_of plan) (node_at plan node) ≡ true
+parents-below plan made node = subst (λ (p : Plan). has_parents_below (count_of p) (node_at p node) ≡ true) (sym made) (made-below plan.graph node)
+
+pub node-past : (plan : Plan) (node : ℕ) → count_of plan ≤ node → node_at plan node ≡ unwrap_or plan.final_node no_node
+node-past plan node le = ap (λ (o : Option NodeSpec). unwrap_or o (unwrap_or plan.final_node no_node)) (slice_get_past plan.nodes node le)
+
+-- the order of the graph ranks the plan
+spec-parents : (dag : Dag) (number : ℕ) (nodes : List FlatNode) (i : ℕ) (d : NodeSpec) → i < length nodes → (unwrap_or (slice_get (specs_from dag number nodes) i) d).parents ≡ parents_of dag (number + i)
+spec-parents dag number [] i d small = absurd (omega arith)
+spec-parents dag number (x ∷ xs) zero d small = ap (parents_of dag) (sym (add-zero number))
+spec-parents dag number (x ∷ xs) (suc i) d small =
+    let shift : number + 1 + i ≡ number + suc i = omega arith in
+    spec-parents dag (number + 1) xs i d (omega arith) ∙ ap (parents_of dag) shift
+
+pub made-ranked : (graph : Network) → IsOrderOf graph.dag graph.order → IsRankedBy (rank_in graph.order) (plan_of graph)
+made-ranked graph order = λ node small parent among.
+    let n : count_of (plan_of graph) ≡ length graph.dag.nodes = count-is graph in
+    let here : (node_at (plan_of graph) node).parents ≡ parents_of graph.dag node =
+    spec-parents graph.dag 0 graph.dag.nodes node (unwrap_or (plan_of graph).final_node no_node) (omega arith) ∙ ap (parents_of graph.dag) (let e : 0 + node ≡ node = omega arith in e) in
+    let parents : Contains (parents_of graph.dag node) parent = subst (λ (ps : List ℕ). Contains ps parent) here among in
+    let low : parent < length graph.dag.nodes = All-contains (λ p. p < length graph.dag.nodes) (parents_of graph.dag node) parent (parents-in graph.dag node) parents in
+    (omega arith, order.ranked parent node (parent-edge graph.dag node parent parents))
+
+pub ranked : (plan : Plan) → plan ≡ plan_of plan.graph → IsOrderOf plan.graph.dag plan.graph.order → IsRankedBy (rank_in plan.graph.order) plan
+ranked plan made order = subst (IsRankedBy (rank_in plan.graph.order)) (sym made) (made-ranked plan.graph order)

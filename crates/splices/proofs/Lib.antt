@@ -1,0 +1,14 @@
+pub mod NameLists
+pub mod Positions
+pub mod LineLists
+pub mod Limits
+pub mod SettingLines
+pub mod NodeSteps
+pub mod TellSteps
+pub mod Marks
+pub mod Opened
+pub mod Own
+pub mod Trees
+pub mod Within
+pub mod Dags
+pub mod OpeningFiles

@@ -1,0 +1,17 @@
+pub mod Paths
+pub mod Places
+pub mod Dag
+pub mod Nodes
+pub mod Settings
+pub mod Warnings
+pub mod FileSet
+pub mod Forest
+pub mod Edges
+pub mod Faults
+pub mod Opening
+pub mod LineScope
+pub mod NameCheck
+pub mod Adds
+pub mod Opened
+pub mod SettingSteps
+pub mod OpenedFiles

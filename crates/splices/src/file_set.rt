@@ -1,0 +1,47 @@
+//! Files by their names.
+
+ghost use Rattle.std.specs.Prelude.{◌≡◌, ◌≢◌, ℕ, List, None, Some, OnOk};
+ghost use Rattle.std.specs.Option.{option_map};
+
+use std::alloc::{AllocError, Global};
+use std::collections::HashMap;
+
+/// Files by their names.
+#[derive(Drop)]
+pub struct FileSet {
+    files: HashMap<String, Vec<u8>>,
+}
+
+impl FileSet {
+    ghost use Rattle.splices.specs.FileSet.{bytes_of};
+
+    pub fn new(alloc: Global) -> FileSet
+        ensures { (name : List ℕ) → bytes_of result name ≡ None }
+    {
+        FileSet {
+            files: HashMap::new(alloc),
+        }
+    }
+
+    /// Puts a file under this name, in place of one that was there.
+    pub fn add(&mut self, alloc: Global, name: &str, bytes: &[u8]) -> Result<(), AllocError>
+        ensures added { OnOk result (bytes_of self.new name.now ≡ Some bytes.now) }
+        ensures others { OnOk result ((other : List ℕ) → other ≢ name.now → bytes_of self.new other ≡ bytes_of self.old other) }
+    {
+        self.files.insert(
+            String::from_str(alloc, name)?,
+            Vec::from_slice(alloc, bytes)?,
+        )?;
+        Ok(())
+    }
+
+    /// What `add` last put under this name.
+    pub fn get(&self, name: &str) -> Option<&[u8]>
+        ensures { option_map (λ b. b.now) result ≡ bytes_of self.now name.now }
+    {
+        match self.files.get(name) {
+            Some(bytes) => Some(bytes.as_slice()),
+            None => None,
+        }
+    }
+}

@@ -1,0 +1,73 @@
+//! What a splice is to the lines of the file that names it.
+
+ghost use Rattle.std.specs.Prelude.{◌≡◌, ◌++◌, [], ◌∷◌, length, IfOk, OnOk, OnErr};
+
+use crate::flat::Side;
+use std::alloc::{AllocError, Global};
+use std::marker::Model;
+
+/// Numbers of nodes.
+#[derive(Debug, Drop)]
+pub(crate) struct Numbers {
+    items: Vec<usize>,
+}
+
+impl Model for Numbers {
+    ghost use Rattle.std.specs.Prelude.{ℕ, List};
+
+    ghost Value = { List ℕ };
+
+    ghost view = { λ n. n.items.items };
+}
+
+impl Numbers {
+    pub(crate) fn as_slice(&self) -> &[usize]
+        ensures { result.now ≡ self.now }
+    {
+        self.items.as_slice()
+    }
+
+    pub(crate) fn new(alloc: Global) -> Numbers
+        ensures { result ≡ [] }
+    {
+        Numbers {
+            items: Vec::new(alloc),
+        }
+    }
+
+    pub(crate) fn push(&mut self, number: usize) -> Result<(), AllocError>
+        ensures ok { OnOk result (self.new ≡ self.old ++ number ∷ []) }
+        ensures err { OnErr result (self.new ≡ self.old) }
+    {
+        self.items.push(number)?;
+        Ok(())
+    }
+
+    pub(crate) fn append(&mut self, numbers: &[usize]) -> Result<(), AllocError>
+        ensures { OnOk result (self.new ≡ self.old ++ numbers.now) }
+    {
+        self.items.extend_from_slice(numbers)?;
+        Ok(())
+    }
+}
+
+/// The nodes of a splice with no parent in it, those with no child in it, and how many it has.
+#[derive(Debug, Drop)]
+pub(crate) struct Part {
+    pub(crate) heads: Numbers,
+    pub(crate) tails: Numbers,
+    pub(crate) count: usize,
+}
+
+impl Part {
+    ghost use Rattle.splices.specs.Edges.{side_of};
+
+    pub(crate) fn side(&self, side: Side) -> &[usize]
+        ensures { result.now ≡ side_of side self.now }
+    {
+        match side {
+            Side::Parent => self.tails.as_slice(),
+            Side::Child => self.heads.as_slice(),
+        }
+    }
+}

@@ -1,0 +1,381 @@
+//! What a line sets for a node.
+
+ghost use Rattle.std.specs.Prelude.{◌≡◌, ◌∷◌, [], Some, not, find, map, IfOk, OnOk};
+ghost use Rattle.std.specs.List.{filter};
+ghost use Rattle.std.specs.Option.{option_map};
+ghost use Rattle.splices.specs.Settings.{full_category, is_namesake, line_of, macro_of, with_macro};
+ghost use Rattle.splices.specs.SettingSteps.{no_settings, script_of, with_line, with_macros};
+ghost use Rattle.splices.specs.Warnings.{joined, line_if, replaced_by, replaced_in, target_of};
+
+use crate::flat::{
+    AbortSetting, CategorySetting, MacroSetting, MacroSettings, PreSkipSetting, PrioritySetting,
+    RetrySetting, ScriptSetting, Settings,
+};
+use dag_reader::{Command, Macro, Placement, ScriptKind, Target, Text, Texts, Word};
+use std::alloc::{AllocError, Global};
+
+impl Settings {
+    /// The settings of a node of which no line says anything.
+    pub(crate) fn new(alloc: Global) -> Settings
+        ensures { result ≡ no_settings }
+    {
+        Settings {
+            pre: None,
+            post: None,
+            retry: None,
+            pre_skip: None,
+            macros: MacroSettings::new(alloc),
+            priority: None,
+            category: None,
+            abort: None,
+        }
+    }
+
+    /// Puts in what a line says of the node, and adds the lines that it replaces to those there.
+    pub(crate) fn set(
+        &mut self,
+        alloc: Global,
+        prefix: &str,
+        command: &Command,
+        replaced: &mut Vec<usize>,
+    ) -> Result<(), AllocError>
+        ensures settings { OnOk result (self.new ≡ with_line prefix.now self.old command.now) }
+        ensures replaced { OnOk result
+            (replaced.new.items ≡ joined replaced.old.items (replaced_in self.old command.now)) }
+    {
+        match command {
+            Command::Script {
+                kind,
+                node,
+                program,
+                arguments,
+            } => {
+                let script = ScriptSetting::new(alloc, node, program, arguments.as_slice())?;
+                match kind {
+                    ScriptKind::Pre => self.set_pre(script, replaced),
+                    ScriptKind::Post => self.set_post(script, replaced),
+                }
+            }
+            Command::Retry {
+                node,
+                retries,
+                unless_exit,
+            } => self.set_retry(
+                RetrySetting {
+                    line: target_line(node),
+                    retries: *retries,
+                    unless_exit: *unless_exit,
+                },
+                replaced,
+            ),
+            Command::PreSkip { node, value } => self.set_pre_skip(
+                PreSkipSetting {
+                    line: target_line(node),
+                    value: *value,
+                },
+                replaced,
+            ),
+            Command::Vars {
+                node,
+                placement,
+                macros,
+            } => self.macros.put_all(
+                alloc,
+                target_line(node),
+                *placement,
+                macros.as_slice(),
+                replaced,
+            ),
+            Command::Priority { node, priority } => self.set_priority(
+                PrioritySetting {
+                    line: target_line(node),
+                    value: *priority,
+                },
+                replaced,
+            ),
+            Command::Category { node, category } => self.set_category(
+                CategorySetting {
+                    line: target_line(node),
+                    name: full_category(alloc, prefix, category.text())?,
+                },
+                replaced,
+            ),
+            Command::AbortDagOn {
+                node,
+                value,
+                status,
+            } => self.set_abort(
+                AbortSetting {
+                    line: target_line(node),
+                    value: *value,
+                    status: *status,
+                },
+                replaced,
+            ),
+            _ => Ok(()),
+        }
+    }
+
+    fn set_pre(
+        &mut self,
+        setting: ScriptSetting,
+        replaced: &mut Vec<usize>,
+    ) -> Result<(), AllocError>
+        ensures settings { OnOk result (self.new ≡ record self.old { pre = Some setting }) }
+        ensures replaced { OnOk result
+            (replaced.new.items ≡ joined replaced.old.items (line_if (λ s. s.line) self.old.pre)) }
+    {
+        if let Some(old) = &self.pre {
+            add_once(replaced, old.line)?;
+        }
+        self.pre = Some(setting);
+        Ok(())
+    }
+
+    fn set_post(
+        &mut self,
+        setting: ScriptSetting,
+        replaced: &mut Vec<usize>,
+    ) -> Result<(), AllocError>
+        ensures settings { OnOk result (self.new ≡ record self.old { post = Some setting }) }
+        ensures replaced { OnOk result
+            (replaced.new.items ≡ joined replaced.old.items (line_if (λ s. s.line) self.old.post)) }
+    {
+        if let Some(old) = &self.post {
+            add_once(replaced, old.line)?;
+        }
+        self.post = Some(setting);
+        Ok(())
+    }
+
+    fn set_retry(
+        &mut self,
+        setting: RetrySetting,
+        replaced: &mut Vec<usize>,
+    ) -> Result<(), AllocError>
+        ensures settings { OnOk result (self.new ≡ record self.old { retry = Some setting }) }
+        ensures replaced { OnOk result
+            (replaced.new.items ≡ joined replaced.old.items (line_if (λ s. s.line) self.old.retry)) }
+    {
+        if let Some(old) = self.retry {
+            add_once(replaced, old.line)?;
+        }
+        self.retry = Some(setting);
+        Ok(())
+    }
+
+    fn set_pre_skip(
+        &mut self,
+        setting: PreSkipSetting,
+        replaced: &mut Vec<usize>,
+    ) -> Result<(), AllocError>
+        ensures settings { OnOk result (self.new ≡ record self.old { pre_skip = Some setting }) }
+        ensures replaced { OnOk result
+            (replaced.new.items ≡ joined replaced.old.items (line_if (λ s. s.line) self.old.pre_skip)) }
+    {
+        if let Some(old) = self.pre_skip {
+            add_once(replaced, old.line)?;
+        }
+        self.pre_skip = Some(setting);
+        Ok(())
+    }
+
+    fn set_priority(
+        &mut self,
+        setting: PrioritySetting,
+        replaced: &mut Vec<usize>,
+    ) -> Result<(), AllocError>
+        ensures settings { OnOk result (self.new ≡ record self.old { priority = Some setting }) }
+        ensures replaced { OnOk result
+            (replaced.new.items ≡ joined replaced.old.items (line_if (λ s. s.line) self.old.priority)) }
+    {
+        if let Some(old) = self.priority {
+            add_once(replaced, old.line)?;
+        }
+        self.priority = Some(setting);
+        Ok(())
+    }
+
+    fn set_category(
+        &mut self,
+        setting: CategorySetting,
+        replaced: &mut Vec<usize>,
+    ) -> Result<(), AllocError>
+        ensures settings { OnOk result (self.new ≡ record self.old { category = Some setting }) }
+        ensures replaced { OnOk result
+            (replaced.new.items ≡ joined replaced.old.items (line_if (λ s. s.line) self.old.category)) }
+    {
+        if let Some(old) = &self.category {
+            add_once(replaced, old.line)?;
+        }
+        self.category = Some(setting);
+        Ok(())
+    }
+
+    fn set_abort(
+        &mut self,
+        setting: AbortSetting,
+        replaced: &mut Vec<usize>,
+    ) -> Result<(), AllocError>
+        ensures settings { OnOk result (self.new ≡ record self.old { abort = Some setting }) }
+        ensures replaced { OnOk result
+            (replaced.new.items ≡ joined replaced.old.items (line_if (λ s. s.line) self.old.abort)) }
+    {
+        if let Some(old) = self.abort {
+            add_once(replaced, old.line)?;
+        }
+        self.abort = Some(setting);
+        Ok(())
+    }
+}
+
+impl ScriptSetting {
+    fn new(
+        alloc: Global,
+        target: &Target,
+        program: &Word,
+        arguments: &[Word],
+    ) -> Result<ScriptSetting, AllocError>
+        ensures { IfOk result (λ s. s ≡ script_of target.now program.now arguments.now) }
+    {
+        Ok(ScriptSetting {
+            line: target_line(target),
+            program: Text::new(alloc, program.text())?,
+            arguments: word_texts(alloc, arguments)?,
+        })
+    }
+}
+
+impl MacroSetting {
+    fn new(
+        alloc: Global,
+        line: usize,
+        placement: Placement,
+        one: &Macro,
+    ) -> Result<MacroSetting, AllocError>
+        ensures { IfOk result (λ m. m ≡ macro_of line placement one.now) }
+    {
+        Ok(MacroSetting {
+            line,
+            placement,
+            name: Text::new(alloc, one.name.text())?,
+            text: Text::new(alloc, one.text.text())?,
+        })
+    }
+
+    /// Whether the two have one name; letters have no case there.
+    fn is_namesake(&self, other: &MacroSetting) -> bool
+        ensures { result ≡ is_namesake self.now other.now }
+    {
+        let name = self.name.as_str();
+        name.eq_ignore_ascii_case(other.name.as_str())
+    }
+}
+
+impl MacroSettings {
+    /// The first namesake of a macro.
+    fn namesake(&self, one: &MacroSetting) -> Option<&MacroSetting>
+        ensures { option_map (λ m. m.now) result ≡ find (is_namesake one.now) self.now }
+    {
+        self.items.iter().find(|other| one.is_namesake(other))
+    }
+
+    /// Takes out the namesakes of a macro.
+    fn remove_namesakes(&mut self, one: &MacroSetting)
+        ensures { self.new ≡ filter (λ other. not (is_namesake one.now other)) self.old }
+    {
+        self.items.retain(|other| !one.is_namesake(other));
+    }
+
+    /// Puts in a macro in place of its namesakes, and adds the line of the first of them to those
+    /// there.
+    fn put(&mut self, one: MacroSetting, replaced: &mut Vec<usize>) -> Result<(), AllocError>
+        ensures macros { OnOk result (self.new ≡ with_macro self.old one) }
+        ensures replaced { OnOk result (replaced.new.items
+            ≡ joined replaced.old.items (line_if (λ m. m.line) (find (is_namesake one) self.old))) }
+    {
+        if let Some(old) = self.namesake(&one) {
+            add_once(replaced, old.line)?;
+        }
+        self.remove_namesakes(&one);
+        self.items.push(one)?;
+        Ok(())
+    }
+
+    /// Puts in the macros of a line, one after the other.
+    fn put_all(
+        &mut self,
+        alloc: Global,
+        line: usize,
+        placement: Placement,
+        macros: &[Macro],
+        replaced: &mut Vec<usize>,
+    ) -> Result<(), AllocError>
+        ensures macros { OnOk result
+            (self.new ≡ with_macros self.old (map (macro_of line placement) macros.now)) }
+        ensures replaced { OnOk result (replaced.new.items
+            ≡ joined replaced.old.items (replaced_by self.old (map (macro_of line placement) macros.now))) }
+    {
+        for one in macros {
+            self.put(MacroSetting::new(alloc, line, placement, one)?, replaced)?;
+        }
+        Ok(())
+    }
+}
+
+/// The number of the line that a target stands in.
+pub(crate) fn target_line(target: &Target) -> usize
+    ensures { result ≡ line_of target.now }
+{
+    match target {
+        Target::Node(word) => word.span().line,
+        Target::AllNodes(span) => span.line,
+    }
+}
+
+/// The target of a setting.
+pub(crate) fn target_of(command: &Command) -> Option<&Target>
+    ensures { option_map (λ t. t.now) result ≡ target_of command.now }
+{
+    match command {
+        Command::Script { node, .. }
+        | Command::Retry { node, .. }
+        | Command::PreSkip { node, .. }
+        | Command::Vars { node, .. }
+        | Command::Priority { node, .. }
+        | Command::Category { node, .. }
+        | Command::AbortDagOn { node, .. } => Some(node),
+        _ => None,
+    }
+}
+
+/// A category's full name: prefixed like a node's, unless it begins with a plus.
+pub(crate) fn full_category(alloc: Global, prefix: &str, name: &str) -> Result<Text, AllocError>
+    ensures { IfOk result (λ t. t ≡ full_category prefix.now name.now) }
+{
+    match name.as_bytes() {
+        [b'+', ..] => Text::new(alloc, name),
+        _ => Text::joined(alloc, prefix, name),
+    }
+}
+
+/// The texts of words.
+fn word_texts(alloc: Global, words: &[Word]) -> Result<Texts, AllocError>
+    ensures { IfOk result (λ t. t ≡ map (λ w. w.text) words.now) }
+{
+    let mut texts = Texts::new(alloc);
+    for word in words {
+        texts.push(Text::new(alloc, word.text())?)?;
+    }
+    Ok(texts)
+}
+
+/// Adds a line that is not there yet.
+fn add_once(lines: &mut Vec<usize>, line: usize) -> Result<(), AllocError>
+    ensures { OnOk result (lines.new.items ≡ joined lines.old.items (line ∷ [])) }
+{
+    if !lines.as_slice().contains(&line) {
+        lines.push(line)?;
+    }
+    Ok(())
+}
