@@ -1,16 +1,18 @@
 #!/usr/bin/env bash
-# Runs each example and compares what it prints, its exit status and its error line with what is expected.
+# Runs each example and compares what it prints, its exit status and its error lines with what is expected.
 set -u
 cd -- "$(dirname -- "${BASH_SOURCE[0]}")/.." || exit 1
+dagrun=$PWD/dagrun
+folder=.
 passed=0
 failed=0
 
-# check NAME STATUS EXPECTED-OUTPUT EXPECTED-ERROR WORDS..: standard input is handed through
+# check NAME STATUS EXPECTED-OUTPUT EXPECTED-ERROR WORDS..: dagrun is called in the folder; standard input is handed through
 check() {
     local name=$1 status=$2 output=$3 error=$4 got_output got_error got_status
     shift 4
     got_error=$(mktemp)
-    got_output=$(./dagrun "$@" 2>"$got_error"; echo "status $?")
+    got_output=$(cd -- "$folder" && "$dagrun" "$@" 2>"$got_error"; echo "status $?")
     got_status=${got_output##*status }
     got_output=${got_output%status *}
     if [ "$got_status" = "$status" ] && [ "$got_output" = "$output" ] && [ "$(cat "$got_error")" = "$error" ]; then
@@ -22,21 +24,56 @@ check() {
     rm -f "$got_error"
 }
 
+# check_full NAME WORDS..: a standard output that refuses what is printed gives status 125 and one line on standard error
+check_full() {
+    local name=$1 got_error got_status
+    shift
+    got_error=$(cd -- "$folder" && "$dagrun" "$@" 2>&1 >/dev/full)
+    got_status=$?
+    if [ "$got_status" = 125 ] && [[ $got_error == 'dagrun: standard output'* ]] && [[ $got_error != *"$newline"* ]]; then
+        passed=$((passed + 1))
+    else
+        failed=$((failed + 1))
+        printf 'FAILED %s: status %s, error\n%s\n' "$name" "$got_status" "$got_error"
+    fi
+}
+
 newline=$'\n'
 
 check diamond 0 "$(cat examples/diamond.expected)$newline" '' rehearse examples/diamond.dag
 check diamond_from_input 0 "$(cat examples/diamond.expected)$newline" '' <examples/diamond.dag
+check diamond_checked 0 "ok nodes=4 edges=4 final=no$newline" '' check examples/diamond.dag
 check diamond_one_fails 1 "$(cat examples/diamond_one_fails.expected)$newline" '' \
     rehearse examples/diamond.dag examples/diamond_one_fails.outcomes
 check retry_until_good 0 "$(cat examples/retry_until_good.expected)$newline" '' \
     rehearse examples/retry_until_good.dag examples/retry_until_good.outcomes
+check scripts 0 "$(cat examples/scripts.expected)$newline" '' rehearse examples/scripts.dag examples/scripts.outcomes
+
+# The file of a splice is seen from the folder in which dagrun is called.
+folder=examples
+check splices_checked 0 "$(cat examples/splices.check.expected)$newline" '' check splices.dag
+check splices 1 "$(cat examples/splices.expected)$newline" '' rehearse splices.dag splices.outcomes
+folder=.
+check splice_seen_from_above 125 '' 'dagrun: S1 MissingFile stage.dag' check examples/splices.dag
+check missing_splice 125 '' 'dagrun: S1 MissingFile no/such.dag' check - <<<'SPLICE Y such.dag DIR no'
+
+check cycle 125 '' 'dagrun: G1 Cycle Clean Fit' check examples/cycle.dag
+check cycle_rehearsed 125 '' 'dagrun: G1 Cycle Clean Fit' rehearse examples/cycle.dag
+check warnings 0 "ok nodes=1 edges=0 final=no$newline" "warning: -:1 ignored${newline}warning: -:3 overridden" \
+    check - <<<$'DOT graph.dot\nJOB A a.sub\nRETRY ALL_NODES 2\nRETRY A 5'
+check warnings_rehearsed 0 "A DONE attempts=1 value=0${newline}result 0$newline" \
+    "warning: -:1 ignored${newline}warning: -:3 overridden" <<<$'DOT graph.dot\nJOB A a.sub\nRETRY ALL_NODES 2\nRETRY A 5'
+check refused_without_warnings 125 '' 'dagrun: G1 Cycle A' check - <<<$'DOT graph.dot\nJOB A a.sub\nPARENT A CHILD A'
+
 check missing_file 125 '' 'dagrun: S1 MissingFile no/such.dag' rehearse no/such.dag
 check missing_outcomes 125 '' 'dagrun: X2 FileRefused no/such.outcomes' rehearse examples/diamond.dag no/such.outcomes
 check folder_as_dag 125 '' 'dagrun: S1 MissingFile examples' rehearse examples
 check bad_outcomes 125 '' 'dagrun: N3 BadLine 1' rehearse examples/diamond.dag examples/diamond.dag
 check unknown_command 125 '' 'dagrun: L2 UnknownCommand -:1:1' <<<'FOO A'
-check name_declared_twice 125 '' 'dagrun: B1 BadOrder -:2:5' <<<$'JOB A a.sub\nJOB A b.sub'
-check not_yet 125 '' 'dagrun: B2 NotYet' <<<'JOB A a.sub NOOP'
+check name_declared_twice 125 '' 'dagrun: S4 DuplicateName -:2:5' <<<$'JOB A a.sub\nJOB A b.sub'
+check not_yet 125 '' 'dagrun: B2 NotYet' <<<$'JOB A a.sub\nPRIORITY A 1'
+check_full refused_output rehearse examples/diamond.dag
+check_full refused_check check examples/diamond.dag
 
 printf '%s passed, %s failed\n' "$passed" "$failed"
 [ "$failed" = 0 ]

@@ -27,10 +27,10 @@ pub(crate) fn files_of<R: Files + Input + AllocGlobal>(
     let alloc = rt.alloc();
     let mut files = FileSet::new(alloc);
     let mut wanted = Vec::new(alloc);
-    wanted.push(Wanted {
-        folder: Text::new(alloc, "")?,
-        path: Text::new(alloc, top)?,
-    })?;
+    if let Some(bytes) = read_top(rt, top)? {
+        want_splices(alloc, "", bytes.as_slice(), &mut wanted)?;
+        files.add(alloc, top, bytes.as_slice())?;
+    }
     for _ in 0..MOST_WANTED {
         match wanted.pop() {
             Some(next) => add_file(rt, &mut files, &next, &mut wanted)?,
@@ -41,7 +41,7 @@ pub(crate) fn files_of<R: Files + Input + AllocGlobal>(
 }
 
 /// Reads a file that is not there, and wants those of its splices.
-fn add_file<R: Files + Input + AllocGlobal>(
+fn add_file<R: Files + AllocGlobal>(
     rt: &R,
     files: &mut FileSet,
     next: &Wanted,
@@ -94,14 +94,19 @@ fn want_splice(
     Ok(())
 }
 
-/// The bytes of a file, or of standard input where the path is `-`.
-fn read_file<R: Files + Input + AllocGlobal>(
+/// The bytes of the DAG file, or of standard input where its path is `-`.
+fn read_top<R: Files + Input + AllocGlobal>(
     rt: &R,
     path: &str,
 ) -> Result<Option<Vec<u8>>, RunFault> {
     if path == "-" {
         return Ok(Some(read_input(rt)?));
     }
+    read_file(rt, path)
+}
+
+/// The bytes of a file, unless it can't be read.
+fn read_file<R: Files + AllocGlobal>(rt: &R, path: &str) -> Result<Option<Vec<u8>>, RunFault> {
     match fs::read(rt, path) {
         Ok(bytes) => Ok(Some(bytes)),
         Err(error) if error.kind() == ErrorKind::OutOfMemory => Err(RunFault::Memory),

@@ -108,7 +108,8 @@ impl Plan {
         &self.graph
     }
 
-    /// The node of this number; that behind the last is the FINAL node.
+    /// The node of this number; that behind the last is the FINAL node. Where there is none, a node
+    /// without a name stands for it, which is done.
     pub fn node(&self, node: u32) -> &NodeSpec
         requires { node ≤ count_of self.now }
         ensures is { result.now ≡ node_at self.now node }

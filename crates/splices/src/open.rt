@@ -8,6 +8,7 @@ ghost use Rattle.splices.specs.Edges.{part_of, line_edges};
 ghost use Rattle.splices.specs.Faults.{first_some, line_fault};
 ghost use Rattle.splices.specs.Nodes.{job_names, final_names, splice_names};
 ghost use Rattle.splices.specs.FileSet.{bytes_of};
+ghost use Rattle.splices.specs.Forest.{inside};
 ghost use Rattle.splices.specs.Opening.{said_by, says_at, check_final, check_file, check_count, open_file, open_lines, open_line, with_file};
 ghost use Rattle.splices.specs.Adds.{Gives, AddsFiles, OpensTree, OpensForest, OpensTop, IsFew, SameButEdges};
 ghost use Rattle.splices.specs.Dag.{IsWithin};
@@ -352,6 +353,15 @@ fn first_fault(
     check.lines(alloc, lines)
 }
 
+/// What stands before the names in a splice: the prefix of the file that holds its line, the
+/// splice's name and a plus.
+fn names_in(alloc: Global, prefix: &str, name: &str) -> Result<Text, AllocError>
+    ensures { IfOk result (λ names. names ≡ inside prefix.now name.now) }
+{
+    let names = Text::joined(alloc, prefix, name)?;
+    Text::joined(alloc, names.as_str(), "+")
+}
+
 /// Opens the files of the SPLICE lines, and adds their nodes and edges to the draft. The answer is
 /// the first name in them that can't stand where it does.
 #[cycle(opening)]
@@ -406,8 +416,7 @@ fn open_splice(
     if let Some(k) = above.place_of(path.as_str()) {
         return Err(SpliceFault::Dag(DagFault::Loop(above.from_place(alloc, k)?)));
     }
-    let names = Text::joined(alloc, prefix, name.text())?;
-    let names = Text::joined(alloc, names.as_str(), "+")?;
+    let names = names_in(alloc, prefix, name.text())?;
     above.push(Text::new(alloc, path.as_str())?)?;
     draft.used.splices += 1;
     let found = open_tree(

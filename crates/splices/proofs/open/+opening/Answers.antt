@@ -10,6 +10,7 @@ use Rattle.splices.specs.declared.part.Part.{Part}
 use Rattle.splices.specs.declared.open.Draft.{Draft}
 use Rattle.splices.specs.Paths.{join}
 use Rattle.splices.specs.Edges.{forest_parts}
+use Rattle.splices.specs.Forest.{inside}
 use Rattle.splices.specs.Nodes.{job_names}
 use Rattle.splices.specs.Opening.{open_file, open_lines, with_splice}
 use Rattle.splices.proofs.Opened.{behind_done}
@@ -41,17 +42,17 @@ open_forest-returns-clause-opened t c =
 pub open_splice-returns-clause-opened : goal.open_splice-returns-clause-opened
 open_splice-returns-clause-opened t c =
     let above = c.args.above.now in
-    let below = c.as_str-5.result.now in
-    let path = c.as_str-6.result.now in
+    let below = c.as_str-4.result.now in
+    let path = c.as_str-5.result.now in
     let start : Draft = record c.args.draft.now { used = with_splice c.args.draft.now.used } in
-    splice_opens (open_file (bytes_of c.args.files.now) c.args.left) above c.push.new.self c.args.folder.now below path c.args.prefix.now c.as_str-7.result.now
+    splice_opens (open_file (bytes_of c.args.files.now) c.args.left) above c.push.new.self c.args.folder.now below path c.args.prefix.now c.as_str-6.result.now
     c.in-Splice.name c.in-Splice.file c.in-Splice.dir c.args.command.now c.args.draft.now start c.open_tree.new.draft c.in_ok-found.found c.args.parts.now.items c.push-2.new.self.items
     c.in-Splice.is
-    (c.as_str-5.ensures ∙ c.in_ok-inside.ensures ∙ ap (join c.args.folder.now) c.dir_text.ensures)
-    (c.as_str-6.ensures ∙ c.in_ok-path.ensures ∙ ap (λ (d : List ℕ). join d c.text.result.now) (c.as_str.ensures ∙ sym c.as_str-5.ensures) ∙ ap (join below) c.text.ensures)
-    (ap (λ (x : List ℕ). position (bytes_eq x) above) (c.as_str-6.ensures ∙ sym c.as_str-2.ensures) ∙ sym c.place_of.ensures.value ∙ c.in_default-place_of.is)
-    (c.in_ok-push.ensures.ok ∙ ap (λ (x : List ℕ). above ++ x ∷ []) (c.in_ok-new.ensures ∙ c.as_str-4.ensures ∙ sym c.as_str-6.ensures))
-    (c.as_str-7.ensures ∙ c.in_ok-names-2.ensures ∙ ap (λ (x : List ℕ). x ++ 43 ∷ []) (c.as_str-3.ensures ∙ c.in_ok-names.ensures ∙ ap (λ (x : List ℕ). c.args.prefix.now ++ x) c.text-2.ensures))
+    (c.as_str-4.ensures ∙ c.in_ok-inside.ensures ∙ ap (join c.args.folder.now) c.dir_text.ensures)
+    (c.as_str-5.ensures ∙ c.in_ok-path.ensures ∙ ap (λ (d : List ℕ). join d c.text.result.now) (c.as_str.ensures ∙ sym c.as_str-4.ensures) ∙ ap (join below) c.text.ensures)
+    (ap (λ (x : List ℕ). position (bytes_eq x) above) (c.as_str-5.ensures ∙ sym c.as_str-2.ensures) ∙ sym c.place_of.ensures.value ∙ c.in_default-place_of.is)
+    (c.in_ok-push.ensures.ok ∙ ap (λ (x : List ℕ). above ++ x ∷ []) (c.in_ok-new.ensures ∙ c.as_str-3.ensures ∙ sym c.as_str-5.ensures))
+    (c.as_str-6.ensures ∙ c.in_ok-names.ensures ∙ ap (inside c.args.prefix.now) c.text-2.ensures)
     refl
     c.in_ok-found.ensures.opened
     c.in_ok-push-2.ensures.items

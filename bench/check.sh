@@ -1,0 +1,110 @@
+#!/usr/bin/env bash
+# Times `dagrun check`, three rounds, in milliseconds:
+# - of 4,096 nodes in a chain: in 64 splices of one file with 64 nodes, and in 4,096 files with one node each;
+# - of 65,536 nodes with 200,000 edges in one file, and of half as many, beside `ninja -n` and `make -n` on the same graph (both
+#   read their file and say what they would run; dagrun reads its file and orders the graph).
+# The program refuses more than 4,096 nodes. So the large graphs are checked by a copy of it in a temporary folder whose bound
+# is 65,536: the two comparisons with it in `open_tree`, where MOST of crates/splices/src/open.rt stands, are changed in the copy
+# of the object file, which is linked anew. That copy is for these times alone and nothing of it is proved; all its other code is
+# that of the program. (What `rt try` builds is a checked program, about 200 times slower, and without a proof rt builds no other.)
+set -eu
+top=$(cd -- "$(dirname -- "${BASH_SOURCE[0]}")/.." && pwd)
+work=$(mktemp -d)
+trap 'rm -rf "$work"' EXIT
+"$top/dagrun" check "$top/examples/diamond.dag" >/dev/null
+program=$top/crates/dagrun/out/dagrun
+
+# raised PROGRAM: links the copy with the raised bound
+raised() {
+    local section=.text.splices::open::open_tree object=$work/raised.o kit start place length
+    kit=$(dirname -- "$(rt doc)")
+    cp "$program.o" "$object"
+    start=$((16#$(objdump -h -w "$object" | awk -v s="$section" '$2 == s { print $6 }')))
+    objdump -d -w -j "$section" "$object" |
+        awk -F '\t' '$3 ~ /^cmpq? +\$0x1000,/ { sub(/:.*/, "", $1); print $1, split($2, bytes, " ") }' >"$work/places"
+    if [ "$(wc -l <"$work/places")" != 2 ]; then
+        echo 'bench/check.sh: open_tree no longer compares with 4,096 twice' >&2
+        exit 1
+    fi
+    # The number is the last four bytes of the instruction.
+    while read -r place length; do
+        printf '\0\0\1\0' | dd of="$object" bs=1 seek=$((start + 16#$place + length - 4)) conv=notrunc status=none
+    done <"$work/places"
+    "$kit/bin/rattle-link" --target x86_64-unknown-linux-gnu --toolchain "$kit/toolchain" -o "$1" "$object" \
+        "$kit/c/libos_c.a" "$kit/c/liblibc_c.a" >/dev/null 2>&1
+}
+
+# parts FOLDER COUNT SIZE: splices of a file, or of a file each where SIZE is 1, in a chain
+parts() {
+    mkdir -p "$work/$1"
+    awk -v folder="$work/$1" -v count="$2" -v size="$3" 'BEGIN {
+        top = folder "/top.dag"
+        for (i = 0; i < count; i++) print "SPLICE S" i " part" (size == 1 ? i : "") ".dag" >top
+        for (i = 1; i < count; i++) print "PARENT S" i - 1 " CHILD S" i >top
+        for (i = 0; i < (size == 1 ? count : 1); i++) {
+            part = folder "/part" (size == 1 ? i : "") ".dag"
+            for (k = 0; k < size; k++) print "JOB N" k " n" k ".sub" >part
+            for (k = 1; k < size; k++) print "PARENT N" k - 1 " CHILD N" k >part
+            close(part)
+        }
+    }'
+}
+
+# graph FOLDER NODES EDGES: one graph of distinct edges as large.dag, build.ninja and Makefile
+graph() {
+    mkdir -p "$work/$1"
+    awk -v folder="$work/$1" -v nodes="$2" -v edges="$3" 'BEGIN {
+        dag = folder "/large.dag"; ninja = folder "/build.ninja"; make = folder "/Makefile"
+        for (i = 0; i < nodes; i++) print "JOB N" i " n" i ".sub" >dag
+        for (k = 1; count < edges; k++) for (i = 4; i < nodes && count < edges; i++) {
+            parent = (i * 7919 * k + k) % i
+            if ((i, parent) in seen) continue
+            seen[i, parent] = 1
+            above[i] = above[i] " N" parent
+            count++
+            print "PARENT N" parent " CHILD N" i >dag
+        }
+        print "rule touch\n  command = touch $out" >ninja
+        printf "all:" >make
+        for (i = 0; i < nodes; i++) printf " N" i >make
+        print "" >make
+        for (i = 0; i < nodes; i++) {
+            print "build N" i ": touch" above[i] >ninja
+            print "N" i ":" above[i] "\n\ttouch $@" >make
+        }
+    }'
+}
+
+# milliseconds COMMAND..
+milliseconds() {
+    local before after
+    before=$(date +%s%N)
+    "$@" >/dev/null
+    after=$(date +%s%N)
+    echo $(((after - before) / 1000000))
+}
+
+raised "$work/raised"
+parts few 64 64
+parts many 4096 1
+graph half 32768 100000
+graph whole 65536 200000
+for folder in few many; do
+    printf '%s: %s\n' "$folder" "$(cd "$work/$folder" && "$program" check top.dag)"
+done
+for folder in half whole; do
+    printf '%s: %s, %s commands of ninja, %s of make\n' "$folder" "$(cd "$work/$folder" && "$work/raised" check large.dag)" \
+        "$(ninja -C "$work/$folder" -n | grep -c touch)" "$(make -C "$work/$folder" -n | grep -c touch)"
+done
+
+for round in 1 2 3; do
+    few=$(cd "$work/few" && milliseconds "$program" check top.dag)
+    many=$(cd "$work/many" && milliseconds "$program" check top.dag)
+    printf '4096 nodes: in 64 splices of one file %s ms, in 4096 files %s ms\n' "$few" "$many"
+    for folder in half whole; do
+        cd "$work/$folder"
+        printf '%s nodes with %s edges: dagrun check %s ms, ninja -n %s ms, make -n %s ms\n' \
+            "$(grep -c ^JOB large.dag)" "$(grep -c ^PARENT large.dag)" \
+            "$(milliseconds "$work/raised" check large.dag)" "$(milliseconds ninja -n)" "$(milliseconds make -n)"
+    done
+done

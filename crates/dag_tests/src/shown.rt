@@ -1,0 +1,118 @@
+//! The answers at sets of files, as texts.
+
+use crate::lines::{limits, settings, warnings};
+use crate::views::{ancestors, links, names, options, plan_text};
+use dag_graph::Graph;
+use run_plan::Plan;
+use splices::{FileSet, FlatDag, open_dag};
+use std::alloc::{AllocError, Global};
+use std::process::Abort;
+
+/// What is looked at, where the files are read.
+#[derive(Clone, Copy, Debug)]
+pub enum View {
+    /// Nothing: there has to be a fault where one is wanted, and none elsewhere.
+    Faults,
+    /// The numbers of nodes and of edges.
+    Counts,
+    /// Files, folders, parents and children of the nodes.
+    Links,
+    /// Folders and options of the nodes.
+    Options,
+    /// An order with parents first.
+    Order,
+    /// The ancestors of each node.
+    Ancestors,
+    /// The numbers of some names.
+    Names,
+    /// What lines set for the nodes.
+    Settings,
+    /// The warnings.
+    Warnings,
+    /// The limits of categories.
+    Limits,
+    /// What the plan says.
+    Plan,
+}
+
+/// What opening this file answers: the fault of the files or of the graph, or what is looked at.
+pub fn answer(alloc: Global, view: View, files: &FileSet, top: &str) -> Result<String, AllocError> {
+    match open_dag(alloc, files, top) {
+        Ok(dag) => answer_of_dag(alloc, view, dag),
+        Err(fault) => format!(in alloc; "{fault}"),
+    }
+}
+
+fn answer_of_dag(alloc: Global, view: View, dag: FlatDag) -> Result<String, AllocError> {
+    match Graph::build(alloc, dag) {
+        Ok(graph) => answer_of_graph(alloc, view, graph),
+        Err(fault) => format!(in alloc; "{fault}"),
+    }
+}
+
+fn answer_of_graph(alloc: Global, view: View, graph: Graph) -> Result<String, AllocError> {
+    match Plan::build_bare(alloc, graph) {
+        Ok(plan) => looked_at(alloc, view, &plan),
+        Err(fault) => format!(in alloc; "{fault}"),
+    }
+}
+
+fn looked_at(alloc: Global, view: View, plan: &Plan) -> Result<String, AllocError> {
+    let graph = plan.graph();
+    match view {
+        View::Faults => Ok(String::new(alloc)),
+        View::Counts => counts(alloc, plan),
+        View::Links => links(alloc, graph),
+        View::Options => options(alloc, graph.flat()),
+        View::Order => {
+            let order = graph.order();
+            format!(in alloc; "{order:?}")
+        }
+        View::Ancestors => ancestors(alloc, plan),
+        View::Names => names(alloc, graph),
+        View::Settings => settings(alloc, graph.flat()),
+        View::Warnings => warnings(alloc, graph.flat()),
+        View::Limits => limits(alloc, graph.flat()),
+        View::Plan => plan_text(alloc, plan),
+    }
+}
+
+fn counts(alloc: Global, plan: &Plan) -> Result<String, AllocError> {
+    let nodes = plan.count();
+    let edges = plan.graph().edge_count();
+    let last = plan.graph().final_node();
+    format!(in alloc; "{nodes} nodes {edges} edges {last:?}")
+}
+
+/// The file t.dag with this text, and the other files.
+fn file_set(alloc: Global, others: &[(&str, &str)], text: &str) -> Result<FileSet, AllocError> {
+    let mut files = FileSet::new(alloc);
+    files.add(alloc, "t.dag", text.as_bytes())?;
+    for (name, text) in others {
+        files.add(alloc, name, text.as_bytes())?;
+    }
+    Ok(files)
+}
+
+/// Compares the answers at some texts of t.dag, with other files beside it, with those that are
+/// wanted.
+pub fn compare(
+    rt: &impl Abort,
+    alloc: Global,
+    view: View,
+    others: &[(&str, &str)],
+    cases: &[(&str, &str)],
+) -> Result<(), AllocError> {
+    for (text, wanted) in cases {
+        let files = file_set(alloc, others, text)?;
+        let told = answer(alloc, view, &files, "t.dag")?;
+        assert!(rt; told.as_str() == *wanted, "{text}: {told}");
+    }
+    Ok(())
+}
+
+/// Puts a text behind another.
+pub fn add(text: &mut String, more: Result<String, AllocError>) -> Result<(), AllocError> {
+    text.push_str(more?.as_str())?;
+    Ok(())
+}

@@ -1,0 +1,11 @@
+//! Reads a submit description, as the chapter "condor_submit" of the HTCondor manual has it.
+#![tactic(auto)]
+
+mod fault;
+pub mod laws;
+mod line;
+mod lines;
+mod submit;
+
+pub use fault::{LineFault, SubmitFault};
+pub use submit::{Assignment, Submit, read_submit};

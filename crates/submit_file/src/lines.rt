@@ -1,0 +1,64 @@
+//! The lines of a submit description, those that are continued joined with what is below them.
+
+ghost use Rattle.std.specs.Prelude.{◌≡◌, ◌+◌, ◌<◌, ◌≤◌, ◌∷◌, ℕ, length, IfOk, IsTrue};
+ghost use Rattle.std.specs.Str.Lines.{lines};
+ghost use Rattle.submit_file.specs.Lines.{is_comment, is_continued, statements};
+
+use crate::line::{begins_with, trim_start};
+use dag_reader::split_line;
+use std::alloc::{AllocError, Global};
+
+/// A line joined with those that continue it, how many lines those are together, and the text
+/// behind them.
+#[derive(Drop)]
+pub(crate) struct Joined<'a> {
+    pub(crate) text: Vec<u8>,
+    pub(crate) lines: usize,
+    pub(crate) rest: &'a [u8],
+}
+
+/// The first line, joined with those that it is continued by.
+pub(crate) fn first_statement(alloc: Global, text: &[u8]) -> Result<Joined<'_>, AllocError>
+    requires { 0 < length text.now }
+    ensures first { IfOk result (λ j. (n : ℕ) → statements n (lines text.now)
+        ≡ record { number = n; text = j.text.items } ∷ statements (n + j.lines) (lines j.rest.now)) }
+    ensures some { IfOk result (λ j. 0 < j.lines) }
+    ensures shorter { IfOk result (λ j. j.lines + length j.rest.now ≤ length text.now) }
+{
+    let (line, after) = split_line(text);
+    let mut joined = Vec::from_slice(alloc, line)?;
+    let mut rest = after;
+    let mut lines = 1usize;
+    while is_continued(joined.as_slice()) && !rest.is_empty() {
+        let (below, after) = split_line(rest);
+        joined.pop();
+        joined.extend_from_slice(below)?;
+        rest = after;
+        lines += 1;
+    }
+    if is_continued(joined.as_slice()) {
+        joined.pop();
+    }
+    Ok(Joined {
+        text: joined,
+        lines,
+        rest,
+    })
+}
+
+#[tactic(auto, unfolding(crate::specs::Lines::is_continued))]
+fn is_continued(text: &[u8]) -> bool
+    ensures value { result ≡ is_continued text.now }
+{
+    match text.last() {
+        Some(last) => *last == b'\\' && !is_comment(text),
+        None => false,
+    }
+}
+
+#[tactic(auto, unfolding(crate::specs::Lines::is_comment))]
+fn is_comment(text: &[u8]) -> bool
+    ensures { result ≡ is_comment text.now }
+{
+    begins_with(b'#', trim_start(text))
+}

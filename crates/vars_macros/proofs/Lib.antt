@@ -1,0 +1,12 @@
+pub mod Names
+pub mod Room
+pub mod Cuts
+pub mod Stack
+pub mod Tally
+pub mod Quotes
+pub mod Defined
+pub mod Groups
+pub mod Utf8
+pub mod Written
+pub mod WordTexts
+pub mod MacroTexts

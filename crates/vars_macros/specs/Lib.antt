@@ -1,0 +1,15 @@
+pub mod Texts
+pub mod Names
+pub mod Cut
+pub mod Pieces
+pub mod Meaning
+pub mod Scopes
+pub mod Expansion
+pub mod Machine
+pub mod Answers
+pub mod Output
+pub mod Arguments
+pub mod Gathered
+pub mod Defined
+pub mod Script
+pub mod Quoting
