@@ -2,7 +2,8 @@
 # Times `dagrun check`, three rounds, in milliseconds:
 # - of 4,096 nodes in a chain: in 64 splices of one file with 64 nodes, and in 4,096 files with one node each;
 # - of 65,536 nodes with 200,000 edges in one file, and of half as many, beside `ninja -n` and `make -n` on the same graph (both
-#   read their file and say what they would run; dagrun reads its file and orders the graph).
+#   read their file and say what they would run; dagrun reads its files, orders the graph and expands the texts of each job).
+# All nodes of a graph have one submit file; bench/plan.sh has one for each node.
 # The program refuses more than 4,096 nodes. So the large graphs are checked by a copy of it in a temporary folder whose bound
 # is 65,536: the two comparisons with it in `open_tree`, where MOST of crates/splices/src/open.rt stands, are changed in the copy
 # of the object file, which is linked anew. That copy is for these times alone and nothing of it is proved; all its other code is
@@ -11,7 +12,7 @@ set -eu
 top=$(cd -- "$(dirname -- "${BASH_SOURCE[0]}")/.." && pwd)
 work=$(mktemp -d)
 trap 'rm -rf "$work"' EXIT
-"$top/dagrun" check "$top/examples/diamond.dag" >/dev/null
+(cd "$top/examples" && "$top/dagrun" check diamond.dag >/dev/null)
 program=$top/crates/dagrun/out/dagrun
 
 # raised PROGRAM: links the copy with the raised bound
@@ -34,16 +35,22 @@ raised() {
         "$kit/c/libos_c.a" "$kit/c/liblibc_c.a" >/dev/null 2>&1
 }
 
+# folder NAME: a folder with the submit file of all nodes
+folder() {
+    mkdir -p "$work/$1"
+    printf 'executable = touch\narguments = $(JOB)\nqueue\n' >"$work/$1/node.sub"
+}
+
 # parts FOLDER COUNT SIZE: splices of a file, or of a file each where SIZE is 1, in a chain
 parts() {
-    mkdir -p "$work/$1"
+    folder "$1"
     awk -v folder="$work/$1" -v count="$2" -v size="$3" 'BEGIN {
         top = folder "/top.dag"
         for (i = 0; i < count; i++) print "SPLICE S" i " part" (size == 1 ? i : "") ".dag" >top
         for (i = 1; i < count; i++) print "PARENT S" i - 1 " CHILD S" i >top
         for (i = 0; i < (size == 1 ? count : 1); i++) {
             part = folder "/part" (size == 1 ? i : "") ".dag"
-            for (k = 0; k < size; k++) print "JOB N" k " n" k ".sub" >part
+            for (k = 0; k < size; k++) print "JOB N" k " node.sub" >part
             for (k = 1; k < size; k++) print "PARENT N" k - 1 " CHILD N" k >part
             close(part)
         }
@@ -52,10 +59,10 @@ parts() {
 
 # graph FOLDER NODES EDGES: one graph of distinct edges as large.dag, build.ninja and Makefile
 graph() {
-    mkdir -p "$work/$1"
+    folder "$1"
     awk -v folder="$work/$1" -v nodes="$2" -v edges="$3" 'BEGIN {
         dag = folder "/large.dag"; ninja = folder "/build.ninja"; make = folder "/Makefile"
-        for (i = 0; i < nodes; i++) print "JOB N" i " n" i ".sub" >dag
+        for (i = 0; i < nodes; i++) print "JOB N" i " node.sub" >dag
         for (k = 1; count < edges; k++) for (i = 4; i < nodes && count < edges; i++) {
             parent = (i * 7919 * k + k) % i
             if ((i, parent) in seen) continue

@@ -42,25 +42,31 @@ newline=$'\n'
 
 check diamond 0 "$(cat examples/diamond.expected)$newline" '' rehearse examples/diamond.dag
 check diamond_from_input 0 "$(cat examples/diamond.expected)$newline" '' <examples/diamond.dag
-check diamond_checked 0 "ok nodes=4 edges=4 final=no$newline" '' check examples/diamond.dag
 check diamond_one_fails 1 "$(cat examples/diamond_one_fails.expected)$newline" '' \
     rehearse examples/diamond.dag examples/diamond_one_fails.outcomes
 check retry_until_good 0 "$(cat examples/retry_until_good.expected)$newline" '' \
     rehearse examples/retry_until_good.dag examples/retry_until_good.outcomes
 check scripts 0 "$(cat examples/scripts.expected)$newline" '' rehearse examples/scripts.dag examples/scripts.outcomes
 
-# The file of a splice is seen from the folder in which dagrun is called.
+# The files of splices and the submit files are seen from the folder in which dagrun is called.
 folder=examples
+check diamond_checked 0 "ok nodes=4 edges=4 final=no$newline" '' check diamond.dag
+check scripts_checked 0 "ok nodes=4 edges=4 final=no$newline" '' check scripts.dag
+check message_checked 0 "ok nodes=2 edges=1 final=no$newline" '' check message.dag
+check macros_in_a_loop 125 '' 'dagrun: V2 Loop A' check - <<<$'JOB A message.sub\nVARS A msg="$(who)" who="$(msg)"'
+check warnings 0 "ok nodes=1 edges=0 final=no$newline" "warning: -:1 ignored${newline}warning: -:3 overridden" \
+    check - <<<$'DOT graph.dot\nJOB A a.sub\nRETRY ALL_NODES 2\nRETRY A 5'
 check splices_checked 0 "$(cat examples/splices.check.expected)$newline" '' check splices.dag
 check splices 1 "$(cat examples/splices.expected)$newline" '' rehearse splices.dag splices.outcomes
+check_full refused_check check diamond.dag
 folder=.
+check submit_file_seen_from_above 125 '' 'dagrun: P1 MissingFile a.sub' check examples/diamond.dag
+check submit_file_of_a_noop 0 "ok nodes=1 edges=0 final=no$newline" '' check - <<<'JOB A no/such.sub NOOP'
 check splice_seen_from_above 125 '' 'dagrun: S1 MissingFile stage.dag' check examples/splices.dag
 check missing_splice 125 '' 'dagrun: S1 MissingFile no/such.dag' check - <<<'SPLICE Y such.dag DIR no'
 
 check cycle 125 '' 'dagrun: G1 Cycle Clean Fit' check examples/cycle.dag
 check cycle_rehearsed 125 '' 'dagrun: G1 Cycle Clean Fit' rehearse examples/cycle.dag
-check warnings 0 "ok nodes=1 edges=0 final=no$newline" "warning: -:1 ignored${newline}warning: -:3 overridden" \
-    check - <<<$'DOT graph.dot\nJOB A a.sub\nRETRY ALL_NODES 2\nRETRY A 5'
 check warnings_rehearsed 0 "A DONE attempts=1 value=0${newline}result 0$newline" \
     "warning: -:1 ignored${newline}warning: -:3 overridden" <<<$'DOT graph.dot\nJOB A a.sub\nRETRY ALL_NODES 2\nRETRY A 5'
 check refused_without_warnings 125 '' 'dagrun: G1 Cycle A' check - <<<$'DOT graph.dot\nJOB A a.sub\nPARENT A CHILD A'
@@ -73,7 +79,6 @@ check unknown_command 125 '' 'dagrun: L2 UnknownCommand -:1:1' <<<'FOO A'
 check name_declared_twice 125 '' 'dagrun: S4 DuplicateName -:2:5' <<<$'JOB A a.sub\nJOB A b.sub'
 check not_yet 125 '' 'dagrun: B2 NotYet' <<<$'JOB A a.sub\nPRIORITY A 1'
 check_full refused_output rehearse examples/diamond.dag
-check_full refused_check check examples/diamond.dag
 
 printf '%s passed, %s failed\n' "$passed" "$failed"
 [ "$failed" = 0 ]

@@ -1,3 +1,5 @@
 pub mod Endings
 pub mod Reports
 pub mod OneReport
+pub mod RescueParts
+pub mod PlansOfFiles

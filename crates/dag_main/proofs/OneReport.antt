@@ -1,5 +1,5 @@
 -- One report for each set of files and table.
-use Rattle.std.proofs.Common.{◌≡◌, ℕ, zero, suc, ◌<◌, List, ◌++◌, Option, Some, None, Result, Ok, Err, refl, sym, ap, ◌∙◌, subst, arith, if◌then◌else◌}
+use Rattle.std.proofs.Common.{◌≡◌, ℕ, zero, suc, ◌+◌, ◌<◌, List, [], ◌∷◌, ◌++◌, Option, Some, None, Result, Ok, Err, refl, sym, ap, ◌∙◌, subst, arith, if◌then◌else◌}
 use Rattle.std.specs.Str.Lines.{lines}
 use Rattle.node_machine.specs.OutcomeTable.{Entry}
 use Rattle.node_machine.proofs.OutcomeLines as outcome_lines
@@ -13,7 +13,9 @@ use Rattle.sched_core.specs.Fate.{Fate, AreFates, is_done_state}
 use Rattle.sched_core.proofs.Matching.{fates-unique}
 use Rattle.sched_core.proofs.Sweeps.{all_below-same}
 use Rattle.dag_main.specs.Rehearsal.{table_by}
-use Rattle.dag_main.specs.Report.{fate_line, fate_lines, result_line, report_of, warning_lines}
+use Rattle.run_plan.specs.Submitted.{sources_of}
+use Rattle.run_plan.specs.Digest.{digest_of}
+use Rattle.dag_main.specs.Report.{fate_line, fate_lines, marks_from, rescue_part, result_line, report_of, warning_lines}
 use Rattle.dag_main.specs.Rehearsed.{plan_by, HasEntries, status_of, IsRehearsalOf}
 
 abbrev dag_or : Dag → Result Dag DagFault → Dag
@@ -30,6 +32,12 @@ same-lines : (plan : Plan) (fates other : ℕ → Fate) (n : ℕ) → ((node : �
 same-lines plan fates other zero same = refl
 same-lines plan fates other (suc n) same =
     λ j. same-lines plan fates other n (λ node lt. same node (omega arith)) j ++ fate_line (node_at plan n).name (same n (omega arith) j)
+
+-- and the same marks
+same-marks : (fates other : ℕ → Fate) (number n : ℕ) → ((node : ℕ) → node < number + n → fates node ≡ other node) → marks_from fates number n ≡ marks_from other number n
+same-marks fates other number zero same = refl
+same-marks fates other number (suc n) same =
+    λ j. is_done_state (same number (omega arith) j).state ∷ same-marks fates other (number + 1) n (λ node lt. same node (omega arith)) j
 
 module _ (files : Files) (path : List ℕ) (outcomes : Option (List ℕ)) (text other warnings notes : List ℕ) (status verdict : ℕ)
     (a : IsRehearsalOf files path outcomes text warnings status) (b : IsRehearsalOf files path outcomes other notes verdict) where
@@ -50,7 +58,7 @@ module _ (files : Files) (path : List ℕ) (outcomes : Option (List ℕ)) (text 
 
   same-fates : (node : ℕ) → node < count_of plan → a.fates node ≡ b.fates node
   same-fates node lt =
-      fates-unique plan (table_by plan a.entries) (rank_in a.order) (made-ranked (record { dag = a.dag; order = a.order }) a.is_order) a.fates b.fates a.are_fates other-fates node lt
+      fates-unique plan (table_by plan a.entries) (rank_in a.order) (made-ranked (record { dag = a.dag; order = a.order }) (sources_of None []) (digest_of a.dag.top [] None) a.is_order) a.fates b.fates a.are_fates other-fates node lt
 
   pub one-status : status ≡ verdict
   one-status =
@@ -62,7 +70,7 @@ module _ (files : Files) (path : List ℕ) (outcomes : Option (List ℕ)) (text 
   pub one-text : text ≡ other
   one-text =
       a.text_is
-      ∙ (λ j. same-lines plan a.fates b.fates (count_of plan) same-fates j ++ result_line (one-status j))
+      ∙ (λ j. same-lines plan a.fates b.fates (count_of plan) same-fates j ++ (result_line (one-status j) ++ rescue_part plan (same-marks a.fates b.fates 0 (count_of plan) (λ node lt. same-fates node (omega arith)) j)))
       ∙ ap (λ (d : Dag). report_of (plan_by d a.order) b.fates verdict) (sym same-dag) ∙ sym b.text_is
 
   pub one-warnings : warnings ≡ notes

@@ -13,7 +13,8 @@ use Rattle.splices.specs.declared.flat.FlatNode.{FlatNode}
 use Rattle.splices.specs.declared.flat.AbortSetting.{AbortSetting}
 use Rattle.splices.specs.Opening.{Files}
 use Rattle.run_plan.specs.Plan.{Plan, NodeSpec, no_node, node_at, count_of, all_below}
-use Rattle.run_plan.specs.Specs.{spec_of, specs_from, plan_of}
+use Rattle.run_plan.specs.Specs.{Sources, final_spec, specs_from}
+use Rattle.run_plan.specs.Submitted.{sources_of, bare_plan}
 use Rattle.sched_core.specs.declared.Record.{Record}
 use Rattle.sched_core.specs.Run.{is_done, is_met, value_in, has_abort_value, is_aborted, status_of_abort, exit_status}
 use Rattle.sched_core.specs.Fate.{AreFates, shown, is_done_state}
@@ -24,7 +25,7 @@ use Rattle.dag_main.specs.Rehearsal.{table_by}
 use Rattle.dag_main.specs.Rehearsed.{is_rehearsed, plan_by, HasEntries, status_of, IsRehearsalOf, IsOwed}
 use Rattle.dag_main.specs.Refusals.{ReportsRun, IsPlanOf, IsTableFault}
 use Rattle.dag_main.specs.declared.fault.RunFault.{RunFault}
-use Rattle.dag_main.specs.declared.fault.RunFault.TheVariants.{InFiles, Cycle, NotYet, InTable, FileRefused, Memory}
+use Rattle.dag_main.specs.declared.fault.RunFault.TheVariants.{InFiles, Cycle, InPlan, NotYet, InTable, FileRefused, Memory}
 use Rattle.dag_main.specs.Report.{warning_lines}
 
 abbrev no_abort : FlatNode → Type 0
@@ -35,11 +36,11 @@ unset None is = refl
 unset (Some s) is = absurd (false≢true is)
 
 -- no node has an abort value
-no-abort : (dag : Dag) (number : ℕ) (nodes : List FlatNode) → list_all (λ (n : FlatNode). is_none n.settings.abort) nodes ≡ true → (node : ℕ)
-    → (unwrap_or (slice_get (specs_from dag number nodes) node) no_node).course.abort_on ≡ None
-no-abort dag number [] all node = refl
-no-abort dag number (n ∷ ns) all zero = unset n.settings.abort (and_parts _ _ all).0
-no-abort dag number (n ∷ ns) all (suc node) = no-abort dag (number + 1) ns (and_parts _ _ all).1 node
+no-abort : (dag : Dag) (sources : Sources) (number : ℕ) (nodes : List FlatNode) → list_all (λ (n : FlatNode). is_none n.settings.abort) nodes ≡ true → (node : ℕ)
+    → (unwrap_or (slice_get (specs_from dag sources number nodes) node) no_node).course.abort_on ≡ None
+no-abort dag sources number [] all node = refl
+no-abort dag sources number (n ∷ ns) all zero = unset n.settings.abort (and_parts _ _ all).0
+no-abort dag sources number (n ∷ ns) all (suc node) = no-abort dag sources (number + 1) ns (and_parts _ _ all).1 node
 
 none-met : (value : Option ℤ) → is_met None value ≡ false
 none-met None = refl
@@ -60,10 +61,10 @@ module _ (dag : Dag) (order : List ℕ) (run : is_rehearsed dag ≡ true) where
   unaborted = (and_parts (is_none dag.final_node) _ (and_parts (takes_settings dag) _ run).1).1
 
   final_none : plan.final_node ≡ None
-  final_none = ap (option_map (spec_of [])) no_final
+  final_none = ap (option_map (final_spec (sources_of None []))) no_final
 
   abort_none : (node : ℕ) → (node_at plan node).course.abort_on ≡ None
-  abort_none node = ap (λ (o : Option NodeSpec). (unwrap_or (slice_get plan.nodes node) (unwrap_or o no_node)).course.abort_on) final_none ∙ no-abort dag 0 dag.nodes unaborted node
+  abort_none node = ap (λ (o : Option NodeSpec). (unwrap_or (slice_get plan.nodes node) (unwrap_or o no_node)).course.abort_on) final_none ∙ no-abort dag (sources_of None []) 0 dag.nodes unaborted node
 
   -- so no run of the plan is aborted
   pub calm : (past : List Record) → is_aborted plan past ≡ false
@@ -90,18 +91,18 @@ pub rehearsal-of : (files : Files) (path : List ℕ) (outcomes : Option (List �
     → (text warnings : List ℕ) (status : ℕ) → ReportsRun plan table text status → warnings ≡ warning_lines plan.graph.dag.warnings
     → IsRehearsalOf files path outcomes text warnings status
 rehearsal-of files path outcomes plan table is (entries, has, same) text warnings status run notes =
-    let run' : ReportsRun (plan_of plan.graph) table text status = subst (λ (p : Plan). ReportsRun p table text status) is.made run in
+    let run' : ReportsRun (bare_plan plan.graph) table text status = subst (λ (p : Plan). ReportsRun p table text status) is.made run in
     let past = run'.0 in
     record {
       dag = plan.graph.dag;
       order = plan.graph.order;
       entries = entries;
-      fates = shown (plan_of plan.graph) past;
+      fates = shown (bare_plan plan.graph) past;
       is_dag = is.is_dag;
       is_run = is.is_run;
       is_order = is.is_order;
       has_entries = has;
-      are_fates = subst (λ (t : Table). AreFates (plan_of plan.graph) t (shown (plan_of plan.graph) past)) (same-table (plan_of plan.graph) table entries same) (run'.3 (calm plan.graph.dag plan.graph.order is.is_run past));
+      are_fates = subst (λ (t : Table). AreFates (bare_plan plan.graph) t (shown (bare_plan plan.graph) past)) (same-table (bare_plan plan.graph) table entries same) (run'.3 (calm plan.graph.dag plan.graph.order is.is_run past));
       text_is = run'.1;
       status_is = run'.2 ∙ status-is plan.graph.dag plan.graph.order is.is_run past;
       warnings_are = notes;
@@ -115,6 +116,7 @@ answered P R Q (Err fault) more p r = tt
 pub table-owed : (files : Files) (path : List ℕ) (outcomes : Option (List ℕ)) (plan : Plan) (fault : RunFault) → IsPlanOf files path plan → IsTableFault outcomes fault → IsOwed files path outcomes fault
 table-owed files path outcomes p (InFiles fault) is bad = absurd bad
 table-owed files path outcomes p (Cycle names) is bad = absurd bad
+table-owed files path outcomes p (InPlan fault) is bad = absurd bad
 table-owed files path outcomes p NotYet is bad = absurd bad
 table-owed files path outcomes p (InTable fault) is (text, said, number, at, first) = (p.graph.dag, is.is_dag, is.acyclic, is.is_run, text, said, number, at, first)
 table-owed files path outcomes p (FileRefused refused) is bad = absurd bad

@@ -10,7 +10,7 @@ use Rattle.splices.specs.Opened.{dag_at}
 use Rattle.dag_graph.specs.Graph.{IsAcyclic, IsOrderOf}
 use Rattle.dag_graph.specs.Cycles.{NamesCycle}
 use Rattle.run_plan.specs.Plan.{Plan}
-use Rattle.run_plan.specs.Specs.{plan_of}
+use Rattle.run_plan.specs.Submitted.{bare_plan}
 use Rattle.sched_core.specs.declared.Record.{Record}
 use Rattle.sched_core.specs.Run.{exit_status, is_aborted}
 use Rattle.sched_core.specs.Fate.{AreFates, shown}
@@ -18,7 +18,7 @@ use Rattle.dag_main.specs.Rehearsal.{table_by}
 use Rattle.dag_main.specs.Rehearsed.{is_rehearsed}
 use Rattle.dag_main.specs.Report.{report_of}
 use Rattle.dag_main.specs.declared.fault.RunFault.{RunFault}
-use Rattle.dag_main.specs.declared.fault.RunFault.TheVariants.{InFiles, Cycle, NotYet, InTable, FileRefused, Memory}
+use Rattle.dag_main.specs.declared.fault.RunFault.TheVariants.{InFiles, Cycle, InPlan, NotYet, InTable, FileRefused, Memory}
 
 -- the report and the exit status of some records of the plan, which without abort show the fates
 abbrev pub ReportsRun : Plan → List Entry → List ℕ → ℕ → Type 0
@@ -31,13 +31,14 @@ pub record IsPlanOf (files : Files) (path : List ℕ) (plan : Plan) : Type 0 whe
   pub is_dag : dag_at files path ≡ Ok plan.graph.dag
   pub acyclic : IsAcyclic plan.graph.dag.edges
   pub is_order : IsOrderOf plan.graph.dag plan.graph.order
-  pub made : plan ≡ plan_of plan.graph
+  pub made : plan ≡ bare_plan plan.graph
   pub is_run : is_rehearsed plan.graph.dag ≡ true
 
 -- why there is none
 abbrev pub IsPlanFault : Files → List ℕ → RunFault → Type 0
 IsPlanFault files path (InFiles fault) = dag_at files path ≡ Err fault
 IsPlanFault files path (Cycle names) = (dag : Dag) × (dag_at files path ≡ Ok dag) × NamesCycle dag names
+IsPlanFault files path (InPlan fault) = ⊥
 IsPlanFault files path NotYet = (dag : Dag) × (dag_at files path ≡ Ok dag) × IsAcyclic dag.edges × (is_rehearsed dag ≡ false)
 IsPlanFault files path (InTable fault) = ⊥
 IsPlanFault files path (FileRefused refused) = ⊥
@@ -50,5 +51,6 @@ IsTableFault outcomes (InTable fault) =
 IsTableFault outcomes Memory = Unit {0}
 IsTableFault outcomes (InFiles fault) = ⊥
 IsTableFault outcomes (Cycle names) = ⊥
+IsTableFault outcomes (InPlan fault) = ⊥
 IsTableFault outcomes NotYet = ⊥
 IsTableFault outcomes (FileRefused refused) = ⊥

@@ -11,21 +11,21 @@ use Rattle.splices.specs.Opened.{dag_at}
 use Rattle.dag_graph.specs.Graph.{IsAcyclic, IsOrderOf}
 use Rattle.dag_graph.specs.Cycles.{NamesCycle}
 use Rattle.run_plan.specs.Plan.{Plan, count_of, all_below}
-use Rattle.run_plan.specs.Specs.{plan_of}
+use Rattle.run_plan.specs.Submitted.{bare_plan}
 use Rattle.sched_core.specs.Fate.{Fate, AreFates, is_done_state}
 use Rattle.sched_core.specs.TakenSettings.{takes_settings}
 use Rattle.dag_main.specs.Rehearsal.{table_by}
 use Rattle.dag_main.specs.Report.{report_of, warning_lines}
 use Rattle.dag_main.specs.declared.fault.RunFault.{RunFault}
-use Rattle.dag_main.specs.declared.fault.RunFault.TheVariants.{InFiles, Cycle, NotYet, InTable, FileRefused, Memory}
+use Rattle.dag_main.specs.declared.fault.RunFault.TheVariants.{InFiles, Cycle, InPlan, NotYet, InTable, FileRefused, Memory}
 
 -- A DAG that is rehearsed: a core takes its settings, and it has neither a FINAL node nor an abort value.
 abbrev pub is_rehearsed : Dag → Bool
 is_rehearsed dag = takes_settings dag && (is_none dag.final_node && list_all (λ node. is_none node.settings.abort) dag.nodes)
 
--- the plan of a DAG, by an order of its nodes
+-- the plan of a DAG, by an order of its nodes, with no submit file read
 abbrev pub plan_by : Dag → List ℕ → Plan
-plan_by dag order = plan_of (record { dag = dag; order = order })
+plan_by dag order = bare_plan (record { dag = dag; order = order })
 
 -- the entries that a text of outcomes says; without a text there are none
 abbrev pub HasEntries : Option (List ℕ) → List Entry → Type 0
@@ -57,6 +57,7 @@ pub record IsRehearsalOf (files : Files) (path : List ℕ) (outcomes : Option (L
 abbrev pub IsGraphFault : Files → List ℕ → RunFault → Type 0
 IsGraphFault files path (InFiles fault) = dag_at files path ≡ Err fault
 IsGraphFault files path (Cycle names) = (dag : Dag) × (dag_at files path ≡ Ok dag) × NamesCycle dag names
+IsGraphFault files path (InPlan fault) = ⊥
 IsGraphFault files path NotYet = ⊥
 IsGraphFault files path (InTable fault) = ⊥
 IsGraphFault files path (FileRefused refused) = ⊥
@@ -67,6 +68,7 @@ IsGraphFault files path Memory = Unit {0}
 abbrev pub IsOwed : Files → List ℕ → Option (List ℕ) → RunFault → Type 0
 IsOwed files path outcomes (InFiles fault) = dag_at files path ≡ Err fault
 IsOwed files path outcomes (Cycle names) = (dag : Dag) × (dag_at files path ≡ Ok dag) × NamesCycle dag names
+IsOwed files path outcomes (InPlan fault) = ⊥
 IsOwed files path outcomes NotYet = (dag : Dag) × (dag_at files path ≡ Ok dag) × IsAcyclic dag.edges × (is_rehearsed dag ≡ false)
 IsOwed files path outcomes (InTable fault) = (dag : Dag) × (dag_at files path ≡ Ok dag) × IsAcyclic dag.edges × (is_rehearsed dag ≡ true)
     × (text : List ℕ) × (outcomes ≡ Some text) × (number : ℕ) × (fault ≡ table.BadLine number)

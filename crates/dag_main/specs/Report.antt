@@ -1,11 +1,12 @@
 -- The report of a run.
-use Rattle.std.specs.Prelude.{ℕ, zero, suc, ℤ, List, [], ◌++◌, Option, Some, None, codes}
+use Rattle.std.specs.Prelude.{ℕ, zero, suc, ◌+◌, ℤ, Bool, List, [], ◌∷◌, ◌++◌, Option, Some, None, codes, if◌then◌else◌}
 use Rattle.std.specs.Fmt.{decimal, signed_decimal}
 use Rattle.node_machine.specs.declared.State.{State}
 use Rattle.node_machine.specs.declared.State.TheVariants.{Done, Error, NotRun}
 use Rattle.run_plan.specs.Plan.{Plan, node_at, count_of}
-use Rattle.sched_core.specs.Fate.{Fate}
-use Rattle.std.specs.List.{flat_map}
+use Rattle.sched_core.specs.Fate.{Fate, is_done_state}
+use Rattle.std.specs.List.{flat_map, list_all}
+use Rattle.rescue_file.specs.Written.{ordinary_names, rescue_text_of}
 use Rattle.splices.specs.declared.flat.DagWarning.{DagWarning}
 use Rattle.splices.specs.declared.flat.DagWarning.TheVariants.{Ignored, Overridden}
 
@@ -38,9 +39,19 @@ fate_lines plan fates (suc n) = fate_lines plan fates n ++ fate_line (node_at pl
 abbrev pub result_line : ℕ → List ℕ
 result_line status = codes "result " ++ (decimal status ++ codes "\n")
 
--- the lines of all nodes in plan order, and the exit status
+-- which of n nodes, the first of which has this number, are done
+abbrev pub marks_from : (ℕ → Fate) → ℕ → ℕ → List Bool
+marks_from fates number zero = []
+marks_from fates number (suc n) = is_done_state (fates number).state ∷ marks_from fates (number + 1) n
+
+-- the text of the rescue file, where a node is not done
+abbrev pub rescue_part : Plan → List Bool → List ℕ
+rescue_part plan marks = if list_all (λ mark. mark) marks then [] else rescue_text_of (ordinary_names plan.graph.dag) marks
+
+-- the lines of all nodes in plan order, the exit status, and the text of the rescue file where one is needed
 abbrev pub report_of : Plan → (ℕ → Fate) → ℕ → List ℕ
-report_of plan fates status = fate_lines plan fates (count_of plan) ++ result_line status
+report_of plan fates status =
+    fate_lines plan fates (count_of plan) ++ (result_line status ++ rescue_part plan (marks_from fates 0 (count_of plan)))
 
 -- `warning: FILE:LINE ignored` and `warning: FILE:LINE overridden`
 abbrev pub warning_line : DagWarning → List ℕ

@@ -2,33 +2,35 @@
 
 ghost use Rattle.std.specs.Prelude.{◌≡◌, ◌++◌, OnOk, IfOk, IfErr, string_bytes};
 ghost use Rattle.splices.specs.FileSet.{bytes_of};
-ghost use Rattle.dag_main.specs.Checked.{IsCheckOf, check_line, yes_or_no};
-ghost use Rattle.dag_main.specs.Rehearsed.{IsGraphFault};
+ghost use Rattle.dag_main.specs.Checked.{IsCheckOf, IsCheckFault, check_line, yes_or_no};
 
 use crate::fault::RunFault;
-use crate::plans::graph_of;
+use crate::plans::full_plan_of;
 use crate::warnings::{Answer, warning_text};
 use dag_graph::Graph;
 use splices::FileSet;
 use std::alloc::{AllocError, Global};
 
-/// Checks the DAG file of this path and those of its splices, which stand in the file set: that
-/// they can be read, and that no node is its own ancestor.
+/// Checks the DAG file of this path, those of its splices and the submit files of its nodes, which
+/// stand in the file set: that they can be read, that no node is its own ancestor, and that the texts
+/// of each job can be expanded. The submit file of a NOOP is not looked at.
 ///
 /// The answer is the line `ok nodes=N edges=E final=yes` or `final=no`, with the ordinary nodes and
 /// the distinct pairs of a parent and a child, and status 0.
 ///
 /// # Errors
-/// The first fault that opening the files meets (`InFiles`), a cycle (`Cycle`), and want of memory.
+/// The first fault that opening the files meets (`InFiles`), a cycle (`Cycle`), the first fault of
+/// the submit files and the texts of jobs, in plan order (`InPlan`), and want of memory.
 /// After a missing file the caller may add it and ask again.
 pub fn check_text(alloc: Global, files: &FileSet, path: &str) -> Result<Answer, RunFault>
     ensures checked { IfOk result (λ answer. IsCheckOf (bytes_of files.now) path.now
         (string_bytes answer.text) (string_bytes answer.warnings) answer.status) }
-    ensures refused { IfErr result (IsGraphFault (bytes_of files.now) path.now) }
+    ensures refused { IfErr result (IsCheckFault (bytes_of files.now) path.now) }
 {
-    let graph = graph_of(alloc, files, path)?;
+    let plan = full_plan_of(alloc, files, path)?;
+    let graph = plan.graph();
     Ok(Answer {
-        text: line_of(alloc, &graph)?,
+        text: line_of(alloc, graph)?,
         warnings: warning_text(alloc, graph.flat().warnings())?,
         status: 0,
     })

@@ -2,7 +2,7 @@
 
 use crate::check::check_text;
 use crate::fault::RunFault;
-use crate::loading::files_of;
+use crate::loading::{Reading, files_of};
 use crate::report::rehearse_text;
 use crate::request::{Request, read_words};
 use crate::warnings::Answer;
@@ -53,7 +53,7 @@ fn finish<R: Print + Eprint>(rt: &R, answer: Result<Answer, RunFault>) -> u8 {
 }
 
 fn check<R: Files + Input + AllocGlobal>(rt: &R, dag: &str) -> Result<Answer, RunFault> {
-    let files = files_of(rt, dag)?;
+    let files = files_of(rt, dag, Reading::SubmitFilesToo)?;
     check_text(rt.alloc(), &files, dag)
 }
 
@@ -66,7 +66,7 @@ fn rehearse<R: Files + Input + AllocGlobal>(
         Some(path) => Some(read_outcomes(rt, path)?),
         None => None,
     };
-    let files = files_of(rt, dag)?;
+    let files = files_of(rt, dag, Reading::SplicesAlone)?;
     match &table {
         Some(bytes) => rehearse_text(rt.alloc(), &files, dag, Some(bytes.as_slice())),
         None => rehearse_text(rt.alloc(), &files, dag, None),

@@ -5,6 +5,7 @@ ghost use Rattle.dag_main.specs.declared.fault.RunFault.TheVariants.{Memory};
 
 use dag_reader::Texts;
 use node_machine::TableFault;
+use run_plan::PlanFault;
 use splices::DagFault;
 use std::alloc::{AllocError, AllocFailed};
 use std::error::Error;
@@ -18,6 +19,8 @@ pub enum RunFault {
     InFiles(DagFault),
     /// A node is its own ancestor: the names of a cycle, each a parent of the next.
     Cycle(Texts),
+    /// A submit file, or a text of a node's job, is refused.
+    InPlan(PlanFault),
     /// A setting is read and not run yet: PRIORITY, MAXJOBS, ABORT-DAG-ON or FINAL.
     NotYet,
     /// A line of the table of outcomes is not spelled rightly.
@@ -33,6 +36,7 @@ impl fmt::Display for RunFault {
         match self {
             RunFault::InFiles(fault) => write!(f, "{fault}"),
             RunFault::Cycle(names) => write!(f, "G1 Cycle{names}"),
+            RunFault::InPlan(fault) => write!(f, "{fault}"),
             RunFault::NotYet => write!(f, "B2 NotYet"),
             RunFault::InTable(fault) => write!(f, "{fault}"),
             RunFault::FileRefused(path) => write!(f, "X2 FileRefused {path}"),

@@ -1,68 +1,92 @@
 //! The files of a DAG, read from the disk.
 
 use crate::fault::RunFault;
-use dag_reader::{Command, ReadFault, Text, read_dag};
+use dag_reader::{Command, ReadFault, Text, Word, read_dag};
 use splices::{FileSet, path_in};
 use std::alloc::Global;
 use std::fs;
 use std::io::{ErrorKind, Read};
 use std::rt::Files;
 
-/// How many SPLICE lines are followed at most: far more than may be opened.
+/// How many lines that name a file are followed at most: far more than may be opened.
 const MOST_WANTED: usize = 1 << 20;
 
-/// A file that a SPLICE line names, and the folder that its own splices are seen from.
+/// A file that a line names: that of a splice, with the folder that its own lines are seen from, or
+/// a submit file.
 #[derive(Drop)]
-struct Wanted {
-    folder: Text,
-    path: Text,
+enum Wanted {
+    Splice { folder: Text, path: Text },
+    Submit { path: Text },
+}
+
+/// Which files are read beside those of splices.
+#[derive(Clone, Copy, PartialEq, Eq)]
+pub(crate) enum Reading {
+    SplicesAlone,
+    SubmitFilesToo,
 }
 
 /// The DAG file of this path, `-` for standard input, with the files of its splices and of theirs,
-/// each read once. A file that can't be read stays missing.
+/// and, if asked for, the submit files of all nodes but NOOPs, each read once. A file that can't be
+/// read stays missing.
 pub(crate) fn files_of<R: Files + Input + AllocGlobal>(
     rt: &R,
     top: &str,
+    reading: Reading,
 ) -> Result<FileSet, RunFault> {
     let alloc = rt.alloc();
     let mut files = FileSet::new(alloc);
     let mut wanted = Vec::new(alloc);
     if let Some(bytes) = read_top(rt, top)? {
-        want_splices(alloc, "", bytes.as_slice(), &mut wanted)?;
+        want_files(alloc, "", bytes.as_slice(), reading, &mut wanted)?;
         files.add(alloc, top, bytes.as_slice())?;
     }
     for _ in 0..MOST_WANTED {
         match wanted.pop() {
-            Some(next) => add_file(rt, &mut files, &next, &mut wanted)?,
+            Some(next) => add_file(rt, &mut files, &next, reading, &mut wanted)?,
             None => break,
         }
     }
     Ok(files)
 }
 
-/// Reads a file that is not there, and wants those of its splices.
+/// Reads a file that is not there, and wants those that its lines name.
 fn add_file<R: Files + AllocGlobal>(
     rt: &R,
     files: &mut FileSet,
     next: &Wanted,
+    reading: Reading,
     wanted: &mut Vec<Wanted>,
 ) -> Result<(), RunFault> {
-    let path = next.path.as_str();
+    let path = match next {
+        Wanted::Splice { path, .. } => path.as_str(),
+        Wanted::Submit { path } => path.as_str(),
+    };
     if files.get(path).is_some() {
         return Ok(());
     }
-    if let Some(bytes) = read_file(rt, path)? {
-        want_splices(rt.alloc(), next.folder.as_str(), bytes.as_slice(), wanted)?;
-        files.add(rt.alloc(), path, bytes.as_slice())?;
+    let Some(bytes) = read_file(rt, path)? else {
+        return Ok(());
+    };
+    if let Wanted::Splice { folder, .. } = next {
+        want_files(
+            rt.alloc(),
+            folder.as_str(),
+            bytes.as_slice(),
+            reading,
+            wanted,
+        )?;
     }
+    files.add(rt.alloc(), path, bytes.as_slice())?;
     Ok(())
 }
 
-/// Wants the files of the SPLICE lines of a file in this folder.
-fn want_splices(
+/// Wants the files that the lines of a DAG file in this folder name.
+fn want_files(
     alloc: Global,
     folder: &str,
     bytes: &[u8],
+    reading: Reading,
     wanted: &mut Vec<Wanted>,
 ) -> Result<(), RunFault> {
     let file = match read_dag(alloc, bytes) {
@@ -71,27 +95,66 @@ fn want_splices(
         Err(_) => return Ok(()),
     };
     for command in file.commands.iter() {
-        want_splice(alloc, folder, command, wanted)?;
+        want_file(alloc, folder, command, reading, wanted)?;
     }
     Ok(())
 }
 
-fn want_splice(
+/// Wants the file that a line names.
+fn want_file(
     alloc: Global,
     folder: &str,
     command: &Command,
+    reading: Reading,
     wanted: &mut Vec<Wanted>,
 ) -> Result<(), RunFault> {
-    if let Command::Splice { file, dir, .. } = command {
-        let dir = match dir {
-            Some(word) => word.text(),
-            None => "",
-        };
-        let folder = path_in(alloc, folder, dir)?;
-        let path = path_in(alloc, folder.as_str(), file.text())?;
-        wanted.push(Wanted { folder, path })?;
+    match command {
+        Command::Splice { file, dir, .. } => {
+            let folder = path_in(alloc, folder, dir_text(dir))?;
+            let path = path_in(alloc, folder.as_str(), file.text())?;
+            wanted.push(Wanted::Splice { folder, path })?;
+        }
+        Command::Job {
+            file,
+            dir,
+            noop,
+            ..
+        } if !*noop && reading == Reading::SubmitFilesToo => {
+            want_submit(alloc, folder, dir, file, wanted)?;
+        }
+        Command::Final {
+            file,
+            dir,
+            noop,
+            ..
+        } if !*noop && reading == Reading::SubmitFilesToo => {
+            want_submit(alloc, folder, dir, file, wanted)?;
+        }
+        _ => (),
     }
     Ok(())
+}
+
+/// Wants a submit file.
+fn want_submit(
+    alloc: Global,
+    folder: &str,
+    dir: &Option<Word>,
+    file: &Word,
+    wanted: &mut Vec<Wanted>,
+) -> Result<(), RunFault> {
+    let folder = path_in(alloc, folder, dir_text(dir))?;
+    let path = path_in(alloc, folder.as_str(), file.text())?;
+    wanted.push(Wanted::Submit { path })?;
+    Ok(())
+}
+
+/// The folder that DIR gives, which is empty where it is missing.
+fn dir_text(dir: &Option<Word>) -> &str {
+    match dir {
+        Some(word) => word.text(),
+        None => "",
+    }
 }
 
 /// The bytes of the DAG file, or of standard input where its path is `-`.

@@ -1,16 +1,18 @@
 //! The graph and the plan of the files of a DAG.
 
-ghost use Rattle.std.specs.Prelude.{◌≡◌, true, ◌&&◌, is_none, IfOk, IfErr, Ok};
+ghost use Rattle.std.specs.Prelude.{◌≡◌, true, ◌&&◌, is_none, IfOk, IfErr, Ok, Some};
 ghost use Rattle.std.specs.List.{list_all};
 ghost use Rattle.splices.specs.FileSet.{bytes_of};
 ghost use Rattle.splices.specs.Opened.{dag_at};
 ghost use Rattle.dag_graph.specs.Graph.{IsAcyclic};
+ghost use Rattle.run_plan.specs.Submitted.{first_fault, all_nodes};
+ghost use Rattle.dag_main.specs.Checked.{IsCheckFault, in_plan};
 ghost use Rattle.dag_main.specs.Rehearsed.{IsGraphFault, is_rehearsed};
 ghost use Rattle.dag_main.specs.Refusals.{IsPlanOf, IsPlanFault};
 
 use crate::fault::RunFault;
 use dag_graph::{Graph, GraphFault};
-use run_plan::Plan;
+use run_plan::{Plan, PlanFault};
 use sched_core::Core;
 use splices::{FileSet, FlatDag, FlatNode, SpliceFault, open_dag};
 use std::alloc::Global;
@@ -65,7 +67,7 @@ pub(crate) fn plan_of(alloc: Global, files: &FileSet, path: &str) -> Result<Plan
     ensures refused { IfErr result (IsPlanFault (bytes_of files.now) path.now) }
 {
     let graph = graph_of(alloc, files, path)?;
-    let Ok(plan) = Plan::build_bare(alloc, graph) else {
+    let Ok(plan) = Plan::build_bare(alloc, graph, None) else {
         return Err(RunFault::Memory);
     };
     if !is_rehearsed(&plan) {
@@ -73,4 +75,28 @@ pub(crate) fn plan_of(alloc: Global, files: &FileSet, path: &str) -> Result<Plan
     }
     let _order = plan.graph().order();
     Ok(plan)
+}
+
+/// The plan of the files of this path, with its submit files.
+pub(crate) fn full_plan_of(alloc: Global, files: &FileSet, path: &str) -> Result<Plan, RunFault>
+    ensures dag { IfOk result (λ plan. dag_at (bytes_of files.now) path.now ≡ Ok plan.graph.dag) }
+    ensures acyclic { IfOk result (λ plan. IsAcyclic plan.graph.dag.edges) }
+    ensures sound { IfOk result (λ plan. first_fault (Some (bytes_of files.now)) (all_nodes plan.graph.dag) ≡ Ok tt) }
+    ensures refused { IfErr result (IsCheckFault (bytes_of files.now) path.now) }
+{
+    let graph = graph_of(alloc, files, path)?;
+    match Plan::build(alloc, graph, files, None) {
+        Ok(plan) => Ok(plan),
+        Err((_graph, fault)) => Err(in_plan(fault)),
+    }
+}
+
+/// Why a command is refused whose plan is.
+fn in_plan(fault: PlanFault) -> RunFault
+    ensures { result ≡ in_plan fault }
+{
+    if fault.is_memory() {
+        return RunFault::Memory;
+    }
+    RunFault::InPlan(fault)
 }

@@ -17,7 +17,7 @@ fn ending(plan: &Plan, table: &Table, key: &Key) -> Outcome
     requires { key.now.node ≤ count_of plan.now }
     ensures { result ≡ ending_of plan.now table.now key.now }
 {
-    let spec = plan.node(key.node);
+    let spec = plan.spec(key.node);
     if spec.course().noop && matches!(key.phase, Phase::Job) {
         Outcome::Exit(0)
     } else {

@@ -1,12 +1,13 @@
 //! The report of a rehearsal.
 
 ghost use Rattle.std.specs.Prelude.{◌≡◌, ◌<◌, ◌++◌, ℕ, List, OnOk, IfOk, IfErr, string_bytes};
+ghost use Rattle.std.specs.List.{list_all};
 ghost use Rattle.std.specs.Option.{option_map};
 ghost use Rattle.node_machine.specs.OutcomeTable.{Entry, SameOutcomes, HasPossibleOutcomes};
 ghost use Rattle.splices.specs.FileSet.{bytes_of};
 ghost use Rattle.run_plan.specs.Plan.{node_at, count_of};
 ghost use Rattle.sched_core.specs.Fate.{shown};
-ghost use Rattle.dag_main.specs.Report.{state_word, status_line, fate_line, report_of, warning_lines};
+ghost use Rattle.dag_main.specs.Report.{state_word, status_line, fate_line, marks_from, rescue_part, report_of, warning_lines};
 ghost use Rattle.dag_main.specs.Rehearsed.{HasEntries, IsRehearsalOf, IsOwed};
 ghost use Rattle.dag_main.specs.Refusals.{ReportsRun, IsTableFault};
 ghost use Rattle.dag_main.specs.declared.fault.RunFault.TheVariants.{Memory};
@@ -16,6 +17,7 @@ use crate::plans::plan_of;
 use crate::rehearsal::run_table;
 use crate::warnings::{Answer, warning_text};
 use node_machine::{State, Table, TableFault, read_table};
+use rescue_file::rescue_text;
 use run_plan::Plan;
 use sched_core::{Core, Verdict};
 use splices::FileSet;
@@ -25,8 +27,8 @@ use std::alloc::{AllocError, Global};
 /// the nodes at the outcomes of a table, with no child and no disk.
 ///
 /// `outcomes` is the text of the table; without it each phase ends with Exit 0. The report has a
-/// line for each node in plan order, `name STATE attempts=n value=v`, and then `result N`, N the
-/// exit status.
+/// line for each node in plan order, `name STATE attempts=n value=v`, then `result N`, N the exit
+/// status, and where a node is not done the text of the rescue file. No submit file is read.
 ///
 /// # Errors
 /// The first fault that opening the files meets (`InFiles`), a cycle (`Cycle`), a setting that is
@@ -126,22 +128,49 @@ fn push_node(text: &mut String, core: &Core<'_>, node: u32) -> Result<(), AllocE
 {
     push_line(
         text,
-        core.plan().node(node).name(),
+        core.plan().spec(node).name(),
         core.node_state(node),
         core.attempts_ended(node),
         core.last_value(node),
     )
 }
 
+fn are_all(marks: &[bool]) -> bool
+    ensures { result ≡ list_all (λ mark. mark) marks.now }
+{
+    marks.iter().all(|mark| *mark)
+}
+
+/// The text of the rescue file, where a node is not done.
+fn rescue_part(alloc: Global, core: &Core<'_>) -> Result<String, RunFault>
+    ensures ok { IfOk result (λ text. string_bytes text
+        ≡ rescue_part core.now.plan (marks_from (shown core.now.plan core.now.past) 0 (count_of core.now.plan))) }
+    ensures err { IfErr result (λ fault. fault ≡ Memory) }
+{
+    let Ok(marks) = core.marks(alloc) else {
+        return Err(RunFault::Memory);
+    };
+    if are_all(marks.as_slice()) {
+        return Ok(String::new(alloc));
+    }
+    match rescue_text(alloc, core.plan().graph(), marks.as_slice()) {
+        Ok(text) => Ok(text),
+        Err(_) => Err(RunFault::Memory),
+    }
+}
+
 /// The report of a run that ends with this status.
-fn report_of(alloc: Global, core: &Core<'_>, status: Verdict) -> Result<String, AllocError>
-    ensures { IfOk result (λ text. string_bytes text
+fn report_of(alloc: Global, core: &Core<'_>, status: Verdict) -> Result<String, RunFault>
+    ensures ok { IfOk result (λ text. string_bytes text
         ≡ report_of core.now.plan (shown core.now.plan core.now.past) status) }
+    ensures err { IfErr result (λ fault. fault ≡ Memory) }
 {
     let mut text = String::new(alloc);
     for node in 0..core.plan().count() {
         push_node(&mut text, core, node)?;
     }
     writeln!(text, "result {status}")?;
+    let rescue = rescue_part(alloc, core)?;
+    text.push_str(rescue.as_str())?;
     Ok(text)
 }

@@ -3,7 +3,7 @@ use Rattle.std.proofs.Common.{◌≡◌, ℕ, zero, suc, ◌+◌, ◌<◌, ◌�
 use Rattle.std.proofs.lemmas.Bool.{cases_Bool, false≢true, eqb-true, eq-eqb, ltb-true}
 use Rattle.std.proofs.lemmas.Grind.{common_steps}
 use Rattle.std.proofs.lemmas.List.{take_all}
-use Rattle.std.proofs.lemmas.List.Elements.{All-from_get_or, All-get_or}
+use Rattle.std.proofs.lemmas.List.Elements.{All-from_get_or, All-get_or, All-nil, All-cons}
 use Rattle.std.proofs.lemmas.List.Sums.{position_or_len_is, fails_before_first}
 use Rattle.std.proofs.lemmas.Str.{IsUtf8-nil, IsUtf8-from_is_utf8, utf8_valid_len_le, utf8_valid_len-IsUtf8}
 use Rattle.std.specs.List.{All, AllByRecursion, position, position_or_len}
@@ -390,3 +390,16 @@ pub one_reading : (ls : List (List ℕ)) (cs ds : List Command) (ws vs : List Wa
 one_reading ls cs ds ws vs a b =
     let same = ok_is (contents cs ws) (contents ds vs) (sym (lines_again 1 ls cs ws a) ∙ lines_again 1 ls ds vs b) in
     (ap (λ (y : Contents). y.commands) same, ap (λ (y : Contents). y.warnings) same)
+
+-- The words of a line that is a text spell each command.
+abbrev pub IsSpelled : Command → Type 0
+IsSpelled c = (number : ℕ) × (line : List ℕ) × IsText line × Spells line c (words number 0 line)
+
+meaning_spelled : (number : ℕ) (line : List ℕ) (m : Meaning) (cs : List Command) → Means number line m → All IsSpelled cs → All IsSpelled (commands_of m ++ cs)
+meaning_spelled number line Nothing cs means all = all
+meaning_spelled number line (Says c) cs means all = All-cons IsSpelled c cs (number, line, means.0, means.1.1) all
+meaning_spelled number line (Warns w) cs means all = all
+
+pub each_spelled : (number : ℕ) (ls : List (List ℕ)) (cs : List Command) (ws : List Warning) → SayAll number ls cs ws → All IsSpelled cs
+each_spelled number [] cs ws (none, _) = subst (All IsSpelled) (sym none) (All-nil IsSpelled)
+each_spelled number (line ∷ more) cs ws (m, others, later, means, all, is, _) = subst (All IsSpelled) (sym is) (meaning_spelled number line m others means (each_spelled (number + 1) more others later all))

@@ -30,11 +30,11 @@ kept : (n at : ℕ) (xs : List ℕ) (parts : List (List ℕ)) → 0 < length xs 
 kept n at [] parts some = absurd (omega arith)
 kept n at (x ∷ xs) parts some = refl
 
-words-last : (n at : ℕ) (xs : List ℕ) → 0 < length xs → All (λ x. is_blank x ≡ false) xs → words n at xs ≡ from_to n at xs (at + length xs) ∷ []
+pub words-last : (n at : ℕ) (xs : List ℕ) → 0 < length xs → All (λ x. is_blank x ≡ false) xs → words n at xs ≡ from_to n at xs (at + length xs) ∷ []
 unfolding words
 words-last n at xs some none = rw (slice_split_none is_blank xs none) (kept n at xs [] some)
 
-words-first : (n at : ℕ) (xs : List ℕ) (b : ℕ) (rest : List ℕ) → 0 < length xs → All (λ x. is_blank x ≡ false) xs → is_blank b ≡ true → words n at (xs ++ b ∷ rest) ≡ from_to n at xs (at + length xs) ∷ words n (at + length xs + 1) rest
+pub words-first : (n at : ℕ) (xs : List ℕ) (b : ℕ) (rest : List ℕ) → 0 < length xs → All (λ x. is_blank x ≡ false) xs → is_blank b ≡ true → words n at (xs ++ b ∷ rest) ≡ from_to n at xs (at + length xs) ∷ words n (at + length xs + 1) rest
 unfolding words
 words-first n at xs b rest some none blank = rw (slice_split_at is_blank xs b rest none blank) (kept n at xs (slice_split is_blank rest) some)
 

@@ -40,7 +40,7 @@ not_last : (x : List ℕ) (parts : List (List ℕ)) → 0 < length parts → lin
 not_last x [] some = absurd (omega arith)
 not_last x (y ∷ more) some = refl
 
-lines-first : (xs ys : List ℕ) → All (λ b. nat_eq b 10 ≡ false) xs → lines (xs ++ 10 ∷ ys) ≡ strip_carriage_return xs ∷ lines ys
+pub lines-first : (xs ys : List ℕ) → All (λ b. nat_eq b 10 ≡ false) xs → lines (xs ++ 10 ∷ ys) ≡ strip_carriage_return xs ∷ lines ys
 lines-first xs ys clear =
     let p = λ (b : ℕ). nat_eq b 10 in
     let some : 0 < length (slice_split p ys) = omega (arith, length-slice_split p ys) in

@@ -1,4 +1,5 @@
-//! Tests of the files of a DAG, from their texts to the plan: `splices`, `dag_graph` and `run_plan`.
+//! Tests of the files of a DAG, from their texts to the plan: `splices`, `dag_graph`, `rescue_file` and
+//! `run_plan`.
 #![tactic(auto)]
 
 #[cfg(test)]
@@ -15,6 +16,8 @@ mod limits;
 mod lines;
 #[cfg(test)]
 mod plans;
+#[cfg(test)]
+mod rescue_rows;
 #[cfg(test)]
 mod settings;
 #[cfg(test)]

@@ -51,9 +51,9 @@ fn answer_of_dag(alloc: Global, view: View, dag: FlatDag) -> Result<String, Allo
 }
 
 fn answer_of_graph(alloc: Global, view: View, graph: Graph) -> Result<String, AllocError> {
-    match Plan::build_bare(alloc, graph) {
+    match Plan::build_bare(alloc, graph, None) {
         Ok(plan) => looked_at(alloc, view, &plan),
-        Err(fault) => format!(in alloc; "{fault}"),
+        Err((_, fault)) => format!(in alloc; "{fault}"),
     }
 }
 

@@ -80,10 +80,10 @@ pub fn names(alloc: Global, graph: &Graph) -> Result<String, AllocError> {
 pub fn plan_text(alloc: Global, plan: &Plan) -> Result<String, AllocError> {
     let mut shown = String::new(alloc);
     for number in 0..plan.count() {
-        add(&mut shown, spec(alloc, plan.node(number)))?;
+        add(&mut shown, spec(alloc, plan.spec(number)))?;
     }
     if plan.has_final() {
-        add(&mut shown, spec(alloc, plan.node(plan.count())))?;
+        add(&mut shown, spec(alloc, plan.spec(plan.count())))?;
     }
     Ok(shown)
 }

@@ -1,8 +1,14 @@
-//! Tests of submit files, macros, arguments and script words.
+//! Tests of submit files, macros, arguments and script words, and of the plans that are made of them.
 #![tactic(auto)]
 
 #[cfg(test)]
+mod digests;
+#[cfg(test)]
 mod macros;
+#[cfg(test)]
+mod plan_faults;
+#[cfg(test)]
+mod plans;
 #[cfg(test)]
 mod submits;
 #[cfg(test)]

@@ -6,7 +6,7 @@ use std::test::Fail;
 use vars_macros::{ScriptFacts, script_words, split_arguments, uses_whole_run};
 
 /// The words, a bar behind each.
-fn barred(alloc: Global, words: &Texts) -> Result<String, Fail> {
+pub fn barred(alloc: Global, words: &Texts) -> Result<String, Fail> {
     let mut out = String::new(alloc);
     for word in words.as_slice() {
         write!(&mut out, "{}|", word.as_str())?;

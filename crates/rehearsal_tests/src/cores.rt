@@ -14,7 +14,10 @@ fn plan_of(alloc: Global, text: &str) -> Result<Plan, Fail> {
     files.add(alloc, "x.dag", text.as_bytes())?;
     let dag = open_dag(alloc, &files, "x.dag")?;
     let graph = Graph::build(alloc, dag)?;
-    Ok(Plan::build_bare(alloc, graph)?)
+    match Plan::build_bare(alloc, graph, None) {
+        Ok(plan) => Ok(plan),
+        Err((_, fault)) => Err(Fail::from(fault)),
+    }
 }
 
 #[test]

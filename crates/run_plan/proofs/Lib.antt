@@ -1,1 +1,11 @@
+pub mod Binds
+pub mod Scripts
+pub mod DigestText
+pub mod SubmitReads
 pub mod PlanFacts
+pub mod PlanMade
+pub mod PlanSound
+pub mod CommandsExist
+pub mod PlainCommands
+pub mod PlanCommands
+pub mod PlansWithoutRescue

@@ -12,41 +12,52 @@ use Rattle.splices.specs.Dag.{Dag}
 use Rattle.splices.specs.declared.flat.FlatNode.{FlatNode}
 use Rattle.dag_graph.specs.Graph.{Network, IsParent, IsOrderOf, is_edge, rank_in, parents_of}
 use Rattle.dag_graph.proofs.Told.{any_edge}
-use Rattle.run_plan.specs.Plan.{Plan, NodeSpec, no_node, node_at, count_of, has_parents_below, IsRankedBy}
-use Rattle.run_plan.specs.Specs.{spec_of, specs_from, plan_of}
+use Rattle.run_plan.specs.Plan.{Plan, Job, NodeSpec, no_node, node_at, count_of, has_parents_below, IsRankedBy}
+use Rattle.run_plan.specs.Planned.{IsPlanned}
+use Rattle.run_plan.specs.Specs.{Sources, spec_of, specs_from, final_spec, plan_of}
 
-pub specs-length : (dag : Dag) (number : ℕ) (nodes : List FlatNode) → length (specs_from dag number nodes) ≡ length nodes
-specs-length dag number [] = refl
-specs-length dag number (n ∷ ns) = ap (λ (k : ℕ). suc k) (specs-length dag (number + 1) ns)
+pub specs-length : (dag : Dag) (sources : Sources) (number : ℕ) (nodes : List FlatNode) → length (specs_from dag sources number nodes) ≡ length nodes
+specs-length dag sources number [] = refl
+specs-length dag sources number (n ∷ ns) = ap (λ (k : ℕ). suc k) (specs-length dag sources (number + 1) ns)
 
-pub count-is : (graph : Network) → count_of (plan_of graph) ≡ length graph.dag.nodes
-count-is graph = specs-length graph.dag 0 graph.dag.nodes
+pub count-is : (graph : Network) (sources : Sources) (digest : List ℕ) → count_of (plan_of graph sources digest) ≡ length graph.dag.nodes
+count-is graph sources digest = specs-length graph.dag sources 0 graph.dag.nodes
+
+-- the same of a plan that was made
+pub planned-count : (plan : Plan) → IsPlanned plan → count_of plan ≡ length plan.graph.dag.nodes
+planned-count plan is = ap count_of is.made ∙ count-is plan.graph is.sources plan.digest
 
 -- one node more
-pub specs-append : (dag : Dag) (number : ℕ) (xs ys : List FlatNode) → specs_from dag number (xs ++ ys) ≡ specs_from dag number xs ++ specs_from dag (number + length xs) ys
-specs-append dag number [] ys = ap (λ (k : ℕ). specs_from dag k ys) (sym (add-zero number))
-specs-append dag number (x ∷ xs) ys =
+pub specs-append : (dag : Dag) (sources : Sources) (number : ℕ) (xs ys : List FlatNode)
+    → specs_from dag sources number (xs ++ ys) ≡ specs_from dag sources number xs ++ specs_from dag sources (number + length xs) ys
+specs-append dag sources number [] ys = ap (λ (k : ℕ). specs_from dag sources k ys) (sym (add-zero number))
+specs-append dag sources number (x ∷ xs) ys =
     let shift : number + 1 + length xs ≡ number + suc (length xs) = omega arith in
-    ap (λ (ss : List NodeSpec). spec_of (parents_of dag number) x ∷ ss) (specs-append dag (number + 1) xs ys
-    ∙ ap (λ (k : ℕ). specs_from dag (number + 1) xs ++ specs_from dag k ys) shift)
+    ap (λ (ss : List NodeSpec). spec_of (parents_of dag number) (sources.job x) (sources.marked number) x ∷ ss) (specs-append dag sources (number + 1) xs ys
+    ∙ ap (λ (k : ℕ). specs_from dag sources (number + 1) xs ++ specs_from dag sources k ys) shift)
 
-pub specs-more : (dag : Dag) (nodes : List FlatNode) (i : ℕ) (d : FlatNode) → i < length nodes
-    → specs_from dag 0 (take (i + 1) nodes) ≡ specs_from dag 0 (take i nodes) ++ spec_of (parents_of dag i) (get_or nodes i d) ∷ []
-specs-more dag nodes i d small =
+pub specs-more : (dag : Dag) (sources : Sources) (nodes : List FlatNode) (i : ℕ) (d : FlatNode) → i < length nodes
+    → specs_from dag sources 0 (take (i + 1) nodes) ≡ specs_from dag sources 0 (take i nodes) ++ spec_of (parents_of dag i) (sources.job (get_or nodes i d)) (sources.marked i) (get_or nodes i d) ∷ []
+specs-more dag sources nodes i d small =
     let len : length (take i nodes) ≡ i = grind (arith, common_steps) in
     let start : 0 + length (take i nodes) ≡ i = omega arith in
-    ap (specs_from dag 0) (take_more nodes i d small) ∙ specs-append dag 0 (take i nodes) (get_or nodes i d ∷ [])
-    ∙ ap (λ (k : ℕ). specs_from dag 0 (take i nodes) ++ spec_of (parents_of dag k) (get_or nodes i d) ∷ []) start
+    ap (specs_from dag sources 0) (take_more nodes i d small) ∙ specs-append dag sources 0 (take i nodes) (get_or nodes i d ∷ [])
+    ∙ ap (λ (k : ℕ). specs_from dag sources 0 (take i nodes) ++ spec_of (parents_of dag k) (sources.job (get_or nodes i d)) (sources.marked k) (get_or nodes i d) ∷ []) start
 
-pub specs-step : (dag : Dag) (seen : List FlatNode) (i : ℕ) (specs new : List NodeSpec) (spec : NodeSpec) (node : FlatNode) (parents : List ℕ)
-    → seen ≡ dag.nodes → i < length seen → node ≡ get_or seen i node → specs ≡ specs_from dag 0 (take i dag.nodes) → new ≡ specs ++ spec ∷ [] → spec ≡ spec_of parents node → parents ≡ parents_of dag i
-    → new ≡ specs_from dag 0 (take (i + 1) dag.nodes)
-specs-step dag seen i specs new spec node parents same small is specs_are new_is spec_is parents_are =
+-- one turn of the loop over the nodes
+pub specs-step : (dag : Dag) (sources : Sources) (seen : List FlatNode) (i : ℕ) (specs new : List NodeSpec) (spec : NodeSpec) (node : FlatNode) (parents : List ℕ) (job : Job) (marked : Bool)
+    → seen ≡ dag.nodes → i < length seen → node ≡ get_or seen i node → specs ≡ specs_from dag sources 0 (take i dag.nodes) → new ≡ specs ++ spec ∷ []
+    → spec ≡ spec_of parents job marked node → parents ≡ parents_of dag i → job ≡ sources.job node → marked ≡ sources.marked i
+    → new ≡ specs_from dag sources 0 (take (i + 1) dag.nodes)
+specs-step dag sources seen i specs new spec node parents job marked same small is specs_are new_is spec_is parents_are job_is marked_is =
     let small_here : i < length dag.nodes = subst (λ (ns : List FlatNode). i < length ns) same small in
     let node_is : node ≡ get_or dag.nodes i node = is ∙ ap (λ (ns : List FlatNode). get_or ns i node) same in
     new_is ∙ ap (λ (ss : List NodeSpec). ss ++ spec ∷ []) specs_are
-    ∙ ap (λ (s : NodeSpec). specs_from dag 0 (take i dag.nodes) ++ s ∷ []) (spec_is ∙ ap (λ (ps : List ℕ). spec_of ps node) parents_are ∙ ap (spec_of (parents_of dag i)) node_is)
-    ∙ sym (specs-more dag dag.nodes i node small_here)
+    ∙ ap (λ (s : NodeSpec). specs_from dag sources 0 (take i dag.nodes) ++ s ∷ [])
+    (spec_is ∙ ap (λ (ps : List ℕ). spec_of ps job marked node) parents_are ∙ ap (λ (j : Job). spec_of (parents_of dag i) j marked node) job_is
+    ∙ ap (λ (m : Bool). spec_of (parents_of dag i) (sources.job node) m node) marked_is
+    ∙ ap (λ (n : FlatNode). spec_of (parents_of dag i) (sources.job n) (sources.marked i) n) node_is)
+    ∙ sym (specs-more dag sources dag.nodes i node small_here)
 
 -- Parents are ordinary nodes, and each has an edge to its child.
 range_below : (from count n : ℕ) → from + count ≤ n → All (λ k. k < n) (range_with_len from count)
@@ -74,47 +85,53 @@ all_below n [] below = refl
 all_below n (x ∷ xs) below =
     and_from _ _ (lt-ltb x n (All-head (λ p. p < n) x xs below)) (all_below n xs (All-tail (λ p. p < n) x xs below))
 
-specs-below : (dag : Dag) (n number : ℕ) (nodes : List FlatNode) → n ≡ length dag.nodes → list_all (has_parents_below n) (specs_from dag number nodes) ≡ true
-specs-below dag n number [] is = refl
-specs-below dag n number (x ∷ xs) is =
-    and_from _ _ (all_below n (parents_of dag number) (subst (λ (m : ℕ). All (λ p. p < m) (parents_of dag number)) (sym is) (parents-in dag number))) (specs-below dag n (number + 1) xs is)
+specs-below : (dag : Dag) (sources : Sources) (n number : ℕ) (nodes : List FlatNode) → n ≡ length dag.nodes → list_all (has_parents_below n) (specs_from dag sources number nodes) ≡ true
+specs-below dag sources n number [] is = refl
+specs-below dag sources n number (x ∷ xs) is =
+    and_from _ _ (all_below n (parents_of dag number) (subst (λ (m : ℕ). All (λ p. p < m) (parents_of dag number)) (sym is) (parents-in dag number))) (specs-below dag sources n (number + 1) xs is)
 
-final-below : (n : ℕ) (final_node : Option FlatNode) → has_parents_below n (unwrap_or (option_map (spec_of []) final_node) no_node) ≡ true
-final-below n None = refl
-final-below n (Some node) = refl
+final-below : (sources : Sources) (n : ℕ) (final_node : Option FlatNode) → has_parents_below n (unwrap_or (option_map (final_spec sources) final_node) no_node) ≡ true
+final-below sources n None = refl
+final-below sources n (Some node) = refl
 
-all_get : {A : Type 0} (f : A → Bool) (xs : List A) (d : A) → list_all f xs ≡ true → f d ≡ true → (i : ℕ) → f (unwrap_or (slice_get xs i) d) ≡ true
+-- what holds of each node of a list, and of what stands for one that is not there
+pub all_get : {A : Type 0} (f : A → Bool) (xs : List A) (d : A) → list_all f xs ≡ true → f d ≡ true → (i : ℕ) → f (unwrap_or (slice_get xs i) d) ≡ true
 all_get f [] d e h i = h
 all_get f (x ∷ xs) d e h zero = (and_parts _ _ e).0
 all_get f (x ∷ xs) d e h (suc i) = all_get f xs d (and_parts _ _ e).1 h i
 
-made-below : (graph : Network) (node : ℕ) → has_parents_below (count_of (plan_of graph)) (node_at (plan_of graph) node) ≡ true
-made-below graph node =
-    all_get (has_parents_below (count_of (plan_of graph))) (plan_of graph).nodes (unwrap_or (plan_of graph).final_node no_node)
-    (specs-below graph.dag (count_of (plan_of graph)) 0 graph.dag.nodes (count-is graph)) (final-below (count_of (plan_of graph)) graph.dag.final_node) node
+made-below : (graph : Network) (sources : Sources) (digest : List ℕ) (node : ℕ)
+    → has_parents_below (count_of (plan_of graph sources digest)) (node_at (plan_of graph sources digest) node) ≡ true
+made-below graph sources digest node =
+    let plan = plan_of graph sources digest in
+    all_get (has_parents_below (count_of plan)) plan.nodes (unwrap_or plan.final_node no_node)
+    (specs-below graph.dag sources (count_of plan) 0 graph.dag.nodes (count-is graph sources digest)) (final-below sources (count_of plan) graph.dag.final_node) node
 
-pub parents-below : (plan : Plan) → plan ≡ plan_of plan.graph → (node : ℕ) → has_parents_below (count_of plan) (node_at plan node) ≡ true
-parents-below plan made node = subst (λ (p : Plan). has_parents_below (count_of p) (node_at p node) ≡ true) (sym made) (made-below plan.graph node)
+pub parents-below : (plan : Plan) → IsPlanned plan → (node : ℕ) → has_parents_below (count_of plan) (node_at plan node) ≡ true
+parents-below plan is node =
+    subst (λ (p : Plan). has_parents_below (count_of p) (node_at p node) ≡ true) (sym is.made) (made-below plan.graph is.sources plan.digest node)
 
 pub node-past : (plan : Plan) (node : ℕ) → count_of plan ≤ node → node_at plan node ≡ unwrap_or plan.final_node no_node
 node-past plan node le = ap (λ (o : Option NodeSpec). unwrap_or o (unwrap_or plan.final_node no_node)) (slice_get_past plan.nodes node le)
 
 -- the order of the graph ranks the plan
-spec-parents : (dag : Dag) (number : ℕ) (nodes : List FlatNode) (i : ℕ) (d : NodeSpec) → i < length nodes → (unwrap_or (slice_get (specs_from dag number nodes) i) d).parents ≡ parents_of dag (number + i)
-spec-parents dag number [] i d small = absurd (omega arith)
-spec-parents dag number (x ∷ xs) zero d small = ap (parents_of dag) (sym (add-zero number))
-spec-parents dag number (x ∷ xs) (suc i) d small =
+spec-parents : (dag : Dag) (sources : Sources) (number : ℕ) (nodes : List FlatNode) (i : ℕ) (d : NodeSpec) → i < length nodes
+    → (unwrap_or (slice_get (specs_from dag sources number nodes) i) d).parents ≡ parents_of dag (number + i)
+spec-parents dag sources number [] i d small = absurd (omega arith)
+spec-parents dag sources number (x ∷ xs) zero d small = ap (parents_of dag) (sym (add-zero number))
+spec-parents dag sources number (x ∷ xs) (suc i) d small =
     let shift : number + 1 + i ≡ number + suc i = omega arith in
-    spec-parents dag (number + 1) xs i d (omega arith) ∙ ap (parents_of dag) shift
+    spec-parents dag sources (number + 1) xs i d (omega arith) ∙ ap (parents_of dag) shift
 
-pub made-ranked : (graph : Network) → IsOrderOf graph.dag graph.order → IsRankedBy (rank_in graph.order) (plan_of graph)
-made-ranked graph order = λ node small parent among.
-    let n : count_of (plan_of graph) ≡ length graph.dag.nodes = count-is graph in
-    let here : (node_at (plan_of graph) node).parents ≡ parents_of graph.dag node =
-    spec-parents graph.dag 0 graph.dag.nodes node (unwrap_or (plan_of graph).final_node no_node) (omega arith) ∙ ap (parents_of graph.dag) (let e : 0 + node ≡ node = omega arith in e) in
+pub made-ranked : (graph : Network) (sources : Sources) (digest : List ℕ) → IsOrderOf graph.dag graph.order → IsRankedBy (rank_in graph.order) (plan_of graph sources digest)
+made-ranked graph sources digest order = λ node small parent among.
+    let n : count_of (plan_of graph sources digest) ≡ length graph.dag.nodes = count-is graph sources digest in
+    let here : (node_at (plan_of graph sources digest) node).parents ≡ parents_of graph.dag node =
+    spec-parents graph.dag sources 0 graph.dag.nodes node (unwrap_or (plan_of graph sources digest).final_node no_node) (omega arith)
+    ∙ ap (parents_of graph.dag) (let e : 0 + node ≡ node = omega arith in e) in
     let parents : Contains (parents_of graph.dag node) parent = subst (λ (ps : List ℕ). Contains ps parent) here among in
     let low : parent < length graph.dag.nodes = All-contains (λ p. p < length graph.dag.nodes) (parents_of graph.dag node) parent (parents-in graph.dag node) parents in
     (omega arith, order.ranked parent node (parent-edge graph.dag node parent parents))
 
-pub ranked : (plan : Plan) → plan ≡ plan_of plan.graph → IsOrderOf plan.graph.dag plan.graph.order → IsRankedBy (rank_in plan.graph.order) plan
-ranked plan made order = subst (IsRankedBy (rank_in plan.graph.order)) (sym made) (made-ranked plan.graph order)
+pub ranked : (plan : Plan) → IsPlanned plan → IsOrderOf plan.graph.dag plan.graph.order → IsRankedBy (rank_in plan.graph.order) plan
+ranked plan is order = subst (IsRankedBy (rank_in plan.graph.order)) (sym is.made) (made-ranked plan.graph is.sources plan.digest order)

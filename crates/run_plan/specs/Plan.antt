@@ -3,9 +3,24 @@ use Rattle.std.specs.Prelude.{ℕ, ℤ, pos, zero, suc, ◌<◌, nat_lt, Bool, t
 use Rattle.std.specs.List.{Contains, list_all}
 use Rattle.dag_graph.specs.Graph.{Network}
 use Rattle.node_machine.specs.declared.Course.{Course}
+use Rattle.vars_macros.specs.declared.assignment.Macro.{Macro}
+
+-- What a job is started by: a program alone, where no submit file is read; or the node's name and what is assigned to
+-- names, in the order in which it counts.
+pub data Job : Type 0 where
+  Program : List ℕ → Job
+  Described : List ℕ → List Macro → Job
+
+-- What the children of a node are started by: the node's folder, the words of its scripts, of which the first is the
+-- program, and its job.
+pub record Orders : Type 0 where
+  pub folder : List ℕ
+  pub pre : Option (List (List ℕ))
+  pub post : Option (List (List ℕ))
+  pub job : Job
 
 -- a node: its name, what the files say of its attempts, whether it is done from the start, its parents' numbers,
--- the status of an abort that it causes, its priority and the name of its category
+-- the status of an abort that it causes, its priority, the name of its category, and what its children are started by
 pub record NodeSpec : Type 0 where
   pub name : List ℕ
   pub course : Course
@@ -14,12 +29,18 @@ pub record NodeSpec : Type 0 where
   pub abort_return : Option ℕ
   pub priority : ℤ
   pub category : Option (List ℕ)
+  pub orders : Orders
 
--- the ordinary nodes by their numbers, the FINAL node, which has the next number, and the graph that they were made from
+-- the ordinary nodes by their numbers, the FINAL node, which has the next number, the graph that they were made from, and
+-- the digest of all that the plan was made from
 pub record Plan : Type 0 where
   pub nodes : List NodeSpec
   pub final_node : Option NodeSpec
   pub graph : Network
+  pub digest : List ℕ
+
+abbrev pub no_orders : Orders
+no_orders = record { folder = []; pre = None; post = None; job = Program [] }
 
 -- no node
 abbrev pub no_node : NodeSpec
@@ -31,6 +52,7 @@ no_node = record {
   abort_return = None;
   priority = pos 0;
   category = None;
+  orders = no_orders;
 }
 
 abbrev pub node_at : Plan → ℕ → NodeSpec

@@ -1,14 +1,16 @@
 -- The plan of a graph: what the files say of each node.
-use Rattle.std.specs.Prelude.{ℕ, ◌+◌, ℤ, pos, List, [], ◌∷◌, Option, Some, None, is_some}
+use Rattle.std.specs.Prelude.{ℕ, ◌+◌, ◌==◌, ◌||◌, ℤ, pos, Bool, false, List, [], ◌∷◌, Option, Some, None, is_some}
+use Rattle.std.specs.List.{list_any}
 use Rattle.std.specs.Option.{option_map}
 use Rattle.dag_graph.specs.Graph.{Network, parents_of}
 use Rattle.node_machine.specs.declared.Course.{Course}
 use Rattle.splices.specs.Dag.{Dag}
 use Rattle.splices.specs.declared.flat.FlatNode.{FlatNode}
+use Rattle.splices.specs.declared.flat.ScriptSetting.{ScriptSetting}
 use Rattle.splices.specs.declared.flat.RetrySetting.{RetrySetting}
 use Rattle.splices.specs.declared.flat.AbortSetting.{AbortSetting}
 use Rattle.splices.specs.declared.flat.PrioritySetting.{PrioritySetting}
-use Rattle.run_plan.specs.Plan.{NodeSpec, Plan}
+use Rattle.run_plan.specs.Plan.{Job, Program, Orders, NodeSpec, Plan}
 
 -- without RETRY a node has one attempt
 abbrev pub retries_of : Option RetrySetting → ℕ
@@ -40,27 +42,60 @@ course_of node = record {
   abort_on = option_map (λ s. s.value) node.settings.abort;
 }
 
--- what the files say of a node with these parents
-abbrev pub spec_of : List ℕ → FlatNode → NodeSpec
-spec_of parents node = record {
+-- the words of a script, of which the first is the program
+abbrev pub script_of : Option ScriptSetting → Option (List (List ℕ))
+script_of setting = option_map (λ s. s.program ∷ s.arguments) setting
+
+-- what the children of a node with this job are started by
+abbrev pub orders_of : Job → FlatNode → Orders
+orders_of job node = record {
+  folder = node.folder;
+  pre = script_of node.settings.pre;
+  post = script_of node.settings.post;
+  job = job;
+}
+
+-- what the files say of a node with these parents and this job, which a rescue file may have marked as done
+abbrev pub spec_of : List ℕ → Job → Bool → FlatNode → NodeSpec
+spec_of parents job marked node = record {
   name = node.name;
   course = course_of node;
-  done = node.done;
+  done = node.done || marked;
   parents = parents;
   abort_return = abort_return_of node.settings.abort;
   priority = priority_of node.settings.priority;
   category = option_map (λ s. s.name) node.settings.category;
+  orders = orders_of job node;
 }
+
+-- what the jobs of nodes are started by, and which nodes a rescue file marks
+pub record Sources : Type 0 where
+  pub job : FlatNode → Job
+  pub marked : ℕ → Bool
 
 -- the specifications of these nodes, the first of which has this number
-abbrev pub specs_from : Dag → ℕ → List FlatNode → List NodeSpec
-specs_from dag number [] = []
-specs_from dag number (node ∷ nodes) = spec_of (parents_of dag number) node ∷ specs_from dag (number + 1) nodes
+abbrev pub specs_from : Dag → Sources → ℕ → List FlatNode → List NodeSpec
+specs_from dag sources number [] = []
+specs_from dag sources number (node ∷ nodes) =
+    spec_of (parents_of dag number) (sources.job node) (sources.marked number) node ∷ specs_from dag sources (number + 1) nodes
+
+-- the specification of the FINAL node, which no rescue file marks
+abbrev pub final_spec : Sources → FlatNode → NodeSpec
+final_spec sources node = spec_of [] (sources.job node) false node
 
 -- the plan of a graph
-abbrev pub plan_of : Network → Plan
-plan_of graph = record {
-  nodes = specs_from graph.dag 0 graph.dag.nodes;
-  final_node = option_map (spec_of []) graph.dag.final_node;
+abbrev pub plan_of : Network → Sources → List ℕ → Plan
+plan_of graph sources digest = record {
+  nodes = specs_from graph.dag sources 0 graph.dag.nodes;
+  final_node = option_map (final_spec sources) graph.dag.final_node;
   graph = graph;
+  digest = digest;
 }
+
+-- the nodes with these numbers are marked
+abbrev pub is_marked : List ℕ → ℕ → Bool
+is_marked numbers number = list_any (λ n. n == number) numbers
+
+-- Where no submit file is read, a node's job is started by the path of its submit file.
+abbrev pub bare : List ℕ → Sources
+bare numbers = record { job = λ node. Program node.file; marked = is_marked numbers }

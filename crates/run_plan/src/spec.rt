@@ -1,17 +1,27 @@
 //! What the files say of a node.
 
-ghost use Rattle.std.specs.Prelude.{◌≡◌, [], is_some, IfOk};
+ghost use Rattle.std.specs.Prelude.{◌≡◌, [], is_some, IfOk, IfErr};
 ghost use Rattle.std.specs.Option.{option_map};
+ghost use Rattle.std.specs.List.{list_any};
+ghost use Rattle.vars_macros.specs.Script.{is_whole_run};
 ghost use Rattle.run_plan.specs.Plan.{no_node};
+ghost use Rattle.run_plan.specs.Commands.{command_of, command_of_job, script_facts, words_of, job_reads_launch, orders_use_whole_run, uses_whole_run};
+ghost use Rattle.run_plan.specs.JobAnswers.{Gives};
 ghost use Rattle.run_plan.specs.Specs.{course_of, retries_of, unless_exit_of, abort_return_of, priority_of, spec_of};
+ghost use Rattle.run_plan.specs.declared.job.JobFault.TheVariants.{Memory};
 
-use dag_reader::Text;
-use node_machine::Course;
+use crate::command::{ChildCommand, PhaseFacts};
+use crate::job::{JobFault, job_command, reads_launch};
+use crate::orders::{Job, Orders, Source};
+use crate::script::{bare_command, script_command};
+use dag_reader::{Text, Texts};
+use node_machine::{Course, Phase};
 use splices::{
     AbortSetting, CategorySetting, FlatNode, PreSkipSetting, PrioritySetting, RetrySetting,
 };
 use std::alloc::{AllocError, Global};
 use std::marker::Model;
+use vars_macros::{Attempt, ScriptFacts};
 
 /// What the files say of a node.
 #[derive(Drop)]
@@ -23,10 +33,14 @@ pub struct NodeSpec {
     abort_return: Option<u8>,
     priority: i32,
     category: Option<Text>,
+    orders: Orders,
+    whole_run: bool,
 }
 
 impl Model for NodeSpec {
+    ghost use Rattle.std.specs.Prelude.{◌≡◌};
     ghost use Rattle.run_plan.specs.Plan.{NodeSpec as NodeValue};
+    ghost use Rattle.run_plan.specs.Commands.{uses_whole_run};
 
     ghost Value = { NodeValue };
 
@@ -38,7 +52,19 @@ impl Model for NodeSpec {
       abort_return = a.abort_return;
       priority = a.priority;
       category = a.category;
+      orders = a.orders;
     } };
+
+    ghost invariant = { λ a. a.whole_run ≡ uses_whole_run (record {
+      name = a.name;
+      course = a.course;
+      done = a.done;
+      parents = a.parents.items;
+      abort_return = a.abort_return;
+      priority = a.priority;
+      category = a.category;
+      orders = a.orders;
+    }) };
 }
 
 impl NodeSpec {
@@ -94,22 +120,39 @@ impl NodeSpec {
         }
     }
 
-    /// What the files say of a node with these parents.
+    /// Whether a word of the node's commands is known in a whole run alone: `$DAG_STATUS`,
+    /// `$FAILED_COUNT` or `$JOBID` in a script, or the launch number in a text of its job.
+    pub fn uses_whole_run(&self) -> bool
+        ensures { result ≡ uses_whole_run self.now }
+    {
+        self.whole_run
+    }
+
+    /// What the files say of a node with these parents and this job, which a rescue file may have
+    /// marked as done.
     pub(crate) fn new(
         alloc: Global,
         parents: &[u32],
+        job: Job,
+        marked: bool,
         node: &FlatNode,
-    ) -> Result<NodeSpec, AllocError>
-        ensures { IfOk result (λ spec. spec ≡ spec_of parents.now node.now) }
+    ) -> Result<NodeSpec, JobFault>
+        ensures ok { IfOk result (λ spec. spec ≡ spec_of parents.now job marked node.now) }
+        ensures err { IfErr result (λ fault. fault ≡ Memory) }
     {
+        let course = course_of(node);
+        let orders = Orders::new(alloc, node, job)?;
+        let whole_run = uses_whole_run(alloc, &orders, course.retries)?;
         Ok(NodeSpec {
             name: Text::new(alloc, node.name.as_str())?,
-            course: course_of(node),
-            done: node.done,
+            course,
+            done: node.done || marked,
             parents: Vec::from_slice(alloc, parents)?,
             abort_return: abort_return_of(&node.settings.abort),
             priority: priority_of(&node.settings.priority),
             category: category_of(alloc, &node.settings.category)?,
+            orders,
+            whole_run,
         })
     }
 
@@ -133,8 +176,116 @@ impl NodeSpec {
             abort_return: None,
             priority: 0,
             category: None,
+            orders: Orders::none(alloc)?,
+            whole_run: false,
         })
     }
+
+    /// The command of a phase in an attempt.
+    pub(crate) fn command(
+        &self,
+        alloc: Global,
+        attempt: u32,
+        phase: Phase,
+        facts: &PhaseFacts,
+    ) -> Result<ChildCommand, JobFault>
+        ensures { Gives (λ command. command) result (command_of self.now attempt phase facts.now) }
+    {
+        let folder = self.orders.folder();
+        match phase {
+            Phase::Pre => {
+                let facts = self.script_facts(alloc, attempt, false, facts)?;
+                script_command(alloc, folder, self.orders.pre(), &facts)
+            }
+            Phase::Job => command_of_job(alloc, folder, self.orders.job(), attempt, facts.launch),
+            Phase::Post => {
+                let facts = self.script_facts(alloc, attempt, true, facts)?;
+                script_command(alloc, folder, self.orders.post(), &facts)
+            }
+        }
+    }
+
+    /// What the words of the node's scripts can stand for.
+    fn script_facts(
+        &self,
+        alloc: Global,
+        attempt: u32,
+        post: bool,
+        facts: &PhaseFacts,
+    ) -> Result<ScriptFacts, AllocError>
+        ensures { IfOk result (λ given. given ≡ script_facts self.now attempt post facts.now) }
+    {
+        Ok(ScriptFacts {
+            name: Text::new(alloc, self.name.as_str())?,
+            attempt,
+            retries: self.course.retries,
+            post,
+            dag_status: facts.dag_status,
+            failed: facts.failed,
+            job_value: facts.job_value,
+            pre_value: facts.pre_value,
+            job_launch: facts.job_launch,
+        })
+    }
+}
+
+/// The command of a job in an attempt.
+fn command_of_job(
+    alloc: Global,
+    folder: &str,
+    job: &Job,
+    attempt: u32,
+    launch: u64,
+) -> Result<ChildCommand, JobFault>
+    ensures { Gives (λ command. command) result (command_of_job folder.now job.now attempt launch) }
+{
+    match &job.source {
+        Source::Program(file) => {
+            let program = Text::new(alloc, file.as_str())?;
+            Ok(bare_command(alloc, folder, program, Texts::new(alloc))?)
+        }
+        Source::Described(macros) => {
+            let attempt = Attempt {
+                retry: attempt,
+                launch,
+            };
+            job_command(alloc, folder, macros, attempt)
+        }
+    }
+}
+
+fn job_reads_launch(alloc: Global, job: &Job, retries: u32) -> Result<bool, JobFault>
+    ensures ok { IfOk result (λ reads. reads ≡ job_reads_launch job.now retries) }
+    ensures err { IfErr result (λ fault. fault ≡ Memory) }
+{
+    match &job.source {
+        Source::Program(_) => Ok(false),
+        Source::Described(macros) => {
+            let attempt = Attempt {
+                retry: retries,
+                launch: u64::MAX,
+            };
+            reads_launch(alloc, macros, attempt)
+        }
+    }
+}
+
+fn has_whole_run_word(script: &Option<Texts>) -> bool
+    ensures { result ≡ list_any is_whole_run (words_of script.now) }
+{
+    match script {
+        Some(words) => vars_macros::uses_whole_run(words.as_slice()),
+        None => false,
+    }
+}
+
+/// Whether a word of these orders is known in a whole run alone.
+fn uses_whole_run(alloc: Global, orders: &Orders, retries: u32) -> Result<bool, JobFault>
+    ensures ok { IfOk result (λ uses. uses ≡ orders_use_whole_run orders.now retries) }
+    ensures err { IfErr result (λ fault. fault ≡ Memory) }
+{
+    let reads = job_reads_launch(alloc, orders.job(), retries)?;
+    Ok(has_whole_run_word(orders.pre()) || (has_whole_run_word(orders.post()) || reads))
 }
 
 fn course_of(node: &FlatNode) -> Course
@@ -152,7 +303,7 @@ fn course_of(node: &FlatNode) -> Course
     }
 }
 
-fn retries_of(setting: &Option<RetrySetting>) -> u32
+pub(crate) fn retries_of(setting: &Option<RetrySetting>) -> u32
     ensures { result ≡ retries_of setting.now }
 {
     match setting {

@@ -12,3 +12,5 @@ pub mod Shown
 pub mod Leaf
 pub mod Moves
 pub mod Bounds
+pub mod Turns
+pub mod RunCommands

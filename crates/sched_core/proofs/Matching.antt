@@ -7,7 +7,7 @@ use Rattle.node_machine.specs.declared.State.TheVariants.{Done, NotRun}
 use Rattle.run_plan.specs.Plan.{Plan, node_at, count_of, IsRankedBy, IsAtOrAbove, at, above}
 use Rattle.sched_core.specs.Fate.{Fate, is_done_state, without_attempts, told_by, fate_by, AreFates}
 use Rattle.sched_core.proofs.Tests.{all-at, all-from}
-use Rattle.sched_core.specs.Agree.{Agree}
+use Rattle.sched_core.specs.Agree.{AgreeOnFates}
 
 same_bools : (a b : Bool) → (a ≡ true → b ≡ true) → (b ≡ true → a ≡ true) → a ≡ b
 same_bools true b f g = sym (f refl)
@@ -114,7 +114,7 @@ module _ (plan : Plan) (table : Table) (rank : ℕ → ℕ) (ranked : IsRankedBy
 -- plans and tables that agree on a node and all above it give it one fate
 pub fates-agree : (plan : Plan) (table : Table) (plan' : Plan) (table' : Table) (rank rank' : ℕ → ℕ)
     → IsRankedBy rank plan → IsRankedBy rank' plan' → (fates fates' : ℕ → Fate) → AreFates plan table fates → AreFates plan' table' fates'
-    → (node node' : ℕ) → node < count_of plan → node' < count_of plan' → Agree plan table plan' table' node node' → fates node ≡ fates' node'
+    → (node node' : ℕ) → node < count_of plan → node' < count_of plan' → AgreeOnFates plan table plan' table' node node' → fates node ≡ fates' node'
 fates-agree plan table plan' table' rank rank' ranked ranked' fates fates' are are' node node' lt lt' agree =
     fates-match plan table plan' table' Pair closed rank rank' ranked ranked' fates fates' are are' node node' lt lt' (at, at, agree.0.name)
   where

@@ -10,7 +10,7 @@ use Rattle.node_machine.specs.Story.{Table}
 use Rattle.sched_core.specs.declared.Record.{Record}
 use Rattle.sched_core.specs.declared.Record.TheVariants.{Life, Launch, End, Finish}
 use Rattle.dag_graph.specs.Graph.{Network}
-use Rattle.run_plan.specs.Plan.{Plan, NodeSpec}
+use Rattle.run_plan.specs.Plan.{Plan, NodeSpec, no_orders}
 use Rattle.sched_core.specs.Lives.{Span}
 use Rattle.sched_core.specs.Rounds.{Round}
 
@@ -18,11 +18,11 @@ abbrev pub job_alone : ℕ → Bool → Course
 job_alone retries post = record { pre = false; noop = false; post = post; retries = retries; unless_exit = None; pre_skip = None; abort_on = None }
 
 abbrev pub node : ℕ → Course → Bool → List ℕ → NodeSpec
-node name course done parents = record { name = name ∷ []; course = course; done = done; parents = parents; abort_return = None; priority = pos 0; category = None }
+node name course done parents = record { name = name ∷ []; course = course; done = done; parents = parents; abort_return = None; priority = pos 0; category = None; orders = no_orders }
 
 -- these plans come from no files
 abbrev pub no_graph : Network
-no_graph = record { dag = record { nodes = []; final_node = None; edges = []; categories = []; warnings = [] }; order = [] }
+no_graph = record { dag = record { top = []; nodes = []; final_node = None; edges = []; categories = []; warnings = [] }; order = [] }
 
 -- A with one retry, and B with a POST script below it
 abbrev pub two_nodes : Plan
@@ -30,6 +30,7 @@ two_nodes = record {
   nodes = node 65 (job_alone 1 false) false [] ∷ node 66 (job_alone 0 true) false (0 ∷ []) ∷ [];
   final_node = None;
   graph = no_graph;
+  digest = [];
 }
 
 abbrev pub key : ℕ → ℕ → Phase → Key
@@ -58,6 +59,7 @@ diamond = record {
       ∷ node 68 (job_alone 0 false) false (1 ∷ 2 ∷ []) ∷ [];
   final_node = None;
   graph = no_graph;
+  digest = [];
 }
 
 -- a crash once the launch of B is recorded, and one once the end of B is
@@ -75,6 +77,7 @@ abort_plan = record {
       ∷ node 65 (job_alone 0 false) false [] ∷ [];
   final_node = Some (node 70 (job_alone 0 false) false []);
   graph = no_graph;
+  digest = [];
 }
 
 abbrev pub abort_run : List Record
@@ -90,6 +93,7 @@ noop_plan = record {
       ∷ node 66 (job_alone 0 false) true (0 ∷ []) ∷ node 67 (job_alone 0 false) false (1 ∷ []) ∷ [];
   final_node = None;
   graph = no_graph;
+  digest = [];
 }
 
 abbrev pub noop_table : Table
@@ -108,6 +112,7 @@ plan_p = record {
   nodes = node 65 (job_alone 0 false) false [] ∷ node 66 (job_alone 1 false) false (0 ∷ []) ∷ node 89 (job_alone 0 false) false [] ∷ [];
   final_node = None;
   graph = no_graph;
+  digest = [];
 }
 
 -- the same A and B behind X
@@ -116,6 +121,7 @@ plan_q = record {
   nodes = node 88 (job_alone 2 false) false [] ∷ node 65 (job_alone 0 false) false [] ∷ node 66 (job_alone 1 false) false (1 ∷ []) ∷ [];
   final_node = None;
   graph = no_graph;
+  digest = [];
 }
 
 -- B fails at its first attempt
@@ -126,7 +132,7 @@ first_fails b node attempt Post = Exit 0
 
 -- a job that fails in one round and is good in the next
 abbrev pub one_job : Plan
-one_job = record { nodes = node 65 (job_alone 0 false) false [] ∷ []; final_node = None; graph = no_graph }
+one_job = record { nodes = node 65 (job_alone 0 false) false [] ∷ []; final_node = None; graph = no_graph; digest = [] }
 
 abbrev pub run_to : Outcome → ℕ → List Record
 run_to outcome status = reverse (Life ∷ Launch (key 0 0 Job) 1 ∷ End (key 0 0 Job) outcome ∷ Finish status ∷ [])

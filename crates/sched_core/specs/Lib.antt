@@ -6,4 +6,5 @@ pub mod Example
 pub mod Rounds
 pub mod Core
 pub mod Bound
+pub mod Commands
 pub mod TakenSettings

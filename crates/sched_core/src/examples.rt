@@ -2,7 +2,7 @@
 //! refused.
 //! No program calls these functions.
 
-ghost use Rattle.std.specs.Prelude.{◌≡◌, ◌≢◌, ℕ, ◌<◌, List, [], ◌∷◌, ◌++◌, map, drop, pos, IsTrue, IsFalse};
+ghost use Rattle.std.specs.Prelude.{◌≡◌, ◌≢◌, ℕ, ◌<◌, List, [], ◌∷◌, ◌++◌, map, drop, pos, true, false, IsTrue, IsFalse};
 ghost use Rattle.std.specs.List.{list_all, Contains};
 ghost use Rattle.node_machine.specs.declared.Phase.{Phase};
 ghost use Rattle.node_machine.specs.declared.Outcome.{Outcome};
@@ -13,6 +13,7 @@ ghost use Rattle.node_machine.specs.declared.Phase.TheVariants.{Job};
 ghost use Rattle.node_machine.specs.declared.Outcome.TheVariants.{Exit, Signal};
 ghost use Rattle.node_machine.specs.declared.State.TheVariants.{Done, Error, NotRun};
 ghost use Rattle.run_plan.specs.Plan.{Plan, node_at, count_of, IsRankedBy};
+ghost use Rattle.run_plan.specs.Commands.{is_sound, uses_whole_run};
 ghost use Rattle.sched_core.specs.Run.{table_of, history, is_done, is_lawful, is_finished, is_aborted, is_launched, may_follow};
 ghost use Rattle.sched_core.specs.Fate.{Fate, AreFates, shown, is_done_state};
 ghost use Rattle.sched_core.specs.Agree.{Agree};
@@ -38,6 +39,8 @@ pub fn examples()
     ensures two_rounds { AreRounds (round_of (Exit 0) 0 ∷ round_of (Exit 1) 1 ∷ []) }
     ensures noop { IsTrue (is_finished noop_plan noop_run) }
     ensures noop_outcomes { IsRunBy noop_plan noop_table noop_run }
+    ensures noop_sound { is_sound (node_at noop_plan 0) ≡ true }
+    ensures noop_plain { uses_whole_run (node_at noop_plan 0) ≡ false }
     ensures noop_values { map (λ node. (shown noop_plan noop_run node).value)
         (0 ∷ 1 ∷ 2 ∷ []) ≡ Some (pos 2) ∷ None ∷ Some (pos 0) ∷ [] }
 {}

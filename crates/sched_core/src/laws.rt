@@ -1,6 +1,6 @@
 //! Laws of the definitions alone. No program calls them.
 
-ghost use Rattle.std.specs.Prelude.{◌≡◌, ◌≢◌, ℕ, ◌<◌, List, [], ◌∷◌, ◌++◌, map, drop, pos, IsTrue, IsFalse};
+ghost use Rattle.std.specs.Prelude.{◌≡◌, ◌≢◌, ℕ, ◌<◌, true, false, List, [], ◌∷◌, ◌++◌, map, drop, pos, IsTrue, IsFalse};
 ghost use Rattle.std.specs.List.{list_all, Contains};
 ghost use Rattle.node_machine.specs.declared.Phase.{Phase};
 ghost use Rattle.node_machine.specs.declared.Outcome.{Outcome};
@@ -15,9 +15,11 @@ ghost use Rattle.node_machine.specs.declared.Phase.TheVariants.{Job};
 ghost use Rattle.node_machine.specs.declared.Outcome.TheVariants.{Exit};
 ghost use Rattle.node_machine.specs.declared.State.TheVariants.{Done, Error, NotRun};
 ghost use Rattle.run_plan.specs.Plan.{Plan, node_at, count_of, IsRankedBy};
+ghost use Rattle.run_plan.specs.Commands.{command_of, is_sound, uses_whole_run};
 ghost use Rattle.sched_core.specs.Run.{table_of, history, is_done, is_lawful, is_finished, is_aborted, is_launched, is_open, launch_number, may_follow};
 ghost use Rattle.sched_core.specs.Fate.{Fate, AreFates, shown, is_done_state};
-ghost use Rattle.sched_core.specs.Agree.{Agree};
+ghost use Rattle.sched_core.specs.Agree.{AgreeOnFates, Agree};
+ghost use Rattle.sched_core.specs.Commands.{command_by, with_commands, facts_in};
 ghost use Rattle.sched_core.specs.Lives.{Span, AreLives, HasOutcomesOf, IsRunBy, IsTurnOf};
 ghost use Rattle.sched_core.specs.Rounds.{Round, AreRounds, RoundsAgree, WasMarked, is_marked};
 ghost use Rattle.sched_core.specs.Example.{key, two_nodes, its_run, its_lives, diamond, diamond_run, abort_plan, abort_run, noop_plan, noop_table, noop_run, plan_p, plan_q, first_fails, round_of};
@@ -61,7 +63,9 @@ pub fn one_solution()
 {}
 
 /// Whatever lives a run had, its last list shows the fates by the outcomes of the table; each
-/// launch, in whatever life, comes at its key's turn.
+/// launch, in whatever life, comes at its key's turn. Where the texts of its node's job can be
+/// expanded and no word of the node's commands is known in a whole run alone, the launch is
+/// started by the command that is read from the table.
 pub fn lives()
     ensures fates { (plan : Plan) (table : Table) (last : Span) (before : List Span) →
         AreLives plan (last ∷ before) → IsRunBy plan table last.held →
@@ -72,21 +76,36 @@ pub fn lives()
     ensures launches { (plan : Plan) (table : Table) (newer past : List Record) (key : Key)
         (number : ℕ) → IsTrue (is_lawful plan (newer ++ Launch key number ∷ past)) →
         HasOutcomesOf plan table past → IsTurnOf plan table key (history past key.node) }
+    ensures commands { (plan : Plan) (table : Table) (newer past : List Record) (key : Key)
+        (number : ℕ) → IsTrue (is_lawful plan (newer ++ Launch key number ∷ past)) →
+        HasOutcomesOf plan table past → is_sound (node_at plan key.node) ≡ true →
+        uses_whole_run (node_at plan key.node) ≡ false →
+        command_of (node_at plan key.node) key.attempt key.phase
+        (facts_in plan (Launch key number ∷ past) key)
+        ≡ command_by plan table key.node key.attempt key.phase }
 {}
 
-/// Two runs whose plans and tables agree on a node and all above it agree on that node.
+/// Two runs whose plans and tables agree on a node and all above it agree on that node: on its fate,
+/// for which commands don't matter, and on the command of each of its phases.
 pub fn two_runs()
     ensures fates { (plan plan' : Plan) (table table' : Table) (rank rank' : ℕ → ℕ) →
         IsRankedBy rank plan → IsRankedBy rank' plan' →
         (fates fates' : ℕ → Fate) → AreFates plan table fates → AreFates plan' table' fates' →
         (node node' : ℕ) → node < count_of plan → node' < count_of plan' →
-        Agree plan table plan' table' node node' → fates node ≡ fates' node' }
+        AgreeOnFates plan table plan' table' node node' → fates node ≡ fates' node' }
+    ensures commands { (plan plan' : Plan) (table table' : Table) (rank rank' : ℕ → ℕ) →
+        IsRankedBy rank plan → IsRankedBy rank' plan' →
+        (fates fates' : ℕ → Fate) → AreFates plan table fates → AreFates plan' table' fates' →
+        (node node' : ℕ) → node < count_of plan → node' < count_of plan' →
+        Agree plan table plan' table' node node' →
+        with_commands plan table node (fates node).history
+        ≡ with_commands plan' table' node' (fates' node').history }
     ensures runs { (plan plan' : Plan) (table table' : Table) (rank rank' : ℕ → ℕ) →
         IsRankedBy rank plan → IsRankedBy rank' plan' →
         (records records' : List Record) →
         IsRunBy plan table records → IsRunBy plan' table' records' →
         (node node' : ℕ) → node < count_of plan → node' < count_of plan' →
-        Agree plan table plan' table' node node' →
+        AgreeOnFates plan table plan' table' node node' →
         shown plan records node ≡ shown plan' records' node' }
 {}
 

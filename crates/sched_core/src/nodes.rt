@@ -182,7 +182,7 @@ pub fn has_abort(plan: &Plan, runs: &[NodeRun]) -> bool
     ensures { result ≡ aborted_in plan.now runs.now }
 {
     for node in 0..plan.count() {
-        let spec = plan.node(node);
+        let spec = plan.spec(node);
         if is_met_by(spec.course().abort_on, run_of(runs, node).last_value()) {
             return true;
         }
@@ -271,7 +271,7 @@ pub fn fresh_runs(alloc: Global, plan: &Plan) -> Result<Vec<NodeRun>, AllocError
 {
     let mut runs = Vec::new(alloc);
     for node in 0..plan.count() + 1 {
-        runs.push(NodeRun::new(*plan.node(node).course()))?;
+        runs.push(NodeRun::new(*plan.spec(node).course()))?;
     }
     Ok(runs)
 }

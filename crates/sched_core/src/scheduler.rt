@@ -123,7 +123,7 @@ impl<'a> Core<'a> {
     {
         let plan = self.plan;
         let run = run_of(&self.runs, node);
-        is_done_at(plan.node(node), &run)
+        is_done_at(plan.spec(node), &run)
     }
 
     /// A node's next phase.
@@ -133,7 +133,7 @@ impl<'a> Core<'a> {
     {
         let plan = self.plan;
         let run = run_of(&self.runs, node);
-        next_at(plan.node(node), node, &run)
+        next_at(plan.spec(node), node, &run)
     }
 
     /// The value of the last attempt of a node that ended.
@@ -198,7 +198,7 @@ impl<'a> Core<'a> {
         requires { node ≤ count_of self.now.plan }
         ensures { result ≡ list_all (is_done self.now.plan self.now.past) (node_at self.now.plan node).parents }
     {
-        let spec = self.plan().node(node);
+        let spec = self.plan().spec(node);
         for parent in spec.parents() {
             if !self.is_done(*parent) {
                 return false;
@@ -338,7 +338,7 @@ impl<'a> Core<'a> {
         ensures { result ≡ has_abort_value self.now.plan self.now.past node }
     {
         is_met_by(
-            self.plan().node(node).course().abort_on,
+            self.plan().spec(node).course().abort_on,
             self.last_value(node),
         )
     }
@@ -350,7 +350,7 @@ impl<'a> Core<'a> {
         while left > 0 {
             let node = left - 1;
             if self.has_abort_value(node) {
-                let spec = self.plan().node(node);
+                let spec = self.plan().spec(node);
                 return status_by(spec.abort_return(), spec.course().abort_on);
             }
             left = node;
@@ -422,7 +422,7 @@ impl<'a> Core<'a> {
         }
         self.is_open()
             && self.is_outstanding(key)
-            && may_end(self.plan().node(key.node), key.phase, outcome)
+            && may_end(self.plan().spec(key.node), key.phase, outcome)
     }
 
     /// Whether a record may follow, and else why not.

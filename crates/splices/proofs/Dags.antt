@@ -20,26 +20,26 @@ use Rattle.splices.specs.Opened.{first_of, flat_of, dag_unless, dag_of}
 use Rattle.splices.proofs.Opened.{fails_bind, own-length, nodes-length}
 use Rattle.splices.proofs.Within.{tree_below}
 
-pub dag_fails : (e : SpliceFault) (read : Result Tree DagFault) → Fails e read → Fails e (dag_of read)
-dag_fails e read fails = fails_bind e read (λ tree. dag_unless (files_fault (tree_files [] tree)) tree) fails
+pub dag_fails : (top : List ℕ) (e : SpliceFault) (read : Result Tree DagFault) → Fails e read → Fails e (dag_of top read)
+dag_fails top e read fails = fails_bind e read (λ tree. dag_unless top (files_fault (tree_files [] tree)) tree) fails
 
-abbrev pub drawn : Draft → Dag
-drawn d = record { nodes = d.nodes.items; final_node = first_of d.finals.items; edges = d.edges.items; categories = d.told.limits; warnings = d.told.warnings }
+abbrev pub drawn : List ℕ → Draft → Dag
+drawn top d = record { top = top; nodes = d.nodes.items; final_node = first_of d.finals.items; edges = d.edges.items; categories = d.told.limits; warnings = d.told.warnings }
 
-pub dag_faulty : (found : Draft × Option DagFault) (fault : DagFault) (read : Result Tree DagFault) → OpensTop (Ok found) read → found.1 ≡ Some fault → dag_of read ≡ Err fault
-dag_faulty found fault read opened is =
+pub dag_faulty : (top : List ℕ) (found : Draft × Option DagFault) (fault : DagFault) (read : Result Tree DagFault) → OpensTop (Ok found) read → found.1 ≡ Some fault → dag_of top read ≡ Err fault
+dag_faulty top found fault read opened is =
     let tree = opened.0 in
-    ap dag_of opened.1 ∙ ap (λ (f : Option DagFault). dag_unless f tree) (sym opened.6 ∙ is)
+    ap (dag_of top) opened.1 ∙ ap (λ (f : Option DagFault). dag_unless top f tree) (sym opened.6 ∙ is)
 
-pub dag_given : (found : Draft × Option DagFault) (read : Result Tree DagFault) → OpensTop (Ok found) read → found.1 ≡ None → dag_of read ≡ Ok (drawn found.0)
-dag_given found read opened is =
+pub dag_given : (top : List ℕ) (found : Draft × Option DagFault) (read : Result Tree DagFault) → OpensTop (Ok found) read → found.1 ≡ None → dag_of top read ≡ Ok (drawn top found.0)
+dag_given top found read opened is =
     let tree = opened.0 in
     let d = found.0 in
-    ap dag_of opened.1 ∙ ap (λ (f : Option DagFault). dag_unless f tree) (sym opened.6 ∙ is)
-    ∙ ap (λ (ns : List FlatNode). Ok (record (flat_of tree) { nodes = ns })) (sym opened.2)
-    ∙ ap (λ (ns : List FlatNode). Ok (record (flat_of tree) { nodes = d.nodes.items; final_node = first_of ns })) (sym opened.3)
-    ∙ ap (λ (es : List Edge). Ok (record (flat_of tree) { nodes = d.nodes.items; final_node = first_of d.finals.items; edges = es })) (sym opened.4)
-    ∙ ap (λ (t : Told). Ok (record { nodes = d.nodes.items; final_node = first_of d.finals.items; edges = d.edges.items; categories = t.limits; warnings = t.warnings })) (sym opened.5)
+    ap (dag_of top) opened.1 ∙ ap (λ (f : Option DagFault). dag_unless top f tree) (sym opened.6 ∙ is)
+    ∙ ap (λ (ns : List FlatNode). Ok (record (flat_of top tree) { nodes = ns })) (sym opened.2)
+    ∙ ap (λ (ns : List FlatNode). Ok (record (flat_of top tree) { nodes = d.nodes.items; final_node = first_of ns })) (sym opened.3)
+    ∙ ap (λ (es : List Edge). Ok (record (flat_of top tree) { nodes = d.nodes.items; final_node = first_of d.finals.items; edges = es })) (sym opened.4)
+    ∙ ap (λ (t : Told). Ok (record { top = top; nodes = d.nodes.items; final_node = first_of d.finals.items; edges = d.edges.items; categories = t.limits; warnings = t.warnings })) (sym opened.5)
 
 count_le : (f : Forest) → forest_count f ≤ forest_declared f
 count_le none = omega arith
@@ -55,8 +55,8 @@ tree-length t =
     ∙ ap (λ (n : ℕ). n + length (flat_map job_nodes (forest_files [] t.inner))) (own-length this)
     ∙ ap (λ (n : ℕ). own_count t.file.commands + n) (nodes-length [] t.inner)
 
-pub drawn_within : (found : Draft × Option DagFault) (read : Result Tree DagFault) → OpensTop (Ok found) read → IsFew found.0.used → IsWithin (drawn found.0)
-drawn_within found read opened few =
+pub drawn_within : (top : List ℕ) (found : Draft × Option DagFault) (read : Result Tree DagFault) → OpensTop (Ok found) read → IsFew found.0.used → IsWithin (drawn top found.0)
+drawn_within top found read opened few =
     let t = opened.0 in
     let nodes : length found.0.nodes.items ≡ tree_count t = ap (λ (ns : List FlatNode). length ns) opened.2 ∙ tree-length t in
     let used : found.0.used.nodes ≡ (0 + (own_count t.file.commands + length (finals_in t.file.commands))) + forest_declared t.inner = ap (λ (u : Used). u.nodes) opened.7 in

@@ -6,9 +6,10 @@ use Rattle.splices.specs.declared.flat.Edge.{Edge}
 use Rattle.splices.specs.declared.flat.CategoryLimit.{CategoryLimit}
 use Rattle.splices.specs.declared.flat.DagWarning.{DagWarning}
 
--- the ordinary nodes in plan order, the FINAL node, the pairs of parents and children by their numbers, each
+-- the path of the file that was opened first, the ordinary nodes in plan order, the FINAL node, the pairs of parents and children by their numbers, each
 -- category that has a MAXJOBS, and what the user is told
 pub record Dag : Type 0 where
+  pub top : List ℕ
   pub nodes : List FlatNode
   pub final_node : Option FlatNode
   pub edges : List Edge

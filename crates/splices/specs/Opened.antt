@@ -18,8 +18,9 @@ nothing_told = record { limits = []; warnings = [] }
 
 -- Plan order: the nodes of a file's JOB lines, then those of its splices in the order of the SPLICE lines. The FINAL node
 -- is that of the top file. Limits and warnings come in the order of opening.
-abbrev pub flat_of : Tree → Dag
-flat_of tree = record {
+abbrev pub flat_of : List ℕ → Tree → Dag
+flat_of top tree = record {
+  top = top;
   nodes = flat_map job_nodes (tree_files [] tree);
   final_node = first_of (flat_map final_nodes (tree_files [] tree));
   edges = tree_edges 0 tree;
@@ -28,13 +29,13 @@ flat_of tree = record {
 }
 
 -- once all files are open, the first name in them that can't stand where it does is the fault
-abbrev pub dag_unless : Option DagFault → Tree → Result Dag DagFault
-dag_unless None tree = Ok (flat_of tree)
-dag_unless (Some fault) tree = Err fault
+abbrev pub dag_unless : List ℕ → Option DagFault → Tree → Result Dag DagFault
+dag_unless top None tree = Ok (flat_of top tree)
+dag_unless top (Some fault) tree = Err fault
 
-abbrev pub dag_of : Result Tree DagFault → Result Dag DagFault
-dag_of read = read >>= λ tree. dag_unless (files_fault (tree_files [] tree)) tree
+abbrev pub dag_of : List ℕ → Result Tree DagFault → Result Dag DagFault
+dag_of top read = read >>= λ tree. dag_unless top (files_fault (tree_files [] tree)) tree
 
 -- the DAG of the file with this path, or the first fault
 unfoldable pub dag_at : Files → List ℕ → Result Dag DagFault
-dag_at files top = dag_of (opened_at files top)
+dag_at files top = dag_of top (opened_at files top)

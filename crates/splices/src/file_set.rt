@@ -4,12 +4,13 @@ ghost use Rattle.std.specs.Prelude.{◌≡◌, ◌≢◌, ℕ, List, None, Some,
 ghost use Rattle.std.specs.Option.{option_map};
 
 use std::alloc::{AllocError, Global};
-use std::collections::HashMap;
+use std::collections::BTreeMap;
+use std::collections::btree_map::Iter;
 
-/// Files by their names.
+/// Files by their names, in the order of the bytes of the names.
 #[derive(Drop)]
 pub struct FileSet {
-    files: HashMap<String, Vec<u8>>,
+    files: BTreeMap<String, Vec<u8>>,
 }
 
 impl FileSet {
@@ -19,7 +20,7 @@ impl FileSet {
         ensures { (name : List ℕ) → bytes_of result name ≡ None }
     {
         FileSet {
-            files: HashMap::new(alloc),
+            files: BTreeMap::new(alloc),
         }
     }
 
@@ -43,5 +44,12 @@ impl FileSet {
             Some(bytes) => Some(bytes.as_slice()),
             None => None,
         }
+    }
+
+    /// The names and the files, in the order of the bytes of the names.
+    pub fn iter(&self) -> Iter<'_, String, Vec<u8>>
+        ensures { result ≡ self.now.files.entries }
+    {
+        self.files.iter()
     }
 }

@@ -183,6 +183,7 @@ impl fmt::Display for DagWarning {
 /// has the next number.
 #[derive(Debug, Drop)]
 pub struct FlatDag {
+    top: Text,
     nodes: Vec<FlatNode>,
     final_node: Option<FlatNode>,
     edges: Vec<Edge>,
@@ -195,9 +196,9 @@ impl Model for FlatDag {
 
     ghost Value = { Dag };
 
-    ghost view = { λ d. record { nodes = d.nodes.items; final_node = d.final_node; edges = d.edges.items; categories = d.categories.items; warnings = d.warnings.items } };
+    ghost view = { λ d. record { top = d.top; nodes = d.nodes.items; final_node = d.final_node; edges = d.edges.items; categories = d.categories.items; warnings = d.warnings.items } };
 
-    ghost invariant = { λ d. IsWithin (record { nodes = d.nodes.items; final_node = d.final_node; edges = d.edges.items; categories = d.categories.items; warnings = d.warnings.items }) };
+    ghost invariant = { λ d. IsWithin (record { top = d.top; nodes = d.nodes.items; final_node = d.final_node; edges = d.edges.items; categories = d.categories.items; warnings = d.warnings.items }) };
 }
 
 impl FlatDag {
@@ -207,22 +208,31 @@ impl FlatDag {
     ghost use Rattle.splices.specs.Dag.{IsBelow, IsWithin};
 
     pub(crate) fn new(
+        top: Text,
         nodes: Vec<FlatNode>,
         final_node: Option<FlatNode>,
         edges: Vec<Edge>,
         categories: Vec<CategoryLimit>,
         warnings: Vec<DagWarning>,
     ) -> FlatDag
-        requires { IsWithin (record { nodes = nodes.items; final_node = final_node; edges = edges.items; categories = categories.items; warnings = warnings.items }) }
-        ensures { result ≡ record { nodes = nodes.items; final_node = final_node; edges = edges.items; categories = categories.items; warnings = warnings.items } }
+        requires { IsWithin (record { top = top; nodes = nodes.items; final_node = final_node; edges = edges.items; categories = categories.items; warnings = warnings.items }) }
+        ensures { result ≡ record { top = top; nodes = nodes.items; final_node = final_node; edges = edges.items; categories = categories.items; warnings = warnings.items } }
     {
         FlatDag {
+            top,
             nodes,
             final_node,
             edges,
             categories,
             warnings,
         }
+    }
+
+    /// The path of the file that was opened first, as it was handed in.
+    pub fn top(&self) -> &str
+        ensures { result.now ≡ self.now.top }
+    {
+        self.top.as_str()
     }
 
     /// The ordinary nodes in plan order, at most 4,096.

@@ -86,7 +86,7 @@ pub fn open_dag(alloc: Global, files: &FileSet, top: &str) -> Result<FlatDag, Sp
     let (draft, fault) = open_top(alloc, files, DEEPEST, top)?;
     match fault {
         Some(fault) => Err(SpliceFault::Dag(fault)),
-        None => Ok(draft.into_dag()),
+        None => Ok(draft.into_dag(Text::new(alloc, top)?)),
     }
 }
 
@@ -435,10 +435,10 @@ fn open_splice(
 }
 
 impl Draft {
-    /// The flat DAG of the draft.
-    fn into_dag(self) -> FlatDag
-        requires { IsWithin (record { nodes = self.nodes.items; final_node = first_of self.finals.items; edges = self.edges.items; categories = self.told.limits; warnings = self.told.warnings }) }
-        ensures { result ≡ record { nodes = self.nodes.items; final_node = first_of self.finals.items; edges = self.edges.items; categories = self.told.limits; warnings = self.told.warnings } }
+    /// The flat DAG of the draft, whose top file has this path.
+    fn into_dag(self, top: Text) -> FlatDag
+        requires { IsWithin (record { top = top; nodes = self.nodes.items; final_node = first_of self.finals.items; edges = self.edges.items; categories = self.told.limits; warnings = self.told.warnings }) }
+        ensures { result ≡ record { top = top; nodes = self.nodes.items; final_node = first_of self.finals.items; edges = self.edges.items; categories = self.told.limits; warnings = self.told.warnings } }
     {
         let mut finals = self.finals;
         let final_node = if finals.is_empty() {
@@ -447,6 +447,8 @@ impl Draft {
             Some(finals.swap_remove(0))
         };
         let (categories, warnings) = self.told.into_parts();
-        FlatDag::new(self.nodes, final_node, self.edges, categories, warnings)
+        FlatDag::new(
+            top, self.nodes, final_node, self.edges, categories, warnings,
+        )
     }
 }

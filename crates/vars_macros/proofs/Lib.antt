@@ -5,8 +5,15 @@ pub mod Stack
 pub mod Tally
 pub mod Quotes
 pub mod Defined
+pub mod EventLists
 pub mod Groups
 pub mod Utf8
 pub mod Written
 pub mod WordTexts
 pub mod MacroTexts
+pub mod DigitRuns
+pub mod Decimals
+pub mod Lesser
+pub mod WordsAlike
+pub mod LaunchUnread
+pub mod ScriptUnread

@@ -1,5 +1,5 @@
 -- What is written for UTF-8 texts is UTF-8.
-use Rattle.std.proofs.Common.{◌≡◌, ◌∙◌, sym, ap, refl, subst, ℕ, suc, zero, ◌+◌, ◌≤◌, ◌<◌, Bool, true, false, cond, List, [], ◌∷◌, ◌++◌, ◌&&◌, ⊎_elim, length, arith, Option, Some, None, take, drop, get_or, unwrap_or, codes, is_none, nat_eq, map, append_assoc, Ok}
+use Rattle.std.proofs.Common.{◌≡◌, ◌∙◌, sym, ap, refl, subst, ℕ, suc, zero, ◌+◌, ◌≤◌, ◌<◌, Bool, true, false, cond, List, [], ◌∷◌, ◌++◌, ◌&&◌, ⊎_elim, length, arith, Option, Some, None, take, drop, get_or, unwrap_or, codes, is_none, nat_eq, append_assoc, Ok}
 use Rattle.std.proofs.lemmas.Bool.{cases_Bool, eqb-true}
 use Rattle.std.proofs.lemmas.List.Quantifiers.{position-Some}
 use Rattle.std.proofs.lemmas.Str.{IsUtf8-nil, IsUtf8-append}
@@ -9,12 +9,13 @@ use Rattle.vars_macros.specs.Cut.{Piece, End, Plain, Reference, Bad, first_piece
 use Rattle.vars_macros.specs.Meaning.{Scope, Meaning, Fixed, Value, stands_for, unassigned, assigned_or, last_of, last_from, is_launch, is_process}
 use Rattle.vars_macros.specs.Scopes.{IsTextScope}
 use Rattle.vars_macros.specs.Texts.{AreTexts}
-use Rattle.vars_macros.specs.Expansion.{Event, Wrote, Replaced, Refused, room, events, piece_events, reference_events, meaning_events, value_events, Expansion, expansion}
+use Rattle.vars_macros.specs.Expansion.{Event, Refused, room, events, piece_events, reference_events, meaning_events, value_events, Expansion, expansion}
 use Rattle.vars_macros.specs.Defined.{written_in, NoneRefused}
 use Rattle.vars_macros.specs.declared.assignment.Macro.{Macro}
 use Rattle.vars_macros.specs.declared.fault.MacroFault.TheVariants.{BadReference}
 use Rattle.vars_macros.proofs.Cuts.{cuts_enough, Shorter, piece_shorter, FitsIn, meaning_fits, default_shorter}
 use Rattle.vars_macros.proofs.Defined.{found}
+use Rattle.vars_macros.proofs.EventLists.{written_append, lawful_parts, written_plain}
 use Rattle.vars_macros.proofs.Utf8.{utf8_behind, one_byte, seam_before, seam_behind, moved}
 
 -- Pieces.
@@ -112,23 +113,6 @@ meaning_text s vars name default texts u =
     assigned_text (last_of s.assigned name) (unassigned s vars name default) (last_text None s.assigned name tt texts.assigned)
     (decided P (same_name name (codes "JOB")) _ _ (λ _. texts.job) (λ _.
     decided P (same_name name (codes "RETRY")) (Fixed false s.retry) (Value vars (unwrap_or default [])) (λ _. texts.retry) (λ _. u)))))))
-
--- What is written.
-written_append : (xs ys : List Event) → written_in (xs ++ ys) ≡ written_in xs ++ written_in ys
-written_append [] ys = refl
-written_append (Wrote b ∷ xs) ys = ap (λ (bs : List ℕ). b ∷ bs) (written_append xs ys)
-written_append (Replaced whole ∷ xs) ys = written_append xs ys
-written_append (Refused fault ∷ xs) ys = written_append xs ys
-
-lawful_parts : (xs ys : List Event) → NoneRefused (xs ++ ys) → NoneRefused xs × NoneRefused ys
-lawful_parts [] ys h = (tt, h)
-lawful_parts (Wrote b ∷ xs) ys h = lawful_parts xs ys h
-lawful_parts (Replaced whole ∷ xs) ys h = lawful_parts xs ys h
-lawful_parts (Refused fault ∷ xs) ys h = absurd h
-
-written_plain : (bs : List ℕ) → written_in (map Wrote bs) ≡ bs
-written_plain [] = refl
-written_plain (b ∷ bs) = ap (λ (xs : List ℕ). b ∷ xs) (written_plain bs)
 
 -- what is written for a text, behind the bytes p of a character of which the text may have the others
 abbrev IsWritten : List ℕ → List ℕ → List Event → Type 0

@@ -13,3 +13,4 @@ pub mod Gathered
 pub mod Defined
 pub mod Script
 pub mod Quoting
+pub mod Numbers

@@ -1,7 +1,8 @@
 //! What names stand for.
 
-ghost use Rattle.std.specs.Prelude.{◌≡◌, ◌++◌, ◌∷◌, [], true, IfOk, OnOk, OnErr};
+ghost use Rattle.std.specs.Prelude.{◌≡◌, ◌++◌, ◌∷◌, [], true, IfOk, IfErr, OnOk, OnErr};
 ghost use Rattle.vars_macros.specs.Texts.{are_texts};
+ghost use Rattle.vars_macros.specs.declared.fault.MacroFault.TheVariants.{Memory};
 
 use crate::assignment::Macro;
 use crate::fault::MacroFault;
@@ -25,6 +26,7 @@ impl Macros {
     pub fn new(alloc: Global, job: &str) -> Result<Macros, MacroFault>
         ensures assigned { IfOk result (λ m. m.assigned.items ≡ []) }
         ensures job { IfOk result (λ m. m.job ≡ job.now) }
+        ensures fault { IfErr result (λ fault. fault ≡ Memory) }
     {
         let job = Text::new(alloc, job)?;
         Ok(Macros {
@@ -50,6 +52,7 @@ impl Macros {
         ensures ok { OnOk result (self.new.assigned.items ≡ self.old.assigned.items ++ record { name = name.now; value = value.now; vars = vars } ∷ []) }
         ensures err { OnErr result (self.new.assigned.items ≡ self.old.assigned.items) }
         ensures job { self.new.job ≡ self.old.job }
+        ensures fault { IfErr result (λ fault. fault ≡ Memory) }
     {
         let name = Text::new(alloc, name)?;
         let value = Text::new(alloc, value)?;

@@ -7,6 +7,7 @@ ghost use Rattle.vars_macros.specs.Scopes.{scope_seen, meaning_of};
 
 use crate::assignment::Macro;
 use crate::cut::same_name;
+use crate::macros::Macros;
 
 /// The assignments in order, and the texts of the names that need none.
 #[derive(Clone, Copy)]
@@ -122,4 +123,13 @@ fn last_of<'a>(assigned: &'a [Macro], name: &[u8]) -> Option<&'a Macro>
         }
     }
     found
+}
+
+impl Macros {
+    /// The last assignment of a name, in any case of ASCII letters.
+    pub fn last(&self, name: &str) -> Option<&Macro>
+        ensures { option_copied result ≡ last_of self.now.assigned.items name.now }
+    {
+        last_of(self.assigned.as_slice(), name.as_bytes())
+    }
 }

@@ -6,6 +6,7 @@ use Rattle.sched_core.specs.Rounds.{is_marked}
 use Rattle.node_machine.specs.declared.Outcome.TheVariants.{Exit}
 use Rattle.node_machine.specs.Story.{story, attempts_after, next_after, is_good_after, value_after}
 use Rattle.sched_core.specs.Run.{is_aborted, is_ready, is_final_ready, may_launch, may_follow}
+use Rattle.run_plan.specs.Commands.{is_sound, uses_whole_run}
 use Rattle.sched_core.proofs.Namesakes.{b-agrees}
 use Rattle.sched_core.proofs.examples.examples.Goals as goal
 
@@ -70,3 +71,11 @@ returns-clause-two_rounds c = (
   refl,
   ((refl, inr (take 3 (run_to (Exit 1) 1), refl), refl, tt), record { finished = refl; calm = refl; outcomes = (λ h. refl, tt) }),
 )
+
+pub returns-clause-noop_sound : goal.returns-clause-noop_sound
+unfolding is_sound
+returns-clause-noop_sound c = refl
+
+pub returns-clause-noop_plain : goal.returns-clause-noop_plain
+unfolding uses_whole_run
+returns-clause-noop_plain c = refl

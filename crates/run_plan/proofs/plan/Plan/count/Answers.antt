@@ -1,12 +1,11 @@
-use Rattle.std.proofs.Common.{◌≡◌, ◌∙◌, ◌≤◌, length, ap, subst, arith}
+use Rattle.std.proofs.Common.{◌≡◌, ◌≤◌, length, subst, arith}
 use Rattle.splices.specs.Dag.{Dag}
-use Rattle.run_plan.specs.Plan.{Plan}
-use Rattle.run_plan.proofs.PlanFacts.{count-is}
+use Rattle.run_plan.proofs.PlanFacts.{planned-count}
 use Rattle.run_plan.proofs.plan.Plan.count.Goals as goal
 
 few : (c : goal.After-len) → length c.self.inside.nodes.items ≤ 4096
 few c =
-    let same : length c.self.inside.nodes.items ≡ length c.self.inside.graph.dag.nodes = ap (λ (p : Plan). length p.nodes) c.self.invariant.0 ∙ count-is c.self.inside.graph in
+    let same : length c.self.inside.nodes.items ≡ length c.self.inside.graph.dag.nodes = planned-count _ c.self.invariant.0 in
     let most : length c.self.inside.graph.dag.nodes ≤ 4096 = subst (λ (d : Dag). length d.nodes ≤ 4096) c.flat.ensures c.nodes.ensures.few in
     omega arith
 

@@ -1,0 +1,177 @@
+//! Rescue files: what is written, what is read, and their names.
+
+use dag_graph::Graph;
+use dag_reader::{Text, Texts};
+use rescue_file::{RescueFault, pick_number, read_rescue, rescue_name, rescue_text};
+use splices::{FileSet, open_dag};
+use std::alloc::Global;
+use std::test::Fail;
+
+/// A diamond and a FINAL node.
+const DIAMOND: &str = "JOB A a\nFINAL F f\nJOB B b\nJOB C c\nJOB D d\n\
+    PARENT A CHILD B C\nPARENT B C CHILD D\n";
+
+fn graph_of(alloc: Global, text: &str) -> Result<Graph, Fail> {
+    let mut files = FileSet::new(alloc);
+    files.add(alloc, "x.dag", text.as_bytes())?;
+    let dag = open_dag(alloc, &files, "x.dag")?;
+    Ok(Graph::build(alloc, dag)?)
+}
+
+/// The fault, with the number of its line where it has one.
+fn shown_fault(alloc: Global, fault: RescueFault) -> Result<String, Fail> {
+    match fault {
+        RescueFault::BadLine(line)
+        | RescueFault::UnknownNode(line)
+        | RescueFault::FinalDone(line) => Ok(format!(in alloc; "{fault} x.dag.rescue001:{line}")?),
+        RescueFault::NotThere(_) | RescueFault::Memory => Ok(format!(in alloc; "{fault}")?),
+    }
+}
+
+/// The marks of the diamond's nodes, and the text.
+const WRITTEN: [([bool; 4], &str); 3] = [
+    (
+        [true, true, false, false],
+        "# Rescue DAG file\n# Total number of Nodes: 4\n# Nodes premarked DONE: 2\n\n\
+        DONE A\nDONE B\n",
+    ),
+    (
+        [false, false, false, false],
+        "# Rescue DAG file\n# Total number of Nodes: 4\n# Nodes premarked DONE: 0\n\n",
+    ),
+    (
+        [true, false, true, true],
+        "# Rescue DAG file\n# Total number of Nodes: 4\n# Nodes premarked DONE: 3\n\n\
+        DONE A\nDONE C\nDONE D\n",
+    ),
+];
+
+#[test]
+fn texts(rt: HostRuntime) -> Result<(), Fail> {
+    let graph = graph_of(rt.alloc(), DIAMOND)?;
+    for (marks, due) in &WRITTEN {
+        if graph.flat().nodes().len() == marks.len() {
+            let text = rescue_text(rt.alloc(), &graph, marks)?;
+            assert_eq!(rt; text.as_str(), *due);
+        }
+    }
+    assert_eq!(rt; graph.flat().nodes().len(), 4);
+    Ok(())
+}
+
+/// The text of a rescue file of the diamond, and the numbers of the nodes or the fault.
+const READ: [(&str, &str); 18] = [
+    ("", "[]"),
+    (
+        "# Rescue DAG file\n# Total number of Nodes: 4\n# Nodes premarked DONE: 2\n\n\
+        DONE A\nDONE B\n",
+        "[0, 1]",
+    ),
+    (
+        "  # DONE Q\n\t\n\r\ndone D\ndOnE\tA \r\nDONE D",
+        "[3, 0, 3]",
+    ),
+    ("#\n\n#DONE A", "[]"),
+    ("RETRY A 1", "E1 BadLine x.dag.rescue001:1"),
+    ("DONE", "E1 BadLine x.dag.rescue001:1"),
+    ("DONE A\n\nDONE A B\n", "E1 BadLine x.dag.rescue001:3"),
+    ("DONE A # B", "E1 BadLine x.dag.rescue001:1"),
+    ("DONE A\r", "E1 BadLine x.dag.rescue001:1"),
+    ("# bell\u{7}\n", "E1 BadLine x.dag.rescue001:1"),
+    ("A", "E1 BadLine x.dag.rescue001:1"),
+    ("DONE Q", "E2 UnknownNode x.dag.rescue001:1"),
+    ("DONE a", "E2 UnknownNode x.dag.rescue001:1"),
+    ("DONE A.B", "E2 UnknownNode x.dag.rescue001:1"),
+    ("DONE F", "E3 FinalDone x.dag.rescue001:1"),
+    ("DONE Q\nDONE F\nDONE", "E2 UnknownNode x.dag.rescue001:1"),
+    ("DONE B\nDONE F\nDONE Q", "E3 FinalDone x.dag.rescue001:2"),
+    ("DONE Q R", "E1 BadLine x.dag.rescue001:1"),
+];
+
+fn read(alloc: Global, bytes: &[u8], graph: &Graph) -> Result<String, Fail> {
+    match read_rescue(alloc, bytes, graph) {
+        Ok(nodes) => Ok(format!(in alloc; "{nodes:?}")?),
+        Err(fault) => shown_fault(alloc, fault),
+    }
+}
+
+#[test]
+fn lines(rt: HostRuntime) -> Result<(), Fail> {
+    let graph = graph_of(rt.alloc(), DIAMOND)?;
+    for (text, due) in &READ {
+        let got = read(rt.alloc(), text.as_bytes(), &graph)?;
+        assert!(rt; got.as_str() == *due, "{text}: {got}");
+    }
+    let got = read(rt.alloc(), b"# \xff\n", &graph)?;
+    assert_eq!(rt; got.as_str(), "E1 BadLine x.dag.rescue001:1");
+    Ok(())
+}
+
+/// A splice's nodes go by their full names.
+#[test]
+fn full_names(rt: HostRuntime) -> Result<(), Fail> {
+    let alloc = rt.alloc();
+    let mut files = FileSet::new(alloc);
+    files.add(alloc, "x.dag", b"SPLICE Y y.dag\nJOB A a\n")?;
+    files.add(alloc, "y.dag", b"JOB A a\nJOB B b\n")?;
+    let graph = Graph::build(alloc, open_dag(alloc, &files, "x.dag")?)?;
+    let got = read(alloc, b"DONE Y+B\nDONE A\nDONE Y+A\n", &graph)?;
+    assert_eq!(rt; got.as_str(), "[2, 0, 1]");
+    let got = read(alloc, b"DONE B\n", &graph)?;
+    assert_eq!(rt; got.as_str(), "E2 UnknownNode x.dag.rescue001:1");
+    Ok(())
+}
+
+const NAMES: [(u16, &str); 8] = [
+    (1, "x.dag.rescue001"),
+    (7, "x.dag.rescue007"),
+    (10, "x.dag.rescue010"),
+    (340, "x.dag.rescue340"),
+    (999, "x.dag.rescue999"),
+    (0, "E4 NotThere 0"),
+    (1000, "E4 NotThere 1000"),
+    (65_535, "E4 NotThere 65535"),
+];
+
+#[test]
+fn names(rt: HostRuntime) -> Result<(), Fail> {
+    for (number, due) in &NAMES {
+        let got = match rescue_name(rt.alloc(), "x.dag", *number) {
+            Ok(name) => format!(in rt.alloc(); "{name}")?,
+            Err(fault) => shown_fault(rt.alloc(), fault)?,
+        };
+        assert_eq!(rt; got.as_str(), *due);
+    }
+    let memory = RescueFault::Memory;
+    let told = format!(in rt.alloc(); "{memory}")?;
+    assert_eq!(rt; told.as_str(), "E5 Memory");
+    Ok(())
+}
+
+/// Names with a bar between two, and the highest number of a rescue file of x.dag among them.
+const PICKED: [(&str, u16); 8] = [
+    ("", 0),
+    ("x.dag.rescue002|x.dag.rescue010", 10),
+    ("x.dag.rescue010|x.dag|x.dag.rescue002", 10),
+    ("x.dag.rescue999|x.dag.rescue998", 999),
+    ("x.dag.rescue000", 0),
+    ("x.dag.rescue11|x.dag.rescue0012|x.dag.rescue", 0),
+    ("y.dag.rescue003|xx.dag.rescue004|d/x.dag.rescue005", 0),
+    (
+        "x.dag.rescue1a1|x.dag.rescue+11|x.dag.rescue001.bak|x.dag.RESCUE009",
+        0,
+    ),
+];
+
+#[test]
+fn picked_numbers(rt: HostRuntime) -> Result<(), Fail> {
+    for (list, due) in &PICKED {
+        let mut names = Texts::new(rt.alloc());
+        for name in list.split('|') {
+            names.push(Text::new(rt.alloc(), name)?)?;
+        }
+        let got = pick_number(names.as_slice(), "x.dag");
+        assert!(rt; got == *due, "{list}: {got}");
+    }
+    Ok(())
+}

@@ -1,0 +1,10 @@
+pub mod LineReadings
+pub mod FileReadings
+pub mod Digits
+pub mod DoneLines
+pub mod WrittenLines
+pub mod ReadBack
+pub mod PlainWords
+pub mod PlainNames
+pub mod FullNames
+pub mod OpenedNames

@@ -1,0 +1,80 @@
+-- Reading a rescue file line by line, up to the first fault.
+use Rattle.std.specs.Prelude.{◌≡◌, ℕ, ◌+◌, List, [], ◌∷◌, ◌++◌, length, Option, Some, None, Result, Ok, Err, nat_lt, codes, if◌then◌else◌}
+use Rattle.std.specs.Option.{option_to_list}
+use Rattle.std.specs.Str.Lines.{lines}
+use Rattle.dag_reader.specs.declared.fault.LineFault.{LineFault}
+use Rattle.dag_reader.specs.Word.{PlacedText}
+use Rattle.dag_reader.specs.Words.{words}
+use Rattle.dag_reader.specs.Keywords.{is_keyword, is_comment}
+use Rattle.dag_reader.specs.Reading.{text_of}
+use Rattle.splices.specs.Dag.{Dag}
+use Rattle.rescue_file.specs.Grammar.{number_of}
+pub use Rattle.rescue_file.specs.Results.{◌>>=◌}
+use Rattle.rescue_file.specs.declared.fault.RescueFault.{RescueFault}
+use Rattle.rescue_file.specs.declared.fault.RescueFault.TheVariants.{BadLine, UnknownNode, FinalDone, NotThere, Memory}
+
+-- the name behind the keyword DONE, if it is the last word
+abbrev pub last_name : List PlacedText → Option (List ℕ)
+last_name [] = None
+last_name (name ∷ []) = Some name.text
+last_name (name ∷ w ∷ ws) = None
+
+unfoldable pub name_behind : PlacedText → List PlacedText → Option (List ℕ)
+name_behind keyword ws = if is_keyword (codes "DONE") keyword then last_name ws else None
+
+-- a line that isn't silent has to say a name
+abbrev pub or_bad : ℕ → Option (List ℕ) → Result (Option (List ℕ)) RescueFault
+or_bad number None = Err (BadLine number)
+or_bad number (Some name) = Ok (Some name)
+
+abbrev pub words_say : ℕ → List PlacedText → Result (Option (List ℕ)) RescueFault
+words_say number [] = Ok None
+words_say number (first ∷ ws) = if is_comment first then Ok None else or_bad number (name_behind first ws)
+
+abbrev pub text_says : ℕ → Result (List ℕ) LineFault → Result (Option (List ℕ)) RescueFault
+text_says number (Ok text) = words_say number (words number 0 text)
+text_says number (Err fault) = Err (BadLine number)
+
+-- the name that a line says, if it says one
+unfoldable pub name_at : ℕ → List ℕ → Result (Option (List ℕ)) RescueFault
+name_at number bytes = text_says number (text_of number bytes)
+
+-- the node with this number, which has to be an ordinary one
+abbrev pub ordinary_of : Dag → ℕ → Option ℕ → Result ℕ RescueFault
+ordinary_of dag number None = Err (UnknownNode number)
+ordinary_of dag number (Some node) = if nat_lt node (length dag.nodes) then Ok node else Err (FinalDone number)
+
+abbrev pub node_of : Dag → ℕ → List ℕ → Result ℕ RescueFault
+node_of dag number name = ordinary_of dag number (number_of dag name)
+
+abbrev pub said_of : Dag → ℕ → Option (List ℕ) → Result (Option ℕ) RescueFault
+said_of dag number None = Ok None
+said_of dag number (Some name) = node_of dag number name >>= λ node. Ok (Some node)
+
+-- the ordinary node that a line says is done, if it says one
+unfoldable pub line_at : Dag → ℕ → List ℕ → Result (Option ℕ) RescueFault
+line_at dag number bytes = name_at number bytes >>= said_of dag number
+
+-- the nodes of lines, the first of which has this number
+unfoldable pub lines_at : Dag → ℕ → List (List ℕ) → Result (List ℕ) RescueFault
+lines_at dag number [] = Ok []
+lines_at dag number (line ∷ more) = do
+  first ← line_at dag number line
+  others ← lines_at dag (number + 1) more
+  Ok (option_to_list first ++ others)
+
+-- the nodes of a rescue file, or its first fault
+abbrev pub rescued_of : Dag → List ℕ → Result (List ℕ) RescueFault
+rescued_of dag bytes = lines_at dag 1 (lines bytes)
+
+-- What a function returned, seen by view, is this answer, unless memory ran out.
+abbrev pub Fails : {Y : Type 0} → RescueFault → Result Y RescueFault → Type 0
+Fails (BadLine number) answer = answer ≡ Err (BadLine number)
+Fails (UnknownNode number) answer = answer ≡ Err (UnknownNode number)
+Fails (FinalDone number) answer = answer ≡ Err (FinalDone number)
+Fails (NotThere number) answer = answer ≡ Err (NotThere number)
+Fails Memory answer = Unit {0}
+
+abbrev pub Gives : {X Y : Type 0} → (X → Y) → Result X RescueFault → Result Y RescueFault → Type 0
+Gives view (Ok x) answer = answer ≡ Ok (view x)
+Gives view (Err fault) answer = Fails fault answer

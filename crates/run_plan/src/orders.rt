@@ -1,0 +1,128 @@
+//! What the children of a node are started by.
+
+ghost use Rattle.std.specs.Prelude.{◌≡◌, ◌∷◌, IfOk, [], None};
+ghost use Rattle.run_plan.specs.Plan.{no_orders};
+ghost use Rattle.run_plan.specs.Specs.{script_of, orders_of};
+
+use dag_reader::{Text, Texts};
+use splices::{FlatNode, ScriptSetting};
+use std::alloc::{AllocError, Global};
+use std::marker::Model;
+use vars_macros::Macros;
+
+/// Where the command of a job comes from: a program alone, where no submit file is read, or what is
+/// assigned to names.
+#[derive(Debug, Drop)]
+pub(crate) enum Source {
+    Program(Text),
+    Described(Macros),
+}
+
+/// What a job is started by.
+#[derive(Debug, Drop)]
+pub(crate) struct Job {
+    pub(crate) source: Source,
+}
+
+impl Model for Job {
+    ghost use Rattle.run_plan.specs.Jobs.{job_of};
+    ghost use Rattle.run_plan.specs.Plan.{Job as JobValue};
+
+    ghost Value = { JobValue };
+
+    ghost view = { λ job. job_of job.source };
+}
+
+/// What the children of a node are started by: its folder, the words of its scripts, of which the
+/// first is the program, and its job.
+#[derive(Debug, Drop)]
+pub(crate) struct Orders {
+    folder: Text,
+    pre: Option<Texts>,
+    post: Option<Texts>,
+    job: Job,
+}
+
+impl Model for Orders {
+    ghost use Rattle.run_plan.specs.Plan.{Orders as OrdersValue};
+
+    ghost Value = { OrdersValue };
+
+    ghost view = { λ o. record { folder = o.folder; pre = o.pre; post = o.post; job = o.job } };
+}
+
+impl Orders {
+    /// Those of a node with this job.
+    pub(crate) fn new(alloc: Global, node: &FlatNode, job: Job) -> Result<Orders, AllocError>
+        ensures { IfOk result (λ orders. orders ≡ orders_of job node.now) }
+    {
+        Ok(Orders {
+            folder: Text::new(alloc, node.folder.as_str())?,
+            pre: script_of(alloc, &node.settings.pre)?,
+            post: script_of(alloc, &node.settings.post)?,
+            job,
+        })
+    }
+
+    /// The node's folder.
+    pub(crate) fn folder(&self) -> &str
+        ensures { result.now ≡ self.now.folder }
+    {
+        self.folder.as_str()
+    }
+
+    /// The words of the PRE script.
+    pub(crate) fn pre(&self) -> &Option<Texts>
+        ensures { result.now ≡ self.now.pre }
+    {
+        &self.pre
+    }
+
+    /// The words of the POST script.
+    pub(crate) fn post(&self) -> &Option<Texts>
+        ensures { result.now ≡ self.now.post }
+    {
+        &self.post
+    }
+
+    /// The job.
+    pub(crate) fn job(&self) -> &Job
+        ensures { result.now ≡ self.now.job }
+    {
+        &self.job
+    }
+
+    /// Those of a node that there is not.
+    pub(crate) fn none(alloc: Global) -> Result<Orders, AllocError>
+        ensures { IfOk result (λ orders. orders ≡ no_orders) }
+    {
+        Ok(Orders {
+            folder: Text::new(alloc, "")?,
+            pre: None,
+            post: None,
+            job: Job {
+                source: Source::Program(Text::new(alloc, "")?),
+            },
+        })
+    }
+}
+
+fn script_of(alloc: Global, setting: &Option<ScriptSetting>) -> Result<Option<Texts>, AllocError>
+    ensures { IfOk result (λ words. words ≡ script_of setting.now) }
+{
+    match setting {
+        Some(script) => Ok(Some(words_of(alloc, script)?)),
+        None => Ok(None),
+    }
+}
+
+fn words_of(alloc: Global, script: &ScriptSetting) -> Result<Texts, AllocError>
+    ensures { IfOk result (λ words. words ≡ script.now.program ∷ script.now.arguments) }
+{
+    let mut words = Texts::new(alloc);
+    words.push(Text::new(alloc, script.program.as_str())?)?;
+    for argument in script.arguments.as_slice() {
+        words.push(Text::new(alloc, argument.as_str())?)?;
+    }
+    Ok(words)
+}

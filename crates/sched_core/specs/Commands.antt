@@ -1,0 +1,76 @@
+-- The command of each phase of a run: by the outcomes of a table, and by the records.
+use Rattle.std.specs.Prelude.{ℕ, ℤ, negsuc, Bool, not, ◌&&◌, ◌==◌, List, [], ◌∷◌, map, is_none, if◌then◌else◌}
+use Rattle.node_machine.specs.declared.Phase.{Phase}
+use Rattle.node_machine.specs.declared.Phase.TheVariants.{Pre, Job}
+use Rattle.node_machine.specs.declared.Outcome.{Outcome}
+use Rattle.node_machine.specs.declared.Key.{Key}
+use Rattle.node_machine.specs.declared.Ended.{Ended}
+use Rattle.node_machine.specs.declared.Course.{Course}
+use Rattle.node_machine.specs.Story.{Table, value_of, ends_with}
+use Rattle.run_plan.specs.declared.command.PhaseFacts.{PhaseFacts}
+use Rattle.run_plan.specs.Plan.{Plan, node_at, count_of}
+use Rattle.run_plan.specs.Commands.{CommandOrFault, command_of}
+use Rattle.sched_core.specs.declared.Record.{Record}
+use Rattle.sched_core.specs.declared.Record.TheVariants.{Life, Launch, End, Finish}
+use Rattle.sched_core.specs.Run.{table_of, next, is_done, is_aborted, is_same}
+use Rattle.sched_core.specs.Bound.{sum_below}
+
+-- what is known of an attempt whose job and PRE have these values, and nothing of the whole run
+abbrev pub plain_facts : ℤ → ℤ → PhaseFacts
+plain_facts job_value pre_value = record {
+  launch = 0;
+  job_launch = 0;
+  job_value = job_value;
+  pre_value = pre_value;
+  dag_status = 0;
+  failed = 0;
+}
+
+-- the value of PRE, where it has this outcome; -1 where the course has no PRE
+abbrev pub pre_value_of : Course → Outcome → ℤ
+pre_value_of course outcome = if course.pre then value_of outcome else negsuc 0
+
+-- what a node's outcomes say of an attempt; the job of a NOOP has the value 0
+abbrev pub facts_by : Course → (ℕ → Phase → Outcome) → ℕ → PhaseFacts
+facts_by course column attempt =
+    plain_facts (value_of (ends_with course Job (column attempt Job))) (pre_value_of course (column attempt Pre))
+
+-- the command of a phase in an attempt, read from the table
+abbrev pub command_by : Plan → Table → ℕ → ℕ → Phase → CommandOrFault
+command_by plan table node attempt phase =
+    command_of (node_at plan node) attempt phase (facts_by (node_at plan node).course (table node) attempt)
+
+-- phases of a node, each with its command
+abbrev pub with_commands : Plan → Table → ℕ → List Ended → List (Ended × CommandOrFault)
+with_commands plan table node phases = map (λ (e : Ended). (e, command_by plan table node e.attempt e.phase)) phases
+
+-- a node is not done, and no phase of it follows
+abbrev pub is_in_error : Plan → List Record → ℕ → Bool
+is_in_error plan past node = not (is_done plan past node) && is_none (next plan past node)
+
+-- how many ordinary nodes are in error
+abbrev pub failed_in : Plan → List Record → ℕ
+failed_in plan past = sum_below (λ node. if is_in_error plan past node then 1 else 0) (count_of plan)
+
+-- the state of the DAG: 3 where it was aborted, else 2 where an ordinary node is in error, else 0
+abbrev pub dag_status_in : Plan → List Record → ℕ
+dag_status_in plan past = if is_aborted plan past then 3 else if failed_in plan past == 0 then 0 else 2
+
+-- the number of the newest launch of a key; 0 where there is none
+abbrev pub newest_launch : List Record → Key → ℕ
+newest_launch [] key = 0
+newest_launch (Launch other number ∷ past) key = if is_same other key then number else newest_launch past key
+newest_launch (Life ∷ past) key = newest_launch past key
+newest_launch (End other outcome ∷ past) key = newest_launch past key
+newest_launch (Finish status ∷ past) key = newest_launch past key
+
+-- What the records say when a key is launched, its launch among them. A job that did not end has the value 0.
+abbrev pub facts_in : Plan → List Record → Key → PhaseFacts
+facts_in plan records key = record {
+  launch = newest_launch records key;
+  job_launch = newest_launch records (record key { phase = Job });
+  job_value = value_of (table_of records key.node key.attempt Job);
+  pre_value = pre_value_of (node_at plan key.node).course (table_of records key.node key.attempt Pre);
+  dag_status = dag_status_in plan records;
+  failed = failed_in plan records;
+}
