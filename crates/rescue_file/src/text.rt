@@ -1,12 +1,13 @@
 //! The text of a rescue file.
 
-ghost use Rattle.std.specs.Prelude.{◌≡◌, ◌++◌, [], if◌then◌else◌, length, map, OnOk, IfOk, IfErr, string_bytes};
+ghost use Rattle.std.specs.Prelude.{◌≡◌, ◌++◌, [], if◌then◌else◌, length, map, decimal, OnOk, IfOk, IfErr, string_bytes};
 ghost use Rattle.std.specs.List.{count_by};
 ghost use Rattle.rescue_file.specs.Written.{ordinary_names, marked, done_line, done_lines, head_text, rescue_text_of};
 ghost use Rattle.rescue_file.specs.declared.fault.RescueFault.TheVariants.{Memory};
 
 use crate::fault::RescueFault;
 use dag_graph::Graph;
+use itoa::Buffer;
 use splices::FlatNode;
 use std::alloc::{AllocError, Global};
 
@@ -47,10 +48,19 @@ fn text_of_nodes(alloc: Global, nodes: &[FlatNode], marks: &[bool]) -> Result<St
 fn push_head(text: &mut String, total: usize, done: usize) -> Result<(), AllocError>
     ensures { OnOk result (string_bytes text.new ≡ string_bytes text.old ++ head_text total done) }
 {
-    write!(
-        text,
-        "# Rescue DAG file\n# Total number of Nodes: {total}\n# Nodes premarked DONE: {done}\n\n"
-    )
+    push_count(text, "# Rescue DAG file\n# Total number of Nodes: ", total)?;
+    push_count(text, "\n# Nodes premarked DONE: ", done)?;
+    text.push_str("\n\n")?;
+    Ok(())
+}
+
+/// Adds a label and a number.
+fn push_count(text: &mut String, label: &str, count: usize) -> Result<(), AllocError>
+    ensures { OnOk result (string_bytes text.new ≡ string_bytes text.old ++ (label.now ++ decimal count)) }
+{
+    let mut digits = Buffer::new();
+    text.push_str(label)?;
+    text.push_str(digits.format(count))
 }
 
 /// How many marks stand.

@@ -17,3 +17,7 @@ pub mod Lesser
 pub mod WordsAlike
 pub mod LaunchUnread
 pub mod ScriptUnread
+pub mod Balanced
+pub mod SpelledWords
+pub mod SpelledParts
+pub mod SpelledArguments

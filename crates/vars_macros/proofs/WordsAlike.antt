@@ -183,11 +183,11 @@ ends_with c (b ∷ []) zero (Some k) long e is =
 ends_with c (b ∷ x ∷ xs) zero at long e is = absurd (omega arith)
 ends_with c (b ∷ bs) (suc n) at long e is = ap (λ (xs : List ℕ). b ∷ xs) (ends_with c bs n at (omega arith) e is)
 
-last_splits : (c : ℕ) (x : List ℕ) → is_last c x ≡ true → x ≡ take (length x - 1) x ++ c ∷ []
+pub last_splits : (c : ℕ) (x : List ℕ) → is_last c x ≡ true → x ≡ take (length x - 1) x ++ c ∷ []
 last_splits c [] is = absurd (false≢true is)
 last_splits c (b ∷ bs) is = ends_with c (b ∷ bs) (length (b ∷ bs) - 1) (slice_get (b ∷ bs) (length (b ∷ bs) - 1)) (omega arith) refl is
 
-quoted_front : (x : List ℕ) → quoted (x ++ 34 ∷ []) ≡ new_symbols false false x
+pub quoted_front : (x : List ℕ) → quoted (x ++ 34 ∷ []) ≡ new_symbols false false x
 quoted_front x =
     cond-true (is_last 34 (x ++ 34 ∷ [])) (new_symbols false false (take (length (x ++ 34 ∷ []) - 1) (x ++ 34 ∷ []))) (Broken ∷ []) (ap (is_byte 34) (last_quote x) ∙ refl)
     ∙ ap (new_symbols false false) (front_of x)
@@ -211,11 +211,11 @@ quoted_alike x y h out is = by_last (is_last 34 x) refl
         (ap (gathered no_words) (sym (cond-true (is_last 34 x) (new_symbols false false front) (Broken ∷ []) e)) ∙ is))
 
 -- Old style: what begins with no double quote.
-begins_is : (c : ℕ) (x : List ℕ) → begins_with c x ≡ true → x ≡ c ∷ drop 1 x
+pub begins_is : (c : ℕ) (x : List ℕ) → begins_with c x ≡ true → x ≡ c ∷ drop 1 x
 begins_is c [] h = absurd (false≢true h)
 begins_is c (b ∷ bs) h = ap (λ (i : ℕ). i ∷ bs) (eqb-true b c h)
 
-old_style : (x : List ℕ) → begins_with 34 x ≡ false → argument_symbols x ≡ old_symbols false x
+pub old_style : (x : List ℕ) → begins_with 34 x ≡ false → argument_symbols x ≡ old_symbols false x
 old_style [] h = refl
 old_style (b ∷ bs) h = cond-false (b == 34) (quoted bs) (old_symbols false (b ∷ bs)) h
 

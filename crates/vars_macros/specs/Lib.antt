@@ -14,3 +14,5 @@ pub mod Defined
 pub mod Script
 pub mod Quoting
 pub mod Numbers
+pub mod Balanced
+pub mod ArgumentGrammar
