@@ -3,6 +3,8 @@
 set -u
 cd -- "$(dirname -- "${BASH_SOURCE[0]}")/.." || exit 1
 dagrun=$PWD/dagrun
+# Where the program is missing or old, this call builds it and says so.
+"$dagrun" rehearse examples/diamond.dag >/dev/null || exit 1
 folder=.
 passed=0
 failed=0

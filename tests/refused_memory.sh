@@ -1,7 +1,7 @@
 #!/usr/bin/env bash
 # Refuses each allocation in turn, the first, the second, .. until none is refused.
-# - Of a rehearsal: each time the program either says on standard error that memory is out, prints nothing on standard output
-#   and ends with status 125, or gives the report.
+# - Of a rehearsal, and of a check with submit files: each time the program either says on standard error that memory is out,
+#   prints nothing on standard output and ends with status 125, or gives its answer.
 # - Of a writer of a journal: each time it says so and ends with another status than 0, or it appends its records; and then the
 #   journal, opened with ample memory, holds each record that was acknowledged.
 # usage: refused_memory.sh DAGRUN WRITER
@@ -12,18 +12,27 @@ writer=$(realpath "$2")
 work=$(mktemp -d)
 trap 'rm -rf "$work"' EXIT
 cc -shared -fPIC -O1 -o "$work/refuse.so" "$top/tests/refuse_memory.c" -ldl || exit 1
-expected=$(cat "$top/examples/diamond_one_fails.expected")
+report=$(cat "$top/examples/diamond_one_fails.expected")
 
-# rehearse PLACE: whether it went well; sets refused to 1 where the allocation of that place was refused
-rehearse() {
-    local output status
+# answer PLACE STATUS EXPECTED WORDS..: whether it went well; sets refused to 1 where the allocation of that place was refused
+answer() {
+    local place=$1 wanted=$2 expected=$3 output status
+    shift 3
     cd "$top/examples" || return 1
-    output=$(REFUSE_AT=$1 LD_PRELOAD="$work/refuse.so" "$program" rehearse diamond.dag diamond_one_fails.outcomes 2>"$work/error")
+    output=$(REFUSE_AT=$place LD_PRELOAD="$work/refuse.so" "$program" "$@" 2>"$work/error")
     status=$?
     refused=0
-    [ "$status" = 1 ] && [ "$output" = "$expected" ] && [ ! -s "$work/error" ] && return 0
+    [ "$status" = "$wanted" ] && [ "$output" = "$expected" ] && [ ! -s "$work/error" ] && return 0
     refused=1
     [ "$status" = 125 ] && [ -z "$output" ] && grep -qE 'X1 Memory|out of memory' "$work/error"
+}
+
+rehearse() {
+    answer "$1" 1 "$report" rehearse diamond.dag diamond_one_fails.outcomes
+}
+
+check() {
+    answer "$1" 0 'ok nodes=2 edges=1 final=no' check message.dag
 }
 
 # append PLACE: the same of a writer that appends eight records
@@ -61,4 +70,4 @@ each() {
     return 1
 }
 
-each rehearse && each append
+each rehearse && each check && each append
