@@ -12,7 +12,7 @@ ghost use Rattle.run_plan.specs.Plan.{node_at, count_of, has_parents_below, IsRa
 ghost use Rattle.run_plan.specs.PlanAnswers.{Gives, Fails};
 ghost use Rattle.run_plan.specs.Submitted.{plan_at, first_fault, rescued_in};
 ghost use Rattle.run_plan.specs.Specs.{specs_from, final_spec, is_marked};
-ghost use Rattle.run_plan.specs.Planned.{marked_sources};
+ghost use Rattle.run_plan.specs.Planned.{IsPlanned, marked_sources};
 
 use crate::command::{ChildCommand, PhaseFacts};
 use crate::digest::digest_of;
@@ -148,6 +148,8 @@ impl Plan {
     /// The graph that was handed in.
     pub fn graph(&self) -> &Graph
         ensures is { result.now ≡ self.now.graph }
+        // The plan is made from it, with some jobs and marks, and the texts of its jobs expand.
+        ensures made { IsPlanned self.now }
         // The plan has its ordinary nodes.
         ensures count { count_of self.now ≡ length self.now.graph.dag.nodes }
         // Its order ranks each parent below its children.
