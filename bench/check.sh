@@ -8,12 +8,7 @@
 # is 65,536: the two comparisons with it in `open_tree`, where MOST of crates/splices/src/open.rt stands, are changed in the copy
 # of the object file, which is linked anew. That copy is for these times alone and nothing of it is proved; all its other code is
 # that of the program. (What `rt try` builds is a checked program, about 200 times slower, and without a proof rt builds no other.)
-set -eu
-top=$(cd -- "$(dirname -- "${BASH_SOURCE[0]}")/.." && pwd)
-work=$(mktemp -d)
-trap 'rm -rf "$work"' EXIT
-(cd "$top/examples" && "$top/dagrun" check diamond.dag >/dev/null)
-program=$top/crates/dagrun/out/dagrun
+. "$(dirname -- "${BASH_SOURCE[0]}")/common.sh"
 
 # raised PROGRAM: links the copy with the raised bound
 raised() {
@@ -80,15 +75,6 @@ graph() {
             print "N" i ":" above[i] "\n\ttouch $@" >make
         }
     }'
-}
-
-# milliseconds COMMAND..
-milliseconds() {
-    local before after
-    before=$(date +%s%N)
-    "$@" >/dev/null
-    after=$(date +%s%N)
-    echo $(((after - before) / 1000000))
 }
 
 raised "$work/raised"

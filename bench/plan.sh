@@ -2,12 +2,7 @@
 # Times `dagrun check` of plans of 512, 1,024, 2,048 and 4,096 nodes, three rounds, in milliseconds. Each node has 20 macros, in
 # four VARS lines, and a submit file of its own whose texts use them all; six of the macros refer to others. There are no edges:
 # the time is that of reading the files and expanding the texts. Beside it stands `cat` of the same files.
-set -eu
-top=$(cd -- "$(dirname -- "${BASH_SOURCE[0]}")/.." && pwd)
-work=$(mktemp -d)
-trap 'rm -rf "$work"' EXIT
-(cd "$top/examples" && "$top/dagrun" check diamond.dag >/dev/null)
-program=$top/crates/dagrun/out/dagrun
+. "$(dirname -- "${BASH_SOURCE[0]}")/common.sh"
 sizes='512 1024 2048 4096'
 
 # plan COUNT: a folder with plan.dag and the submit files of so many nodes
@@ -32,15 +27,6 @@ plan() {
             close(submit)
         }
     }'
-}
-
-# milliseconds COMMAND..
-milliseconds() {
-    local before after
-    before=$(date +%s%N)
-    "$@" >/dev/null
-    after=$(date +%s%N)
-    echo $(((after - before) / 1000000))
 }
 
 for size in $sizes; do

@@ -1,5 +1,5 @@
 -- The plans of files.
-use Rattle.std.proofs.Common.{◌≡◌, ◌∙◌, ℕ, List, [], Bool, true, false, Option, Some, None, Result, Ok, Err, ap, sym, subst, refl, if◌then◌else◌}
+use Rattle.std.proofs.Common.{◌≡◌, ◌∙◌, ℕ, List, [], Bool, true, false, Some, None, Ok, ap, sym, subst, refl, if◌then◌else◌}
 use Rattle.splices.specs.Opening.{Files}
 use Rattle.splices.specs.Opened.{dag_at}
 use Rattle.dag_graph.specs.Graph.{Network, IsAcyclic, IsOrderOf}
@@ -12,7 +12,6 @@ use Rattle.run_plan.proofs.PlansWithoutRescue.{bare-made, built-fine, built-faul
 use Rattle.dag_main.specs.Checked.{IsCheckFault, in_plan}
 use Rattle.dag_main.specs.Refusals.{IsPlanOf, IsPlanFault}
 use Rattle.dag_main.specs.Rehearsed.{is_rehearsed}
-use Rattle.dag_main.specs.declared.fault.RunFault.{RunFault}
 use Rattle.dag_main.specs.declared.fault.RunFault.TheVariants.{InPlan, NotYet, Memory}
 
 -- a plan with no submit file read

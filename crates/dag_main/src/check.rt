@@ -2,12 +2,15 @@
 
 ghost use Rattle.std.specs.Prelude.{◌≡◌, ◌++◌, OnOk, IfOk, IfErr, string_bytes};
 ghost use Rattle.splices.specs.FileSet.{bytes_of};
+ghost use Rattle.dag_main.specs.Report.{warning_lines};
+ghost use Rattle.dag_main.specs.declared.fault.RunFault.TheVariants.{Memory};
 ghost use Rattle.dag_main.specs.Checked.{IsCheckOf, IsCheckFault, check_line, yes_or_no};
 
 use crate::fault::RunFault;
 use crate::plans::full_plan_of;
 use crate::warnings::{Answer, warning_text};
 use dag_graph::Graph;
+use run_plan::Plan;
 use splices::FileSet;
 use std::alloc::{AllocError, Global};
 
@@ -28,6 +31,16 @@ pub fn check_text(alloc: Global, files: &FileSet, path: &str) -> Result<Answer, 
     ensures refused { IfErr result (IsCheckFault (bytes_of files.now) path.now) }
 {
     let plan = full_plan_of(alloc, files, path)?;
+    answer_of(alloc, &plan)
+}
+
+/// The line of a plan, and the warnings of its files.
+fn answer_of(alloc: Global, plan: &Plan) -> Result<Answer, RunFault>
+    ensures text { IfOk result (λ answer. string_bytes answer.text ≡ check_line plan.now.graph.dag) }
+    ensures warnings { IfOk result (λ answer. string_bytes answer.warnings ≡ warning_lines plan.now.graph.dag.warnings) }
+    ensures status { IfOk result (λ answer. answer.status ≡ 0) }
+    ensures err { IfErr result (λ fault. fault ≡ Memory) }
+{
     let graph = plan.graph();
     Ok(Answer {
         text: line_of(alloc, graph)?,

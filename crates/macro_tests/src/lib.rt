@@ -2,13 +2,19 @@
 #![tactic(auto)]
 
 #[cfg(test)]
+mod commands;
+#[cfg(test)]
 mod digests;
+#[cfg(test)]
+mod looks;
 #[cfg(test)]
 mod macros;
 #[cfg(test)]
 mod plan_faults;
 #[cfg(test)]
 mod plans;
+#[cfg(test)]
+mod shown;
 #[cfg(test)]
 mod submits;
 #[cfg(test)]

@@ -1,51 +1,29 @@
 //! Words of arguments and of scripts.
 
+use crate::shown::{joined, macro_fault, same, yes_or_no};
 use dag_reader::{Text, Texts};
-use std::alloc::Global;
+use std::alloc::{AllocError, Global};
 use std::test::Fail;
 use vars_macros::{ScriptFacts, script_words, split_arguments, uses_whole_run};
 
 /// The words, a bar behind each.
-pub fn barred(alloc: Global, words: &Texts) -> Result<String, Fail> {
+pub fn barred(alloc: Global, words: &Texts) -> Result<String, AllocError> {
     let mut out = String::new(alloc);
     for word in words.as_slice() {
-        write!(&mut out, "{}|", word.as_str())?;
+        out.push_str(word.as_str())?;
+        out.push_str("|")?;
     }
     Ok(out)
 }
 
-fn split(alloc: Global, text: &str) -> Result<String, Fail> {
+fn split(alloc: Global, text: &str) -> Result<String, AllocError> {
     match split_arguments(alloc, text) {
         Ok(words) => barred(alloc, &words),
-        Err(fault) => Ok(format!(in alloc; "{fault}")?),
+        Err(fault) => macro_fault(alloc, fault),
     }
 }
 
-#[test]
-fn arguments(rt: HostRuntime) -> Result<(), Fail> {
-    let rows = [
-        (
-            "\"one 'it''s ok' \"\"x\"\" A-0 d\"",
-            "one|it's ok|\"x\"|A-0|d|",
-        ),
-        ("-x \\\"q\\\" y", "-x|\"q\"|y|"),
-        ("a 'b c'", "a|'b|c'|"),
-        ("\"a''b ''\"", "ab||"),
-        ("\"\"", ""),
-        ("", ""),
-        ("\"'''\"", "V4 BadQuote"),
-        ("\"", "V4 BadQuote"),
-        ("\"a\"b\"", "V4 BadQuote"),
-        ("\"'a\"", "V4 BadQuote"),
-    ];
-    for (text, due) in rows {
-        let got = split(rt.alloc(), text)?;
-        assert_eq!(rt; got.as_str(), due);
-    }
-    Ok(())
-}
-
-fn texts(alloc: Global, words: &[&str]) -> Result<Texts, Fail> {
+fn texts(alloc: Global, words: &[&str]) -> Result<Texts, AllocError> {
     let mut all = Texts::new(alloc);
     for word in words {
         all.push(Text::new(alloc, word)?)?;
@@ -53,7 +31,7 @@ fn texts(alloc: Global, words: &[&str]) -> Result<Texts, Fail> {
     Ok(all)
 }
 
-fn facts(alloc: Global, post: bool) -> Result<ScriptFacts, Fail> {
+fn facts(alloc: Global, post: bool) -> Result<ScriptFacts, AllocError> {
     Ok(ScriptFacts {
         name: Text::new(alloc, "Y+A")?,
         attempt: 1,
@@ -67,7 +45,7 @@ fn facts(alloc: Global, post: bool) -> Result<ScriptFacts, Fail> {
     })
 }
 
-const WORDS: [&str; 11] = [
+static WORDS: [&str; 11] = [
     "p.sh",
     "$JOB",
     "$RETRY",
@@ -81,37 +59,79 @@ const WORDS: [&str; 11] = [
     "$job",
 ];
 
-#[test]
-fn words_of_scripts(rt: HostRuntime) -> Result<(), Fail> {
-    let alloc = rt.alloc();
+/// The words of a PRE or of a POST script.
+fn words_of_script(alloc: Global, post: bool) -> Result<String, Fail> {
     let words = texts(alloc, &WORDS)?;
-    let pre = script_words(alloc, words.as_slice(), &facts(alloc, false)?)?;
-    let got = barred(alloc, &pre)?;
-    assert_eq!(rt;
-        got.as_str(),
-        "p.sh|Y+A|1|2|0|3|$RETURN|$PRE_SCRIPT_RETURN|$JOBID|x$JOB|$job|"
-    );
-    let post = script_words(alloc, words.as_slice(), &facts(alloc, true)?)?;
-    let got = barred(alloc, &post)?;
-    assert_eq!(rt; got.as_str(), "p.sh|Y+A|1|2|0|3|-9|-1|12.0|x$JOB|$job|");
-    Ok(())
+    let facts = facts(alloc, post)?;
+    let filled = script_words(alloc, words.as_slice(), &facts)?;
+    Ok(barred(alloc, &filled)?)
 }
 
+/// Whether a script with this word is known in a whole run alone.
+fn whole_run(alloc: Global, word: &str) -> Result<String, AllocError> {
+    let words = texts(alloc, &["p.sh", word])?;
+    joined(alloc, &[yes_or_no(uses_whole_run(words.as_slice()))])
+}
+
+/// What is done with a text.
+enum How {
+    /// It is split into arguments.
+    Arguments,
+    /// `WORDS` are filled in, as words of a POST script or of a PRE script.
+    Script(bool),
+    /// It is a word of a script, which may be known in a whole run alone.
+    Whole,
+}
+
+fn answer(alloc: Global, text: &str, how: &How) -> Result<String, Fail> {
+    match how {
+        How::Arguments => Ok(split(alloc, text)?),
+        How::Script(post) => words_of_script(alloc, *post),
+        How::Whole => Ok(whole_run(alloc, text)?),
+    }
+}
+
+/// Texts, and what comes of them.
+static TEXTS: [(&str, How, &str); 20] = [
+    (
+        "\"one 'it''s ok' \"\"x\"\" A-0 d\"",
+        How::Arguments,
+        "one|it's ok|\"x\"|A-0|d|",
+    ),
+    ("-x \\\"q\\\" y", How::Arguments, "-x|\"q\"|y|"),
+    ("a 'b c'", How::Arguments, "a|'b|c'|"),
+    ("\"a''b ''\"", How::Arguments, "ab||"),
+    ("\"\"", How::Arguments, ""),
+    ("", How::Arguments, ""),
+    ("\"'''\"", How::Arguments, "V4 BadQuote"),
+    ("\"", How::Arguments, "V4 BadQuote"),
+    ("\"a\"b\"", How::Arguments, "V4 BadQuote"),
+    ("\"'a\"", How::Arguments, "V4 BadQuote"),
+    (
+        "PRE",
+        How::Script(false),
+        "p.sh|Y+A|1|2|0|3|$RETURN|$PRE_SCRIPT_RETURN|$JOBID|x$JOB|$job|",
+    ),
+    (
+        "POST",
+        How::Script(true),
+        "p.sh|Y+A|1|2|0|3|-9|-1|12.0|x$JOB|$job|",
+    ),
+    ("$DAG_STATUS", How::Whole, "yes"),
+    ("$FAILED_COUNT", How::Whole, "yes"),
+    ("$JOBID", How::Whole, "yes"),
+    ("$(Cluster)", How::Whole, "yes"),
+    ("$(ClusterId)", How::Whole, "yes"),
+    ("$(cluster)", How::Whole, "no"),
+    ("$RETURN", How::Whole, "no"),
+    ("x$JOBID", How::Whole, "no"),
+];
+
 #[test]
-fn whole_run_words(rt: HostRuntime) -> Result<(), Fail> {
-    let rows = [
-        ("$DAG_STATUS", true),
-        ("$FAILED_COUNT", true),
-        ("$JOBID", true),
-        ("$(Cluster)", true),
-        ("$(ClusterId)", true),
-        ("$(cluster)", false),
-        ("$RETURN", false),
-        ("x$JOBID", false),
-    ];
-    for (word, due) in rows {
-        let words = texts(rt.alloc(), &["p.sh", word])?;
-        assert_eq!(rt; uses_whole_run(words.as_slice()), due);
+fn arguments_and_scripts(rt: HostRuntime) -> Result<(), Fail> {
+    for (text, how, due) in &TEXTS {
+        let told = answer(rt.alloc(), text, how)?;
+        same(&rt, text, told.as_str(), due);
     }
     Ok(())
 }

@@ -5,4 +5,4 @@ use Rattle.run_plan.specs.declared.orders.Source.TheVariants.{Program, Described
 
 abbrev pub job_of : Source → plans.Job
 job_of (Program file) = plans.Program file
-job_of (Described macros) = plans.Described macros.job macros.assigned.items
+job_of (Described macros) = plans.Described macros.job macros.assigned

@@ -66,7 +66,7 @@ fn value_at(
 ) -> Result<Option<Expanded>, MacroFault>
     ensures { expanding.Gives (option_map expansion_of) result (value_at (scope_of macros.now attempt) name.now) }
 {
-    match macros.last(name) {
+    match macros.last(alloc, name)? {
         Some(found) => Ok(Some(expanded(alloc, macros, attempt, found)?)),
         None => Ok(None),
     }

@@ -87,7 +87,7 @@ fn in_submit(alloc: Global, path: &str, fault: SubmitFault) -> PlanFault
 /// What is assigned to the names of a job, in the order in which it counts.
 fn macros_of(alloc: Global, node: &FlatNode, submit: &Submit) -> Result<Macros, MacroFault>
     ensures ok { IfOk result (λ m. (m.job ≡ node.now.name)
-        × (m.assigned.items ≡ assigned_to node.now.settings.macros submit.now.assigned.items)) }
+        × (m.assigned ≡ assigned_to node.now.settings.macros submit.now.assigned.items)) }
     ensures err { IfErr result (λ fault. fault ≡ macro.Memory) }
 {
     let mut macros = Macros::new(alloc, node.name.as_str())?;
@@ -104,7 +104,7 @@ fn assign_settings(
     placement: Placement,
     macros: &mut Macros,
 ) -> Result<(), MacroFault>
-    ensures ok { OnOk result (macros.new.assigned.items ≡ macros.old.assigned.items
+    ensures ok { OnOk result (macros.new.assigned ≡ macros.old.assigned
         ++ map macro_of_setting (filter (has_placement placement) settings.now)) }
     ensures job { macros.new.job ≡ macros.old.job }
     ensures err { IfErr result (λ fault. fault ≡ macro.Memory) }
@@ -122,7 +122,7 @@ fn assign_submitted(
     assignments: &[Assignment],
     macros: &mut Macros,
 ) -> Result<(), MacroFault>
-    ensures ok { OnOk result (macros.new.assigned.items ≡ macros.old.assigned.items ++ map macro_of_assignment assignments.now) }
+    ensures ok { OnOk result (macros.new.assigned ≡ macros.old.assigned ++ map macro_of_assignment assignments.now) }
     ensures job { macros.new.job ≡ macros.old.job }
     ensures err { IfErr result (λ fault. fault ≡ macro.Memory) }
 {

@@ -7,10 +7,10 @@ use Rattle.vars_macros.specs.Cut.{Piece, End, Plain, Reference, Bad, closing_fro
 use Rattle.vars_macros.specs.declared.fault.MacroFault.TheVariants.{Unclosed, BadReference}
 
 -- One step towards the parenthesis that closes: over another byte, and over what closes one of the text's own.
-steps_over : (at depth b : ℕ) (bs : List ℕ) → nat_eq b 40 ≡ false → nat_eq b 41 ≡ false → closing_from at depth (b ∷ bs) ≡ closing_from (at + 1) depth bs
+pub steps_over : (at depth b : ℕ) (bs : List ℕ) → nat_eq b 40 ≡ false → nat_eq b 41 ≡ false → closing_from at depth (b ∷ bs) ≡ closing_from (at + 1) depth bs
 steps_over at depth b bs opens closes = rw (opens, closes) refl
 
-steps_out : (at depth : ℕ) (bs : List ℕ) → closing_from at (depth + 1) (41 ∷ bs) ≡ closing_from (at + 1) depth bs
+pub steps_out : (at depth : ℕ) (bs : List ℕ) → closing_from at (depth + 1) (41 ∷ bs) ≡ closing_from (at + 1) depth bs
 steps_out at depth bs =
     let deep : nat_eq (depth + 1) 0 ≡ false = ne_eqb (depth + 1) 0 (λ e. omega arith) in
     let less : depth + 1 - 1 ≡ depth = omega arith in

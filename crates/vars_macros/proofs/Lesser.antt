@@ -2,21 +2,20 @@
 use Rattle.std.proofs.Common.{◌≡◌, ◌∙◌, sym, ap, refl, subst, ℕ, zero, suc, ◌+◌, ◌≤◌, Bool, true, false, ◌||◌, ◌&&◌, cond, List, [], ◌∷◌, ◌++◌, map, length, arith, Option, Some, None, unwrap_or, is_none, codes, Ok, length-append}
 use Rattle.vars_macros.specs.Names.{same_name, is_open, is_lawful}
 use Rattle.vars_macros.specs.Cut.{Piece, End, Plain, Reference, Bad, first_piece, name_of, default_of}
-use Rattle.vars_macros.specs.Meaning.{Scope, scope_of, Meaning, Fixed, Value, stands_for, assigned_or, last_of, is_launch, is_process}
+use Rattle.vars_macros.specs.Meaning.{NodeMacros, Scope, scope_of, Meaning, Fixed, Value, stands_for, assigned_or, last_of, is_launch, is_process}
 use Rattle.vars_macros.specs.Expansion.{Event, Wrote, Replaced, Refused, Expander, Expansion, expansion, room, events, events_within, piece_events, reference_events, meaning_events, value_events}
 use Rattle.vars_macros.specs.Defined.{written_in, replaced_in, whole_in, NoneRefused, IsExpansion}
 use Rattle.vars_macros.specs.Numbers.{DifferInNumbers, byte, IsNoLongerNumber, HasLesserNumbers, IsLesserExpansion}
 use Rattle.vars_macros.specs.declared.assignment.Macro.{Macro}
 use Rattle.vars_macros.specs.declared.expanding.Attempt.{Attempt}
 use Rattle.vars_macros.specs.declared.fault.MacroFault.TheVariants.{Loop, BadReference}
-use Rattle.vars_macros.specs.declared.macros.Macros.{Macros}
 use Rattle.vars_macros.proofs.Decimals.{decimal_no_longer}
 use Rattle.vars_macros.proofs.Defined.{found, only}
 use Rattle.vars_macros.proofs.DigitRuns.{same_text, joined, number_pair}
 use Rattle.vars_macros.proofs.EventLists.{written_append, replaced_append, whole_append, lawful_parts, lawful_append, written_plain, replaced_plain, whole_plain, lawful_plain}
 
 -- Scopes of two attempts of a node.
-pub lesser_scope : (macros : Macros) (small big : Attempt) → small.retry ≤ big.retry → small.launch ≤ big.launch → HasLesserNumbers (scope_of macros small) (scope_of macros big)
+pub lesser_scope : (macros : NodeMacros) (small big : Attempt) → small.retry ≤ big.retry → small.launch ≤ big.launch → HasLesserNumbers (scope_of macros small) (scope_of macros big)
 lesser_scope macros small big retry launch =
     record { assigned = refl; job = refl; retry = decimal_no_longer small.retry big.retry retry; launch = decimal_no_longer small.launch big.launch launch }
 

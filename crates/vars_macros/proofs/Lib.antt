@@ -1,6 +1,10 @@
 pub mod Names
 pub mod Room
 pub mod Cuts
+pub mod Closings
+pub mod Closers
+pub mod Places
+pub mod Frames
 pub mod Stack
 pub mod Tally
 pub mod Quotes

@@ -3,8 +3,10 @@ pub mod Names
 pub mod Cut
 pub mod Pieces
 pub mod Meaning
+pub mod Places
 pub mod Scopes
 pub mod Expansion
+pub mod Frames
 pub mod Machine
 pub mod Answers
 pub mod Output
@@ -16,3 +18,4 @@ pub mod Quoting
 pub mod Numbers
 pub mod Balanced
 pub mod ArgumentGrammar
+pub mod Pairs

@@ -2,8 +2,12 @@
 use Rattle.std.specs.Prelude.{ℕ, Bool, true, false, ◌||◌, ◌&&◌, List, [], ◌∷◌, Option, Some, None, is_none, unwrap_or, if◌then◌else◌, codes, decimal}
 use Rattle.vars_macros.specs.Names.{same_name}
 use Rattle.vars_macros.specs.declared.assignment.Macro.{Macro}
-use Rattle.vars_macros.specs.declared.macros.Macros.{Macros}
 use Rattle.vars_macros.specs.declared.expanding.Attempt.{Attempt}
+
+-- What the names of a node stand for: its name, and its assignments in the order in which they count.
+pub record NodeMacros : Type 0 where
+  pub job : List ℕ
+  pub assigned : List Macro
 
 -- the assignments in order, and the texts of the names that need none
 pub record Scope : Type 0 where
@@ -12,8 +16,8 @@ pub record Scope : Type 0 where
   pub retry : List ℕ
   pub launch : List ℕ
 
-abbrev pub scope_of : Macros → Attempt → Scope
-scope_of m a = record { assigned = m.assigned.items; job = m.job; retry = decimal a.retry; launch = decimal a.launch }
+abbrev pub scope_of : NodeMacros → Attempt → Scope
+scope_of m a = record { assigned = m.assigned; job = m.job; retry = decimal a.retry; launch = decimal a.launch }
 
 -- A name stands for a text that is written as it is (whole says that it is known in a whole run alone), or for a text
 -- that is expanded (vars says that it is from a VARS line).

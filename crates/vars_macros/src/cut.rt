@@ -1,81 +1,60 @@
 //! Cuts a text from the left.
 
-ghost use Rattle.std.specs.Prelude.{◌≡◌, ◌==◌, ◌<◌, ◌≤◌, ◌+◌, ◌^◌, length, take, IfSome, option_copied, option_map};
+ghost use Rattle.std.specs.Prelude.{◌≡◌, ◌<◌, ◌≤◌, Some, None, length, drop, slice_get, IfSome, option_copied, option_map, if◌then◌else◌, codes};
 ghost use Rattle.std.specs.List.{list_all, take_while};
-ghost use Rattle.vars_macros.specs.Names.{same_name, is_lawful, is_name_byte};
-ghost use Rattle.vars_macros.specs.Cut.{closing, is_foreign, first_piece, after_dollar, reference_to, colon_in, name_of, default_of, begins_with, depth_after};
+ghost use Rattle.vars_macros.specs.Names.{is_lawful, is_name_byte, same_name};
+ghost use Rattle.vars_macros.specs.Cut.{closing, is_foreign, first_piece, after_dollar, reference_to, colon_in, name_of, default_of, begins_with};
 ghost use Rattle.vars_macros.specs.Pieces.{piece_of};
+ghost use Rattle.vars_macros.specs.Scopes.{bytes_of};
 
 use crate::fault::MacroFault;
+use crate::part::Part;
+use crate::scope::same_name;
 
 /// What comes first in a text, and the text behind it.
 pub(crate) enum Piece<'a> {
     End,
-    Plain(u8, &'a [u8]),
-    Reference(&'a [u8], &'a [u8]),
+    Plain(u8, Part<'a>),
+    Reference(Part<'a>, Part<'a>),
     Bad(MacroFault),
 }
 
 /// Cuts the first piece off.
 #[tactic(auto, unfolding(crate::specs::Cut::first_piece))]
-pub(crate) fn first_piece(text: &[u8]) -> Piece<'_>
-    ensures { piece_of result ≡ first_piece text.now }
+pub(crate) fn first_piece(text: Part<'_>) -> Piece<'_>
+    ensures { piece_of result ≡ first_piece text.entry.bytes.now }
 {
-    match text {
+    match text.bytes() {
         [] => Piece::End,
-        [b'$', rest @ ..] => after_dollar(rest),
-        [byte, rest @ ..] => Piece::Plain(*byte, rest),
+        [b'$', ..] => after_dollar(text.behind(1)),
+        [byte, ..] => Piece::Plain(*byte, text.behind(1)),
     }
 }
 
 /// The first piece of a text that a dollar sign begins, which is left out.
-fn after_dollar(text: &[u8]) -> Piece<'_>
-    ensures { piece_of result ≡ after_dollar text.now }
+fn after_dollar(text: Part<'_>) -> Piece<'_>
+    ensures { piece_of result ≡ after_dollar text.entry.bytes.now }
 {
-    if begins_with(b'(', text) {
-        return reference(&text[1..]);
+    if begins_with(b'(', text.bytes()) {
+        return reference(text);
     }
-    if is_foreign(text) {
+    if is_foreign(text.bytes()) {
         return Piece::Bad(MacroFault::BadReference);
     }
     Piece::Plain(b'$', text)
 }
 
-/// The reference whose opening parenthesis is left out.
-fn reference(text: &[u8]) -> Piece<'_>
-    ensures { piece_of result ≡ reference_to (closing text.now) text.now }
+/// The reference that a text begins with, behind its dollar sign.
+fn reference(text: Part<'_>) -> Piece<'_>
+    requires { slice_get text.bytes.now 0 ≡ Some 40 }
+    ensures { piece_of result ≡ reference_to (closing (drop 1 text.entry.bytes.now)) (drop 1 text.entry.bytes.now) }
 {
-    match closing(text) {
-        Some(n) => Piece::Reference(&text[..n], &text[n + 1..]),
-        None => Piece::Bad(MacroFault::Unclosed),
-    }
-}
-
-/// Where the first parenthesis stands that closes none of the text's own.
-#[tactic(auto, unfolding(crate::specs::Cut::closing))]
-fn closing(text: &[u8]) -> Option<usize>
-    ensures value { result ≡ closing text.now }
-    ensures within { IfSome result (λ n. n < length text.now) }
-{
-    let mut depth = 0usize;
-    for (at, byte) in text.iter().enumerate() {
-        if *byte == b')' && depth == 0 {
-            return Some(at);
+    match text.closing() {
+        Some(n) => {
+            let behind = text.behind(1);
+            Piece::Reference(behind.first(n), behind.behind(n + 1))
         }
-        depth = depth_after(depth, *byte);
-    }
-    None
-}
-
-fn depth_after(depth: usize, byte: u8) -> usize
-    requires { depth + 1 < 2 ^ 64 }
-    ensures value { result ≡ depth_after depth byte }
-    ensures bound { result ≤ depth + 1 }
-{
-    match byte {
-        b'(' => depth + 1,
-        b')' => depth.saturating_sub(1),
-        _ => depth,
+        None => Piece::Bad(MacroFault::Unclosed),
     }
 }
 
@@ -111,13 +90,13 @@ pub(crate) fn begins_with(byte: u8, text: &[u8]) -> bool
 
 /// The name of a reference, which is what stands before a colon between its parentheses, and the
 /// default behind it.
-pub(crate) fn name_and_default(inside: &[u8]) -> (&[u8], Option<&[u8]>)
-    ensures name { result.0.now ≡ name_of inside.now }
-    ensures default { option_copied result.1 ≡ default_of inside.now }
+pub(crate) fn name_and_default(inside: Part<'_>) -> (&[u8], Option<Part<'_>>)
+    ensures name { result.0.now ≡ name_of inside.entry.bytes.now }
+    ensures default { option_map bytes_of result.1 ≡ default_of inside.entry.bytes.now }
 {
-    match colon_in(inside) {
-        Some(n) => (&inside[..n], Some(&inside[n + 1..])),
-        None => (inside, None),
+    match colon_in(inside.bytes()) {
+        Some(n) => (inside.first(n).bytes(), Some(inside.behind(n + 1))),
+        None => (inside.bytes(), None),
     }
 }
 
@@ -128,14 +107,6 @@ fn colon_in(inside: &[u8]) -> Option<usize>
     inside.iter().position(|b| *b == b':')
 }
 
-/// Whether two names are the same, in any case of ASCII letters.
-#[tactic(auto, unfolding(crate::specs::Names::same_name))]
-pub(crate) fn same_name(a: &[u8], b: &[u8]) -> bool
-    ensures { result ≡ same_name a.now b.now }
-{
-    a.eq_ignore_ascii_case(b)
-}
-
 #[tactic(auto, unfolding(crate::specs::Names::is_name_byte))]
 fn is_name_byte(byte: u8) -> bool
     ensures { result ≡ is_name_byte byte }
@@ -143,12 +114,28 @@ fn is_name_byte(byte: u8) -> bool
     byte.is_ascii_alphanumeric() || byte == b'_' || byte == b'.'
 }
 
-/// Whether a reference may have this name.
+/// The name, if a reference may have it.
 #[tactic(auto, unfolding(crate::specs::Names::is_lawful))]
-pub(crate) fn is_lawful(name: &[u8]) -> bool
-    ensures { result ≡ is_lawful name.now }
+pub(crate) fn lawful_name(name: &[u8]) -> Option<&str>
+    ensures { option_copied result ≡ (if is_lawful name.now then Some name.now else None) }
 {
-    !name.is_empty() && has_name_bytes(name) && !same_name(name, b"DOLLAR")
+    if name.is_empty() || !has_name_bytes(name) {
+        return None;
+    }
+    match str::from_utf8(name) {
+        Ok(name) => unless_dollar(name),
+        Err(_) => None,
+    }
+}
+
+fn unless_dollar(name: &str) -> Option<&str>
+    ensures { option_copied result ≡ (if same_name name.now (codes "DOLLAR") then None else Some name.now) }
+{
+    if same_name(name, "DOLLAR") {
+        None
+    } else {
+        Some(name)
+    }
 }
 
 fn has_name_bytes(name: &[u8]) -> bool

@@ -12,6 +12,8 @@ use crate::fault::MacroFault;
 use crate::machine::Machine;
 use crate::macros::Macros;
 use crate::output::{Expanded, Output};
+use crate::pairs::Pairs;
+use crate::part::Part;
 use crate::scope::Scope;
 use itoa::Buffer;
 use std::alloc::Global;
@@ -73,24 +75,20 @@ fn expand_text(
 {
     let mut launch = Buffer::new();
     let mut retry = Buffer::new();
-    let scope = Scope {
-        assigned: macros.assigned.as_slice(),
-        job: macros.job.as_str().as_bytes(),
-        retry: retry.format(attempt.retry).as_bytes(),
-        launch: launch.format(attempt.launch).as_bytes(),
-    };
-    expand_in(alloc, text.as_bytes(), vars, scope)
+    let scope = macros.scope(retry.format(attempt.retry), launch.format(attempt.launch));
+    let pairs = Pairs::of(alloc, text.as_bytes())?;
+    expand_in(alloc, Part::whole(text.as_bytes(), &pairs), vars, scope)
 }
 
 fn expand_in(
     alloc: Global,
-    text: &[u8],
+    text: Part<'_>,
     vars: bool,
     scope: Scope<'_>,
 ) -> Result<Expanded, MacroFault>
-    requires text { IsUtf8 text.now }
+    requires text { IsUtf8 text.bytes.now }
     requires scope { IsTextScope (scope_seen scope) }
-    ensures { Gives expansion_of result (expansion (scope_seen scope.entry) vars text.now) }
+    ensures { Gives expansion_of result (expansion (scope_seen scope.entry) vars text.entry.bytes.now) }
 {
     let mut machine = Machine::new(alloc, scope, vars, text);
     let mut output = Output::new(alloc);

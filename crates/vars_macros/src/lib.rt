@@ -11,6 +11,8 @@ pub mod laws;
 mod machine;
 mod macros;
 mod output;
+mod pairs;
+mod part;
 mod scope;
 mod script;
 mod words;

@@ -1,24 +1,21 @@
 //! Goes over a text and the texts that its references stand for.
 
-ghost use Rattle.std.specs.Prelude.{◌≡◌, ◌++◌, ◌<◌, [], IfOk, length, true, map};
-ghost use Rattle.std.specs.List.{list_any};
-ghost use Rattle.vars_macros.specs.Names.{same_name, is_open};
-ghost use Rattle.vars_macros.specs.Expansion.{events};
-ghost use Rattle.vars_macros.specs.Scopes.{scope_seen};
-ghost use Rattle.vars_macros.specs.Machine.{left_in, left_at, names_of, event_of, Meets};
-ghost use Rattle.vars_macros.specs.declared.machine.Suspended.{Suspended};
+ghost use Rattle.std.specs.Prelude.{◌≡◌, ◌++◌, [], IfOk};
+ghost use Rattle.vars_macros.specs.Frames.{HasLowerKeys};
 
-use crate::cut::{Piece, first_piece, is_lawful, name_and_default, same_name};
+use crate::cut::{Piece, first_piece, lawful_name, name_and_default};
 use crate::fault::MacroFault;
+use crate::part::Part;
 use crate::scope::{Meaning, Scope, stands_for};
+use indexmap::IndexMap;
 use std::alloc::{AllocError, Global};
 
 /// A text that is gone on with when the name's expansion is done.
 #[derive(Drop)]
 pub(crate) struct Suspended<'a> {
-    name: &'a [u8],
+    name: &'a str,
     vars: bool,
-    rest: &'a [u8],
+    rest: Part<'a>,
 }
 
 /// What is met next.
@@ -29,25 +26,33 @@ pub(crate) enum Event<'a> {
     Refused(MacroFault),
 }
 
-/// A text that is expanded, as far as it is left.
+/// A text that is expanded, as far as it is left. The names whose expansions have begun and are not
+/// done stand in lower case in the table, the innermost last.
 #[derive(Drop)]
 pub(crate) struct Machine<'a> {
+    alloc: Global,
     scope: Scope<'a>,
     vars: bool,
-    rest: &'a [u8],
-    stack: Vec<Suspended<'a>>,
+    rest: Part<'a>,
+    stack: IndexMap<String, Suspended<'a>>,
+    ghost keys: { HasLowerKeys stack.entries },
 }
 
 impl<'a> Machine<'a> {
+    ghost use Rattle.vars_macros.specs.Expansion.{events};
+    ghost use Rattle.vars_macros.specs.Scopes.{scope_seen};
+    ghost use Rattle.vars_macros.specs.Machine.{left_in, left_at, event_of, Meets};
+
     /// A text of which nothing is met yet.
-    pub(crate) fn new(alloc: Global, scope: Scope<'a>, vars: bool, text: &'a [u8]) -> Machine<'a>
-        ensures { left_in result ≡ events (scope_seen scope.entry) [] vars text.now }
+    pub(crate) fn new(alloc: Global, scope: Scope<'a>, vars: bool, text: Part<'a>) -> Machine<'a>
+        ensures { left_in result ≡ events (scope_seen scope.entry) [] vars text.entry.bytes.now }
     {
         Machine {
+            alloc,
             scope,
             vars,
             rest: text,
-            stack: Vec::new(alloc),
+            stack: IndexMap::new(alloc),
         }
     }
 
@@ -58,7 +63,7 @@ impl<'a> Machine<'a> {
         loop {
             match first_piece(self.rest) {
                 Piece::End => match self.stack.pop() {
-                    Some(outer) => {
+                    Some((_, outer)) => {
                         self.vars = outer.vars;
                         self.rest = outer.rest;
                     }
@@ -72,7 +77,7 @@ impl<'a> Machine<'a> {
                     return Ok(Some(self.reference(inside, after)?));
                 }
                 Piece::Bad(fault) => {
-                    self.rest = b"";
+                    self.rest = Part::empty();
                     return Ok(Some(Event::Refused(fault)));
                 }
             }
@@ -80,46 +85,35 @@ impl<'a> Machine<'a> {
     }
 
     /// Goes on behind a reference, or into what it stands for.
-    fn reference(&mut self, inside: &'a [u8], after: &'a [u8]) -> Result<Event<'a>, AllocError>
-        ensures { IfOk result (λ met. left_at inside.now after.now self.old ≡ event_of met ++ left_in self.new) }
+    fn reference(&mut self, inside: Part<'a>, after: Part<'a>) -> Result<Event<'a>, AllocError>
+        ensures { IfOk result (λ met. left_at inside.entry.bytes.now after.entry.bytes.now self.old ≡ event_of met ++ left_in self.new) }
     {
         let (name, default) = name_and_default(inside);
-        if !is_lawful(name) {
+        let Some(name) = lawful_name(name) else {
             self.rest = after;
             return Ok(Event::Refused(MacroFault::BadReference));
-        }
-        match stands_for(self.scope, self.vars, name, default) {
+        };
+        match stands_for(self.alloc, self.scope, self.vars, name, default)? {
             Meaning::Fixed { whole, text } => {
                 self.rest = after;
                 Ok(Event::Fixed { whole, text })
             }
             Meaning::Value { vars, text } => {
-                if is_open(self.stack.as_slice(), name) {
+                let key = name.to_ascii_lowercase(self.alloc)?;
+                if self.stack.contains_key(key.as_str()) {
                     self.rest = after;
                     return Ok(Event::Refused(MacroFault::Loop));
                 }
-                self.stack.push(Suspended {
+                let outer = Suspended {
                     name,
                     vars: self.vars,
                     rest: after,
-                })?;
+                };
+                self.stack.insert(key, outer)?;
                 self.vars = vars;
                 self.rest = text;
                 Ok(Event::Opened)
             }
         }
     }
-}
-
-/// Whether the name's expansion has begun and is not done.
-fn is_open(stack: &[Suspended<'_>], name: &[u8]) -> bool
-    ensures { result ≡ is_open (names_of stack.now) name.now }
-{
-    any_named(stack, name)
-}
-
-fn any_named(stack: &[Suspended<'_>], name: &[u8]) -> bool
-    ensures { result ≡ list_any (λ (f : Suspended). same_name f.name.now name.now) stack.now }
-{
-    stack.iter().any(|outer| same_name(outer.name, name))
 }

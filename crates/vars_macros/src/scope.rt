@@ -1,106 +1,131 @@
 //! What a name stands for.
 
-ghost use Rattle.std.specs.Prelude.{◌≡◌, ◌||◌, option_copied};
+ghost use Rattle.std.specs.Prelude.{◌≡◌, ◌||◌, IfOk, option_map};
 ghost use Rattle.vars_macros.specs.Names.{same_name};
-ghost use Rattle.vars_macros.specs.Meaning.{is_launch, is_process, last_of, unassigned, ordinary, stands_for};
-ghost use Rattle.vars_macros.specs.Scopes.{scope_seen, meaning_of};
+ghost use Rattle.vars_macros.specs.Meaning.{is_launch, is_process, unassigned, ordinary, stands_for};
+ghost use Rattle.vars_macros.specs.Scopes.{scope_seen, meaning_of, bytes_of};
 
-use crate::assignment::Macro;
-use crate::cut::same_name;
 use crate::macros::Macros;
+use crate::part::Part;
+use std::alloc::{AllocError, Global};
 
-/// The assignments in order, and the texts of the names that need none.
+/// What is assigned, and the texts of the names that need no assignment.
 #[derive(Clone, Copy)]
 pub(crate) struct Scope<'a> {
-    pub(crate) assigned: &'a [Macro],
-    pub(crate) job: &'a [u8],
-    pub(crate) retry: &'a [u8],
-    pub(crate) launch: &'a [u8],
+    macros: &'a Macros,
+    job: &'a [u8],
+    retry: &'a [u8],
+    launch: &'a [u8],
+}
+
+impl Macros {
+    ghost use Rattle.std.specs.Prelude.{◌≡◌};
+    ghost use Rattle.vars_macros.specs.Scopes.{scope_seen, IsTextScope};
+
+    /// What is assigned, with the numbers of an attempt and of a launch as they are written.
+    pub(crate) fn scope<'a>(&'a self, retry: &'a str, launch: &'a str) -> Scope<'a>
+        ensures is { scope_seen result ≡ record { assigned = self.now.assigned; job = self.now.job; retry = retry.now; launch = launch.now } }
+        ensures texts { IsTextScope (scope_seen result) }
+    {
+        Scope {
+            macros: self,
+            job: self.job.as_str().as_bytes(),
+            retry: retry.as_bytes(),
+            launch: launch.as_bytes(),
+        }
+    }
 }
 
 /// A text that is written as it is (`whole` says that it is known in a whole run alone), or one that
 /// is expanded (`vars` says that it is from a VARS line).
 pub(crate) enum Meaning<'a> {
     Fixed { whole: bool, text: &'a [u8] },
-    Value { vars: bool, text: &'a [u8] },
+    Value { vars: bool, text: Part<'a> },
 }
 
 /// What a name stands for in a text, where the reference to it has this default.
 #[tactic(auto, unfolding(crate::specs::Meaning::stands_for))]
 pub(crate) fn stands_for<'a>(
+    alloc: Global,
     scope: Scope<'a>,
     vars: bool,
-    name: &[u8],
-    default: Option<&'a [u8]>,
-) -> Meaning<'a>
-    ensures { meaning_of result ≡ stands_for (scope_seen scope.entry) vars name.now (option_copied default.entry) }
+    name: &str,
+    default: Option<Part<'a>>,
+) -> Result<Meaning<'a>, AllocError>
+    ensures { IfOk result (λ m. meaning_of m ≡ stands_for (scope_seen scope.entry) vars name.now (option_map bytes_of default.entry)) }
 {
     if is_launch(name) {
-        return Meaning::Fixed {
+        return Ok(Meaning::Fixed {
             whole: true,
             text: scope.launch,
-        };
+        });
     }
     if is_process(name) {
-        return Meaning::Fixed {
+        return Ok(Meaning::Fixed {
             whole: false,
             text: b"0",
-        };
+        });
     }
-    if vars && default.is_none() && same_name(name, b"JOB") {
-        return Meaning::Fixed {
+    if vars && default.is_none() && same_name(name, "JOB") {
+        return Ok(Meaning::Fixed {
             whole: false,
             text: scope.job,
-        };
+        });
     }
-    if vars && default.is_none() && same_name(name, b"RETRY") {
-        return Meaning::Fixed {
+    if vars && default.is_none() && same_name(name, "RETRY") {
+        return Ok(Meaning::Fixed {
             whole: false,
             text: scope.retry,
-        };
+        });
     }
-    ordinary(scope, vars, name, default)
+    ordinary(alloc, scope, vars, name, default)
 }
 
-fn is_launch(name: &[u8]) -> bool
+fn is_launch(name: &str) -> bool
     ensures { result ≡ is_launch name.now }
 {
-    same_name(name, b"Cluster") || same_name(name, b"ClusterId")
+    same_name(name, "Cluster") || same_name(name, "ClusterId")
 }
 
-fn is_process(name: &[u8]) -> bool
+fn is_process(name: &str) -> bool
     ensures { result ≡ is_process name.now }
 {
-    same_name(name, b"Process") || same_name(name, b"ProcId")
+    same_name(name, "Process") || same_name(name, "ProcId")
 }
 
-fn ordinary<'a>(scope: Scope<'a>, vars: bool, name: &[u8], default: Option<&'a [u8]>) -> Meaning<'a>
-    ensures { meaning_of result ≡ ordinary (scope_seen scope.entry) vars name.now (option_copied default.entry) }
+fn ordinary<'a>(
+    alloc: Global,
+    scope: Scope<'a>,
+    vars: bool,
+    name: &str,
+    default: Option<Part<'a>>,
+) -> Result<Meaning<'a>, AllocError>
+    ensures { IfOk result (λ m. meaning_of m ≡ ordinary (scope_seen scope.entry) vars name.now (option_map bytes_of default.entry)) }
 {
-    match last_of(scope.assigned, name) {
-        Some(found) => Meaning::Value {
-            vars: found.vars,
-            text: found.value.as_str().as_bytes(),
-        },
-        None => unassigned(scope, vars, name, default),
+    match scope.macros.last_assigned(alloc, name)? {
+        Some(found) => Ok(Meaning::Value {
+            vars: found.one.vars,
+            text: found.value(),
+        }),
+        None => Ok(unassigned(scope, vars, name, default)),
     }
 }
 
 fn unassigned<'a>(
     scope: Scope<'a>,
     vars: bool,
-    name: &[u8],
-    default: Option<&'a [u8]>,
+    name: &str,
+    default: Option<Part<'a>>,
 ) -> Meaning<'a>
-    ensures { meaning_of result ≡ unassigned (scope_seen scope.entry) vars name.now (option_copied default.entry) }
+    ensures { meaning_of result ≡ unassigned (scope_seen scope.entry) vars name.now (option_map bytes_of default.entry) }
 {
-    if same_name(name, b"JOB") {
+    if same_name(name, "JOB") {
         return Meaning::Fixed {
             whole: false,
             text: scope.job,
         };
     }
-    if same_name(name, b"RETRY") {
+    if same_name(name, "RETRY") {
         return Meaning::Fixed {
             whole: false,
             text: scope.retry,
@@ -108,28 +133,17 @@ fn unassigned<'a>(
     }
     match default {
         Some(text) => Meaning::Value { vars, text },
-        None => Meaning::Value { vars, text: b"" },
+        None => Meaning::Value {
+            vars,
+            text: Part::empty(),
+        },
     }
 }
 
-/// The last assignment of the name.
-fn last_of<'a>(assigned: &'a [Macro], name: &[u8]) -> Option<&'a Macro>
-    ensures { option_copied result ≡ last_of assigned.now name.now }
+/// Whether two names are the same, in any case of ASCII letters.
+#[tactic(auto, unfolding(crate::specs::Names::same_name))]
+pub(crate) fn same_name(a: &str, b: &str) -> bool
+    ensures { result ≡ same_name a.now b.now }
 {
-    let mut found = None;
-    for one in assigned {
-        if same_name(one.name.as_str().as_bytes(), name) {
-            found = Some(one);
-        }
-    }
-    found
-}
-
-impl Macros {
-    /// The last assignment of a name, in any case of ASCII letters.
-    pub fn last(&self, name: &str) -> Option<&Macro>
-        ensures { option_copied result ≡ last_of self.now.assigned.items name.now }
-    {
-        last_of(self.assigned.as_slice(), name.as_bytes())
-    }
+    a.eq_ignore_ascii_case(b)
 }

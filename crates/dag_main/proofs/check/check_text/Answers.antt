@@ -1,12 +1,11 @@
-use Rattle.std.proofs.lemmas.Result.{err_from_is_err_and}
+use Rattle.splices.specs.FileSet.{bytes_of}
+use Rattle.dag_main.proofs.Checks.{is_check, memory_owed}
 use Rattle.dag_main.proofs.check.check_text.Goals as goal
 
-pub returns-in_err-line_of-clause-refused : goal.returns-in_err-line_of-clause-refused
-returns-in_err-line_of-clause-refused c =
-    let p = err_from_is_err_and c.from_residual-in_err-line_of.result c.from_residual-in_err-line_of.ensures.1 in
-    rw (p.1, p.2) tt
+pub returns-clause-checked : goal.returns-clause-checked
+returns-clause-checked c =
+    is_check (bytes_of c.args.files.now) c.args.path.now c.in_ok-plan.plan.graph.dag c.answer_of.result c.in_ok-plan.ensures.dag c.in_ok-plan.ensures.acyclic c.in_ok-plan.ensures.sound
+    c.answer_of.ensures.text c.answer_of.ensures.warnings c.answer_of.ensures.status
 
-pub returns-in_err-warning_text-clause-refused : goal.returns-in_err-warning_text-clause-refused
-returns-in_err-warning_text-clause-refused c =
-    let p = err_from_is_err_and c.from_residual-in_err-warning_text.result c.from_residual-in_err-warning_text.ensures.1 in
-    rw (p.1, p.2) tt
+pub returns-clause-refused : goal.returns-clause-refused
+returns-clause-refused c = memory_owed (bytes_of c.args.files.now) c.args.path.now c.answer_of.result c.answer_of.ensures.err

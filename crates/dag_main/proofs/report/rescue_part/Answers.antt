@@ -1,4 +1,4 @@
-use Rattle.std.proofs.Common.{◌≡◌, ◌∙◌, List, Bool, ap, sym}
+use Rattle.std.proofs.Common.{◌∙◌, List, Bool, ap, sym}
 use Rattle.std.specs.List.{list_all}
 use Rattle.dag_graph.specs.Graph.{Network}
 use Rattle.run_plan.specs.Plan.{Plan}

@@ -1,0 +1,6 @@
+use Rattle.vars_macros.specs.Pairs.{closer_of}
+use Rattle.vars_macros.proofs.Closings.{pairs_in_whole}
+use Rattle.vars_macros.proofs.part.Part.whole.Goals as goal
+
+pub invariant_of-result-clause-paired : goal.invariant_of-result-clause-paired
+invariant_of-result-clause-paired c = pairs_in_whole c.args.text.now (closer_of c.args.pairs.now) c.requires
