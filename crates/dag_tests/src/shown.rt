@@ -3,7 +3,7 @@
 use crate::lines::{limits, settings, warnings};
 use crate::views::{ancestors, links, names, options, plan_text};
 use dag_graph::Graph;
-use run_plan::Plan;
+use run_plan::{Plan, PlanFault};
 use splices::{FileSet, FlatDag, open_dag};
 use std::alloc::{AllocError, Global};
 use std::process::Abort;
@@ -51,9 +51,33 @@ fn answer_of_dag(alloc: Global, view: View, dag: FlatDag) -> Result<String, Allo
 }
 
 fn answer_of_graph(alloc: Global, view: View, graph: Graph) -> Result<String, AllocError> {
-    match Plan::build_bare(alloc, graph, None) {
-        Ok(plan) => looked_at(alloc, view, &plan),
-        Err((_, fault)) => format!(in alloc; "{fault}"),
+    let built = built_of(Plan::build_bare(alloc, graph, None));
+    let text = told(alloc, view, &built);
+    drop(built);
+    text
+}
+
+/// A plan, or the graph of which there is none, with the fault.
+///
+/// A value of many parts is let go by a call, since a proof spells each part where a block's end
+/// lets it go.
+#[derive(Drop)]
+enum Built {
+    Planned(Plan),
+    Refused(Graph, PlanFault),
+}
+
+fn built_of(outcome: Result<Plan, (Graph, PlanFault)>) -> Built {
+    match outcome {
+        Ok(plan) => Built::Planned(plan),
+        Err((graph, fault)) => Built::Refused(graph, fault),
+    }
+}
+
+fn told(alloc: Global, view: View, built: &Built) -> Result<String, AllocError> {
+    match built {
+        Built::Planned(plan) => looked_at(alloc, view, plan),
+        Built::Refused(_, fault) => format!(in alloc; "{fault}"),
     }
 }
 

@@ -3,10 +3,11 @@
 use dag_graph::Graph;
 use dag_main::run_table;
 use node_machine::{Outcome, Phase, read_table};
-use run_plan::Plan;
+use run_plan::{Plan, PlanFault};
 use sched_core::Core;
 use splices::{FileSet, open_dag};
 use std::alloc::Global;
+use std::process::Abort;
 use std::test::Fail;
 
 fn plan_of(alloc: Global, text: &str) -> Result<Plan, Fail> {
@@ -16,8 +17,24 @@ fn plan_of(alloc: Global, text: &str) -> Result<Plan, Fail> {
     let graph = Graph::build(alloc, dag)?;
     match Plan::build_bare(alloc, graph, None) {
         Ok(plan) => Ok(plan),
-        Err((_, fault)) => Err(Fail::from(fault)),
+        Err(refused) => Err(fault_of(refused)),
     }
+}
+
+fn fault_of(refused: (Graph, PlanFault)) -> Fail {
+    let (graph, fault) = refused;
+    drop(graph);
+    Fail::from(fault)
+}
+
+/// Whether a core takes the settings of a plan.
+///
+/// A value of many parts is let go by a call, since a proof spells each part where a block's end
+/// lets it go.
+fn takes(plan: Plan) -> bool {
+    let answer = Core::takes(&plan);
+    drop(plan);
+    answer
 }
 
 #[test]
@@ -34,20 +51,17 @@ fn settings_that_are_run(rt: HostRuntime) -> Result<(), Fail> {
     ];
     for (text, taken) in rows {
         let plan = plan_of(rt.alloc(), text)?;
-        assert_eq!(rt; Core::takes(&plan), taken);
+        assert_eq!(rt; takes(plan), taken);
     }
     Ok(())
 }
 
-#[test]
-fn history_and_marks(rt: HostRuntime) -> Result<(), Fail> {
-    let alloc = rt.alloc();
-    let text = "JOB A a\nJOB B b\nJOB C c\nRETRY B 1\nPARENT A CHILD B\nPARENT B CHILD C\n";
-    let plan = plan_of(alloc, text)?;
+/// The history of B and the marks, where the job of B exits with 1 and then with 2.
+fn told(rt: &impl Abort, alloc: Global, plan: &Plan) -> Result<(), Fail> {
     let Ok(table) = read_table(alloc, b"B 0 JOB 1\nB 1 JOB 2\n") else {
         panic!(rt; "no table");
     };
-    let Ok(core) = run_table(alloc, &plan, &table) else {
+    let Ok(core) = run_table(alloc, plan, &table) else {
         panic!(rt; "no run");
     };
     let Ok(history) = core.history(alloc, 1) else {
@@ -61,4 +75,13 @@ fn history_and_marks(rt: HostRuntime) -> Result<(), Fail> {
     };
     assert_eq!(rt; marks.as_slice(), [true, false, false].as_slice());
     Ok(())
+}
+
+#[test]
+fn history_and_marks(rt: HostRuntime) -> Result<(), Fail> {
+    let text = "JOB A a\nJOB B b\nJOB C c\nRETRY B 1\nPARENT A CHILD B\nPARENT B CHILD C\n";
+    let plan = plan_of(rt.alloc(), text)?;
+    let answer = told(&rt, rt.alloc(), &plan);
+    drop(plan);
+    answer
 }
