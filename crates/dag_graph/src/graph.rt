@@ -22,12 +22,23 @@ use std::marker::Model;
 ///
 /// Nodes go by their numbers: the ordinary ones from 0 in plan order, and then the FINAL node, which
 /// has neither parents nor children.
-#[derive(Drop)]
 pub struct Graph {
     flat: FlatDag,
     relatives: Relatives,
     order: Vec<u32>,
     numbers: IndexMap<String, u32>,
+}
+
+// Each function that lets a value go calls this; a derived drop stands in each, part by part.
+impl Drop for Graph {
+    fn drop(self) {
+        let Graph {
+            flat: _,
+            relatives: _,
+            order: _,
+            numbers: _,
+        } = self;
+    }
 }
 
 impl Model for Graph {

@@ -95,7 +95,7 @@ impl Macros {
 
 /// What one line of a DAG file says, as the chapter "DAG input file commands" of the HTCondor
 /// manual has it.
-#[derive(Debug, Drop)]
+#[derive(Debug)]
 pub enum Command {
     /// `JOB name file [DIR dir] [NOOP] [DONE]`: a node and its submit file.
     Job {
@@ -183,6 +183,70 @@ pub enum Command {
     },
 }
 
+// Each function that lets a value go calls this; a derived drop stands in each, part by part.
+impl Drop for Command {
+    fn drop(self) {
+        match self {
+            Command::Job {
+                name: _,
+                file: _,
+                dir: _,
+                noop: _,
+                done: _,
+            } => {}
+            Command::ParentChild {
+                parents: _,
+                children: _,
+            } => {}
+            Command::Script {
+                kind: _,
+                node: _,
+                program: _,
+                arguments: _,
+            } => {}
+            Command::Retry {
+                node: _,
+                retries: _,
+                unless_exit: _,
+            } => {}
+            Command::PreSkip { node: _, value: _ } => {}
+            Command::Vars {
+                node: _,
+                placement: _,
+                macros: _,
+            } => {}
+            Command::Priority {
+                node: _,
+                priority: _,
+            } => {}
+            Command::Category {
+                node: _,
+                category: _,
+            } => {}
+            Command::MaxJobs {
+                category: _,
+                limit: _,
+            } => {}
+            Command::AbortDagOn {
+                node: _,
+                value: _,
+                status: _,
+            } => {}
+            Command::Final {
+                name: _,
+                file: _,
+                dir: _,
+                noop: _,
+            } => {}
+            Command::Splice {
+                name: _,
+                file: _,
+                dir: _,
+            } => {}
+        }
+    }
+}
+
 /// What a user is told of a line that is no fault.
 ///
 /// It is displayed as what happens to the line, as `ignored`: who knows the file's name writes
@@ -230,8 +294,18 @@ pub(crate) enum Meaning {
 }
 
 /// The commands of a file and its warnings, both in the order of their lines.
-#[derive(Debug, Drop)]
+#[derive(Debug)]
 pub struct DagFile {
     pub commands: Vec<Command>,
     pub warnings: Vec<Warning>,
+}
+
+// Each function that lets a value go calls this; a derived drop stands in each, part by part.
+impl Drop for DagFile {
+    fn drop(self) {
+        let DagFile {
+            commands: _,
+            warnings: _,
+        } = self;
+    }
 }

@@ -3,7 +3,7 @@
 use dag_reader::{Text, Texts};
 
 /// What a child is started by.
-#[derive(Debug, Drop)]
+#[derive(Debug)]
 pub struct ChildCommand {
     /// The path of the program.
     pub program: Text,
@@ -25,6 +25,21 @@ pub struct ChildCommand {
 
     /// Settings that are added to the manager's environment, each `name=value`.
     pub environment: Texts,
+}
+
+// Each function that lets a value go calls this; a derived drop stands in each, part by part.
+impl Drop for ChildCommand {
+    fn drop(self) {
+        let ChildCommand {
+            program: _,
+            words: _,
+            folder: _,
+            input: _,
+            output: _,
+            error: _,
+            environment: _,
+        } = self;
+    }
 }
 
 /// What is known of a run when a phase is launched: the numbers of this launch and of the last

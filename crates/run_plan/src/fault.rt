@@ -13,7 +13,7 @@ use submit_file::SubmitFault;
 use vars_macros::MacroFault;
 
 /// Why there is no plan. It is displayed as its code, its name and its place.
-#[derive(Debug, Drop)]
+#[derive(Debug)]
 pub enum PlanFault {
     /// There is no submit file of this path.
     MissingFile(Text),
@@ -35,6 +35,21 @@ pub enum PlanFault {
 
     /// Memory was refused.
     Memory,
+}
+
+// Each function that lets a value go calls this; a derived drop stands in each, part by part.
+impl Drop for PlanFault {
+    fn drop(self) {
+        match self {
+            PlanFault::MissingFile(_path) => {}
+            PlanFault::InSubmit(_path, _fault) => {}
+            PlanFault::InMacro(_node, _fault) => {}
+            PlanFault::NoExecutable(_node) => {}
+            PlanFault::BadUniverse(_node) => {}
+            PlanFault::InRescue(_fault) => {}
+            PlanFault::Memory => {}
+        }
+    }
 }
 
 impl PlanFault {

@@ -35,12 +35,24 @@ impl Model for Job {
 
 /// What the children of a node are started by: its folder, the words of its scripts, of which the
 /// first is the program, and its job.
-#[derive(Debug, Drop)]
+#[derive(Debug)]
 pub(crate) struct Orders {
     folder: Text,
     pre: Option<Texts>,
     post: Option<Texts>,
     job: Job,
+}
+
+// Each function that lets a value go calls this; a derived drop stands in each, part by part.
+impl Drop for Orders {
+    fn drop(self) {
+        let Orders {
+            folder: _,
+            pre: _,
+            post: _,
+            job: _,
+        } = self;
+    }
 }
 
 impl Model for Orders {

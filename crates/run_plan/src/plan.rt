@@ -27,7 +27,6 @@ use std::alloc::{AllocError, Global};
 use std::marker::Model;
 
 /// The nodes by their numbers, and the FINAL node, which has the next number.
-#[derive(Drop)]
 pub struct Plan {
     graph: Graph,
     nodes: Vec<NodeSpec>,
@@ -35,6 +34,19 @@ pub struct Plan {
     digest: [u8; 32],
     /// what stands for the FINAL node where there is none
     absent: NodeSpec,
+}
+
+// Each function that lets a value go calls this; a derived drop stands in each, part by part.
+impl Drop for Plan {
+    fn drop(self) {
+        let Plan {
+            graph: _,
+            nodes: _,
+            final_node: _,
+            digest: _,
+            absent: _,
+        } = self;
+    }
 }
 
 impl Model for Plan {

@@ -24,7 +24,6 @@ use std::marker::Model;
 use vars_macros::{Attempt, ScriptFacts};
 
 /// What the files say of a node.
-#[derive(Drop)]
 pub struct NodeSpec {
     name: Text,
     course: Course,
@@ -35,6 +34,23 @@ pub struct NodeSpec {
     category: Option<Text>,
     orders: Orders,
     whole_run: bool,
+}
+
+// Each function that lets a value go calls this; a derived drop stands in each, part by part.
+impl Drop for NodeSpec {
+    fn drop(self) {
+        let NodeSpec {
+            name: _,
+            course: _,
+            done: _,
+            parents: _,
+            abort_return: _,
+            priority: _,
+            category: _,
+            orders: _,
+            whole_run: _,
+        } = self;
+    }
 }
 
 impl Model for NodeSpec {

@@ -3,6 +3,7 @@ use Rattle.std.specs.Prelude.{ℕ, ◌+◌, nat_lt, Bool, false, not, ◌&&◌, 
 use Rattle.std.specs.Str.{bytes_eq}
 use Rattle.dag_reader.specs.declared.command.Command.{Command}
 use Rattle.dag_reader.specs.declared.command.Command.TheVariants.{Script, Retry, PreSkip, Vars, Priority, Category, MaxJobs, AbortDagOn}
+use Rattle.dag_reader.specs.declared.command.ScriptKind.{ScriptKind}
 use Rattle.dag_reader.specs.declared.command.ScriptKind.TheVariants.{Pre, Post}
 use Rattle.dag_reader.specs.declared.command.Target.{Target}
 use Rattle.dag_reader.specs.declared.command.Target.TheVariants.{Node, AllNodes}
@@ -29,10 +30,14 @@ with_macros macros (m ∷ ms) = with_macros (with_macro macros m) ms
 abbrev pub script_of : Target → PlacedText → List PlacedText → ScriptSetting
 script_of target program arguments = record { line = line_of target; program = program.text; arguments = map (λ w. w.text) arguments }
 
+-- settings with a script in place of the one of its kind
+abbrev pub with_script : ScriptKind → ScriptSetting → Settings → Settings
+with_script Pre script s = record s { pre = Some script }
+with_script Post script s = record s { post = Some script }
+
 -- the settings of a node after one more line that is for it
 abbrev pub with_line : List ℕ → Settings → Command → Settings
-with_line prefix s (Script Pre target program arguments) = record s { pre = Some (script_of target program arguments) }
-with_line prefix s (Script Post target program arguments) = record s { post = Some (script_of target program arguments) }
+with_line prefix s (Script kind target program arguments) = with_script kind (script_of target program arguments) s
 with_line prefix s (Retry target n v) = record s { retry = Some (record { line = line_of target; retries = n; unless_exit = v }) }
 with_line prefix s (PreSkip target v) = record s { pre_skip = Some (record { line = line_of target; value = v }) }
 with_line prefix s (Vars target placement macros) = record s { macros = with_macros s.macros (map (macro_of (line_of target) placement) macros) }

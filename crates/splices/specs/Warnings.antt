@@ -4,6 +4,7 @@ use Rattle.std.specs.List.{flat_map, list_any, range_with_len}
 use Rattle.std.specs.Str.{bytes_eq}
 use Rattle.dag_reader.specs.declared.command.Command.{Command}
 use Rattle.dag_reader.specs.declared.command.Command.TheVariants.{Job, ParentChild, Script, Retry, PreSkip, Vars, Priority, Category, MaxJobs, AbortDagOn, Final, Splice}
+use Rattle.dag_reader.specs.declared.command.ScriptKind.{ScriptKind}
 use Rattle.dag_reader.specs.declared.command.ScriptKind.TheVariants.{Pre, Post}
 use Rattle.dag_reader.specs.declared.command.Target.{Target}
 use Rattle.dag_reader.specs.declared.command.Warning.{Warning}
@@ -13,6 +14,7 @@ use Rattle.splices.specs.declared.flat.CategoryLimit.{CategoryLimit}
 use Rattle.splices.specs.declared.flat.DagWarning.{DagWarning}
 use Rattle.splices.specs.declared.flat.DagWarning.TheVariants as warnings
 use Rattle.splices.specs.declared.flat.MacroSetting.{MacroSetting}
+use Rattle.splices.specs.declared.flat.ScriptSetting.{ScriptSetting}
 use Rattle.splices.specs.declared.flat.Settings.{Settings}
 use Rattle.splices.specs.Nodes.{node_names, reaches}
 use Rattle.splices.specs.Settings.{full_category, is_namesake, line_of, macros_in, settings_at, with_macro}
@@ -27,10 +29,14 @@ abbrev pub replaced_by : List MacroSetting → List MacroSetting → List ℕ
 replaced_by before [] = []
 replaced_by before (m ∷ ms) = line_if (λ other. other.line) (find (is_namesake m) before) ++ replaced_by (with_macro before m) ms
 
+-- the script of a kind that is set
+abbrev pub script_setting : ScriptKind → Settings → Option ScriptSetting
+script_setting Pre settings = settings.pre
+script_setting Post settings = settings.post
+
 -- the lines whose settings a line takes the place of, for a node with these settings that its target reaches
 abbrev pub replaced_in : Settings → Command → List ℕ
-replaced_in settings (Script Pre target program arguments) = line_if (λ s. s.line) settings.pre
-replaced_in settings (Script Post target program arguments) = line_if (λ s. s.line) settings.post
+replaced_in settings (Script kind target program arguments) = line_if (λ s. s.line) (script_setting kind settings)
 replaced_in settings (Retry target n v) = line_if (λ s. s.line) settings.retry
 replaced_in settings (PreSkip target v) = line_if (λ s. s.line) settings.pre_skip
 replaced_in settings (Vars target placement macros) = replaced_by settings.macros (macros_in (λ _. true) (Vars target placement macros))

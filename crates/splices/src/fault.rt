@@ -10,7 +10,7 @@ use thiserror::Error;
 
 /// What is wrong with the files of a DAG: its code, its name and its place. Where there is a span,
 /// the text is the path of the file that it is in.
-#[derive(Debug, Drop)]
+#[derive(Debug)]
 pub enum DagFault {
     /// There is no file of this path.
     MissingFile(Text),
@@ -46,6 +46,25 @@ pub enum DagFault {
 
     /// FINAL in a PARENT line, or in a line of CATEGORY, PRIORITY or ABORT-DAG-ON.
     FinalSetting(Text, Span),
+}
+
+// Each function that lets a value go calls this; a derived drop stands in each, part by part.
+impl Drop for DagFault {
+    fn drop(self) {
+        match self {
+            DagFault::MissingFile(_path) => {}
+            DagFault::InFile(_path, _fault) => {}
+            DagFault::Loop(_paths) => {}
+            DagFault::DuplicateName(_path, _span) => {}
+            DagFault::UnknownNode(_path, _span) => {}
+            DagFault::TooDeep(_path) => {}
+            DagFault::TooManyNodes => {}
+            DagFault::FinalInSplice(_path, _span) => {}
+            DagFault::SpliceSetting(_path, _span) => {}
+            DagFault::EmptySpliceEdge(_path, _span) => {}
+            DagFault::FinalSetting(_path, _span) => {}
+        }
+    }
 }
 
 impl fmt::Display for DagFault {

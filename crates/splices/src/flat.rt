@@ -96,7 +96,7 @@ pub struct AbortSetting {
 }
 
 /// What lines say of a node beside its declaration. Each setting has the number of its line, from 1.
-#[derive(Debug, Drop)]
+#[derive(Debug)]
 pub struct Settings {
     pub pre: Option<ScriptSetting>,
     pub post: Option<ScriptSetting>,
@@ -108,8 +108,24 @@ pub struct Settings {
     pub abort: Option<AbortSetting>,
 }
 
+// Each function that lets a value go calls this; a derived drop stands in each, part by part.
+impl Drop for Settings {
+    fn drop(self) {
+        let Settings {
+            pre: _,
+            post: _,
+            retry: _,
+            pre_skip: _,
+            macros: _,
+            priority: _,
+            category: _,
+            abort: _,
+        } = self;
+    }
+}
+
 /// A node: its full name, the path of its submit file, its folder, and its settings.
-#[derive(Debug, Drop)]
+#[derive(Debug)]
 pub struct FlatNode {
     pub name: Text,
     pub file: Text,
@@ -117,6 +133,20 @@ pub struct FlatNode {
     pub noop: bool,
     pub done: bool,
     pub settings: Settings,
+}
+
+// Each function that lets a value go calls this; a derived drop stands in each, part by part.
+impl Drop for FlatNode {
+    fn drop(self) {
+        let FlatNode {
+            name: _,
+            file: _,
+            folder: _,
+            noop: _,
+            done: _,
+            settings: _,
+        } = self;
+    }
 }
 
 /// The child depends on the parent. Nodes go by their numbers.
@@ -181,7 +211,7 @@ impl fmt::Display for DagWarning {
 ///
 /// The ordinary nodes stand in plan order: a node's number is its place, from 0. The FINAL node
 /// has the next number.
-#[derive(Debug, Drop)]
+#[derive(Debug)]
 pub struct FlatDag {
     top: Text,
     nodes: Vec<FlatNode>,
@@ -189,6 +219,20 @@ pub struct FlatDag {
     edges: Vec<Edge>,
     categories: Vec<CategoryLimit>,
     warnings: Vec<DagWarning>,
+}
+
+// Each function that lets a value go calls this; a derived drop stands in each, part by part.
+impl Drop for FlatDag {
+    fn drop(self) {
+        let FlatDag {
+            top: _,
+            nodes: _,
+            final_node: _,
+            edges: _,
+            categories: _,
+            warnings: _,
+        } = self;
+    }
 }
 
 impl Model for FlatDag {

@@ -8,11 +8,21 @@ use crate::name_table::NameTable;
 use dag_reader::Target;
 
 /// The names of a file's JOB, FINAL and SPLICE lines, each in the order of the lines.
-#[derive(Drop)]
 pub(crate) struct Names {
     pub(crate) jobs: NameTable,
     pub(crate) finals: NameTable,
     pub(crate) splices: NameTable,
+}
+
+// Each function that lets a value go calls this; a derived drop stands in each, part by part.
+impl Drop for Names {
+    fn drop(self) {
+        let Names {
+            jobs: _,
+            finals: _,
+            splices: _,
+        } = self;
+    }
 }
 
 impl Names {

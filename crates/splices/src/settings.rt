@@ -4,8 +4,8 @@ ghost use Rattle.std.specs.Prelude.{◌≡◌, ◌∷◌, [], Some, not, find, m
 ghost use Rattle.std.specs.List.{filter};
 ghost use Rattle.std.specs.Option.{option_map};
 ghost use Rattle.splices.specs.Settings.{full_category, is_namesake, line_of, macro_of, with_macro};
-ghost use Rattle.splices.specs.SettingSteps.{no_settings, script_of, with_line, with_macros};
-ghost use Rattle.splices.specs.Warnings.{joined, line_if, replaced_by, replaced_in, target_of};
+ghost use Rattle.splices.specs.SettingSteps.{no_settings, script_of, with_line, with_macros, with_script};
+ghost use Rattle.splices.specs.Warnings.{joined, line_if, replaced_by, replaced_in, script_setting, target_of};
 
 use crate::flat::{
     AbortSetting, CategorySetting, MacroSetting, MacroSettings, PreSkipSetting, PrioritySetting,
@@ -49,70 +49,56 @@ impl Settings {
                 node,
                 program,
                 arguments,
-            } => {
-                let script = ScriptSetting::new(alloc, node, program, arguments.as_slice())?;
-                match kind {
-                    ScriptKind::Pre => self.set_pre(script, replaced),
-                    ScriptKind::Post => self.set_post(script, replaced),
-                }
-            }
+            } => self.set_script(alloc, *kind, node, program, arguments.as_slice(), replaced),
             Command::Retry {
                 node,
                 retries,
                 unless_exit,
-            } => self.set_retry(
-                RetrySetting {
-                    line: target_line(node),
-                    retries: *retries,
-                    unless_exit: *unless_exit,
-                },
-                replaced,
-            ),
-            Command::PreSkip { node, value } => self.set_pre_skip(
-                PreSkipSetting {
-                    line: target_line(node),
-                    value: *value,
-                },
-                replaced,
-            ),
+            } => self.set_retry(target_line(node), *retries, *unless_exit, replaced),
+            Command::PreSkip { node, value } => {
+                self.set_pre_skip(target_line(node), *value, replaced)
+            }
             Command::Vars {
                 node,
                 placement,
                 macros,
-            } => self.macros.put_all(
-                alloc,
-                target_line(node),
-                *placement,
-                macros.as_slice(),
-                replaced,
-            ),
-            Command::Priority { node, priority } => self.set_priority(
-                PrioritySetting {
-                    line: target_line(node),
-                    value: *priority,
-                },
-                replaced,
-            ),
-            Command::Category { node, category } => self.set_category(
-                CategorySetting {
-                    line: target_line(node),
-                    name: full_category(alloc, prefix, category.text())?,
-                },
-                replaced,
-            ),
+            } => self
+                .macros
+                .put_all(alloc, node, *placement, macros.as_slice(), replaced),
+            Command::Priority { node, priority } => {
+                self.set_priority(target_line(node), *priority, replaced)
+            }
+            Command::Category { node, category } => {
+                let name = full_category(alloc, prefix, category.text())?;
+                self.set_category(target_line(node), name, replaced)
+            }
             Command::AbortDagOn {
                 node,
                 value,
                 status,
-            } => self.set_abort(
-                AbortSetting {
-                    line: target_line(node),
-                    value: *value,
-                    status: *status,
-                },
-                replaced,
-            ),
+            } => self.set_abort(target_line(node), *value, *status, replaced),
             _ => Ok(()),
+        }
+    }
+
+    fn set_script(
+        &mut self,
+        alloc: Global,
+        kind: ScriptKind,
+        target: &Target,
+        program: &Word,
+        arguments: &[Word],
+        replaced: &mut Vec<usize>,
+    ) -> Result<(), AllocError>
+        ensures settings { OnOk result
+            (self.new ≡ with_script kind (script_of target.now program.now arguments.now) self.old) }
+        ensures replaced { OnOk result (replaced.new.items
+            ≡ joined replaced.old.items (line_if (λ s. s.line) (script_setting kind self.old))) }
+    {
+        let setting = ScriptSetting::new(alloc, target, program, arguments)?;
+        match kind {
+            ScriptKind::Pre => self.set_pre(setting, replaced),
+            ScriptKind::Post => self.set_post(setting, replaced),
         }
     }
 
@@ -150,81 +136,96 @@ impl Settings {
 
     fn set_retry(
         &mut self,
-        setting: RetrySetting,
+        line: usize,
+        retries: u32,
+        unless_exit: Option<i32>,
         replaced: &mut Vec<usize>,
     ) -> Result<(), AllocError>
-        ensures settings { OnOk result (self.new ≡ record self.old { retry = Some setting }) }
+        ensures settings { OnOk result (self.new ≡ record self.old { retry = Some (record { line = line; retries = retries; unless_exit = unless_exit }) }) }
         ensures replaced { OnOk result
             (replaced.new.items ≡ joined replaced.old.items (line_if (λ s. s.line) self.old.retry)) }
     {
         if let Some(old) = self.retry {
             add_once(replaced, old.line)?;
         }
-        self.retry = Some(setting);
+        self.retry = Some(RetrySetting {
+            line,
+            retries,
+            unless_exit,
+        });
         Ok(())
     }
 
     fn set_pre_skip(
         &mut self,
-        setting: PreSkipSetting,
+        line: usize,
+        value: i32,
         replaced: &mut Vec<usize>,
     ) -> Result<(), AllocError>
-        ensures settings { OnOk result (self.new ≡ record self.old { pre_skip = Some setting }) }
+        ensures settings { OnOk result (self.new ≡ record self.old { pre_skip = Some (record { line = line; value = value }) }) }
         ensures replaced { OnOk result
             (replaced.new.items ≡ joined replaced.old.items (line_if (λ s. s.line) self.old.pre_skip)) }
     {
         if let Some(old) = self.pre_skip {
             add_once(replaced, old.line)?;
         }
-        self.pre_skip = Some(setting);
+        self.pre_skip = Some(PreSkipSetting { line, value });
         Ok(())
     }
 
     fn set_priority(
         &mut self,
-        setting: PrioritySetting,
+        line: usize,
+        value: i32,
         replaced: &mut Vec<usize>,
     ) -> Result<(), AllocError>
-        ensures settings { OnOk result (self.new ≡ record self.old { priority = Some setting }) }
+        ensures settings { OnOk result (self.new ≡ record self.old { priority = Some (record { line = line; value = value }) }) }
         ensures replaced { OnOk result
             (replaced.new.items ≡ joined replaced.old.items (line_if (λ s. s.line) self.old.priority)) }
     {
         if let Some(old) = self.priority {
             add_once(replaced, old.line)?;
         }
-        self.priority = Some(setting);
+        self.priority = Some(PrioritySetting { line, value });
         Ok(())
     }
 
     fn set_category(
         &mut self,
-        setting: CategorySetting,
+        line: usize,
+        name: Text,
         replaced: &mut Vec<usize>,
     ) -> Result<(), AllocError>
-        ensures settings { OnOk result (self.new ≡ record self.old { category = Some setting }) }
+        ensures settings { OnOk result (self.new ≡ record self.old { category = Some (record { line = line; name = name }) }) }
         ensures replaced { OnOk result
             (replaced.new.items ≡ joined replaced.old.items (line_if (λ s. s.line) self.old.category)) }
     {
         if let Some(old) = &self.category {
             add_once(replaced, old.line)?;
         }
-        self.category = Some(setting);
+        self.category = Some(CategorySetting { line, name });
         Ok(())
     }
 
     fn set_abort(
         &mut self,
-        setting: AbortSetting,
+        line: usize,
+        value: i32,
+        status: Option<u8>,
         replaced: &mut Vec<usize>,
     ) -> Result<(), AllocError>
-        ensures settings { OnOk result (self.new ≡ record self.old { abort = Some setting }) }
+        ensures settings { OnOk result (self.new ≡ record self.old { abort = Some (record { line = line; value = value; status = status }) }) }
         ensures replaced { OnOk result
             (replaced.new.items ≡ joined replaced.old.items (line_if (λ s. s.line) self.old.abort)) }
     {
         if let Some(old) = self.abort {
             add_once(replaced, old.line)?;
         }
-        self.abort = Some(setting);
+        self.abort = Some(AbortSetting {
+            line,
+            value,
+            status,
+        });
         Ok(())
     }
 }
@@ -306,18 +307,21 @@ impl MacroSettings {
     fn put_all(
         &mut self,
         alloc: Global,
-        line: usize,
+        target: &Target,
         placement: Placement,
         macros: &[Macro],
         replaced: &mut Vec<usize>,
     ) -> Result<(), AllocError>
         ensures macros { OnOk result
-            (self.new ≡ with_macros self.old (map (macro_of line placement) macros.now)) }
+            (self.new ≡ with_macros self.old (map (macro_of (line_of target.now) placement) macros.now)) }
         ensures replaced { OnOk result (replaced.new.items
-            ≡ joined replaced.old.items (replaced_by self.old (map (macro_of line placement) macros.now))) }
+            ≡ joined replaced.old.items (replaced_by self.old (map (macro_of (line_of target.now) placement) macros.now))) }
     {
         for one in macros {
-            self.put(MacroSetting::new(alloc, line, placement, one)?, replaced)?;
+            self.put(
+                MacroSetting::new(alloc, target_line(target), placement, one)?,
+                replaced,
+            )?;
         }
         Ok(())
     }

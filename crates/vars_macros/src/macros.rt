@@ -18,11 +18,22 @@ use std::marker::Model;
 /// they count.
 ///
 /// The last assignment of a name is found in a table, whatever their number is.
-#[derive(Debug, Drop)]
+#[derive(Debug)]
 pub struct Macros {
     pub(crate) job: Text,
     assigned: Vec<Assigned>,
     places: IndexMap<String, usize>,
+}
+
+// Each function that lets a value go calls this; a derived drop stands in each, part by part.
+impl Drop for Macros {
+    fn drop(self) {
+        let Macros {
+            job: _,
+            assigned: _,
+            places: _,
+        } = self;
+    }
 }
 
 impl Model for Macros {

@@ -1,11 +1,11 @@
 use Rattle.std.proofs.Common.{◌≡◌, map, drop}
-use Rattle.splices.specs.Settings.{macro_of}
+use Rattle.splices.specs.Settings.{line_of, macro_of}
 use Rattle.splices.specs.SettingSteps.{with_macros}
 use Rattle.splices.specs.Warnings.{joined, replaced_by}
 use Rattle.splices.proofs.flat.MacroSettings.put_all.Given as goal
 
 abbrev pub invariant-loop-one : goal.invariant-loop-one
 invariant-loop-one l = record {
-  macros : with_macros l.self (map (macro_of l.line l.placement) (drop l.one-index l.macros)) ≡ with_macros l.initial.self (map (macro_of l.line l.placement) l.macros);
-  replaced : joined l.replaced.items (replaced_by l.self (map (macro_of l.line l.placement) (drop l.one-index l.macros))) ≡ joined l.initial.replaced.items (replaced_by l.initial.self (map (macro_of l.line l.placement) l.macros));
+  macros : with_macros l.self (map (macro_of (line_of l.target) l.placement) (drop l.one-index l.macros)) ≡ with_macros l.initial.self (map (macro_of (line_of l.target) l.placement) l.macros);
+  replaced : joined l.replaced.items (replaced_by l.self (map (macro_of (line_of l.target) l.placement) (drop l.one-index l.macros))) ≡ joined l.initial.replaced.items (replaced_by l.initial.self (map (macro_of (line_of l.target) l.placement) l.macros));
 }
