@@ -3,7 +3,7 @@
 set -u
 cd -- "$(dirname -- "${BASH_SOURCE[0]}")/.." || exit 1
 dagrun=$PWD/dagrun
-# Where the program is missing or old, this call builds it and says so.
+# Where the shipped program is of other sources, this call builds one and says so.
 "$dagrun" rehearse examples/diamond.dag >/dev/null || exit 1
 folder=.
 passed=0

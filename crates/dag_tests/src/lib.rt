@@ -3,10 +3,6 @@
 #![tactic(auto)]
 
 #[cfg(test)]
-mod cycles;
-#[cfg(test)]
-mod faults;
-#[cfg(test)]
 mod file_sets;
 #[cfg(test)]
 mod graphs;
@@ -24,5 +20,3 @@ mod settings;
 mod shown;
 #[cfg(test)]
 mod views;
-#[cfg(test)]
-mod warnings;

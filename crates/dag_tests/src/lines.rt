@@ -108,15 +108,6 @@ fn assigned(alloc: Global, one: &MacroSetting) -> Result<String, AllocError> {
     }
 }
 
-/// The warnings.
-pub fn warnings(alloc: Global, dag: &FlatDag) -> Result<String, AllocError> {
-    let mut shown = String::new(alloc);
-    for warning in dag.warnings() {
-        add(&mut shown, format!(in alloc; "{warning};"))?;
-    }
-    Ok(shown)
-}
-
 /// The limits of categories, each with its place.
 pub fn limits(alloc: Global, dag: &FlatDag) -> Result<String, AllocError> {
     let mut shown = String::new(alloc);

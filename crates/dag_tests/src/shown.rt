@@ -1,6 +1,6 @@
 //! The answers at sets of files, as texts.
 
-use crate::lines::{limits, settings, warnings};
+use crate::lines::{limits, settings};
 use crate::views::{ancestors, links, names, options, plan_text};
 use dag_graph::Graph;
 use run_plan::{Plan, PlanFault};
@@ -11,10 +11,6 @@ use std::process::Abort;
 /// What is looked at, where the files are read.
 #[derive(Clone, Copy, Debug)]
 pub enum View {
-    /// Nothing: there has to be a fault where one is wanted, and none elsewhere.
-    Faults,
-    /// The numbers of nodes and of edges.
-    Counts,
     /// Files, folders, parents and children of the nodes.
     Links,
     /// Folders and options of the nodes.
@@ -27,8 +23,6 @@ pub enum View {
     Names,
     /// What lines set for the nodes.
     Settings,
-    /// The warnings.
-    Warnings,
     /// The limits of categories.
     Limits,
     /// What the plan says.
@@ -84,8 +78,6 @@ fn told(alloc: Global, view: View, built: &Built) -> Result<String, AllocError> 
 fn looked_at(alloc: Global, view: View, plan: &Plan) -> Result<String, AllocError> {
     let graph = plan.graph();
     match view {
-        View::Faults => Ok(String::new(alloc)),
-        View::Counts => counts(alloc, plan),
         View::Links => links(alloc, graph),
         View::Options => options(alloc, graph.flat()),
         View::Order => {
@@ -95,17 +87,9 @@ fn looked_at(alloc: Global, view: View, plan: &Plan) -> Result<String, AllocErro
         View::Ancestors => ancestors(alloc, plan),
         View::Names => names(alloc, graph),
         View::Settings => settings(alloc, graph.flat()),
-        View::Warnings => warnings(alloc, graph.flat()),
         View::Limits => limits(alloc, graph.flat()),
         View::Plan => plan_text(alloc, plan),
     }
-}
-
-fn counts(alloc: Global, plan: &Plan) -> Result<String, AllocError> {
-    let nodes = plan.count();
-    let edges = plan.graph().edge_count();
-    let last = plan.graph().final_node();
-    format!(in alloc; "{nodes} nodes {edges} edges {last:?}")
 }
 
 /// The file t.dag with this text, and the other files.

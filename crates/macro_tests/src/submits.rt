@@ -1,10 +1,10 @@
-//! Submit files.
+//! The assignments of submit files.
 
 use crate::commands::text_or_dash;
 use crate::shown::{joined, same};
 use std::alloc::{AllocError, Global};
 use std::test::Fail;
-use submit_file::{Assignment, SubmitFault, read_submit};
+use submit_file::{Assignment, read_submit};
 
 /// The assignments as `name=value;`.
 fn assigned(alloc: Global, assignments: &[Assignment]) -> Result<String, AllocError> {
@@ -16,24 +16,14 @@ fn assigned(alloc: Global, assignments: &[Assignment]) -> Result<String, AllocEr
     Ok(out)
 }
 
-/// The fault with its line.
-fn fault_text(alloc: Global, fault: &SubmitFault) -> Result<String, AllocError> {
-    match fault {
-        SubmitFault::InLine(line, fault) => format!(in alloc; "{fault}:{line}"),
-        _ => format!(in alloc; "{fault}"),
-    }
+/// What is read.
+fn said(alloc: Global, text: &[u8]) -> Result<String, Fail> {
+    let submit = read_submit(alloc, text)?;
+    Ok(assigned(alloc, submit.assignments())?)
 }
 
-/// What is read: the assignments, or the fault.
-fn said(alloc: Global, text: &[u8]) -> Result<String, AllocError> {
-    match read_submit(alloc, text) {
-        Ok(submit) => assigned(alloc, submit.assignments()),
-        Err(fault) => fault_text(alloc, &fault),
-    }
-}
-
-/// Texts, with the assignments or the fault.
-static TEXTS: [(&[u8], &str); 21] = [
+/// Texts, with the assignments.
+static TEXTS: [(&[u8], &str); 8] = [
     (b"a = 1\nqueue\n", "a=1;"),
     (
         b" Executable =  /bin/echo \r\nqueue 1",
@@ -48,23 +38,10 @@ static TEXTS: [(&[u8], &str); 21] = [
     (b"a =\n\n \t\nQueue", "a=;"),
     (b"a = 1\nA = 2\nqueue", "a=1;A=2;"),
     (b"queue", ""),
-    (b"a b = c", "U2 BadLine:1"),
-    (b"a = c", "U3 NoQueue"),
-    (b"", "U3 NoQueue"),
-    (b"queue 5", "U4 QueueCount:1"),
-    (b"queue 0", "U4 QueueCount:1"),
-    (b"a = 1\n\\\nqueue 5", "U4 QueueCount:2"),
-    (b"queue\nQUEUE 1", "U4 QueueCount:2"),
-    (b"queue x in (p q)", "U5 Unsupported:1"),
-    (b"queue = 1", "U5 Unsupported:1"),
-    (b"queue +1", "U5 Unsupported:1"),
-    (b"IF x", "U5 Unsupported:1"),
-    (b"queue\n= 1", "U2 BadLine:2"),
-    (b"queue\n\xff", "U1 NotText"),
 ];
 
 #[test]
-fn assignments_and_refusals(rt: HostRuntime) -> Result<(), Fail> {
+fn assignments(rt: HostRuntime) -> Result<(), Fail> {
     for (text, due) in &TEXTS {
         let answer = said(rt.alloc(), text)?;
         same(&rt, due, answer.as_str(), due);

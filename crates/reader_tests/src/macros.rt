@@ -62,42 +62,8 @@ const READ: [(&str, &str); 16] = [
     ),
 ];
 
-/// A text, and its fault.
-const FAULTS: [(&str, &str); 24] = [
-    ("VARS", "L4 MissingWord 1:5"),
-    ("VARS A ", "L4 MissingWord 1:8"),
-    ("VARS A PREPEND", "L4 MissingWord 1:15"),
-    ("VARS A append ", "L4 MissingWord 1:15"),
-    ("VARS a.b c", "L6 BadName 1:6"),
-    ("VARS A b c=\"x\"", "L8 BadQuote 1:10"),
-    ("VARS A b", "L8 BadQuote 1:9"),
-    ("VARS A b=", "L8 BadQuote 1:10"),
-    ("VARS A b =  ", "L8 BadQuote 1:13"),
-    ("VARS A b=x", "L8 BadQuote 1:10"),
-    ("VARS A b=\"x", "L8 BadQuote 1:10"),
-    ("VARS A b=\"x\\\"", "L8 BadQuote 1:10"),
-    ("VARS A b=\"x\"c", "L8 BadQuote 1:13"),
-    ("VARS A b=\"x\"c=\"y\"", "L8 BadQuote 1:13"),
-    ("VARS A b\"x\"", "L6 BadName 1:8"),
-    ("VARS A b-c=\"x\"", "L6 BadName 1:8"),
-    ("VARS A 1b=\"x\"", "L6 BadName 1:8"),
-    ("VARS A .b=\"x\"", "L6 BadName 1:8"),
-    ("VARS A =\"x\"", "L6 BadName 1:8"),
-    ("VARS A Queue=\"x\"", "L6 BadName 1:8"),
-    ("VARS A queues=\"x\"", "L6 BadName 1:8"),
-    ("VARS A a=\"x\" b-=\"y\" c", "L6 BadName 1:14"),
-    ("VARS A PREPEND PREPEND", "L8 BadQuote 1:23"),
-    ("VARS A b=\"x\\", "L3 Unsupported 1:8"),
-];
-
 #[test]
 fn read(rt: HostRuntime) -> Result<(), Fail> {
     compare(&rt, rt.alloc(), &READ)?;
-    Ok(())
-}
-
-#[test]
-fn faults(rt: HostRuntime) -> Result<(), Fail> {
-    compare(&rt, rt.alloc(), &FAULTS)?;
     Ok(())
 }

@@ -1,5 +1,0 @@
-//! Tests of the table of outcomes.
-#![tactic(auto)]
-
-#[cfg(test)]
-mod tests;
