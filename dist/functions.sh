@@ -39,17 +39,18 @@ files_of() {
     done
 }
 
-# What dist/SOURCES has to hold for a program of the sources as they are.
+# What dist/SOURCES has to say of a program of the sources as they are: the toolchain, the sum of the sources, and its own.
 sources() {
     local version
     version=$(toolchain)
     echo "$version"
     sum_of_sources "$version"
+    sha256sum <"$1" | cut -d ' ' -f 1
 }
 
 # Whether the program $1 with the file of sources $2 is one of the sources as they are.
 is_of_sources() {
-    [ -x "$1" ] && [ -f "$2" ] && [ "$(cat "$2")" = "$(sources)" ]
+    [ -x "$1" ] && [ -f "$2" ] && [ "$(cat "$2")" = "$(sources "$1")" ]
 }
 
 # Hands on how far the check of crate $1 is, number $2 of $3: a line that is written over on a terminal, else one line.
@@ -81,5 +82,5 @@ build() {
         return 1
     fi
     rm -f "$log"
-    sources >"$top/$program.sources"
+    sources "$top/$program" >"$top/$program.sources"
 }
