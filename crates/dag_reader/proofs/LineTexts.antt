@@ -1,5 +1,5 @@
 -- What is read is spelled so, and what is spelled so is read: lines and texts.
-use Rattle.std.proofs.Common.{◌≡◌, ℕ, zero, suc, ◌+◌, ◌<◌, ◌≤◌, ◌⊎◌, Bool, true, false, cond, ◌&&◌, ◌||◌, nat_eq, List, [], ◌∷◌, ◌++◌, length, take, Some, None, Result, Ok, Err, refl, sym, ap, subst, ◌∙◌, arith, inl, inr, ⊎_elim, codes}
+use Rattle.std.proofs.Common.{◌≡◌, ℕ, zero, suc, ◌+◌, ◌<◌, ◌≤◌, ◌⊎◌, Bool, true, false, cond, ◌&&◌, ◌||◌, nat_eq, List, [], ◌∷◌, ◌++◌, length, take, rules, Option, Some, None, Result, Ok, Err, refl, sym, ap, subst, ◌∙◌, arith, inl, inr, ⊎_elim, codes}
 use Rattle.std.proofs.lemmas.Bool.{cases_Bool, false≢true, eqb-true, eq-eqb, ltb-true}
 use Rattle.std.proofs.lemmas.Grind.{common_steps}
 use Rattle.std.proofs.lemmas.List.{take_all}
@@ -13,11 +13,12 @@ use Rattle.std.specs.Str.{IsUtf8, is_utf8, str_eq_ignore_ascii_case, bytes_eq, s
 use Rattle.std.specs.Str.Lossy.{utf8_valid_len, valid_len_up_to}
 use Rattle.dag_reader.specs.declared.span.Span.{Span}
 use Rattle.dag_reader.specs.declared.fault.LineFault.{LineFault}
-use Rattle.dag_reader.specs.declared.fault.LineFault.TheVariants.{NotText, UnknownCommand, Unsupported, TooLong}
+use Rattle.dag_reader.specs.declared.fault.LineFault.TheVariants.{NotText, Unsupported, TooLong}
 use Rattle.dag_reader.specs.declared.fault.ReadFault.{ReadFault}
 use Rattle.dag_reader.specs.declared.fault.ReadFault.TheVariants as faults
 use Rattle.dag_reader.specs.declared.command.Command.{Command}
-use Rattle.dag_reader.specs.declared.command.Command.TheVariants.{Job, ParentChild, Script, Retry, PreSkip, Vars, Priority, Category, MaxJobs, AbortDagOn, Final, Splice}
+use Rattle.dag_reader.specs.declared.layout.LineKind.{LineKind}
+use Rattle.dag_reader.specs.Layouts.{layout, all_kinds, line_kind}
 use Rattle.dag_reader.specs.declared.command.Warning.{Warning}
 use Rattle.dag_reader.specs.declared.command.Warning.TheVariants.{Ignored}
 use Rattle.dag_reader.specs.declared.command.Meaning.{Meaning}
@@ -25,11 +26,11 @@ use Rattle.dag_reader.specs.declared.command.Meaning.TheVariants.{Nothing, Says,
 use Rattle.dag_reader.specs.Word.{PlacedText}
 use Rattle.dag_reader.specs.LineReader.{Left}
 use Rattle.dag_reader.specs.Words.{words, last_of}
-use Rattle.dag_reader.specs.Keywords.{is_keyword, is_one_of, command_keywords, is_left_out, is_ignored, is_comment, begins_with}
+use Rattle.dag_reader.specs.Keywords.{is_keyword, is_ignored, is_comment, begins_with}
 use Rattle.dag_reader.specs.Lines.{is_control, text_len, ends_with_backslash}
-use Rattle.dag_reader.specs.Reading.{◌>>=◌, command_at, node_setting_at, run_setting_at, text_of, meaning_at, meaning_of, line_at, lines_at, Contents, commands_of, warnings_of, with_meaning, Fails, Gives, span}
-use Rattle.dag_reader.specs.Grammar.{Is, Spells, IsText, WordsMean, Means, SayAll, warning_of, warnings_in, first_fault, HasOrder, IsBad, IsFirstBad}
-use Rattle.dag_reader.proofs.Parts.{bind_ok, chosen, ok_is, rest, one_keyword}
+use Rattle.dag_reader.specs.Reading.{◌>>=◌, command_in, command_at, first_fault, text_of, meaning_at, meaning_of, line_at, lines_at, Contents, commands_of, warnings_of, with_meaning, Fails, Gives, span}
+use Rattle.dag_reader.specs.Grammar.{Is, SpellsKind, Spells, IsText, WordsMean, Means, SayAll, warning_of, warnings_in, HasOrder, IsBad, IsFirstBad}
+use Rattle.dag_reader.proofs.Parts.{bind_ok, chosen, ok_is, rest, one_keyword, found}
 use Rattle.dag_reader.proofs.Commands.{command_ok, command_again}
 
 -- Texts.
@@ -147,29 +148,31 @@ begins k b ks is hash dot log status attr = record {
   ignored = ignored_by _ _ _ _ (one_keyword (b ∷ ks) (codes "DOT") k is dot) (one_keyword (b ∷ ks) (codes "JOBSTATE_LOG") k is log) (one_keyword (b ∷ ks) (codes "NODE_STATUS_FILE") k is status) (one_keyword (b ∷ ks) (codes "SET_JOB_ATTR") k is attr);
 }
 
--- the first word of a command
-abbrev HasFirst : List PlacedText → Type 0
-HasFirst ws = (k : PlacedText) × (more : List PlacedText) × (ws ≡ k ∷ more) × Begins k
+-- The keywords of the table are none of those.
+abbrev IsApart : List ℕ → Type 0
+IsApart [] = ⊥
+IsApart (b ∷ ks) = (nat_eq (to_ascii_lowercase 35) (to_ascii_lowercase b) ≡ false)
+    × (bytes_eq (str_to_ascii_lowercase (b ∷ ks)) (str_to_ascii_lowercase (codes "DOT")) ≡ false)
+    × (bytes_eq (str_to_ascii_lowercase (b ∷ ks)) (str_to_ascii_lowercase (codes "JOBSTATE_LOG")) ≡ false)
+    × (bytes_eq (str_to_ascii_lowercase (b ∷ ks)) (str_to_ascii_lowercase (codes "NODE_STATUS_FILE")) ≡ false)
+    × (bytes_eq (str_to_ascii_lowercase (b ∷ ks)) (str_to_ascii_lowercase (codes "SET_JOB_ATTR")) ≡ false)
 
-has_first : (bytes : List ℕ) (ws : List PlacedText) (c : Command) → Spells bytes c ws → HasFirst ws
-has_first bytes ws (Job name file dir noop done) (k, options, e, is, _, _, _) = (k, _, e, begins k _ _ is refl refl refl refl refl)
-has_first bytes ws (ParentChild parents children) (k, c, e, is, _, _, _, _, _) = (k, _, e, begins k _ _ is refl refl refl refl refl)
-has_first bytes ws (Script kind t program arguments) (k, s, node, e, is, _, _) = (k, _, e, begins k _ _ is refl refl refl refl refl)
-has_first bytes ws (Retry t n v) (k, node, number, ending, e, is, _, _, _) = (k, _, e, begins k _ _ is refl refl refl refl refl)
-has_first bytes ws (PreSkip t v) (k, node, number, e, is, _, _) = (k, _, e, begins k _ _ is refl refl refl refl refl)
-has_first bytes ws (Vars t placement macros) (k, node, more, e, is, _, _, _) = (k, _, e, begins k _ _ is refl refl refl refl refl)
-has_first bytes ws (Priority t v) (k, node, number, e, is, _, _) = (k, _, e, begins k _ _ is refl refl refl refl refl)
-has_first bytes ws (Category t category) (k, node, e, is, _, _) = (k, _, e, begins k _ _ is refl refl refl refl refl)
-has_first bytes ws (MaxJobs category n) (k, number, e, is, _, _) = (k, _, e, begins k _ _ is refl refl refl refl refl)
-has_first bytes ws (AbortDagOn t v status) (k, node, number, ending, e, is, _, _, _) = (k, _, e, begins k _ _ is refl refl refl refl refl)
-has_first bytes ws (Final name file dir noop) (k, options, e, is, _, _, _) = (k, _, e, begins k _ _ is refl refl refl refl refl)
-has_first bytes ws (Splice name file dir) (k, options, e, is, _, _) = (k, _, e, begins k _ _ is refl refl refl refl refl)
+abbrev KindApart : LineKind → Type 0
+KindApart kind = IsApart (layout kind).keyword
 
-begins_first : (first : PlacedText) (ws : List PlacedText) → HasFirst (first ∷ ws) → Begins first
-begins_first first ws (k, more, e, b) = let same : k ≡ first = cc in subst Begins same b
+kinds_apart : AllByRecursion KindApart all_kinds
+kinds_apart = search rules
 
-no_words : HasFirst [] → ⊥
-no_words (k, more, e, b) = cc
+begins_by : (keyword : List ℕ) (k : PlacedText) → IsApart keyword → Is keyword k → Begins k
+begins_by [] k apart is = absurd apart
+begins_by (b ∷ ks) k (hash, dot, log, status, attr) is = begins k b ks is hash dot log status attr
+
+kind_begins : (o : Option LineKind) (bytes : List ℕ) (first : PlacedText) (ws : List PlacedText) (c : Command) → line_kind first ≡ o → SpellsKind o bytes c first ws → Begins first
+kind_begins (Some kind) bytes first ws c e h = let f = found KindApart (λ x. is_keyword (layout x).keyword first) all_kinds kind kinds_apart e in begins_by (layout kind).keyword first f.1 f.0
+kind_begins None bytes first ws c e (node, more, placement, macros, _, _, is, _, _, _) = begins first _ _ is refl refl refl refl refl
+
+spelled_begins : (bytes : List ℕ) (first : PlacedText) (ws : List PlacedText) (c : Command) → Spells bytes c (first ∷ ws) → Begins first
+spelled_begins bytes first ws c h = kind_begins (line_kind first) bytes first ws c refl h
 
 -- An ignored word begins no comment.
 ignored_no_comment : (first : PlacedText) → is_ignored first ≡ true → is_comment first ≡ false
@@ -214,10 +217,10 @@ means_again : (bytes : List ℕ) (ws : List PlacedText) (end : Span) (m : Meanin
 unfolding meaning_at
 means_again bytes [] end Nothing h = refl
 means_again bytes (first ∷ ws) end Nothing h = rw h refl
-means_again bytes [] end (Says c) h = absurd (no_words (has_first bytes [] c h.1))
+means_again bytes [] end (Says c) h = absurd h.1
 means_again bytes (first ∷ ws) end (Says c) h =
     let whole = h.0 in
-    let b = begins_first first ws (has_first bytes (first ∷ ws) c h.1) in
+    let b = spelled_begins bytes first ws c h.1 in
     let comment = b.comment in
     let ignored = b.ignored in
     rw (comment, whole, ignored, command_again bytes first ws end c h.1) refl
@@ -271,7 +274,7 @@ warnings_of_words : (bytes : List ℕ) (ws : List PlacedText) (m : Meaning) → 
 warnings_of_words bytes [] Nothing h = refl
 warnings_of_words bytes (first ∷ ws) Nothing h = no_warning first ws (comment_not_ignored first h)
 warnings_of_words bytes [] (Says c) h = refl
-warnings_of_words bytes (first ∷ ws) (Says c) h = let b = begins_first first ws (has_first bytes (first ∷ ws) c h.1) in no_warning first ws b.ignored
+warnings_of_words bytes (first ∷ ws) (Says c) h = let b = spelled_begins bytes first ws c h.1 in no_warning first ws b.ignored
 warnings_of_words bytes [] (Warns (Ignored s)) h = absurd h.1
 warnings_of_words bytes (first ∷ ws) (Warns (Ignored s)) (whole, (ignored, same)) = rw ignored (ap (λ (x : Span). Ignored x ∷ []) same)
 
@@ -314,40 +317,21 @@ with_backslash : (line : List ℕ) (first : PlacedText) (ws : List PlacedText) (
 unfolding meaning_at
 with_backslash line first ws end comment slash = rw (comment, slash) refl
 
-both_false : (a b : Bool) → (a || b) ≡ false → (a ≡ false) × (b ≡ false)
-both_false false b h = (refl, h)
-both_false true b h = absurd (false≢true (sym h))
+no_command : (bytes : List ℕ) (first : PlacedText) (left : Left) → line_kind first ≡ None → is_keyword (codes "VARS") first ≡ false → command_at bytes first left ≡ Err (first_fault first)
+unfolding command_at
+no_command bytes first left none vars = ap (λ (o : Option LineKind). command_in o bytes first left) none ∙ rw vars refl
 
-abbrev NoneOf : List (List ℕ) → PlacedText → Type 0
-NoneOf keywords first = AllByRecursion (λ k. is_keyword k first ≡ false) keywords
-
-none_of : (keywords : List (List ℕ)) (first : PlacedText) → is_one_of keywords first ≡ false → NoneOf keywords first
-none_of [] first h = tt
-none_of (keyword ∷ more) first h = let p = both_false (is_keyword keyword first) (is_one_of more first) h in (p.0, none_of more first p.1)
-
-abbrev refused : LineFault → Result Command LineFault
-refused f = Err f
-
-picked_fault : (b : Bool) (x y : LineFault) → cond b (refused x) (refused y) ≡ refused (cond b x y)
-picked_fault true x y = refl
-picked_fault false x y = refl
-
-no_command : (bytes : List ℕ) (first : PlacedText) (left : Left) → NoneOf command_keywords first → command_at bytes first left ≡ Err (first_fault first)
-unfolding command_at node_setting_at run_setting_at
-no_command bytes first left (a, (b, (c, (d, (e, (f, (g, (h, (i, (j, (k, (l, _)))))))))))) =
-    rw (a, b, c, d, e, f, g, h, i, j, k, l) (picked_fault (is_left_out first) (Unsupported first.span) (UnknownCommand first.span))
-
-with_no_command : (line : List ℕ) (first : PlacedText) (ws : List PlacedText) (end : Span) → is_comment first ≡ false → ends_with_backslash line ≡ false → is_ignored first ≡ false → NoneOf command_keywords first
-    → meaning_of line (first ∷ ws) end ≡ Err (first_fault first)
+with_no_command : (line : List ℕ) (first : PlacedText) (ws : List PlacedText) (end : Span) → is_comment first ≡ false → ends_with_backslash line ≡ false → is_ignored first ≡ false
+    → line_kind first ≡ None → is_keyword (codes "VARS") first ≡ false → meaning_of line (first ∷ ws) end ≡ Err (first_fault first)
 unfolding meaning_at
-with_no_command line first ws end comment slash ignored none = rw (comment, slash, ignored, no_command line first (rest ws end) none) refl
+with_no_command line first ws end comment slash ignored none vars = rw (comment, slash, ignored, no_command line first (rest ws end) none vars) refl
 
 has_order : (number : ℕ) (line : List ℕ) (f : LineFault) → line_at number line ≡ Err f → HasOrder number line f
 has_order number line f e = record {
   too_long = λ long. err_is _ f (line_at number line) (too_long number line long) e;
   not_text = λ fits bad. err_is _ f (line_at number line) (not_text number line fits bad) e;
   backslash = λ text first ws is comment slash. err_is _ f (line_at number line) (read_so number line first ws _ text is (with_backslash line first ws _ comment slash)) e;
-  first_word = λ text first ws is comment slash ignored none. err_is _ f (line_at number line) (read_so number line first ws _ text is (with_no_command line first ws _ comment slash ignored (none_of command_keywords first none))) e;
+  first_word = λ text first ws is comment slash ignored none vars. err_is _ f (line_at number line) (read_so number line first ws _ text is (with_no_command line first ws _ comment slash ignored none vars)) e;
 }
 
 is_bad : (number : ℕ) (line : List ℕ) (f : LineFault) → line_at number line ≡ Err f → IsBad number line f

@@ -12,11 +12,6 @@ is_keyword keyword word = str_eq_ignore_ascii_case word.text keyword
 abbrev pub is_one_of : List (List ℕ) → PlacedText → Bool
 is_one_of keywords word = list_any (λ keyword. is_keyword keyword word) keywords
 
-abbrev pub command_keywords : List (List ℕ)
-command_keywords = codes "JOB" ∷ codes "PARENT" ∷ codes "FINAL" ∷ codes "SPLICE"
-    ∷ codes "SCRIPT" ∷ codes "RETRY" ∷ codes "PRE_SKIP" ∷ codes "VARS" ∷ codes "PRIORITY"
-    ∷ codes "CATEGORY" ∷ codes "MAXJOBS" ∷ codes "ABORT-DAG-ON" ∷ []
-
 abbrev pub left_out_files : List (List ℕ)
 left_out_files = codes "SUBDAG" ∷ codes "INCLUDE" ∷ codes "CONFIG" ∷ codes "ENV" ∷ codes "SUBMIT-DESCRIPTION" ∷ []
 

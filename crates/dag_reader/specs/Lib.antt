@@ -7,6 +7,9 @@ pub mod Lines
 pub mod Fault
 pub mod Results
 pub mod Macros
+pub mod Layouts
+pub mod LayoutViews
+pub mod Leftmost
 pub mod MacroReading
 pub mod MacroReader
 pub mod MacroGrammar

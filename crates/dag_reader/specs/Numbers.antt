@@ -22,11 +22,12 @@ up_to most (Some (negsuc n)) = None
 abbrev pub count : ℕ → List ℕ → Option ℕ
 count most text = up_to most (integer text)
 
--- a number, but for 0
-abbrev pub positive : Option ℕ → Option ℕ
-positive None = None
-positive (Some n) = if nat_lt 0 n then Some n else None
+-- a number from this one on
+abbrev pub at_least : ℕ → Option ℕ → Option ℕ
+at_least least None = None
+at_least least (Some n) = if nat_le least n then Some n else None
 
+-- a number, but for 0
 abbrev pub is_zero : ℤ → Bool
 is_zero (pos n) = n == 0
 is_zero (negsuc n) = false

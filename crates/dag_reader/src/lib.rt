@@ -6,12 +6,15 @@ mod dag_file;
 mod fault;
 mod fields;
 pub mod laws;
+mod layout;
 mod line;
 mod macro_reader;
+mod pass;
 mod reading;
 mod span;
 mod text;
 mod token;
+mod values;
 mod word;
 
 pub use command::{Command, DagFile, Macro, Macros, Placement, ScriptKind, Target, Warning};

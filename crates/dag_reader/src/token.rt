@@ -3,7 +3,8 @@
 ghost use Rattle.std.specs.Prelude.{◌≡◌, IfOk};
 ghost use Rattle.std.specs.Option.{option_map};
 
-use crate::command::Target;
+use crate::command::{ScriptKind, Target};
+use crate::fault::LineFault;
 use crate::span::Span;
 use crate::word::Word;
 use std::alloc::{AllocError, Global};
@@ -18,12 +19,14 @@ pub struct Token<'a> {
     pub span: Span,
 }
 
-impl Token<'_> {
+impl<'a> Token<'a> {
     ghost use Rattle.dag_reader.specs.LineReader.{word_of};
     ghost use Rattle.std.specs.Prelude.{length};
     ghost use Rattle.std.specs.List.{list_any};
-    ghost use Rattle.dag_reader.specs.Reading.{target_of};
-    ghost use Rattle.dag_reader.specs.Numbers.{integer, count, positive, nonzero};
+    ghost use Rattle.dag_reader.specs.Layouts.{target_of};
+    ghost use Rattle.dag_reader.specs.Numbers.{integer, count, at_least, nonzero};
+    ghost use Rattle.dag_reader.specs.Reading.{Answers};
+    ghost use Rattle.dag_reader.specs.Layouts.{name_in, node_in, submit_file_in, category_in, script_kind_in, number_in};
     ghost use Rattle.dag_reader.specs.Keywords.{is_keyword, joins_names, is_left_out, is_one_of, left_out_files, left_out_services, left_out_settings, is_ignored, ignored_keywords, is_left_out_script, left_out_scripts, is_category, is_name, is_target, is_inline, is_comment};
 
     /// Whether the word is this keyword, in any case of ASCII letters.
@@ -170,16 +173,6 @@ impl Token<'_> {
         }
     }
 
-    /// The number from 1 to `most` that the word spells.
-    pub(crate) fn positive_count(&self, most: u32) -> Option<u32>
-        ensures { result ≡ positive (count most (word_of self.now).text) }
-    {
-        match self.count(most) {
-            Some(n) if n > 0 => Some(n),
-            _ => None,
-        }
-    }
-
     /// The `i32` that the word spells, if it isn't 0.
     pub(crate) fn nonzero_integer(&self) -> Option<i32>
         ensures { result ≡ nonzero (integer (word_of self.now).text) }
@@ -197,6 +190,102 @@ impl Token<'_> {
         ensures { result ≡ integer (word_of self.now).text }
     {
         self.text.parse::<i32>().ok()
+    }
+
+    /// The word, which has to be a name.
+    pub(crate) fn name(self) -> Result<Token<'a>, LineFault>
+        ensures { Answers word_of result (name_in (word_of self.entry)) }
+    {
+        if !self.is_name() {
+            return Err(LineFault::BadName(self.span));
+        }
+        Ok(self)
+    }
+
+    /// The word, which has to be a name or the keyword for all nodes.
+    pub(crate) fn node(self) -> Result<Token<'a>, LineFault>
+        ensures { Answers word_of result (node_in (word_of self.entry)) }
+    {
+        if !self.is_target() {
+            return Err(LineFault::BadName(self.span));
+        }
+        Ok(self)
+    }
+
+    /// The word, which has to be the name of a submit file.
+    pub(crate) fn submit_file(self) -> Result<Token<'a>, LineFault>
+        ensures { Answers word_of result (submit_file_in (word_of self.entry)) }
+    {
+        if self.is_inline() {
+            return Err(LineFault::Unsupported(self.span));
+        }
+        Ok(self)
+    }
+
+    /// The word, which has to be the name of a category.
+    pub(crate) fn category(self) -> Result<Token<'a>, LineFault>
+        ensures { Answers word_of result (category_in (word_of self.entry)) }
+    {
+        if !self.is_category() {
+            return Err(LineFault::BadName(self.span));
+        }
+        Ok(self)
+    }
+
+    /// The kind of script that the word names.
+    pub(crate) fn script_kind(self) -> Result<ScriptKind, LineFault>
+        ensures { Answers (λ kind. kind) result (script_kind_in (word_of self.entry)) }
+    {
+        if self.is("PRE") {
+            return Ok(ScriptKind::Pre);
+        }
+        if self.is("POST") {
+            return Ok(ScriptKind::Post);
+        }
+        if self.is_left_out_script() {
+            return Err(LineFault::Unsupported(self.span));
+        }
+        Err(LineFault::UnexpectedWord(self.span))
+    }
+
+    /// The number from `least` to `most` that the word has to spell.
+    pub(crate) fn count_from(self, least: u32, most: u32) -> Result<u32, LineFault>
+        ensures { Answers (λ n. n) result (number_in (at_least least (count most (word_of self.entry).text)) (word_of self.entry)) }
+    {
+        match self.count(most) {
+            Some(n) if n >= least => Ok(n),
+            _ => Err(LineFault::BadNumber(self.span)),
+        }
+    }
+
+    /// The number from 0 to 255 that the word has to spell.
+    pub(crate) fn byte(self) -> Result<u8, LineFault>
+        ensures { Answers (λ n. n) result (number_in (count 255 (word_of self.entry).text) (word_of self.entry)) }
+    {
+        match self.count(255) {
+            Some(n) => Ok(n as u8),
+            None => Err(LineFault::BadNumber(self.span)),
+        }
+    }
+
+    /// The `i32` that the word has to spell.
+    pub(crate) fn any_integer(self) -> Result<i32, LineFault>
+        ensures { Answers (λ n. n) result (number_in (integer (word_of self.entry).text) (word_of self.entry)) }
+    {
+        match self.integer() {
+            Some(n) => Ok(n),
+            None => Err(LineFault::BadNumber(self.span)),
+        }
+    }
+
+    /// The `i32` other than 0 that the word has to spell.
+    pub(crate) fn nonzero(self) -> Result<i32, LineFault>
+        ensures { Answers (λ n. n) result (number_in (nonzero (integer (word_of self.entry).text)) (word_of self.entry)) }
+    {
+        match self.nonzero_integer() {
+            Some(n) => Ok(n),
+            None => Err(LineFault::BadNumber(self.span)),
+        }
     }
 
     /// The word with a text of its own.

@@ -14,6 +14,7 @@ use Rattle.dag_reader.specs.Word.{PlacedText}
 use Rattle.dag_reader.specs.Words.{is_blank, words}
 use Rattle.dag_reader.specs.Keywords.{joins_names, is_name}
 use Rattle.dag_reader.specs.Grammar.{IsName, Spells, SayAll}
+use Rattle.dag_reader.proofs.Named.{Declares, declares}
 use Rattle.dag_reader.proofs.LineTexts.{IsSpelled, each_spelled}
 use Rattle.splices.specs.declared.fault.DagFault.{DagFault}
 use Rattle.splices.specs.Nodes.{Declared, job_in, jobs_in, names_in, job_names, final_names, splice_name, splice_names}
@@ -65,19 +66,25 @@ just name plain = All-cons IsPlain name [] plain (All-nil IsPlain)
 no_names : All IsPlain [] × All IsPlain []
 no_names = (All-nil IsPlain, All-nil IsPlain)
 
+declared_plain : (c : Command) (first : PlacedText) (ws : List PlacedText) → Declares c ws → All (λ w. IsWord w.text) (first ∷ ws) → ArePlain c
+declared_plain (Job name file dir noop done) first ws (more, e, named) all =
+    (just name.text (plain_name name (second_word first name (first ∷ ws) more (ap (λ (xs : List PlacedText). first ∷ xs) e) all) named), All-nil IsPlain)
+declared_plain (Splice name file dir) first ws (more, e, named) all =
+    (All-nil IsPlain, just name.text (plain_name name (second_word first name (first ∷ ws) more (ap (λ (xs : List PlacedText). first ∷ xs) e) all) named))
+declared_plain (Final name file dir noop) first ws says all = no_names
+declared_plain (ParentChild parents children) first ws says all = no_names
+declared_plain (Script kind target program arguments) first ws says all = no_names
+declared_plain (Retry target n v) first ws says all = no_names
+declared_plain (PreSkip target v) first ws says all = no_names
+declared_plain (Vars target placement macros) first ws says all = no_names
+declared_plain (Priority target k) first ws says all = no_names
+declared_plain (Category target category) first ws says all = no_names
+declared_plain (MaxJobs category k) first ws says all = no_names
+declared_plain (AbortDagOn target v status) first ws says all = no_names
+
 command_plain : (bytes : List ℕ) (c : Command) (ws : List PlacedText) → Spells bytes c ws → All (λ w. IsWord w.text) ws → ArePlain c
-command_plain bytes (Job name file dir noop done) ws (k, options, e, _, named, _, _) all = (just name.text (plain_name name (second_word k name ws _ e all) named), All-nil IsPlain)
-command_plain bytes (Splice name file dir) ws (k, options, e, _, named, _) all = (All-nil IsPlain, just name.text (plain_name name (second_word k name ws _ e all) named))
-command_plain bytes (Final name file dir noop) ws says all = no_names
-command_plain bytes (ParentChild parents children) ws says all = no_names
-command_plain bytes (Script kind target program arguments) ws says all = no_names
-command_plain bytes (Retry target n v) ws says all = no_names
-command_plain bytes (PreSkip target v) ws says all = no_names
-command_plain bytes (Vars target placement macros) ws says all = no_names
-command_plain bytes (Priority target k) ws says all = no_names
-command_plain bytes (Category target category) ws says all = no_names
-command_plain bytes (MaxJobs category k) ws says all = no_names
-command_plain bytes (AbortDagOn target v status) ws says all = no_names
+command_plain bytes c [] says all = absurd says
+command_plain bytes c (first ∷ ws) says all = declared_plain c first ws (declares bytes c first ws says) all
 
 pub jobs_are : (cs : List Command) → job_names cs ≡ flat_map job_name cs
 jobs_are [] = refl

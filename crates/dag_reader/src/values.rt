@@ -1,0 +1,236 @@
+//! What the words of a line say.
+
+ghost use Rattle.std.specs.Prelude.{◌≡◌, IfOk};
+ghost use Rattle.std.specs.Option.{option_map};
+ghost use Rattle.dag_reader.specs.LineReader.{word_of};
+
+use crate::command::{Command, ScriptKind};
+use crate::fault::ReadFault;
+use crate::layout::{Bracket, Field, LineKind};
+use crate::span::Span;
+use crate::token::Token;
+use crate::word::{Word, Words};
+use std::alloc::{AllocError, Global};
+
+/// What the words of a line say, each in a place of its own.
+pub(crate) struct Values<'a> {
+    name: Token<'a>,
+    node: Token<'a>,
+    file: Token<'a>,
+    when: ScriptKind,
+    count: u32,
+    number: i32,
+    dir: Option<Token<'a>>,
+    noop: bool,
+    done: bool,
+    unless_exit: Option<i32>,
+    status: Option<u8>,
+    parents: Words,
+    words: Words,
+}
+
+// Each function that lets a value go calls this; a derived drop stands in each, part by part.
+impl Drop for Values<'_> {
+    fn drop(self) {
+        let Values {
+            name: _,
+            node: _,
+            file: _,
+            when: _,
+            count: _,
+            number: _,
+            dir: _,
+            noop: _,
+            done: _,
+            unless_exit: _,
+            status: _,
+            parents: _,
+            words: _,
+        } = self;
+    }
+}
+
+impl<'a> Values<'a> {
+    ghost use Rattle.dag_reader.specs.Layouts.{nothing, bracket, put, bracket_of, layout};
+    ghost use Rattle.dag_reader.specs.LayoutViews.{values_of, Leaves};
+
+    /// Nothing is said so far.
+    pub(crate) fn new(alloc: Global) -> Values<'a>
+        ensures { values_of result ≡ nothing }
+    {
+        let blank = Token {
+            text: "",
+            span: Span {
+                line: 0,
+                start: 0,
+                stop: 0,
+            },
+        };
+        Values {
+            name: blank,
+            node: blank,
+            file: blank,
+            when: ScriptKind::Pre,
+            count: 0,
+            number: 0,
+            dir: None,
+            noop: false,
+            done: false,
+            unless_exit: None,
+            status: None,
+            parents: Words::new(alloc),
+            words: Words::new(alloc),
+        }
+    }
+
+    /// Takes a word, which has to be this field.
+    #[tactic(auto, unfolding(crate::specs::Layouts::put))]
+    pub(crate) fn put(
+        &mut self,
+        alloc: Global,
+        field: Field,
+        word: Token<'a>,
+    ) -> Result<(), ReadFault>
+        ensures { Leaves result (values_of self.new) (put field (word_of word.entry) (values_of self.old)) }
+    {
+        match field {
+            Field::Name => self.name = word.name()?,
+            Field::Node => self.node = word.node()?,
+            Field::SubmitFile => self.file = word.submit_file()?,
+            Field::AnyWord => self.file = word,
+            Field::When => self.when = word.script_kind()?,
+            Field::CategoryName => self.name = word.category()?,
+            Field::Count(least, most) => self.count = word.count_from(least, most)?,
+            Field::Integer => self.number = word.any_integer()?,
+            Field::NonZero => self.number = word.nonzero()?,
+            Field::Folder => self.dir = Some(word),
+            Field::ExitValue => self.unless_exit = Some(word.any_integer()?),
+            Field::ExitStatus => self.status = Some(word.byte()?),
+            Field::Parent => self.parents.push(word.name()?.to_word(alloc)?)?,
+            Field::Child => self.words.push(word.name()?.to_word(alloc)?)?,
+            Field::Argument => self.words.push(word.to_word(alloc)?)?,
+        }
+        Ok(())
+    }
+
+    /// Which of these brackets the word opens, of those that stand in the line not yet.
+    pub(crate) fn bracket_of(&self, brackets: &[Bracket], word: &Token<'_>) -> Option<Bracket>
+        ensures { result ≡ bracket_of brackets.now (word_of word.now) (values_of self.now) }
+    {
+        brackets
+            .iter()
+            .copied()
+            .find(|b| word.is(b.keyword()) && !self.has(*b))
+    }
+
+    /// Whether the bracket stands in the line already.
+    fn has(&self, one: Bracket) -> bool
+        ensures { result ≡ (bracket one).taken (values_of self.now) }
+    {
+        match one {
+            Bracket::Dir => self.dir.is_some(),
+            Bracket::NoOp => self.noop,
+            Bracket::Done => self.done,
+            Bracket::UnlessExit => self.unless_exit.is_some(),
+            Bracket::Return => self.status.is_some(),
+        }
+    }
+
+    /// Notes the keyword of a bracket that has no words of its own.
+    pub(crate) fn mark(&mut self, one: Bracket)
+        ensures { values_of self.new ≡ (bracket one).marked (values_of self.old) }
+    {
+        match one {
+            Bracket::NoOp => self.noop = true,
+            Bracket::Done => self.done = true,
+            Bracket::Dir | Bracket::UnlessExit | Bracket::Return => {}
+        }
+    }
+
+    /// The command that they make in a line of this kind.
+    pub(crate) fn into_command(self, alloc: Global, kind: LineKind) -> Result<Command, AllocError>
+        ensures { IfOk result (λ c. c ≡ (layout kind).command (values_of self.entry)) }
+    {
+        let Values {
+            name,
+            node,
+            file,
+            when,
+            count,
+            number,
+            dir,
+            noop,
+            done,
+            unless_exit,
+            status,
+            parents,
+            words,
+        } = self;
+        Ok(match kind {
+            LineKind::Job => Command::Job {
+                name: name.to_word(alloc)?,
+                file: file.to_word(alloc)?,
+                dir: to_words(alloc, dir)?,
+                noop,
+                done,
+            },
+            LineKind::Parent => Command::ParentChild {
+                parents: parents,
+                children: words,
+            },
+            LineKind::Script => Command::Script {
+                kind: when,
+                node: node.to_target(alloc)?,
+                program: file.to_word(alloc)?,
+                arguments: words,
+            },
+            LineKind::Retry => Command::Retry {
+                node: node.to_target(alloc)?,
+                retries: count,
+                unless_exit,
+            },
+            LineKind::PreSkip => Command::PreSkip {
+                node: node.to_target(alloc)?,
+                value: number,
+            },
+            LineKind::Priority => Command::Priority {
+                node: node.to_target(alloc)?,
+                priority: number,
+            },
+            LineKind::Category => Command::Category {
+                node: node.to_target(alloc)?,
+                category: name.to_word(alloc)?,
+            },
+            LineKind::MaxJobs => Command::MaxJobs {
+                category: name.to_word(alloc)?,
+                limit: count,
+            },
+            LineKind::AbortDagOn => Command::AbortDagOn {
+                node: node.to_target(alloc)?,
+                value: number,
+                status: status,
+            },
+            LineKind::Final => Command::Final {
+                name: name.to_word(alloc)?,
+                file: file.to_word(alloc)?,
+                dir: to_words(alloc, dir)?,
+                noop,
+            },
+            LineKind::Splice => Command::Splice {
+                name: name.to_word(alloc)?,
+                file: file.to_word(alloc)?,
+                dir: to_words(alloc, dir)?,
+            },
+        })
+    }
+}
+
+/// The word with a text of its own, if there is one.
+fn to_words(alloc: Global, word: Option<Token<'_>>) -> Result<Option<Word>, AllocError>
+    ensures { IfOk result (λ w. w ≡ option_map word_of word.entry) }
+{
+    match word {
+        Some(word) => Ok(Some(word.to_word(alloc)?)),
+        None => Ok(None),
+    }
+}
