@@ -1,12 +1,13 @@
 -- Runs of bytes, and texts between quotes.
-use Rattle.std.proofs.Common.{◌≡◌, ℕ, zero, suc, ◌+◌, ◌≤◌, ◌⊎◌, Bool, true, false, cond, not, ◌&&◌, ◌||◌, nat_eq, nat_lt, List, [], ◌∷◌, ◌++◌, length, take, drop, Option, Some, None, refl, sym, ap, subst, ◌∙◌, arith, inl, inr, ⊎_elim}
+use Rattle.std.proofs.Common.{◌≡◌, ℕ, suc, ◌+◌, ◌≤◌, Bool, true, false, cond, ◌&&◌, nat_eq, nat_lt, List, [], ◌∷◌, ◌++◌, length, take, drop, Option, Some, None, refl, sym, ap, subst, ◌∙◌, arith, ⊎_elim}
 use Rattle.std.proofs.lemmas.Bool.{cases_Bool, false≢true, eqb-true}
 use Rattle.std.proofs.lemmas.List.{take-append-drop}
 use Rattle.std.proofs.lemmas.List.Recursion.{is_position_or_len}
 use Rattle.std.specs.List.{AllByRecursion, position, position_or_len}
 use Rattle.std.specs.Option.{option_map}
 use Rattle.std.specs.Prelude.{unwrap_or}
-use Rattle.dag_reader.specs.Macros.{place_of, is_escape, begins_escape, is_quoted, unquoted, closing_quote, is_backslash}
+use Rattle.dag_reader.proofs.Parts.{chosen}
+use Rattle.dag_reader.specs.Macros.{place_of, is_escape, begins_escape, unquoted, closing_quote, is_backslash}
 
 -- Runs.
 abbrev pub NonePass : (ℕ → Bool) → List ℕ → Type 0
@@ -31,14 +32,6 @@ place_le p (b ∷ bs) =
     let below = place_le p bs in
     ⊎_elim (λ yes. rw yes (omega arith)) (λ other. rw other (omega arith)) (cases_Bool (p b))
 
-pub place_again : (p : ℕ → Bool) (xs ys : List ℕ) → NonePass p xs → Stops p ys → place_of p (xs ++ ys) ≡ length xs
-place_again p [] [] none stops = refl
-place_again p [] (y ∷ ys) none stops = rw stops refl
-place_again p (x ∷ xs) ys none stops =
-    let other = none.0 in
-    let below : place_of p (xs ++ ys) ≡ length xs = place_again p xs ys none.1 stops in
-    rw (other, below) (omega arith)
-
 pub first_place : (p : ℕ → Bool) (bs : List ℕ) → unwrap_or (position p bs) (length bs) ≡ place_of p bs
 first_place p bs =
     let q = position_or_len p bs in
@@ -53,39 +46,11 @@ first_place p bs =
     past ∙ all)
     (cases_Bool (nat_lt q (length bs)))
 
-pub take_front : (xs ys : List ℕ) → take (length xs) (xs ++ ys) ≡ xs
-take_front [] ys = refl
-take_front (x ∷ xs) ys = ap (λ (zs : List ℕ). x ∷ zs) (take_front xs ys)
-
-pub drop_front : (xs ys : List ℕ) → drop (length xs) (xs ++ ys) ≡ ys
-drop_front [] ys = refl
-drop_front (x ∷ xs) ys = drop_front xs ys
-
-pub drop_past : (xs ys : List ℕ) (b : ℕ) → drop (suc (length xs)) (xs ++ b ∷ ys) ≡ ys
-drop_past [] ys b = refl
-drop_past (x ∷ xs) ys b = drop_past xs ys b
-
 -- Tests.
 pub and_both : (a b : Bool) → (a && b) ≡ true → (a ≡ true) × (b ≡ true)
 and_both true true h = (refl, refl)
 and_both true false h = absurd (false≢true h)
 and_both false b h = absurd (false≢true h)
-
-pub not_true : (a : Bool) → not a ≡ true → a ≡ false
-not_true true h = absurd (false≢true h)
-not_true false h = refl
-
-neither : (a b : Bool) → not (a || b) ≡ true → (a ≡ false) × (b ≡ false)
-neither false false h = (refl, refl)
-neither false true h = absurd (false≢true h)
-neither true b h = absurd (false≢true h)
-
-left_is_false : (a b : Bool) → (a && b) ≡ false → b ≡ true → a ≡ false
-left_is_false false b h t = refl
-left_is_false true b h t = absurd (false≢true (sym h ∙ t))
-
-no_escape_left : (a b : Bool) → a ≡ false → (a && b) ≡ false
-no_escape_left a b h = rw h refl
 
 -- Closing quotes.
 mapped : (f : ℕ → ℕ) (o : Option ℕ) (n : ℕ) → option_map f o ≡ Some n → (m : ℕ) × (o ≡ Some m) × (f m ≡ n)
@@ -93,33 +58,12 @@ mapped f None n e = absurd cc
 mapped f (Some m) n e = (m, refl, cc)
 
 abbrev Closed : List ℕ → ℕ → Type 0
-Closed bs n = (is_quoted (take n bs) ≡ true) × (bs ≡ take n bs ++ 34 ∷ drop (suc n) bs)
-
-picked : (b : Bool) (x y z : Option ℕ) → cond b x y ≡ z → ((b ≡ true) × (x ≡ z)) ⊎ ((b ≡ false) × (y ≡ z))
-picked b x y z e =
-    ⊎_elim
-    (λ yes. inl (yes, ap (λ (t : Bool). cond t x y) (sym yes) ∙ e))
-    (λ other. inr (other, ap (λ (t : Bool). cond t x y) (sym other) ∙ e))
-    (cases_Bool b)
-
-some_is : (m n : ℕ) (o : Option ℕ) → o ≡ Some m → o ≡ Some n → m ≡ n
-some_is m n o a b = let same : Some m ≡ Some n = sym a ∙ b in cc
+Closed bs n = bs ≡ take n bs ++ 34 ∷ drop (suc n) bs
 
 closed_here : (b : ℕ) (bs : List ℕ) (n : ℕ) → nat_eq b 34 ≡ true → Some 0 ≡ Some n → Closed (b ∷ bs) n
 closed_here b bs n is e =
     let zero_is : 0 ≡ n = cc in
-    subst (Closed (b ∷ bs)) zero_is (refl, ap (λ (x : ℕ). x ∷ bs) (eqb-true b 34 is))
-
-closed_later : (b c : ℕ) (bs : List ℕ) (m : ℕ) → nat_eq b 34 ≡ false → is_escape b c ≡ false → Closed (c ∷ bs) m → Closed (b ∷ c ∷ bs) (suc m)
-closed_later b c bs zero differs plain (inside, e) =
-    let quote : c ≡ 34 = cc in
-    let none : is_escape b 34 ≡ false = ap (λ (x : ℕ). is_escape b x) (sym quote) ∙ plain in
-    let no_slash : nat_eq b 92 ≡ false = left_is_false (nat_eq b 92) true none refl in
-    (rw (differs, no_slash) refl, ap (λ (xs : List ℕ). b ∷ xs) e)
-closed_later b c bs (suc m) differs plain (inside, e) = (rw (plain, differs) inside, ap (λ (xs : List ℕ). b ∷ xs) e)
-
-closed_escape : (b c : ℕ) (bs : List ℕ) (m : ℕ) → is_escape b c ≡ true → Closed bs m → Closed (b ∷ c ∷ bs) (suc (suc m))
-closed_escape b c bs m escape (inside, e) = (rw escape inside, ap (λ (xs : List ℕ). b ∷ c ∷ xs) e)
+    subst (Closed (b ∷ bs)) zero_is (ap (λ (x : ℕ). x ∷ bs) (eqb-true b 34 is))
 
 pub closing_ok : (bs : List ℕ) (n : ℕ) → closing_quote bs ≡ Some n → Closed bs n
 closing_ok [] n e = absurd cc
@@ -127,42 +71,19 @@ closing_ok (b ∷ []) n e =
     ⊎_elim
     (λ yes. closed_here b [] n yes.0 yes.1)
     (λ other. absurd (let bad = other.1 in cc))
-    (picked (nat_eq b 34) _ _ (Some n) e)
+    (chosen (nat_eq b 34) _ _ (Some n) e)
 closing_ok (b ∷ c ∷ bs) n e =
     ⊎_elim
     (λ yes. closed_here b (c ∷ bs) n yes.0 yes.1)
     (λ differs. ⊎_elim
     (λ yes.
     let p = mapped (λ (k : ℕ). suc (suc k)) (closing_quote bs) n yes.1 in
-    subst (Closed (b ∷ c ∷ bs)) p.2 (closed_escape b c bs p.0 yes.0 (closing_ok bs p.0 p.1)))
+    subst (Closed (b ∷ c ∷ bs)) p.2 (ap (λ (xs : List ℕ). b ∷ c ∷ xs) (closing_ok bs p.0 p.1)))
     (λ plain.
     let p = mapped (λ (k : ℕ). suc k) (closing_quote (c ∷ bs)) n plain.1 in
-    subst (Closed (b ∷ c ∷ bs)) p.2 (closed_later b c bs p.0 differs.0 plain.0 (closing_ok (c ∷ bs) p.0 p.1)))
-    (picked (is_escape b c) _ _ (Some n) differs.1))
-    (picked (nat_eq b 34) _ _ (Some n) e)
-
-pub closing_again : (xs ys : List ℕ) → is_quoted xs ≡ true → closing_quote (xs ++ 34 ∷ ys) ≡ Some (length xs)
-closing_again [] [] h = refl
-closing_again [] (y ∷ ys) h = refl
-closing_again (b ∷ []) ys h =
-    let n = neither (nat_eq b 34) (nat_eq b 92) h in
-    let differs = n.0 in
-    let no_slash = n.1 in
-    rw (differs, no_slash, closing_again [] ys refl) refl
-closing_again (b ∷ c ∷ bs) ys h =
-    ⊎_elim
-    (λ escape.
-    let slash : b ≡ 92 = eqb-true b 92 (and_both (nat_eq b 92) (nat_eq c 34 || nat_eq c 92) escape).0 in
-    let differs : nat_eq b 34 ≡ false = ap (λ (x : ℕ). nat_eq x 34) slash in
-    let inside = rw escape at h in
-    rw (differs, escape, closing_again bs ys inside) refl)
-    (λ plain.
-    let both = rw plain at h in
-    let parts = and_both (not (nat_eq b 34)) (is_quoted (c ∷ bs)) both in
-    let differs = not_true (nat_eq b 34) parts.0 in
-    let later : closing_quote (c ∷ (bs ++ 34 ∷ ys)) ≡ Some (suc (length bs)) = closing_again (c ∷ bs) ys parts.1 in
-    rw (differs, plain) (ap (option_map (λ (n : ℕ). suc n)) later))
-    (cases_Bool (is_escape b c))
+    subst (Closed (b ∷ c ∷ bs)) p.2 (ap (λ (xs : List ℕ). b ∷ xs) (closing_ok (c ∷ bs) p.0 p.1)))
+    (chosen (is_escape b c) _ _ (Some n) differs.1))
+    (chosen (nat_eq b 34) _ _ (Some n) e)
 
 -- Texts without their escapes.
 unquoted_plain : (b : ℕ) (bs : List ℕ) → begins_escape (b ∷ bs) ≡ false → unquoted (b ∷ bs) ≡ b ∷ unquoted bs

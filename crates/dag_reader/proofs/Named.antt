@@ -1,11 +1,14 @@
 -- A command that declares a node or a splice has its name from the second word of the line, which is a name.
-use Rattle.std.proofs.Common.{◌≡◌, ℕ, List, [], ◌∷◌, Option, Some, None, Result, Ok, Err, refl, sym, ap, subst, ◌∙◌, ⊎_elim}
-use Rattle.std.specs.List.{AllByRecursion}
+use Rattle.std.proofs.Common.{◌≡◌, ℕ, ◌+◌, true, List, [], ◌∷◌, length, Option, Some, None, Result, Ok, Err, refl, sym, ap, subst, ◌∙◌, ⊎_elim, codes}
+use Rattle.std.proofs.lemmas.List.Elements.{All-nil, All-cons, All-append}
+use Rattle.std.specs.List.{All, AllByRecursion}
+use Rattle.std.specs.Option.{option_to_list}
 use Rattle.dag_reader.specs.declared.span.Span.{Span}
 use Rattle.dag_reader.specs.declared.fault.LineFault.{LineFault}
 use Rattle.dag_reader.specs.declared.fault.LineFault.TheVariants.{MissingWord, BadName}
 use Rattle.dag_reader.specs.declared.command.Command.{Command}
 use Rattle.dag_reader.specs.declared.command.Command.TheVariants as says
+use Rattle.dag_reader.specs.declared.command.Command.TheVariants.{Ignored}
 use Rattle.dag_reader.specs.declared.layout.Field.{Field}
 use Rattle.dag_reader.specs.declared.layout.Field.TheVariants.{Name, Node, SubmitFile, AnyWord, When, CategoryName, Count, Integer, NonZero, Folder, ExitValue, ExitStatus, Parent, Child, Argument}
 use Rattle.dag_reader.specs.declared.layout.Bracket.{Bracket}
@@ -14,11 +17,17 @@ use Rattle.dag_reader.specs.declared.layout.LineKind.{LineKind}
 use Rattle.dag_reader.specs.declared.layout.LineKind.TheVariants as kinds
 use Rattle.dag_reader.specs.Word.{PlacedText}
 use Rattle.dag_reader.specs.Results.{◌>>=◌}
-use Rattle.dag_reader.specs.Keywords.{is_name}
+use Rattle.dag_reader.specs.Words.{words}
+use Rattle.dag_reader.specs.LineReader.{Left}
+use Rattle.dag_reader.specs.Lines.{ends_with_backslash}
+use Rattle.dag_reader.specs.Keywords.{is_keyword, is_ignored, is_comment, is_name}
 use Rattle.dag_reader.specs.Numbers.{integer, count}
-use Rattle.dag_reader.specs.Layouts.{Ending, Brackets, Values, State, state, nothing, layout, line_kind, bracket, bracket_of, opened, name_in, submit_file_in, number_in, put, further, step_at, step, may_stop, reading}
-use Rattle.dag_reader.specs.Grammar.{IsName, SpellsKind, Spells}
+use Rattle.dag_reader.specs.Layouts.{Ending, Brackets, Values, State, state, nothing, layout, line_kind, bracket, bracket_of, opened, name_in, submit_file_in, number_in, put, further, step_at, step, may_stop, reading, command_of, node_in}
+use Rattle.dag_reader.specs.MacroReading.{behind, placement_ahead, macros_ahead}
+use Rattle.dag_reader.specs.Reading.{some_macros, vars_of, first_fault, command_in, command_at, said_at, said_of, text_of, line_at, span}
+use Rattle.dag_reader.specs.Grammar.{IsText, SayAll}
 use Rattle.dag_reader.proofs.Parts.{bind_ok, chosen, guard_ok}
+use Rattle.dag_reader.proofs.LineTexts.{text_ok}
 
 abbrev given : Values → Result Values LineFault
 given v = Ok v
@@ -106,7 +115,7 @@ kept s brackets name (w ∷ ws) end v k e =
 
 -- The words that say this name first.
 abbrev pub FirstIs : PlacedText → List PlacedText → Type 0
-FirstIs name ws = (more : List PlacedText) × (ws ≡ name ∷ more) × IsName name
+FirstIs name ws = (more : List PlacedText) × (ws ≡ name ∷ more) × (is_name name ≡ true)
 
 name_first : (field : Field) (brackets : List Bracket) (ws : List PlacedText) (end : Span) (v : Values) → LeavesName field → reading (state (Name ∷ field ∷ []) (Brackets brackets) nothing) ws end ≡ Ok v → FirstIs v.name ws
 unfolding reading put
@@ -135,20 +144,83 @@ kind_declares kinds.Final ws end v e = name_first SubmitFile (Dir ∷ NoOp ∷ [
 kind_declares kinds.Splice ws end v e = name_first AnyWord (Dir ∷ []) ws end v tt e
 kind_declares kind ws end v e = tt
 
-abbrev nowhere : Span
-nowhere = record { line = 0; start = 0; stop = 0 }
-
 abbrev got : Command → Result Command LineFault
 got c = Ok c
 
 command_is : (a b : Command) → got a ≡ got b → a ≡ b
 command_is a b e = cc
 
-spells_declares : (o : Option LineKind) (bytes : List ℕ) (c : Command) (first : PlacedText) (ws : List PlacedText) → SpellsKind o bytes c first ws → Declares c ws
-spells_declares (Some kind) bytes c first ws h =
-    let p = bind_ok (reading (state (layout kind).fields (layout kind).ending nothing) ws nowhere) _ c (h nowhere) in
-    subst (λ (x : Command). Declares x ws) (command_is _ c p.2) (kind_declares kind ws nowhere p.0 p.1)
-spells_declares None bytes c first ws (node, more, placement, macros, _, _, _, _, _, same) = subst (λ (x : Command). Declares x ws) (sym same) tt
+command_declares : (kind : LineKind) (ws : List PlacedText) (end : Span) (c : Command) → command_of kind ws end ≡ Ok c → Declares c ws
+command_declares kind ws end c e =
+    let p = bind_ok (reading (state (layout kind).fields (layout kind).ending nothing) ws end) _ c e in
+    subst (λ (x : Command). Declares x ws) (command_is _ c p.2) (kind_declares kind ws end p.0 p.1)
 
-pub declares : (bytes : List ℕ) (c : Command) (first : PlacedText) (ws : List PlacedText) → Spells bytes c (first ∷ ws) → Declares c ws
-declares bytes c first ws h = spells_declares (line_kind first) bytes c first ws h
+vars_declares : (bytes : List ℕ) (ws : List PlacedText) (end : Span) (c : Command) → vars_of bytes ws end ≡ Ok c → Declares c ws
+unfolding vars_of
+vars_declares bytes [] end c e = absurd cc
+vars_declares bytes (w ∷ ws) end c e =
+    let p = bind_ok (node_in w) _ c e in
+    let q = bind_ok (macros_ahead (placement_ahead (behind p.0.span bytes)).1) _ c p.2 in
+    let r = bind_ok (some_macros q.0 end) _ c q.2 in
+    subst (λ (x : Command). Declares x (w ∷ ws)) (command_is _ c r.2) tt
+
+in_declares : (o : Option LineKind) (bytes : List ℕ) (first : PlacedText) (left : Left) (c : Command) → command_in o bytes first left ≡ Ok c → Declares c left.words
+in_declares (Some kind) bytes first left c e = command_declares kind left.words left.end c e
+in_declares None bytes first left c e =
+    ⊎_elim
+    (λ yes. vars_declares bytes left.words left.end c yes.1)
+    (λ no. absurd (let bad = no.1 in cc))
+    (chosen (is_keyword (codes "VARS") first) (vars_of bytes left.words left.end) (Err (first_fault first)) (Ok c) e)
+
+at_declares : (bytes : List ℕ) (first : PlacedText) (left : Left) (c : Command) → command_at bytes first left ≡ Ok c → Declares c left.words
+unfolding command_at
+at_declares bytes first left c e =
+    ⊎_elim
+    (λ yes. subst (λ (x : Command). Declares x left.words) (command_is _ c yes.1) tt)
+    (λ no. in_declares (line_kind first) bytes first left c no.1)
+    (chosen (is_ignored first) (Ok (Ignored first.span)) (command_in (line_kind first) bytes first left) (Ok c) e)
+
+-- The line that says a command is a text, and its words say the name.
+abbrev pub IsDeclared : Command → Type 0
+IsDeclared c = (number : ℕ) × (line : List ℕ) × (first : PlacedText) × (ws : List PlacedText)
+    × IsText line × (words number 0 line ≡ first ∷ ws) × Declares c ws
+
+abbrev said : Option Command → Result (Option Command) LineFault
+said o = Ok o
+
+none_is_some : (c : Command) → said None ≡ said (Some c) → ⊥
+none_is_some c e = cc
+
+some_is : (c d : Command) → said (Some c) ≡ said (Some d) → c ≡ d
+some_is c d e = cc
+
+words_declare : (number : ℕ) (line : List ℕ) (ws : List PlacedText) (end : Span) (c : Command) → IsText line → words number 0 line ≡ ws → said_of line ws end ≡ Ok (Some c) → IsDeclared c
+unfolding said_at
+words_declare number line [] end c text is e = absurd (none_is_some c e)
+words_declare number line (first ∷ ws) end c text is e =
+    ⊎_elim
+    (λ silent. absurd (none_is_some c silent.1))
+    (λ loud. ⊎_elim
+    (λ slash. absurd (let bad = slash.1 in cc))
+    (λ whole.
+    let p = bind_ok (command_at line first (record { words = ws; end = end })) _ (Some c) whole.1 in
+    (number, line, first, ws, text, is, subst (λ (x : Command). Declares x ws) (some_is p.0 c p.2) (at_declares line first (record { words = ws; end = end }) p.0 p.1)))
+    (chosen (ends_with_backslash line) _ _ (Ok (Some c)) loud.1))
+    (chosen (is_comment first) _ _ (Ok (Some c)) e)
+
+line_declares : (number : ℕ) (line : List ℕ) (c : Command) → line_at number line ≡ Ok (Some c) → IsDeclared c
+unfolding line_at
+line_declares number line c e =
+    let p = bind_ok (text_of number line) _ (Some c) e in
+    let t = text_ok number line p.0 p.1 in
+    words_declare number line (words number 0 line) (span number (length line) (length line)) c t.1 refl
+    (ap (λ (b : List ℕ). said_of b (words number 0 b) (span number (length b) (length b))) t.0 ∙ p.2)
+
+one_declared : (number : ℕ) (line : List ℕ) (o : Option Command) → line_at number line ≡ Ok o → All IsDeclared (option_to_list o)
+one_declared number line None e = All-nil IsDeclared
+one_declared number line (Some c) e = All-cons IsDeclared c [] (line_declares number line c e) (All-nil IsDeclared)
+
+pub each_declared : (number : ℕ) (ls : List (List ℕ)) (cs : List Command) → SayAll number ls cs → All IsDeclared cs
+each_declared number [] cs none = subst (All IsDeclared) (sym none) (All-nil IsDeclared)
+each_declared number (line ∷ more) cs (first, others, one, all, is) =
+    subst (All IsDeclared) (sym is) (All-append IsDeclared (option_to_list first) others (one_declared number line first one) (each_declared (number + 1) more others all))

@@ -1,5 +1,5 @@
 -- The steps of the reader of macros.
-use Rattle.std.proofs.Common.{◌≡◌, ℕ, suc, ◌+◌, ◌-◌, ◌<◌, ◌≤◌, Bool, true, false, cond, not, ◌||◌, nat_eq, min, List, [], ◌∷◌, ◌++◌, length, take, drop, get_or, Option, Some, None, Result, Ok, Err, refl, sym, ap, subst, ◌∙◌, append_assoc, arith, length-append, add-one, drop-cons, ⊎_elim}
+use Rattle.std.proofs.Common.{◌≡◌, ℕ, suc, ◌+◌, ◌-◌, ◌<◌, ◌≤◌, Bool, true, false, cond, not, ◌||◌, nat_eq, min, List, [], ◌∷◌, ◌++◌, length, take, drop, get_or, Option, Some, None, Result, Ok, Err, refl, sym, ap, subst, ◌∙◌, append_assoc, arith, length-append, length-drop, add-one, drop-cons, ⊎_elim}
 use Rattle.std.proofs.lemmas.Bool.{cases_Bool, cases_lt, false≢true, eqb-true}
 use Rattle.std.proofs.lemmas.Grind.{common_steps}
 use Rattle.std.proofs.lemmas.List.{append-nil, drop-drop}
@@ -17,7 +17,7 @@ use Rattle.dag_reader.specs.Results.{◌>>=◌}
 use Rattle.dag_reader.specs.Macros.{is_macro_start, is_macro_name, begins_escape, closing_quote, unquoted, place_of, is_ink, ends_name, is_backslash}
 use Rattle.dag_reader.specs.MacroReading.{Ahead, ahead, advance, skip_blanks, here, here_at, has_bytes, run_of, equals_ahead, closed_at, opened_at, quoted_ahead, pair_ahead, macros_at, macros_ahead, bytes_span}
 use Rattle.dag_reader.proofs.Bytes.{Stops, stops_at_place, closing_ok, and_both, unquoted_piece, unquoted_escape}
-use Rattle.dag_reader.proofs.Pairs.{starts, quote_len, skipped, blanks_passed, pair_starts, pair_ok, one_taken}
+use Rattle.dag_reader.proofs.Pairs.{no_empty_name, blanks_passed, pair_goes, one_taken}
 
 -- Places in the text.
 nothing_left : (t : List ℕ) (at : ℕ) → length t ≤ at → drop at t ≡ []
@@ -70,6 +70,12 @@ place_zero x more h = rw h refl
 place_later : (x : ℕ) (more : List ℕ) → ends_name x ≡ false → place_of ends_name (x ∷ more) ≡ suc (place_of ends_name more)
 place_later x more h = rw h refl
 
+-- a name begins with a letter, an underscore or a plus
+starts : (t : List ℕ) → is_macro_name t ≡ true → (b : ℕ) × (bs : List ℕ) × (t ≡ b ∷ bs) × (is_macro_start b ≡ true)
+unfolding is_macro_name
+starts [] h = absurd (false≢true h)
+starts (b ∷ bs) h = (b, bs, refl, (and_both (is_macro_start b) _ h).0)
+
 first_of_run : (x b : ℕ) (bs more : List ℕ) → take (place_of ends_name (x ∷ more)) (x ∷ more) ≡ b ∷ bs → x ≡ b
 first_of_run x b bs more e =
     ⊎_elim
@@ -80,13 +86,11 @@ first_of_run x b bs more e =
 pub name_starts_at : (t : List ℕ) (line at : ℕ) → is_macro_name (run_of (ahead line at (drop at t))) ≡ true → at ≤ length t → IsCharBoundary t at
 name_starts_at t line at named within =
     let run = run_of (ahead line at (drop at t)) in
-    let s = starts run [] named in
-    let shape : run ≡ s.0 ∷ s.1 = sym (append-nil run) ∙ s.2 in
+    let (b, bs, shape, start) = starts run named in
     ⊎_elim
     (λ (more : at < length t).
-    let first : get_or t at 0 ≡ s.0 = first_of_run (get_or t at 0) s.0 s.1 (drop (at + 1) t) (ap (λ (bs : List ℕ). run_of (ahead line at bs)) (sym (byte_left t at more)) ∙ shape) in
-    let start = s.3 in
-    let ascii : s.0 < 128 = start_ascii s.0 start.start in
+    let first : get_or t at 0 ≡ b = first_of_run (get_or t at 0) b bs (drop (at + 1) t) (ap (λ (xs : List ℕ). run_of (ahead line at xs)) (sym (byte_left t at more)) ∙ shape) in
+    let ascii : b < 128 = start_ascii b start in
     IsCharBoundary-before_ascii t at more (omega arith))
     (λ (none : length t ≤ at). let e : length t ≡ at = omega arith in subst (IsCharBoundary t) e (IsCharBoundary-end t))
     (cases_lt at (length t))
@@ -116,15 +120,18 @@ within_text t start n lt = grind (arith, common_steps)
 byte_of_rest : (t : List ℕ) (start n : ℕ) → get_or (drop start t) n 0 ≡ get_or t (start + n) 0
 byte_of_rest t start n = grind (arith, common_steps)
 
+quote_len : (n : ℕ) (bs : List ℕ) → length (take n bs) + suc (length (drop (suc n) bs)) ≡ length bs → length (take n bs) ≡ n
+quote_len n bs e = grind (arith, common_steps)
+
 pub closing_byte : (t : List ℕ) (start n : ℕ) → closing_quote (drop start t) ≡ Some n → (start + n < length t) × (get_or t (start + n) 0 ≡ 34)
 closing_byte t start n closes =
     let bs = drop start t in
-    let r = closing_ok bs n closes in
+    let shape = closing_ok bs n closes in
     let back = drop (suc n) bs in
-    let total : length bs ≡ length (take n bs) + suc (length back) = simp length-append at (ap length r.1) in
+    let total : length bs ≡ length (take n bs) + suc (length back) = simp length-append at (ap length shape) in
     let len : length (take n bs) ≡ n = quote_len n bs (sym total) in
     let within : start + n < length t = within_text t start n (omega arith) in
-    let byte : get_or bs n 0 ≡ 34 = ap (λ (k : ℕ). get_or bs k 0) (sym len) ∙ ap (λ (xs : List ℕ). get_or xs (length (take n bs)) 0) r.1 ∙ get_or-append_seam (take n bs) 34 back 0 in
+    let byte : get_or bs n 0 ≡ 34 = ap (λ (k : ℕ). get_or bs k 0) (sym len) ∙ ap (λ (xs : List ℕ). get_or xs (length (take n bs)) 0) shape ∙ get_or-append_seam (take n bs) 34 back 0 in
     (within, sym (byte_of_rest t start n) ∙ byte)
 
 -- Looking for the closing quote.
@@ -234,35 +241,30 @@ end_boundary q from end e within =
     stop_boundary is_backslash q end backslash_ascii within (subst (Stops is_backslash) (drop-drop n from q ∙ ap (λ (k : ℕ). drop k q) (sym e)) (stops_at_place is_backslash (drop from q)))
 
 skip_keeps : (a b : Ahead) → skip_blanks a ≡ b → macros_ahead a ≡ macros_ahead b
-skip_keeps a b skips =
-    let s = skipped a in
-    let passes = s.2 in
-    ap (macros_at a.line a.at 0) passes.bytes ∙ blanks_passed a.line a.at s.0 (skip_blanks a).bytes s.1
-    ∙ ap (λ (n : ℕ). macros_at a.line n 0 (skip_blanks a).bytes) (sym passes.at) ∙ ap macros_ahead skips
+skip_keeps a b skips = blanks_passed a.line a.at a.bytes ∙ ap macros_ahead skips
 
 regroup : (front : List Macro) (m : Macro) (read : Result (List Macro) LineFault) → with_macros front (read >>= λ others. Ok (m ∷ others)) ≡ with_macros (front ++ m ∷ []) read
 regroup front m (Ok xs) = ap (λ (ms : List Macro). Ok ms) (simp append_assoc)
 regroup front m (Err f) = refl
 
-one_read : (b after : Ahead) (m : Macro) → pair_ahead b ≡ Ok (m, after) → macros_ahead b ≡ (macros_ahead after >>= λ others. Ok (m ∷ others))
-one_read b after m read =
-    let p = pair_ok b (m, after) read in
-    let passes = p.2 in
-    let start = pair_starts b.line b.at p.0 m p.1 in
-    let again : pair_ahead (ahead b.line b.at (p.0 ++ after.bytes)) ≡ Ok (m, after) = ap (λ (xs : List ℕ). pair_ahead (ahead b.line b.at xs)) (sym passes.bytes) ∙ read in
-    ap (macros_at b.line b.at 0) passes.bytes ∙ one_taken b.line b.at p.0 after.bytes m after start again passes.at
-    ∙ ap (λ (n : ℕ). macros_at b.line n 0 after.bytes >>= λ others. Ok (m ∷ others)) (sym passes.at)
-    ∙ ap (λ (n : ℕ). macros_at n after.at 0 after.bytes >>= λ others. Ok (m ∷ others)) (sym passes.line)
+not_blank : (x : ℕ) → is_ink x ≡ true → is_blank x ≡ false
+not_blank x h = ⊎_elim (λ (yes : is_blank x ≡ true). absurd (false≢true (sym (ap not yes) ∙ h))) (λ other. other) (cases_Bool (is_blank x))
+
+-- behind blanks
+ink_next : (a b : Ahead) → skip_blanks a ≡ b → Stops is_ink b.bytes
+ink_next a b skips = subst (λ (x : Ahead). Stops is_ink x.bytes) skips (stops_at_place is_ink a.bytes)
+
+one_read : (b : Ahead) (bytes : List ℕ) (after : Ahead) (m : Macro) → b.bytes ≡ bytes → Stops is_ink bytes → pair_ahead b ≡ Ok (m, after) → macros_ahead b ≡ (macros_ahead after >>= λ others. Ok (m ∷ others))
+one_read b [] after m e stops read = absurd (no_empty_name (ap (λ (bs : List ℕ). is_macro_name (take (place_of ends_name bs) bs)) (sym e) ∙ (pair_goes b (m, after) read).0))
+one_read b (x ∷ xs) after m e stops read =
+    ap (macros_at b.line b.at 0) e ∙ one_taken b.line b.at x xs m after (not_blank x stops) (ap (λ (bs : List ℕ). pair_ahead (ahead b.line b.at bs)) (sym e) ∙ read)
 
 pub macro_step : (front : List Macro) (m : Macro) (a b after : Ahead) → skip_blanks a ≡ b → pair_ahead b ≡ Ok (m, after) → with_macros front (macros_ahead a) ≡ with_macros (front ++ m ∷ []) (macros_ahead after)
-macro_step front m a b after skips read = ap (with_macros front) (skip_keeps a b skips ∙ one_read b after m read) ∙ regroup front m (macros_ahead after)
+macro_step front m a b after skips read = ap (with_macros front) (skip_keeps a b skips ∙ one_read b b.bytes after m refl (ink_next a b skips) read) ∙ regroup front m (macros_ahead after)
 
 fails_at : (line at x : ℕ) (xs : List ℕ) (f : LineFault) → is_blank x ≡ false → pair_ahead (ahead line at (x ∷ xs)) ≡ Err f → macros_at line at 0 (x ∷ xs) ≡ Err f
 unfolding macros_at
 fails_at line at x xs f ink read = rw (ink, read) refl
-
-not_blank : (x : ℕ) → is_ink x ≡ true → is_blank x ≡ false
-not_blank x h = ⊎_elim (λ (yes : is_blank x ≡ true). absurd (false≢true (sym (ap not yes) ∙ h))) (λ other. other) (cases_Bool (is_blank x))
 
 pair_fails : (b : Ahead) (bytes : List ℕ) (f : LineFault) → b.bytes ≡ bytes → Stops is_ink bytes → has_bytes bytes ≡ true → pair_ahead b ≡ Err f → macros_ahead b ≡ Err f
 pair_fails b [] f e stops some read = absurd (false≢true some)
@@ -271,8 +273,7 @@ pair_fails b (x ∷ xs) f e stops some read =
 
 pub macro_fails : (front : List Macro) (a b : Ahead) (f : LineFault) → skip_blanks a ≡ b → has_bytes b.bytes ≡ true → pair_ahead b ≡ Err f → with_macros front (macros_ahead a) ≡ Err f
 macro_fails front a b f skips some read =
-    let stops = subst (λ (x : Ahead). Stops is_ink x.bytes) skips (skipped a).3 in
-    ap (with_macros front) (skip_keeps a b skips ∙ pair_fails b b.bytes f refl stops some read)
+    ap (with_macros front) (skip_keeps a b skips ∙ pair_fails b b.bytes f refl (ink_next a b skips) some read)
 
 nothing_at : (line at : ℕ) (bytes : List ℕ) → has_bytes bytes ≡ false → macros_at line at 0 bytes ≡ Ok []
 unfolding macros_at
@@ -282,15 +283,14 @@ nothing_at line at (b ∷ bs) h = absurd (false≢true (sym h))
 pub macros_done : (front : List Macro) (a b : Ahead) → skip_blanks a ≡ b → has_bytes b.bytes ≡ false → with_macros front (macros_ahead a) ≡ Ok front
 macros_done front a b skips none = ap (with_macros front) (skip_keeps a b skips ∙ nothing_at b.line b.at b.bytes none) ∙ ap (λ (ms : List Macro). Ok ms) (append-nil front)
 
+some_left : (bytes : List ℕ) → is_macro_name (take (place_of ends_name bytes) bytes) ≡ true → 1 ≤ length bytes
+some_left [] h = absurd (no_empty_name h)
+some_left (b ∷ bs) h = omega arith
+
 pub macros_less : (m : Macro) (a b after : Ahead) → skip_blanks a ≡ b → pair_ahead b ≡ Ok (m, after) → length after.bytes < length a.bytes
 macros_less m a b after skips read =
-    let s = skipped a in
-    let p = pair_ok b (m, after) read in
-    let start = pair_starts b.line b.at p.0 m p.1 in
-    let passes = p.2 in
-    let first = s.2 in
-    let one : length p.0 ≡ suc (length start.1) = ap length start.2 in
-    let skip_len : length a.bytes ≡ length s.0 + length (skip_blanks a).bytes = ap length first.bytes ∙ length-append s.0 (skip_blanks a).bytes in
-    let same : length (skip_blanks a).bytes ≡ length b.bytes = ap (λ (x : Ahead). length x.bytes) skips in
-    let pair_len : length b.bytes ≡ length p.0 + length after.bytes = ap length passes.bytes ∙ length-append p.0 after.bytes in
+    let (named, (n, is, some)) = pair_goes b (m, after) read in
+    let left = some_left b.bytes named in
+    let less : length after.bytes ≡ length b.bytes - n = ap (λ (x : Ahead). length x.bytes) is ∙ length-drop n b.bytes in
+    let before : length b.bytes ≡ length a.bytes - place_of is_ink a.bytes = ap (λ (x : Ahead). length x.bytes) (sym skips) ∙ length-drop (place_of is_ink a.bytes) a.bytes in
     omega arith

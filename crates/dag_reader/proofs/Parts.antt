@@ -1,16 +1,14 @@
 -- What the steps of a reading have in common.
-use Rattle.std.proofs.Common.{◌≡◌, ℕ, ◌⊎◌, Bool, true, false, cond, List, [], ◌∷◌, Some, Result, Ok, Err, refl, sym, ap, subst, ◌∙◌, inl, inr, ⊎_elim}
+use Rattle.std.proofs.Common.{◌≡◌, ℕ, ◌⊎◌, Bool, true, false, cond, List, [], ◌∷◌, Some, Result, Ok, Err, refl, sym, subst, ◌∙◌, inl, inr, ⊎_elim}
 use Rattle.std.proofs.lemmas.Bool.{cases_Bool, false≢true}
 use Rattle.std.proofs.lemmas.Slice.Eq.{bytes_eq-Decides}
 use Rattle.std.specs.Str.{bytes_eq, str_to_ascii_lowercase}
-use Rattle.dag_reader.specs.declared.span.Span.{Span}
 use Rattle.dag_reader.specs.declared.fault.LineFault.{LineFault}
 use Rattle.std.specs.List.{AllByRecursion, find}
 use Rattle.dag_reader.specs.declared.layout.LineKind.{LineKind}
 use Rattle.dag_reader.specs.Word.{PlacedText}
-use Rattle.dag_reader.specs.LineReader.{Left}
 use Rattle.dag_reader.specs.Keywords.{is_keyword}
-use Rattle.dag_reader.specs.Reading.{◌>>=◌, first_of}
+use Rattle.dag_reader.specs.Reading.{◌>>=◌}
 
 -- the value of a step that did not fail
 pub bind_ok : {A B : Type 0} (r : Result A LineFault) (f : A → Result B LineFault) (y : B) → (r >>= f) ≡ Ok y → (x : A) × (r ≡ Ok x) × (f x ≡ Ok y)
@@ -28,18 +26,10 @@ got x = Ok x
 pub ok_is : {A : Type 0} (x y : A) → got x ≡ got y → x ≡ y
 ok_is x y e = cc
 
-abbrev pub rest : List PlacedText → Span → Left
-rest ws end = record { words = ws; end = end }
-
 -- a test that did not fail
 pub guard_ok : {A : Type 0} (b : Bool) (d : LineFault) (x y : A) → cond b (Ok x) (Err d) ≡ Ok y → (b ≡ true) × (x ≡ y)
 guard_ok true d x y e = (refl, cc)
 guard_ok false d x y e = absurd cc
-
--- Words.
-pub first_ok : (ws : List PlacedText) (end : Span) (x : PlacedText × Left) → first_of ws end ≡ Ok x → ws ≡ x.0 ∷ x.1.words
-first_ok [] end x e = absurd cc
-first_ok (w ∷ ws) end x e = ap (λ (y : PlacedText × Left). y.0 ∷ y.1.words) (ok_is (w, rest ws end) x e)
 
 -- A word is one keyword alone.
 pub one_keyword : (k l : List ℕ) (w : PlacedText) → is_keyword k w ≡ true → bytes_eq (str_to_ascii_lowercase k) (str_to_ascii_lowercase l) ≡ false → is_keyword l w ≡ false

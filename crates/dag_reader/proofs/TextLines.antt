@@ -1,40 +1,23 @@
 -- Reading line by line, as the loop does.
-use Rattle.std.proofs.Common.{◌≡◌, ℕ, ◌+◌, ◌<◌, false, nat_eq, List, [], ◌∷◌, ◌++◌, length, take, drop, get_or, Some, None, Result, Ok, Err, refl, sym, ap, ◌∙◌, add-one, drop-cons, append_assoc, arith, ⊎_elim}
+use Rattle.std.proofs.Common.{◌≡◌, ℕ, ◌+◌, ◌<◌, false, nat_eq, List, [], ◌∷◌, ◌++◌, length, take, drop, get_or, Option, Some, None, Result, Ok, Err, refl, sym, ap, ◌∙◌, add-one, drop-cons, append_assoc, arith, ⊎_elim}
 use Rattle.std.proofs.lemmas.Bool.{cases_Bool, eqb-true}
 use Rattle.std.proofs.lemmas.Grind.{common_steps}
 use Rattle.std.proofs.lemmas.List.{append-nil, take-append-drop}
 use Rattle.std.proofs.lemmas.List.Elements.{All-from_get_or}
 use Rattle.std.proofs.lemmas.List.Splits.{slice_split_none, slice_split_at, length-slice_split}
 use Rattle.std.specs.List.{slice_split, All}
+use Rattle.std.specs.Option.{option_to_list}
 use Rattle.std.specs.Str.Lines.{lines, lines_of_parts, strip_carriage_return}
 use Rattle.memchr.specs.Find.{IsFirstByte, is_byte}
 use Rattle.dag_reader.specs.declared.fault.LineFault.{LineFault}
 use Rattle.dag_reader.specs.declared.fault.ReadFault.{ReadFault}
 use Rattle.dag_reader.specs.declared.fault.ReadFault.TheVariants as faults
 use Rattle.dag_reader.specs.declared.command.Command.{Command}
-use Rattle.dag_reader.specs.declared.command.Warning.{Warning}
-use Rattle.dag_reader.specs.declared.command.Meaning.{Meaning}
-use Rattle.dag_reader.specs.Reading.{◌>>=◌, Fails, line_at, lines_at, Contents, commands_of, warnings_of, with_meaning}
+use Rattle.dag_reader.specs.Reading.{◌>>=◌, Fails, line_at, lines_at}
 
 -- what was read before, and what is still read
-abbrev pub joined : Contents → Contents → Contents
-joined front more = record {
-  commands = front.commands ++ more.commands;
-  warnings = front.warnings ++ more.warnings;
-}
-
-abbrev pub with_lines : Contents → Result Contents LineFault → Result Contents LineFault
-with_lines front read = read >>= λ more. Ok (joined front more)
-
-abbrev pub contents : List Command → List Warning → Contents
-contents cs ws = record { commands = cs; warnings = ws }
-
--- what was read before, with the next line
-abbrev pub with_line : Contents → Meaning → Contents
-with_line front m = record {
-  commands = front.commands ++ commands_of m;
-  warnings = front.warnings ++ warnings_of m;
-}
+abbrev pub with_lines : List Command → Result (List Command) LineFault → Result (List Command) LineFault
+with_lines front read = read >>= λ more. Ok (front ++ more)
 
 not_last : (x : List ℕ) (parts : List (List ℕ)) → 0 < length parts → lines_of_parts (x ∷ parts) ≡ strip_carriage_return x ∷ lines_of_parts parts
 not_last x [] some = absurd (omega arith)
@@ -70,21 +53,16 @@ all_one_line text some h =
     lines-last text some (All-from_get_or (λ b. nat_eq b 10 ≡ false) text 0 (λ i lt.
     ⊎_elim (λ yes. absurd (h i (omega arith) lt yes)) (λ other. other) (cases_Bool (nat_eq (get_or text i 0) 10))))
 
-joined_again : (front more : Contents) (m : Meaning) → joined front (with_meaning m more) ≡ joined (with_line front m) more
-joined_again front more m =
-    ap (λ (cs : List Command). contents cs (front.warnings ++ (warnings_of m ++ more.warnings))) (sym (append_assoc front.commands (commands_of m) more.commands))
-    ∙ ap (λ (ws : List Warning). contents (front.commands ++ commands_of m ++ more.commands) ws) (sym (append_assoc front.warnings (warnings_of m) more.warnings))
+regroup : (front : List Command) (o : Option Command) (read : Result (List Command) LineFault) → with_lines front (read >>= λ others. Ok (option_to_list o ++ others)) ≡ with_lines (front ++ option_to_list o) read
+regroup front o (Ok xs) = ap (λ (ys : List Command). Ok ys) (sym (append_assoc front (option_to_list o) xs))
+regroup front o (Err f) = refl
 
-regroup : (front : Contents) (m : Meaning) (read : Result Contents LineFault) → with_lines front (read >>= λ others. Ok (with_meaning m others)) ≡ with_lines (with_line front m) read
-regroup front m (Ok x) = ap (λ (y : Contents). Ok y) (joined_again front x m)
-regroup front m (Err f) = refl
-
-pub line_step : (front : Contents) (number : ℕ) (text line after : List ℕ) (m : Meaning) → lines text ≡ line ∷ lines after → line_at number line ≡ Ok m
-    → with_lines front (lines_at number (lines text)) ≡ with_lines (with_line front m) (lines_at (number + 1) (lines after))
+pub line_step : (front : List Command) (number : ℕ) (text line after : List ℕ) (o : Option Command) → lines text ≡ line ∷ lines after → line_at number line ≡ Ok o
+    → with_lines front (lines_at number (lines text)) ≡ with_lines (front ++ option_to_list o) (lines_at (number + 1) (lines after))
 unfolding lines_at
-line_step front number text line after m e h = ap (λ (ls : List (List ℕ)). with_lines front (lines_at number ls)) e ∙ rw h (regroup front m (lines_at (number + 1) (lines after)))
+line_step front number text line after o e h = ap (λ (ls : List (List ℕ)). with_lines front (lines_at number ls)) e ∙ rw h (regroup front o (lines_at (number + 1) (lines after)))
 
-pub line_fails : (e : ReadFault) (front : Contents) (number : ℕ) (text line after : List ℕ) (total : Result Contents LineFault) → lines text ≡ line ∷ lines after → Fails e (line_at number line)
+pub line_fails : (e : ReadFault) (front : List Command) (number : ℕ) (text line after : List ℕ) (total : Result (List Command) LineFault) → lines text ≡ line ∷ lines after → Fails e (line_at number line)
     → with_lines front (lines_at number (lines text)) ≡ total → Fails e total
 unfolding lines_at
 line_fails faults.Memory front number text line after total e h so_far = tt
@@ -92,7 +70,7 @@ line_fails (faults.Line f) front number text line after total e h so_far =
     let one : with_lines front (lines_at number (lines text)) ≡ Err f = ap (λ (ls : List (List ℕ)). with_lines front (lines_at number ls)) e ∙ rw h refl in
     sym so_far ∙ one
 
-pub lines_done : (front : Contents) (number : ℕ) (text : List ℕ) → length text ≡ 0 → with_lines front (lines_at number (lines text)) ≡ Ok front
+pub lines_done : (front : List Command) (number : ℕ) (text : List ℕ) → length text ≡ 0 → with_lines front (lines_at number (lines text)) ≡ Ok front
 unfolding lines_at
-lines_done front number [] e = ap (λ (cs : List Command). Ok (contents cs (front.warnings ++ []))) (append-nil front.commands) ∙ ap (λ (ws : List Warning). Ok (contents front.commands ws)) (append-nil front.warnings)
+lines_done front number [] e = ap (λ (cs : List Command). Ok cs) (append-nil front)
 lines_done front number (b ∷ bs) e = absurd (omega arith)

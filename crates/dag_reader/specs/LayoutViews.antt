@@ -34,8 +34,8 @@ values_of v = record {
   words = v.words;
 }
 
-abbrev pub state_of : coded_pass.Pass → State
-state_of p = record { fields = p.fields.now; ending = ending_of p.ending; values = values_of p.values }
+abbrev pub state_of : coded_pass.Pass → Values → State
+state_of p values = record { fields = p.fields.now; ending = ending_of p.ending; values = values }
 
 -- what a method left is what reading gives, unless memory ran out
 abbrev pub Leaves : {S : Type 0} → Result (Unit {0}) ReadFault → S → Result S LineFault → Type 0

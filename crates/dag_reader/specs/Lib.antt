@@ -12,6 +12,5 @@ pub mod LayoutViews
 pub mod Leftmost
 pub mod MacroReading
 pub mod MacroReader
-pub mod MacroGrammar
 pub mod Reading
 pub mod Grammar

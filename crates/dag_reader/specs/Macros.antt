@@ -1,5 +1,5 @@
 -- The words of a macro: names, and texts between quotes.
-use Rattle.std.specs.Prelude.{ℕ, suc, Bool, true, false, not, ◌&&◌, ◌||◌, ◌==◌, nat_le, List, [], ◌∷◌, length, take, Option, Some, None, if◌then◌else◌, codes}
+use Rattle.std.specs.Prelude.{ℕ, suc, Bool, false, not, ◌&&◌, ◌||◌, ◌==◌, nat_le, List, [], ◌∷◌, length, take, Option, Some, None, if◌then◌else◌, codes}
 use Rattle.std.specs.List.{list_all}
 use Rattle.std.specs.Option.{option_map}
 use Rattle.std.specs.Char.{is_ascii_alphabetic, is_ascii_alphanumeric}
@@ -36,12 +36,6 @@ abbrev pub begins_escape : List ℕ → Bool
 begins_escape [] = false
 begins_escape (b ∷ []) = false
 begins_escape (b ∷ c ∷ bs) = is_escape b c
-
--- Each quote is escaped, and no backslash is left that would escape the closing quote.
-abbrev pub is_quoted : List ℕ → Bool
-is_quoted [] = true
-is_quoted (b ∷ []) = not (b == 34 || b == 92)
-is_quoted (b ∷ c ∷ bs) = if is_escape b c then is_quoted bs else (not (b == 34) && is_quoted (c ∷ bs))
 
 -- A backslash before a quote or a backslash is dropped; any other backslash is itself.
 abbrev pub unquoted : List ℕ → List ℕ

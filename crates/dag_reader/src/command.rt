@@ -3,7 +3,6 @@
 use crate::span::Span;
 use crate::word::{Word, Words};
 use std::alloc::{AllocError, Global};
-use std::fmt;
 use std::marker::Model;
 
 /// The node that a setting is for.
@@ -181,6 +180,10 @@ pub enum Command {
         file: Word,
         dir: Option<Word>,
     },
+
+    /// `DOT ..`, `JOBSTATE_LOG ..`, `NODE_STATUS_FILE ..` or `SET_JOB_ATTR ..`: a line that has no
+    /// effect here, of which the user is told. The span is that of its first word.
+    Ignored(Span),
 }
 
 // Each function that lets a value go calls this; a derived drop stands in each, part by part.
@@ -243,69 +246,21 @@ impl Drop for Command {
                 file: _,
                 dir: _,
             } => {}
+            Command::Ignored(_) => {}
         }
     }
 }
 
-/// What a user is told of a line that is no fault.
-///
-/// It is displayed as what happens to the line, as `ignored`: who knows the file's name writes
-/// `{file}:{} {warning}` of `warning.span().line`.
-#[derive(Clone, Copy, Debug, PartialEq, Eq)]
-pub enum Warning {
-    /// The line begins with this word, and has no effect: DOT, JOBSTATE_LOG, NODE_STATUS_FILE or
-    /// SET_JOB_ATTR.
-    Ignored(Span),
-}
-
-impl Warning {
-    ghost use Rattle.std.specs.Prelude.{◌≡◌};
-    ghost use Rattle.dag_reader.specs.declared.command.Warning.TheVariants.{Ignored};
-
-    /// The first word of the line.
-    pub fn span(&self) -> Span
-        ensures { self.now ≡ Ignored result }
-    {
-        match *self {
-            Warning::Ignored(span) => span,
-        }
-    }
-}
-
-impl fmt::Display for Warning {
-    fn fmt<W: fmt::Write>(&self, f: &mut fmt::Formatter<W>) -> fmt::Result {
-        match self {
-            Warning::Ignored(_) => write!(f, "ignored"),
-        }
-    }
-}
-
-/// What one line means.
-#[derive(Drop)]
-pub(crate) enum Meaning {
-    /// Nothing: a comment, or a line with no words.
-    Nothing,
-
-    /// A command.
-    Says(Command),
-
-    /// Nothing, and the user is told so.
-    Warns(Warning),
-}
-
-/// The commands of a file and its warnings, both in the order of their lines.
+/// What the lines of a file say, in their order; lines that say nothing are left out. The spans of
+/// a command have the number of its line.
 #[derive(Debug)]
 pub struct DagFile {
     pub commands: Vec<Command>,
-    pub warnings: Vec<Warning>,
 }
 
 // Each function that lets a value go calls this; a derived drop stands in each, part by part.
 impl Drop for DagFile {
     fn drop(self) {
-        let DagFile {
-            commands: _,
-            warnings: _,
-        } = self;
+        let DagFile { commands: _ } = self;
     }
 }

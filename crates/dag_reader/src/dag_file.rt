@@ -1,21 +1,21 @@
 //! The lines of a text, and what each says.
 
-ghost use Rattle.std.specs.Prelude.{◌≡◌, ◌<◌, ◌≤◌, ◌∷◌, length, position, IfOk, IfErr, IsTrue, List, [], Ok};
+ghost use Rattle.std.specs.Prelude.{◌≡◌, ◌<◌, ◌≤◌, ◌∷◌, length, position, IfOk, IfErr, IsTrue, List, Ok};
 ghost use Rattle.std.specs.Str.Lines.{lines, strip_carriage_return};
 ghost use Rattle.std.specs.Str.Lossy.{utf8_valid_len};
 ghost use Rattle.dag_reader.specs.LineReader.{left_of, word_of};
 ghost use Rattle.dag_reader.specs.Lines.{text_len, is_control, ends_with_backslash};
 ghost use Rattle.dag_reader.specs.declared.command.Command.{Command};
-ghost use Rattle.dag_reader.specs.declared.command.Warning.{Warning};
-ghost use Rattle.dag_reader.specs.Grammar.{SayAll, IsFirstBad, warnings_in};
-ghost use Rattle.dag_reader.specs.Reading.{Gives, Answers, text_of, meaning_at, line_at, contents_of, text_at};
+ghost use Rattle.dag_reader.specs.Grammar.{SayAll, IsFirstBad};
+ghost use Rattle.dag_reader.specs.Reading.{Gives, Answers, text_of, said_at, line_at, commands_of, text_at};
 
-use crate::command::{DagFile, Meaning, Warning};
+use crate::command::{Command, DagFile};
 use crate::fault::{LineFault, ReadFault};
 use crate::line::LineReader;
 use crate::reading::command;
 use crate::span::Span;
 use crate::token::Token;
+use crate::values::Values;
 use memchr::memchr;
 use std::alloc::Global;
 use std::str;
@@ -24,85 +24,83 @@ const LONGEST_LINE: usize = 65_536;
 
 /// Reads a DAG file, as the chapter "DAG input file commands" of the HTCondor manual has it.
 ///
-/// Each line is a comment, holds no word, is one command, or begins with the word of a command
-/// that has no effect here, with a warning. Commands and warnings stand in the order of the lines.
+/// Each line is a comment, holds no word, or is one command, those that have no effect here among
+/// them. The commands stand in the order of the lines.
 ///
 /// # Errors
 /// The fault of the first line that is none of these, or `Memory` where memory runs out.
 pub fn read_dag(alloc: Global, text: &[u8]) -> Result<DagFile, ReadFault>
-    // The lines have the commands and the warnings that are read.
-    ensures found { IfOk result (λ file. SayAll 1 (lines text.now) file.commands.items file.warnings.items) }
+    // The lines say what is read.
+    ensures found { IfOk result (λ file. SayAll 1 (lines text.now) file.commands.items) }
 
-    // Where the lines have commands and warnings, these are read, unless memory runs out.
-    ensures only { (cs : List Command) (ws : List Warning) → SayAll 1 (lines text.now) cs ws
-        → Gives contents_of result (Ok (record { commands = cs; warnings = ws })) }
+    // Where the lines say commands, these are read, unless memory runs out.
+    ensures only { (cs : List Command) → SayAll 1 (lines text.now) cs → Gives commands_of result (Ok cs) }
 
     // A fault is that of the first bad line.
     ensures first_bad { IfErr result (λ e. IsFirstBad (lines text.now) e) }
 
-    // There is one warning for each line that begins with the word of an ignored command.
-    ensures warnings { IfOk result (λ file. file.warnings.items ≡ warnings_in 1 (lines text.now)) }
-
-    // Which fault it is: that which reading the words from the left meets first.
-    ensures exact { Gives contents_of result (text_at text.now) }
+    // The same in one equation.
+    ensures exact { Gives commands_of result (text_at text.now) }
 {
     read_lines(alloc, text)
 }
 
 fn read_lines(alloc: Global, text: &[u8]) -> Result<DagFile, ReadFault>
-    ensures { Gives contents_of result (text_at text.now) }
+    ensures { Gives commands_of result (text_at text.now) }
 {
     let mut commands = Vec::new(alloc);
-    let mut warnings = Vec::new(alloc);
+    let mut values = Values::new(alloc);
     let mut rest = text;
     let mut number = 1usize;
     while !rest.is_empty() {
         let (line, after) = split_line(rest);
-        match read_line(alloc, number, line)? {
-            Meaning::Nothing => {}
-            Meaning::Says(command) => commands.push(command)?,
-            Meaning::Warns(warning) => warnings.push(warning)?,
+        let said = read_line(alloc, number, line, &mut values)?;
+        if let Some(command) = said {
+            commands.push(command)?;
         }
         rest = after;
         number += 1;
     }
-    Ok(DagFile { commands, warnings })
+    Ok(DagFile { commands })
 }
 
-/// What one line means.
+/// What one line says, if it says anything.
 #[tactic(auto, unfolding(crate::specs::Reading::line_at))]
-fn read_line(alloc: Global, number: usize, bytes: &[u8]) -> Result<Meaning, ReadFault>
-    ensures { Gives (λ m. m) result (line_at number bytes.now) }
+fn read_line<'a>(
+    alloc: Global,
+    number: usize,
+    bytes: &'a [u8],
+    values: &mut Values<'a>,
+) -> Result<Option<Command>, ReadFault>
+    ensures { Gives (λ c. c) result (line_at number bytes.now) }
 {
     let text = line_text(number, bytes)?;
     let mut line = LineReader::new(number, text);
     let Some(first) = line.next_word() else {
-        return Ok(Meaning::Nothing);
+        return Ok(None);
     };
-    read_words(alloc, text, first, &mut line)
+    read_words(alloc, text, first, &mut line, values)
 }
 
-/// What the words of a line mean, whose first is this one and whose text is this.
-#[tactic(auto, unfolding(crate::specs::Reading::meaning_at))]
+/// What the words of a line say, whose first is this one and whose text is this.
+#[tactic(auto, unfolding(crate::specs::Reading::said_at))]
 fn read_words<'a>(
     alloc: Global,
     text: &str,
     first: Token<'a>,
     line: &mut LineReader<'a>,
-) -> Result<Meaning, ReadFault>
-    ensures { Gives (λ m. m) result (meaning_at text.now (word_of first.entry) (left_of line.old)) }
+    values: &mut Values<'a>,
+) -> Result<Option<Command>, ReadFault>
+    ensures { Gives (λ c. c) result (said_at text.now (word_of first.entry) (left_of line.old)) }
 {
     if first.is_comment() {
-        return Ok(Meaning::Nothing);
+        return Ok(None);
     }
     if ends_with_backslash(text.as_bytes()) {
         let last = line.last_word(first);
         return Err(ReadFault::Line(LineFault::Unsupported(last.span)));
     }
-    if first.is_ignored() {
-        return Ok(Meaning::Warns(Warning::Ignored(first.span)));
-    }
-    Ok(Meaning::Says(command(alloc, text, first, line)?))
+    Ok(Some(command(alloc, text, first, line, values)?))
 }
 
 /// The bytes of a line as a text. The line's number, from 1, stands in the fault's span.

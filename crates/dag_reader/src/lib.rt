@@ -4,7 +4,6 @@
 mod command;
 mod dag_file;
 mod fault;
-mod fields;
 pub mod laws;
 mod layout;
 mod line;
@@ -17,7 +16,7 @@ mod token;
 mod values;
 mod word;
 
-pub use command::{Command, DagFile, Macro, Macros, Placement, ScriptKind, Target, Warning};
+pub use command::{Command, DagFile, Macro, Macros, Placement, ScriptKind, Target};
 pub use dag_file::{line_text, read_dag, split_line};
 pub use fault::{LineFault, ReadFault};
 pub use line::LineReader;

@@ -20,7 +20,8 @@ pub struct LineReader<'a> {
 }
 
 impl<'a> LineReader<'a> {
-    ghost use Rattle.dag_reader.specs.LineReader.{left_of, first_left, Takes};
+    ghost use Rattle.dag_reader.specs.LineReader.{left_of, word_of, first_left, Takes};
+    ghost use Rattle.dag_reader.specs.Words.{last_of};
 
     /// A line of which no word is read yet. Its number, from 1, stands in each word's span.
     pub fn new(number: usize, text: &'a str) -> LineReader<'a>
@@ -64,6 +65,17 @@ impl<'a> LineReader<'a> {
             text: &self.text[start..stop],
             span,
         })
+    }
+
+    /// The last word of the line, of which `first` was read last.
+    pub(crate) fn last_word(&mut self, first: Token<'a>) -> Token<'a>
+        ensures { word_of result ≡ last_of (word_of first.entry) (left_of self.old).words }
+    {
+        let mut last = first;
+        while let Some(word) = self.next_word() {
+            last = word;
+        }
+        last
     }
 }
 

@@ -2,7 +2,7 @@
 
 ghost use Rattle.std.specs.Prelude.{◌≡◌, []};
 ghost use Rattle.dag_reader.specs.LineReader.{left_of, word_of};
-ghost use Rattle.dag_reader.specs.Layouts.{state, nothing, further, step, may_stop, reading, command_of};
+ghost use Rattle.dag_reader.specs.Layouts.{state, further, step, may_stop, reading, command_of};
 ghost use Rattle.dag_reader.specs.LayoutViews.{HasRow, ending_of, state_of, values_of, Leaves};
 ghost use Rattle.dag_reader.specs.Reading.{Gives};
 
@@ -14,88 +14,102 @@ use crate::token::Token;
 use crate::values::Values;
 use std::alloc::Global;
 
-/// How far a line is read.
-#[derive(Drop)]
-pub(crate) struct Pass<'a> {
+/// How far a line is read: the words that it still wants, and what may stand behind them.
+#[derive(Clone, Copy)]
+pub(crate) struct Pass {
     fields: &'static [Field],
     ending: Ending,
-    values: Values<'a>,
 }
 
-/// What the words behind the first say, in a line of this layout.
+/// What the words behind the first say, in a line of this layout. Whatever the values were before
+/// is forgotten.
 pub(crate) fn read_by<'a>(
     alloc: Global,
     layout: &Layout,
     line: &mut LineReader<'a>,
+    values: &mut Values<'a>,
 ) -> Result<Command, ReadFault>
     requires { HasRow layout.now }
     ensures { Gives (λ c. c) result
         (command_of layout.now.kind (left_of line.old).words (left_of line.old).end) }
 {
-    let values = values(alloc, layout, line)?;
-    Ok(values.into_command(alloc, layout.kind)?)
+    values.clear(alloc);
+    fill(alloc, layout, line, values)?;
+    Ok(values.command(alloc, layout.kind)?)
 }
 
-/// What the words behind the first say, each in a place of its own.
-fn values<'a>(
+/// Notes what the words behind the first say, each in a place of its own.
+fn fill<'a>(
     alloc: Global,
     layout: &Layout,
     line: &mut LineReader<'a>,
-) -> Result<Values<'a>, ReadFault>
-    ensures { Gives values_of result (reading (state layout.now.fields.now (ending_of layout.now.ending) nothing)
+    values: &mut Values<'a>,
+) -> Result<(), ReadFault>
+    ensures { Leaves result (values_of values.new)
+        (reading (state layout.now.fields.now (ending_of layout.now.ending) (values_of values.old))
         (left_of line.old).words (left_of line.old).end) }
 {
     let mut pass = Pass {
         fields: layout.fields,
         ending: layout.ending,
-        values: Values::new(alloc),
     };
     while let Some(word) = line.next_word() {
-        pass.step(alloc, word)?;
+        pass.step(alloc, word, values)?;
     }
     if !pass.may_stop() {
         return Err(ReadFault::Line(LineFault::MissingWord(line.end())));
     }
-    Ok(pass.values)
+    Ok(())
 }
 
-impl<'a> Pass<'a> {
+impl Pass {
     /// Takes the next word.
-    fn step(&mut self, alloc: Global, word: Token<'a>) -> Result<(), ReadFault>
-        ensures { Leaves result (state_of self.new) (step (state_of self.old) (word_of word.entry)) }
+    fn step<'a>(
+        &mut self,
+        alloc: Global,
+        word: Token<'a>,
+        values: &mut Values<'a>,
+    ) -> Result<(), ReadFault>
+        ensures { Leaves result (state_of self.new (values_of values.new))
+            (step (state_of self.old (values_of values.old)) (word_of word.entry)) }
     {
         match self.fields {
             [field, fields @ ..] => {
-                self.values.put(alloc, *field, word)?;
+                values.put(alloc, *field, word)?;
                 self.fields = fields;
                 Ok(())
             }
-            [] => self.further(alloc, word),
+            [] => self.further(alloc, word, values),
         }
     }
 
     /// Takes a word where the line wants no more.
     #[tactic(auto, unfolding(crate::specs::Layouts::further))]
-    fn further(&mut self, alloc: Global, word: Token<'a>) -> Result<(), ReadFault>
+    fn further<'a>(
+        &mut self,
+        alloc: Global,
+        word: Token<'a>,
+        values: &mut Values<'a>,
+    ) -> Result<(), ReadFault>
         requires { self.old.fields.now ≡ [] }
-        ensures { Leaves result (state_of self.new)
-            (further (state_of self.old).ending (word_of word.entry) (state_of self.old).values) }
+        ensures { Leaves result (state_of self.new (values_of values.new))
+            (further (ending_of self.old.ending) (word_of word.entry) (values_of values.old)) }
     {
         match self.ending {
             Ending::Brackets(brackets) => {
-                let Some(bracket) = self.values.bracket_of(brackets, &word) else {
+                let Some(bracket) = values.bracket_of(brackets, &word) else {
                     return Err(ReadFault::Line(LineFault::UnexpectedWord(word.span)));
                 };
-                self.values.mark(bracket);
+                values.mark(bracket);
                 self.fields = bracket.fields();
             }
-            Ending::Many(field) => self.values.put(alloc, field, word)?,
+            Ending::Many(field) => values.put(alloc, field, word)?,
             Ending::Children => {
                 if word.is("CHILD") {
                     self.fields = &[Field::Child];
                     self.ending = Ending::Many(Field::Child);
                 } else {
-                    self.values.put(alloc, Field::Parent, word)?;
+                    values.put(alloc, Field::Parent, word)?;
                 }
             }
         }
@@ -104,7 +118,7 @@ impl<'a> Pass<'a> {
 
     /// Whether the line may end.
     fn may_stop(&self) -> bool
-        ensures { result ≡ may_stop (state_of self.now).fields (state_of self.now).ending }
+        ensures { result ≡ may_stop self.now.fields.now (ending_of self.now.ending) }
     {
         match (self.fields, self.ending) {
             ([], Ending::Brackets(_) | Ending::Many(_)) => true,

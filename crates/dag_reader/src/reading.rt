@@ -2,7 +2,7 @@
 
 ghost use Rattle.std.specs.Prelude.{◌≡◌};
 ghost use Rattle.dag_reader.specs.LineReader.{left_of, word_of};
-ghost use Rattle.dag_reader.specs.Reading.{Gives, vars_at, command_at};
+ghost use Rattle.dag_reader.specs.Reading.{Gives, vars_of, command_at};
 
 use crate::command::Command;
 use crate::fault::{LineFault, ReadFault};
@@ -11,20 +11,25 @@ use crate::line::LineReader;
 use crate::macro_reader::MacroReader;
 use crate::pass::read_by;
 use crate::token::Token;
+use crate::values::Values;
 use std::alloc::Global;
 
 /// The command that begins with the word `first`.
 #[tactic(auto, unfolding(crate::specs::Reading::command_at))]
-pub(crate) fn command(
+pub(crate) fn command<'a>(
     alloc: Global,
     text: &str,
-    first: Token<'_>,
-    line: &mut LineReader<'_>,
+    first: Token<'a>,
+    line: &mut LineReader<'a>,
+    values: &mut Values<'a>,
 ) -> Result<Command, ReadFault>
     ensures { Gives (λ c. c) result (command_at text.now (word_of first.entry) (left_of line.old)) }
 {
+    if first.is_ignored() {
+        return Ok(Command::Ignored(first.span));
+    }
     if let Some(layout) = layout_of(&first) {
-        return read_by(alloc, layout, line);
+        return read_by(alloc, layout, line, values);
     }
     if first.is("VARS") {
         return vars(alloc, text, line);
@@ -35,11 +40,14 @@ pub(crate) fn command(
     Err(ReadFault::Line(LineFault::UnknownCommand(first.span)))
 }
 
-#[tactic(auto, unfolding(crate::specs::Reading::vars_at))]
+#[tactic(auto, unfolding(crate::specs::Reading::vars_of))]
 fn vars(alloc: Global, text: &str, line: &mut LineReader<'_>) -> Result<Command, ReadFault>
-    ensures { Gives (λ c. c) result (vars_at text.now (left_of line.old)) }
+    ensures { Gives (λ c. c) result (vars_of text.now (left_of line.old).words (left_of line.old).end) }
 {
-    let node = line.word()?.node()?;
+    let Some(word) = line.next_word() else {
+        return Err(ReadFault::Line(LineFault::MissingWord(line.end())));
+    };
+    let node = word.node()?;
     let mut ahead = MacroReader::new(text, node.span);
     let placement = ahead.placement();
     let macros = ahead.macros(alloc)?;

@@ -83,6 +83,13 @@ impl<'a> Values<'a> {
         }
     }
 
+    /// Forgets what was said.
+    pub(crate) fn clear(&mut self, alloc: Global)
+        ensures { values_of self.new ≡ nothing }
+    {
+        *self = Values::new(alloc);
+    }
+
     /// Takes a word, which has to be this field.
     #[tactic(auto, unfolding(crate::specs::Layouts::put))]
     pub(crate) fn put(
@@ -147,79 +154,64 @@ impl<'a> Values<'a> {
         }
     }
 
-    /// The command that they make in a line of this kind.
-    pub(crate) fn into_command(self, alloc: Global, kind: LineKind) -> Result<Command, AllocError>
-        ensures { IfOk result (λ c. c ≡ (layout kind).command (values_of self.entry)) }
+    /// The command that they make in a line of this kind. Lists of words are taken out.
+    pub(crate) fn command(&mut self, alloc: Global, kind: LineKind) -> Result<Command, AllocError>
+        ensures { IfOk result (λ c. c ≡ (layout kind).command (values_of self.old)) }
     {
-        let Values {
-            name,
-            node,
-            file,
-            when,
-            count,
-            number,
-            dir,
-            noop,
-            done,
-            unless_exit,
-            status,
-            parents,
-            words,
-        } = self;
         Ok(match kind {
             LineKind::Job => Command::Job {
-                name: name.to_word(alloc)?,
-                file: file.to_word(alloc)?,
-                dir: to_words(alloc, dir)?,
-                noop,
-                done,
+                name: self.name.to_word(alloc)?,
+                file: self.file.to_word(alloc)?,
+                dir: to_words(alloc, self.dir)?,
+                noop: self.noop,
+                done: self.done,
             },
             LineKind::Parent => Command::ParentChild {
-                parents: parents,
-                children: words,
+                parents: self.parents.take(alloc),
+                children: self.words.take(alloc),
             },
             LineKind::Script => Command::Script {
-                kind: when,
-                node: node.to_target(alloc)?,
-                program: file.to_word(alloc)?,
-                arguments: words,
+                kind: self.when,
+                node: self.node.to_target(alloc)?,
+                program: self.file.to_word(alloc)?,
+                arguments: self.words.take(alloc),
             },
             LineKind::Retry => Command::Retry {
-                node: node.to_target(alloc)?,
-                retries: count,
-                unless_exit,
+                node: self.node.to_target(alloc)?,
+                retries: self.count,
+                unless_exit: self.unless_exit,
             },
             LineKind::PreSkip => Command::PreSkip {
-                node: node.to_target(alloc)?,
-                value: number,
+                node: self.node.to_target(alloc)?,
+                value: self.number,
             },
             LineKind::Priority => Command::Priority {
-                node: node.to_target(alloc)?,
-                priority: number,
+                node: self.node.to_target(alloc)?,
+                priority: self.number,
             },
             LineKind::Category => Command::Category {
-                node: node.to_target(alloc)?,
-                category: name.to_word(alloc)?,
+                node: self.node.to_target(alloc)?,
+                category: self.name.to_word(alloc)?,
             },
             LineKind::MaxJobs => Command::MaxJobs {
-                category: name.to_word(alloc)?,
-                limit: count,
+                category: self.name.to_word(alloc)?,
+                limit: self.count,
             },
             LineKind::AbortDagOn => Command::AbortDagOn {
-                node: node.to_target(alloc)?,
-                value: number,
-                status: status,
+                node: self.node.to_target(alloc)?,
+                value: self.number,
+                status: self.status,
             },
             LineKind::Final => Command::Final {
-                name: name.to_word(alloc)?,
-                file: file.to_word(alloc)?,
-                dir: to_words(alloc, dir)?,
-                noop,
+                name: self.name.to_word(alloc)?,
+                file: self.file.to_word(alloc)?,
+                dir: to_words(alloc, self.dir)?,
+                noop: self.noop,
             },
             LineKind::Splice => Command::Splice {
-                name: name.to_word(alloc)?,
-                file: file.to_word(alloc)?,
-                dir: to_words(alloc, dir)?,
+                name: self.name.to_word(alloc)?,
+                file: self.file.to_word(alloc)?,
+                dir: to_words(alloc, self.dir)?,
             },
         })
     }

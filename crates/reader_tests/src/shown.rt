@@ -6,7 +6,7 @@ use dag_reader::{
 use std::alloc::{AllocError, Global};
 use std::process::Abort;
 
-/// The commands and the warnings of a text, each followed by a semicolon, or its fault.
+/// The commands of a text, each followed by a semicolon, or its fault.
 pub fn answer(alloc: Global, text: &[u8]) -> Result<String, AllocError> {
     match read_dag(alloc, text) {
         Ok(file) => whole(alloc, &file),
@@ -32,10 +32,6 @@ fn whole(alloc: Global, file: &DagFile) -> Result<String, AllocError> {
     for command in &file.commands {
         shown.push_str(line(alloc, command)?.as_str())?;
         shown.push_str(";")?;
-    }
-    for warning in &file.warnings {
-        let span = warning.span();
-        shown.push_str(format!(in alloc; "{warning} {span};")?.as_str())?;
     }
     Ok(shown)
 }
@@ -70,6 +66,7 @@ fn line(alloc: Global, command: &Command) -> Result<String, AllocError> {
             let children = list(alloc, children)?;
             format!(in alloc; "PARENT {parents} CHILD {children}")
         }
+        Command::Ignored(span) => format!(in alloc; "ignored {span}"),
         _ => setting(alloc, command),
     }
 }

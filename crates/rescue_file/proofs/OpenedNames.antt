@@ -8,10 +8,10 @@ use Rattle.std.specs.Prelude.{position}
 use Rattle.std.specs.Str.{bytes_eq}
 use Rattle.std.specs.Str.Lines.{lines}
 use Rattle.dag_reader.specs.declared.command.Command.{Command}
-use Rattle.dag_reader.specs.declared.command.Command.TheVariants.{Job, ParentChild, Script, Retry, PreSkip, Vars, Priority, Category, MaxJobs, AbortDagOn, Final, Splice}
+use Rattle.dag_reader.specs.declared.command.Command.TheVariants.{Job, ParentChild, Script, Retry, PreSkip, Vars, Priority, Category, MaxJobs, AbortDagOn, Final, Splice, Ignored}
 use Rattle.dag_reader.specs.declared.fault.LineFault.{LineFault}
 use Rattle.dag_reader.specs.Grammar.{SayAll}
-use Rattle.dag_reader.specs.Reading.{Contents, text_at}
+use Rattle.dag_reader.specs.Reading.{text_at}
 use Rattle.dag_reader.proofs.LineTexts.{lines_ok}
 use Rattle.splices.specs.declared.fault.DagFault.{DagFault}
 use Rattle.splices.specs.declared.flat.FlatNode.{FlatNode}
@@ -88,6 +88,7 @@ module _ (opener : Opener) (left : ℕ) (each : (used : _) (above : List (List �
   line_forest used above folder (MaxJobs category k) first is few = silent used.nodes first few is
   line_forest used above folder (AbortDagOn target v status) first is few = silent used.nodes first few is
   line_forest used above folder (Final name file dir noop) first is few = silent used.nodes first few is
+  line_forest used above folder (Ignored span) first is few = silent used.nodes first few is
 
   lines_forest : (cs : List Command) (used : _) (above : List (List ℕ)) (folder : List ℕ) (forest : Forest) → open_lines opener used above folder cs ≡ Ok forest → used.nodes ≤ 4096 → IsForest left used.nodes (splice_names cs) forest
   lines_forest [] used above folder forest is few = silent used.nodes forest few is
@@ -105,14 +106,14 @@ module _ (opener : Opener) (left : ℕ) (each : (used : _) (above : List (List �
         few = omega arith;
       })
 
-read_text : (path : List ℕ) (r : Result Contents LineFault) (contents : Contents) → in_file path r ≡ Ok contents → r ≡ Ok contents
+read_text : (path : List ℕ) (r : Result (List Command) LineFault) (contents : List Command) → in_file path r ≡ Ok contents → r ≡ Ok contents
 read_text path (Ok x) contents is = cc
 read_text path (Err e) contents is = absurd cc
 
-abbrev AreSaid : Contents → Type 0
-AreSaid contents = (bytes : List ℕ) × SayAll 1 (lines bytes) contents.commands contents.warnings
+abbrev AreSaid : List Command → Type 0
+AreSaid contents = (bytes : List ℕ) × SayAll 1 (lines bytes) contents
 
-are_said : (path : List ℕ) (found : Option (List ℕ)) (contents : Contents) → says_at path found ≡ Ok contents → AreSaid contents
+are_said : (path : List ℕ) (found : Option (List ℕ)) (contents : List Command) → says_at path found ≡ Ok contents → AreSaid contents
 are_said path None contents is = absurd cc
 are_said path (Some bytes) contents is = (bytes, lines_ok 1 (lines bytes) contents (read_text path (text_at bytes) contents is))
 
@@ -134,17 +135,16 @@ few_nodes used cs is =
 file_tree : (files : Files) (left : ℕ) (used : _) (above : List (List ℕ)) (folder path : List ℕ) (tree : Tree) → open_file files left used above folder path ≡ Ok tree → IsTree left used.nodes tree
 file_tree files zero used above folder path tree is = absurd cc
 file_tree files (suc left) used above folder path tree is =
-    let (contents, says, a) = then_ok (says_at path (files path)) (open_said (open_file files left) used above folder path) tree is in
-    let cs = contents.commands in
+    let (cs, says, a) = then_ok (says_at path (files path)) (open_said (open_file files left) used above folder path) tree is in
     let (_, checks, b) = then_ok (check_file used above path cs) _ tree a in
     let (_, _, more_checks) = then_ok (check_final above path cs) _ _ checks in
     let (_, names, count) = then_ok (check_lines path [] cs) _ _ more_checks in
     let (forest, opens, made) = then_ok (open_lines (open_file files left) (with_file used cs) above folder cs) _ tree b in
-    let (bytes, all) = are_said path (files path) contents says in
-    let plain = names_plain 1 (lines bytes) cs contents.warnings all in
+    let (bytes, all) = are_said path (files path) cs says in
+    let plain = names_plain 1 (lines bytes) cs all in
     let apart = names_apart path cs names in
     let inner = lines_forest (open_file files left) left (file_tree files left) cs (with_file used cs) above folder forest opens (few_nodes used cs count) in
-    subst (IsTree (suc left) used.nodes) (given (record { file = said_by path folder contents; inner = forest }) tree made) (
+    subst (IsTree (suc left) used.nodes) (given (record { file = said_by path folder cs; inner = forest }) tree made) (
       record {
         jobs_plain = plain.0;
         jobs_apart = apart.0;

@@ -7,15 +7,13 @@ use Rattle.std.proofs.lemmas.List.Elements.{All-nil, All-cons, All-head, All-tai
 use Rattle.std.proofs.lemmas.Slice.Eq.{bytes_eq-Decides}
 use Rattle.std.specs.List.{All, flat_map, list_any}
 use Rattle.dag_reader.specs.declared.command.Command.{Command}
-use Rattle.dag_reader.specs.declared.command.Command.TheVariants.{Job, ParentChild, Script, Retry, PreSkip, Vars, Priority, Category, MaxJobs, AbortDagOn, Final, Splice}
-use Rattle.dag_reader.specs.declared.command.Warning.{Warning}
+use Rattle.dag_reader.specs.declared.command.Command.TheVariants.{Job, ParentChild, Script, Retry, PreSkip, Vars, Priority, Category, MaxJobs, AbortDagOn, Final, Splice, Ignored}
 use Rattle.dag_reader.specs.Lines.{is_control}
 use Rattle.dag_reader.specs.Word.{PlacedText}
 use Rattle.dag_reader.specs.Words.{is_blank, words}
 use Rattle.dag_reader.specs.Keywords.{joins_names, is_name}
-use Rattle.dag_reader.specs.Grammar.{IsName, Spells, SayAll}
-use Rattle.dag_reader.proofs.Named.{Declares, declares}
-use Rattle.dag_reader.proofs.LineTexts.{IsSpelled, each_spelled}
+use Rattle.dag_reader.specs.Grammar.{SayAll}
+use Rattle.dag_reader.proofs.Named.{Declares, IsDeclared, each_declared}
 use Rattle.splices.specs.declared.fault.DagFault.{DagFault}
 use Rattle.splices.specs.Nodes.{Declared, job_in, jobs_in, names_in, job_names, final_names, splice_name, splice_names}
 use Rattle.splices.specs.Opening.{◌>>=◌, is_declared, once, check_line, check_lines}
@@ -33,7 +31,7 @@ none_passes : {X : Type 0} (p : X → Bool) (xs : List X) → list_any p xs ≡ 
 none_passes p [] is = All-nil (λ x. p x ≡ false)
 none_passes p (x ∷ xs) is = let both = or_parts (p x) (list_any p xs) is in All-cons (λ y. p y ≡ false) x xs both.0 (none_passes p xs both.1)
 
-plain_name : (w : PlacedText) → IsWord w.text → IsName w → IsPlain w.text
+plain_name : (w : PlacedText) → IsWord w.text → is_name w ≡ true → IsPlain w.text
 unfolding is_name
 plain_name w word named =
     let a = and_parts (nat_le (length w.text) 255) _ named in
@@ -81,10 +79,7 @@ declared_plain (Priority target k) first ws says all = no_names
 declared_plain (Category target category) first ws says all = no_names
 declared_plain (MaxJobs category k) first ws says all = no_names
 declared_plain (AbortDagOn target v status) first ws says all = no_names
-
-command_plain : (bytes : List ℕ) (c : Command) (ws : List PlacedText) → Spells bytes c ws → All (λ w. IsWord w.text) ws → ArePlain c
-command_plain bytes c [] says all = absurd says
-command_plain bytes c (first ∷ ws) says all = declared_plain c first ws (declares bytes c first ws says) all
+declared_plain (Ignored span) first ws says all = no_names
 
 pub jobs_are : (cs : List Command) → job_names cs ≡ flat_map job_name cs
 jobs_are [] = refl
@@ -93,16 +88,16 @@ jobs_are (c ∷ cs) = map-append (λ (d : Declared). d.name.text) (job_in c) (jo
 abbrev AllPlain : List Command → Type 0
 AllPlain cs = All IsPlain (flat_map job_name cs) × All IsPlain (splice_names cs)
 
-spelled_plain : (cs : List Command) → All IsSpelled cs → AllPlain cs
-spelled_plain [] all = no_names
-spelled_plain (c ∷ cs) all =
-    let (number, line, text, spells) = All-head IsSpelled c cs all in
-    let here = command_plain line c (words number 0 line) spells (line_words number line text) in
-    let later = spelled_plain cs (All-tail IsSpelled c cs all) in
+all_plain : (cs : List Command) → All IsDeclared cs → AllPlain cs
+all_plain [] all = no_names
+all_plain (c ∷ cs) all =
+    let (number, line, first, ws, text, is, says) = All-head IsDeclared c cs all in
+    let here = declared_plain c first ws says (subst (λ (xs : List PlacedText). All (λ w. IsWord w.text) xs) is (line_words number line text)) in
+    let later = all_plain cs (All-tail IsDeclared c cs all) in
     (All-append IsPlain (job_name c) (flat_map job_name cs) here.0 later.0, All-append IsPlain (splice_name c) (splice_names cs) here.1 later.1)
 
-pub names_plain : (number : ℕ) (ls : List (List ℕ)) (cs : List Command) (ws : List Warning) → SayAll number ls cs ws → All IsPlain (job_names cs) × All IsPlain (splice_names cs)
-names_plain number ls cs ws says = let p = spelled_plain cs (each_spelled number ls cs ws says) in (subst (All IsPlain) (sym (jobs_are cs)) p.0, p.1)
+pub names_plain : (number : ℕ) (ls : List (List ℕ)) (cs : List Command) → SayAll number ls cs → All IsPlain (job_names cs) × All IsPlain (splice_names cs)
+names_plain number ls cs says = let p = all_plain cs (each_declared number ls cs says) in (subst (All IsPlain) (sym (jobs_are cs)) p.0, p.1)
 
 -- Lists of names that differ.
 abbrev pub Others : List (List ℕ) → List ℕ → Type 0
@@ -179,6 +174,7 @@ new_job path before (Priority target k) is = no_name (flat_map job_name before)
 new_job path before (Category target category) is = no_name (flat_map job_name before)
 new_job path before (MaxJobs category k) is = no_name (flat_map job_name before)
 new_job path before (AbortDagOn target v status) is = no_name (flat_map job_name before)
+new_job path before (Ignored span) is = no_name (flat_map job_name before)
 
 new_splice : (path : List ℕ) (before : List Command) (c : Command) → check_line path before c ≡ Ok tt → AreNew (splice_names before) (splice_name c) × AreApart (splice_name c)
 new_splice path before (Splice name file dir) is =
@@ -196,6 +192,7 @@ new_splice path before (Priority target k) is = no_name (splice_names before)
 new_splice path before (Category target category) is = no_name (splice_names before)
 new_splice path before (MaxJobs category k) is = no_name (splice_names before)
 new_splice path before (AbortDagOn target v status) is = no_name (splice_names before)
+new_splice path before (Ignored span) is = no_name (splice_names before)
 
 pub names_apart : (path : List ℕ) (cs : List Command) → check_lines path [] cs ≡ Ok tt → AreApart (job_names cs) × AreApart (splice_names cs)
 names_apart path cs is = (

@@ -2,7 +2,6 @@ pub mod NameLists
 pub mod Positions
 pub mod LineLists
 pub mod Limits
-pub mod SettingLines
 pub mod NodeSteps
 pub mod TellSteps
 pub mod Marks

@@ -1,21 +1,18 @@
 -- The nodes of a file after one more line, and the lines that it replaces.
-use Rattle.std.proofs.Common.{◌≡◌, ◌≢◌, ℕ, zero, suc, ◌+◌, ◌<◌, ◌≤◌, nat_lt, Bool, true, false, not, ◌&&◌, ◌++◌, List, [], ◌∷◌, length, map, Option, Some, None, get_or, refl, sym, ap, ◌∙◌, arith, append_assoc, position, if◌then◌else◌}
+use Rattle.std.proofs.Common.{◌≡◌, ◌≢◌, ℕ, zero, suc, ◌+◌, ◌<◌, ◌≤◌, nat_lt, Bool, true, false, not, ◌&&◌, ◌++◌, List, [], ◌∷◌, length, map, get_or, refl, sym, ap, ◌∙◌, arith, append_assoc, if◌then◌else◌}
 use Rattle.std.proofs.lemmas.Bool.Decides.{nat_tests}
 use Rattle.std.proofs.lemmas.List.{append-nil, length-append, length-map}
+use Rattle.std.proofs.lemmas.List.Sums.{fold-append}
 use Rattle.std.specs.Prelude.{slice_set}
 use Rattle.std.specs.List.{flat_map, range_with_len}
-use Rattle.std.specs.Str.{bytes_eq}
 use Rattle.dag_reader.specs.declared.command.Command.{Command}
-use Rattle.dag_reader.specs.declared.command.Target.{Target}
-use Rattle.dag_reader.specs.declared.command.Target.TheVariants.{Node, AllNodes}
 use Rattle.splices.specs.declared.flat.FlatNode.{FlatNode}
 use Rattle.splices.specs.declared.flat.Settings.{Settings}
-use Rattle.splices.specs.Nodes.{Declared, final_names, finals_in, is_place, job_names, jobs_in, node_names, node_of, nodes_of}
-use Rattle.splices.specs.Settings.{settings_at}
-use Rattle.splices.specs.SettingSteps.{changed_where, given_where, is_between, is_for, plain_node, replaced_among, set_node, with_line}
-use Rattle.splices.specs.Warnings.{each_once, is_reached, joined, replaced_in, replaced_lines, target_of}
+use Rattle.splices.specs.Nodes.{Declared, final_names, finals_in, job_names, jobs_in, node_names, node_of, nodes_of}
+use Rattle.splices.specs.NodeChanges.{changed_where, given_where, is_between, plain_node, replaced_among, set_node}
+use Rattle.splices.specs.Settings.{is_for, no_settings, settings_at, target_of, with_line}
+use Rattle.splices.specs.Warnings.{each_once, joined, replaced_in, replaced_lines}
 use Rattle.splices.proofs.LineLists.{joined-append}
-use Rattle.splices.proofs.SettingLines.{settings_more}
 
 not_both : (b : Bool) → (not b && b) ≡ false
 not_both true = refl
@@ -122,13 +119,9 @@ pub plain_nodes : (prefix folder : List ℕ) (commands : List Command) (place : 
 plain_nodes prefix folder commands place [] = refl
 plain_nodes prefix folder commands place (d ∷ ds) = ap (λ ns. plain_node prefix folder d ∷ ns) (plain_nodes prefix folder commands (place + 1) ds)
 
--- a target reaches the places that it stands for among the names of the file
-pub for_place : (jobs finals : List (List ℕ)) (commands : List Command) (o : Option Target) (place : ℕ) → jobs ≡ job_names commands → finals ≡ final_names commands → is_for jobs finals o place ≡ is_reached commands place o
-for_place jobs finals commands None place j f = refl
-for_place jobs finals commands (Some (Node word)) place j f =
-    ap (λ names. is_place (position (bytes_eq word.text) (names ++ finals)) place) j ∙ ap (λ names. is_place (position (bytes_eq word.text) (job_names commands ++ names)) place) f
-for_place jobs finals commands (Some (AllNodes span)) place j f =
-    ap (λ (names : List (List ℕ)). nat_lt place (length names)) j ∙ ap (nat_lt place) (length-map (jobs_in commands) (λ d. d.name.text))
+-- the settings at a place after one more line
+settings_more : (prefix : List ℕ) (commands lines : List Command) (c : Command) (place : ℕ) → settings_at prefix commands (lines ++ c ∷ []) place ≡ (if is_for (job_names commands) (final_names commands) (target_of c) place then with_line prefix (settings_at prefix commands lines place) c else settings_at prefix commands lines place)
+settings_more prefix commands lines c place = fold-append (λ s d. if is_for (job_names commands) (final_names commands) (target_of d) place then with_line prefix s d else s) no_settings lines (c ∷ [])
 
 set_or_not : (prefix folder : List ℕ) (c : Command) (b : Bool) (s : Settings) (d : Declared) → (if b then set_node prefix c (node_of prefix folder s d) else node_of prefix folder s d) ≡ node_of prefix folder (if b then with_line prefix s c else s) d
 set_or_not prefix folder c true s d = refl
@@ -150,8 +143,9 @@ pub nodes_set : (prefix folder : List ℕ) (commands lines after_lines : List Co
     after ≡ nodes_of prefix folder (settings_at prefix commands after_lines) 0 ds
 nodes_set prefix folder commands lines after_lines c jobs finals ds nodes after j f so is more =
     is ∙ ap (changed_where (is_for jobs finals (target_of c)) (set_node prefix c) 0) so
-    ∙ changed_same (is_for jobs finals (target_of c)) (λ q. is_reached commands q (target_of c)) (set_node prefix c) 0 (nodes_of prefix folder (settings_at prefix commands lines) 0 ds) (λ q le. for_place jobs finals commands (target_of c) q j f)
-    ∙ nodes_at prefix folder c (λ q. is_reached commands q (target_of c)) (settings_at prefix commands lines) (settings_at prefix commands (lines ++ c ∷ [])) 0 ds (settings_more prefix commands lines c)
+    ∙ ap (λ (js : List (List ℕ)). changed_where (is_for js finals (target_of c)) (set_node prefix c) 0 (nodes_of prefix folder (settings_at prefix commands lines) 0 ds)) j
+    ∙ ap (λ (fs : List (List ℕ)). changed_where (is_for (job_names commands) fs (target_of c)) (set_node prefix c) 0 (nodes_of prefix folder (settings_at prefix commands lines) 0 ds)) f
+    ∙ nodes_at prefix folder c (is_for (job_names commands) (final_names commands) (target_of c)) (settings_at prefix commands lines) (settings_at prefix commands (lines ++ c ∷ [])) 0 ds (settings_more prefix commands lines c)
     ∙ ap (λ ls. nodes_of prefix folder (settings_at prefix commands ls) 0 ds) (sym more)
 
 pub declared_count : (commands : List Command) → length (jobs_in commands ++ finals_in commands) ≡ length (node_names commands)
@@ -167,6 +161,7 @@ pub lines_replaced : (prefix folder : List ℕ) (commands lines : List Command) 
 lines_replaced prefix folder commands lines c jobs finals nodes j f so =
     let ds = jobs_in commands ++ finals_in commands in
     ap (replaced_among (is_for jobs finals (target_of c)) c) so
-    ∙ ap each_once (given_same (is_for jobs finals (target_of c)) (λ q. is_reached commands q (target_of c)) (λ node. replaced_in node.settings c) 0 (nodes_of prefix folder (settings_at prefix commands lines) 0 ds) (λ q le. for_place jobs finals commands (target_of c) q j f)
-    ∙ lines_at prefix folder c (λ q. is_reached commands q (target_of c)) (settings_at prefix commands lines) 0 ds
-    ∙ ap (λ n. flat_map (λ q. if is_reached commands q (target_of c) then replaced_in (settings_at prefix commands lines q) c else []) (range_with_len 0 n)) (declared_count commands))
+    ∙ ap (λ (js : List (List ℕ)). replaced_among (is_for js finals (target_of c)) c (nodes_of prefix folder (settings_at prefix commands lines) 0 ds)) j
+    ∙ ap (λ (fs : List (List ℕ)). replaced_among (is_for (job_names commands) fs (target_of c)) c (nodes_of prefix folder (settings_at prefix commands lines) 0 ds)) f
+    ∙ ap each_once (lines_at prefix folder c (is_for (job_names commands) (final_names commands) (target_of c)) (settings_at prefix commands lines) 0 ds
+    ∙ ap (λ n. flat_map (λ q. if is_for (job_names commands) (final_names commands) (target_of c) q then replaced_in (settings_at prefix commands lines q) c else []) (range_with_len 0 n)) (declared_count commands))

@@ -1,14 +1,11 @@
 -- What opening gives are the files that the rules say.
-use Rattle.std.proofs.Common.{◌≡◌, ℕ, zero, suc, List, [], ◌∷◌, ◌++◌, Option, Some, None, Result, Ok, Err, refl, sym, subst, ◌∙◌}
+use Rattle.std.proofs.Common.{◌≡◌, ℕ, zero, suc, List, [], ◌∷◌, ◌++◌, Option, Some, None, Result, Ok, Err, refl, sym, ap, subst, ◌∙◌}
 use Rattle.std.specs.Prelude.{position}
 use Rattle.std.specs.Str.{bytes_eq}
-use Rattle.std.specs.Str.Lines.{lines}
 use Rattle.dag_reader.specs.declared.command.Command.{Command}
-use Rattle.dag_reader.specs.declared.command.Command.TheVariants.{Job, ParentChild, Script, Retry, PreSkip, Vars, Priority, Category, MaxJobs, AbortDagOn, Final, Splice}
+use Rattle.dag_reader.specs.declared.command.Command.TheVariants.{Job, ParentChild, Script, Retry, PreSkip, Vars, Priority, Category, MaxJobs, AbortDagOn, Final, Splice, Ignored}
 use Rattle.dag_reader.specs.declared.fault.LineFault.{LineFault}
-use Rattle.dag_reader.specs.Grammar.{SayAll}
-use Rattle.dag_reader.specs.Reading.{Contents, text_at}
-use Rattle.dag_reader.proofs.LineTexts.{lines_ok, one_reading}
+use Rattle.dag_reader.specs.Reading.{text_at}
 use Rattle.splices.specs.declared.fault.DagFault.{DagFault}
 use Rattle.splices.specs.declared.open.Used.{Used}
 use Rattle.splices.specs.Forest.{Said, Forest, none, more, Tree}
@@ -26,18 +23,18 @@ good x = Ok x
 given : {A : Type 0} (x y : A) → good x ≡ good y → x ≡ y
 given x y is = cc
 
-spelled : (path bytes : List ℕ) (r : Result Contents LineFault) (contents : Contents) → in_file path r ≡ Ok contents → r ≡ Ok contents
+spelled : (path bytes : List ℕ) (r : Result (List Command) LineFault) (contents : List Command) → in_file path r ≡ Ok contents → r ≡ Ok contents
 spelled path bytes (Ok x) contents is = cc
 spelled path bytes (Err e) contents is = absurd cc
 
-said : (files : Files) (folder path : List ℕ) (contents : Contents) (found : Option (List ℕ)) → files path ≡ found → says_at path found ≡ Ok contents → IsSaid files folder path (said_by path folder contents)
+said : (files : Files) (folder path : List ℕ) (contents : List Command) (found : Option (List ℕ)) → files path ≡ found → says_at path found ≡ Ok contents → IsSaid files folder path (said_by path folder contents)
 said files folder path contents None at is = absurd cc
 said files folder path contents (Some bytes) at is = record {
   path_is = refl;
   folder_is = refl;
   bytes = bytes;
   there = at;
-  says = lines_ok 1 (lines bytes) contents (spelled path bytes (text_at bytes) contents is);
+  says = spelled path bytes (text_at bytes) contents is;
 }
 
 abbrev Opens : Files → List (List ℕ) → List ℕ → List ℕ → Tree → Type 0
@@ -71,6 +68,7 @@ module _ (files : Files) (opener : Opener) (each : (used : Used) (above : List (
   line-opens used above folder (MaxJobs category k) ss first others is rest = silent above folder ss first others is rest
   line-opens used above folder (AbortDagOn target v status) ss first others is rest = silent above folder ss first others is rest
   line-opens used above folder (Final name file dir noop) ss first others is rest = silent above folder ss first others is rest
+  line-opens used above folder (Ignored span) ss first others is rest = silent above folder ss first others is rest
 
   lines-open : (cs : List Command) (used : Used) (above : List (List ℕ)) (folder : List ℕ) (forest : Forest) → open_lines opener used above folder cs ≡ Ok forest → AreOpened files above folder (splices_in cs) forest
   lines-open [] used above folder forest is = subst (AreOpened files above folder []) (given none forest is) tt
@@ -85,10 +83,10 @@ file-opens files zero used above folder path tree is = absurd cc
 file-opens files (suc left) used above folder path tree is =
     let a = bound (says_at path (files path)) (open_said (open_file files left) used above folder path) tree is in
     let contents = a.0 in
-    let b = bound (check_file used above path contents.commands) _ tree a.2 in
-    let d = bound (open_lines (open_file files left) (with_file used contents.commands) above folder contents.commands) _ tree b.2 in
+    let b = bound (check_file used above path contents) _ tree a.2 in
+    let d = bound (open_lines (open_file files left) (with_file used contents) above folder contents) _ tree b.2 in
     subst (Opens files above folder path) (given (record { file = said_by path folder contents; inner = d.0 }) tree d.2)
-    (said files folder path contents (files path) refl a.1, lines-open files (open_file files left) (file-opens files left) contents.commands (with_file used contents.commands) above folder d.0 d.1)
+    (said files folder path contents (files path) refl a.1, lines-open files (open_file files left) (file-opens files left) contents (with_file used contents) above folder d.0 d.1)
 
 pub is-opened : (files : Files) (top : List ℕ) (tree : Tree) → opened_at files top ≡ Ok tree → IsOpened files top tree
 unfolding opened_at
@@ -98,11 +96,14 @@ is-opened files top tree is = file-opens files 33 (record { nodes = 0; splices =
 some-same : (x y : List ℕ) (o : Option (List ℕ)) → o ≡ Some x → o ≡ Some y → x ≡ y
 some-same x y o a b = cc
 
+read-same : (x y : List Command) (r : Result (List Command) LineFault) → r ≡ Ok x → r ≡ Ok y → x ≡ y
+read-same x y r a b = let same : Ok x ≡ Ok y = sym a ∙ b in cc
+
 said-same : (files : Files) (folder path : List ℕ) (a b : Said) → IsSaid files folder path a → IsSaid files folder path b → a ≡ b
 said-same files folder path a b x y =
     let bytes : x.bytes ≡ y.bytes = some-same x.bytes y.bytes (files path) x.there y.there in
-    let same = one_reading (lines y.bytes) a.commands b.commands a.ignored b.ignored (subst (λ (t : List ℕ). SayAll 1 (lines t) a.commands a.ignored) bytes x.says) y.says in
-    λ j. record { path = (x.path_is ∙ sym y.path_is) j; folder = (x.folder_is ∙ sym y.folder_is) j; commands = same.0 j; ignored = same.1 j }
+    let same : a.commands ≡ b.commands = read-same a.commands b.commands (text_at y.bytes) (ap text_at (sym bytes) ∙ x.says) y.says in
+    λ j. record { path = (x.path_is ∙ sym y.path_is) j; folder = (x.folder_is ∙ sym y.folder_is) j; commands = same j }
 
 forest-same : (a b : Forest) (files : Files) (above : List (List ℕ)) (folder : List ℕ) (ss : List Spliced) → AreOpened files above folder ss a → AreOpened files above folder ss b → a ≡ b
 forest-same none none files above folder ss x y = refl

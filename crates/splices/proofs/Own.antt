@@ -14,7 +14,7 @@ use Rattle.splices.specs.Nodes.{Declared, jobs_in, finals_in, names_in, job_name
 use Rattle.splices.specs.Settings.{settings_at}
 use Rattle.splices.specs.Warnings.{tell_file}
 use Rattle.splices.specs.declared.open.Draft.{Draft}
-use Rattle.splices.specs.Forest.{OpenFile, source_of, job_nodes, final_nodes}
+use Rattle.splices.specs.Forest.{OpenFile, job_nodes, final_nodes}
 use Rattle.splices.specs.Faults.{Names, first_some, edge_fault, line_fault}
 use Rattle.splices.specs.Opening.{check_line, check_lines}
 use Rattle.splices.specs.Adds.{Fails, AddsFiles}
@@ -60,7 +60,7 @@ split_fits f own n jobs is count names =
 -- a file's own nodes are added, and it is told
 pub own_added : (f : OpenFile) (old new : Draft) (own front back : List FlatNode) (n : ℕ) (jobs : List (List ℕ))
     → own ≡ all_nodes f → n ≡ length jobs → jobs ≡ job_names f.said.commands → front ≡ take n own → back ≡ drop n own
-    → new.nodes.items ≡ old.nodes.items ++ front → new.finals.items ≡ old.finals.items ++ back → new.told ≡ tell_file (source_of f) f.said.ignored old.told
+    → new.nodes.items ≡ old.nodes.items ++ front → new.finals.items ≡ old.finals.items ++ back → new.told ≡ tell_file f.said.path f.prefix f.said.commands old.told
     → AddsFiles old new (f ∷ [])
 own_added f old new own front back n jobs is count names front_are back_are nodes finals told = record {
   nodes = nodes ∙ ap (λ (ns : List FlatNode). old.nodes.items ++ ns) (front_are ∙ front_is f own n jobs is count names ∙ sym (append-nil (job_nodes f)));

@@ -8,7 +8,6 @@ use Rattle.std.specs.Prelude.{position}
 use Rattle.std.specs.Str.{bytes_eq}
 use Rattle.dag_reader.specs.declared.command.Command.{Command}
 use Rattle.dag_reader.specs.declared.command.Command.TheVariants.{Splice}
-use Rattle.dag_reader.specs.Reading.{Contents}
 use Rattle.dag_reader.specs.Word.{PlacedText}
 use Rattle.splices.specs.declared.flat.FlatNode.{FlatNode}
 use Rattle.splices.specs.declared.flat.Edge.{Edge}
@@ -102,21 +101,21 @@ splice_opens opener above now folder below path prefix names name file dir comma
     )
 
 -- the file of `open_deeper`, once it is right
-deeper : (files : Files) (left : ℕ) (used : Used) (above : List (List ℕ)) (folder path : List ℕ) (contents : Contents)
-    → 0 < left → says_at path (files path) ≡ Ok contents → check_file used above path contents.commands ≡ Ok tt
-    → open_file files left used above folder path ≡ (open_lines (open_file files (left - 1)) (with_file used contents.commands) above folder contents.commands >>= λ inner. Ok (record { file = said_by path folder contents; inner = inner }))
+deeper : (files : Files) (left : ℕ) (used : Used) (above : List (List ℕ)) (folder path : List ℕ) (contents : List Command)
+    → 0 < left → says_at path (files path) ≡ Ok contents → check_file used above path contents ≡ Ok tt
+    → open_file files left used above folder path ≡ (open_lines (open_file files (left - 1)) (with_file used contents) above folder contents >>= λ inner. Ok (record { file = said_by path folder contents; inner = inner }))
 deeper files left used above folder path contents some says right =
     open_deeper files left used above folder path some
-    ∙ ap (λ (r : Result Contents DagFault). r >>= open_said (open_file files (left - 1)) used above folder path) says
-    ∙ ap (λ (r : Result (Unit {0}) DagFault). r >>= λ _. open_lines (open_file files (left - 1)) (with_file used contents.commands) above folder contents.commands >>= λ inner. Ok (record { file = said_by path folder contents; inner = inner })) right
+    ∙ ap (λ (r : Result (List Command) DagFault). r >>= open_said (open_file files (left - 1)) used above folder path) says
+    ∙ ap (λ (r : Result (Unit {0}) DagFault). r >>= λ _. open_lines (open_file files (left - 1)) (with_file used contents) above folder contents >>= λ inner. Ok (record { file = said_by path folder contents; inner = inner })) right
 
-pub tree_fails : (files : Files) (left : ℕ) (used mid : Used) (above : List (List ℕ)) (folder path : List ℕ) (contents : Contents) (lines : List Command) (e : SpliceFault)
-    → 0 < left → says_at path (files path) ≡ Ok contents → lines ≡ contents.commands → check_file used above path lines ≡ Ok tt → mid ≡ with_file used contents.commands
+pub tree_fails : (files : Files) (left : ℕ) (used mid : Used) (above : List (List ℕ)) (folder path : List ℕ) (contents : List Command) (lines : List Command) (e : SpliceFault)
+    → 0 < left → says_at path (files path) ≡ Ok contents → lines ≡ contents → check_file used above path lines ≡ Ok tt → mid ≡ with_file used contents
     → Fails e (open_lines (open_file files (left - 1)) mid above folder lines) → Fails e (open_file files left used above folder path)
 tree_fails files left used mid above folder path contents lines e some says are right mid_is fails =
-    let here : check_file used above path contents.commands ≡ Ok tt = ap (check_file used above path) (sym are) ∙ right in
-    let failing : Fails e (open_lines (open_file files (left - 1)) (with_file used contents.commands) above folder contents.commands) =
-    subst (λ (u : Used). Fails e (open_lines (open_file files (left - 1)) u above folder contents.commands)) mid_is
+    let here : check_file used above path contents ≡ Ok tt = ap (check_file used above path) (sym are) ∙ right in
+    let failing : Fails e (open_lines (open_file files (left - 1)) (with_file used contents) above folder contents) =
+    subst (λ (u : Used). Fails e (open_lines (open_file files (left - 1)) u above folder contents)) mid_is
     (subst (λ (cs : List Command). Fails e (open_lines (open_file files (left - 1)) mid above folder cs)) are fails) in
     subst (Fails e) (sym (deeper files left used above folder path contents some says here)) (fails_bind e _ _ failing)
 
@@ -126,32 +125,32 @@ Inner files left above folder prefix lines mid inner parts fault =
     × (parts ≡ [] ++ forest_parts (length mid.nodes.items) forest) × (fault ≡ files_fault (forest_files prefix forest))
 
 -- a file's own nodes were added
-pub record Begun (prefix folder path : List ℕ) (contents : Contents) (old mid : Draft) : Type 0 where
+pub record Begun (prefix folder path : List ℕ) (contents : List Command) (old mid : Draft) : Type 0 where
   pub files : (counts : List ℕ) → AddsFiles old mid (record { prefix = prefix; said = said_by path folder contents; counts = counts } ∷ [])
   pub edges : mid.edges.items ≡ old.edges.items
-  pub used : mid.used ≡ with_file old.used contents.commands
+  pub used : mid.used ≡ with_file old.used contents
 
-begun-length : (prefix folder path : List ℕ) (contents : Contents) (old mid : Draft) → Begun prefix folder path contents old mid → length mid.nodes.items ≡ length old.nodes.items + own_count contents.commands
+begun-length : (prefix folder path : List ℕ) (contents : List Command) (old mid : Draft) → Begun prefix folder path contents old mid → length mid.nodes.items ≡ length old.nodes.items + own_count contents
 begun-length prefix folder path contents old mid b =
     let file : OpenFile = record { prefix = prefix; said = said_by path folder contents; counts = [] } in
     ap (λ (ns : List FlatNode). length ns) ((b.files []).nodes ∙ ap (λ (ns : List FlatNode). old.nodes.items ++ ns) (append-nil (job_nodes file)))
     ∙ length-append old.nodes.items (job_nodes file) ∙ ap (λ (n : ℕ). length old.nodes.items + n) (own-length file)
 
 -- how many nodes there are once a file's own ones and its splices' were added
-pub counted : (prefix folder path : List ℕ) (contents : Contents) (old mid new : Draft) (forest : Forest) → Begun prefix folder path contents old mid → AddsForest prefix mid new forest → length new.nodes.items ≡ length old.nodes.items + (own_count contents.commands + forest_count forest)
+pub counted : (prefix folder path : List ℕ) (contents : List Command) (old mid new : Draft) (forest : Forest) → Begun prefix folder path contents old mid → AddsForest prefix mid new forest → length new.nodes.items ≡ length old.nodes.items + (own_count contents + forest_count forest)
 counted prefix folder path contents old mid new forest begun adds =
     ap (λ (ns : List FlatNode). length ns) adds.files.nodes ∙ length-append mid.nodes.items (flat_map job_nodes (forest_files prefix forest))
     ∙ ap (λ (n : ℕ). length mid.nodes.items + n) (nodes-length prefix forest)
     ∙ ap (λ (n : ℕ). n + forest_count forest) (begun-length prefix folder path contents old mid begun)
-    ∙ add_assoc (length old.nodes.items) (own_count contents.commands) (forest_count forest)
+    ∙ add_assoc (length old.nodes.items) (own_count contents) (forest_count forest)
 
 -- a file's own names fit among the nodes that its opening left
-pub scope_fits : (prefix folder path : List ℕ) (contents : Contents) (old mid new : Draft) (forest : Forest) (jobs : List (List ℕ)) (before : List FlatNode)
-    → Begun prefix folder path contents old mid → AddsForest prefix mid new forest → jobs ≡ job_names contents.commands → before ≡ old.nodes.items
+pub scope_fits : (prefix folder path : List ℕ) (contents : List Command) (old mid new : Draft) (forest : Forest) (jobs : List (List ℕ)) (before : List FlatNode)
+    → Begun prefix folder path contents old mid → AddsForest prefix mid new forest → jobs ≡ job_names contents → before ≡ old.nodes.items
     → length before + length jobs ≤ length new.nodes.items
 scope_fits prefix folder path contents old mid new forest jobs before begun adds are is_before =
-    let total : length new.nodes.items ≡ length old.nodes.items + (own_count contents.commands + forest_count forest) = counted prefix folder path contents old mid new forest begun adds in
-    let a : length jobs ≡ own_count contents.commands = ap (λ (ns : List (List ℕ)). length ns) are ∙ names-length _ in
+    let total : length new.nodes.items ≡ length old.nodes.items + (own_count contents + forest_count forest) = counted prefix folder path contents old mid new forest begun adds in
+    let a : length jobs ≡ own_count contents = ap (λ (ns : List (List ℕ)). length ns) are ∙ names-length _ in
     let b : length before ≡ length old.nodes.items = ap (λ (ns : List FlatNode). length ns) is_before in
     omega arith
 
@@ -160,8 +159,8 @@ pub counts_are : (first : ℕ) (f : Forest) → map (λ (p : Part). p.count) (fo
 counts_are first none = refl
 counts_are first (more name file inner others) = ap (λ (ns : List ℕ). (own_count file.commands + forest_count inner) ∷ ns) (counts_are (first + (own_count file.commands + forest_count inner)) others)
 
-pub tree_opens : (files : Files) (left : ℕ) (above : List (List ℕ)) (folder path prefix : List ℕ) (contents : Contents) (lines : List Command) (old mid inner new : Draft) (parts : List Part) (jobs finals splices : List (List ℕ)) (first start : ℕ) (found : Found) (own fault : Option DagFault)
-    → 0 < left → says_at path (files path) ≡ Ok contents → lines ≡ contents.commands → check_file old.used above path lines ≡ Ok tt
+pub tree_opens : (files : Files) (left : ℕ) (above : List (List ℕ)) (folder path prefix : List ℕ) (contents : List Command) (lines : List Command) (old mid inner new : Draft) (parts : List Part) (jobs finals splices : List (List ℕ)) (first start : ℕ) (found : Found) (own fault : Option DagFault)
+    → 0 < left → says_at path (files path) ≡ Ok contents → lines ≡ contents → check_file old.used above path lines ≡ Ok tt
     → jobs ≡ job_names lines → finals ≡ final_names lines → splices ≡ splice_names lines → first ≡ length old.nodes.items → start ≡ length old.edges.items
     → Begun prefix folder path contents old mid
     → Inner files left above folder prefix lines mid inner parts fault
@@ -174,7 +173,7 @@ pub tree_opens : (files : Files) (left : ℕ) (above : List (List ℕ)) (folder 
     × (found.fault ≡ files_fault (tree_files prefix tree))
 tree_opens files left above folder path prefix contents lines old mid inner new parts jobs finals splices first start found own fault some says are right jobs_are finals_are splices_are first_is start_is begun (forest, opened, adds, parts_are, faults) same edges part_was own_is fault_is =
     let at = length old.nodes.items in
-    let cs = contents.commands in
+    let cs = contents in
     let tree : Tree = record { file = said_by path folder contents; inner = forest } in
     let this : OpenFile = opened_as prefix (said_by path folder contents) forest in
     let middle : length mid.nodes.items ≡ at + own_count cs = begun-length prefix folder path contents old mid begun in

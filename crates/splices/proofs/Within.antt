@@ -6,7 +6,7 @@ use Rattle.std.specs.List.{All, flat_map, range_with_len}
 use Rattle.std.specs.Prelude.{position, slice_get}
 use Rattle.std.specs.Str.{bytes_eq}
 use Rattle.dag_reader.specs.declared.command.Command.{Command}
-use Rattle.dag_reader.specs.declared.command.Command.TheVariants.{Job, ParentChild, Script, Retry, PreSkip, Vars, Priority, Category, MaxJobs, AbortDagOn, Final, Splice}
+use Rattle.dag_reader.specs.declared.command.Command.TheVariants.{Job, ParentChild, Script, Retry, PreSkip, Vars, Priority, Category, MaxJobs, AbortDagOn, Final, Splice, Ignored}
 use Rattle.dag_reader.specs.Word.{PlacedText}
 use Rattle.splices.specs.declared.flat.Edge.{Edge}
 use Rattle.splices.specs.declared.flat.Side.{Side}
@@ -92,6 +92,7 @@ line_below n scope (MaxJobs category k) fits below = All-nil (IsBelow n)
 line_below n scope (AbortDagOn target v status) fits below = All-nil (IsBelow n)
 line_below n scope (Final name file dir noop) fits below = All-nil (IsBelow n)
 line_below n scope (Splice name file dir) fits below = All-nil (IsBelow n)
+line_below n scope (Ignored span) fits below = All-nil (IsBelow n)
 
 file_below : (n first : ℕ) (cs : List Command) (edges : List Edge) (parts : List Part) → first + own_count cs ≤ n → All (IsBelow n) edges → All (PartBelow n) parts → All (IsBelow n) (file_edges first cs edges parts)
 file_below n first cs edges parts fits inner below =

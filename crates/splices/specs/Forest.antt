@@ -1,18 +1,16 @@
 -- Opened files.
 use Rattle.std.specs.Prelude.{ℕ, ◌+◌, List, [], ◌∷◌, ◌++◌}
 use Rattle.dag_reader.specs.declared.command.Command.{Command}
-use Rattle.dag_reader.specs.declared.command.Warning.{Warning}
 use Rattle.splices.specs.declared.flat.FlatNode.{FlatNode}
 use Rattle.splices.specs.Nodes.{jobs_in, finals_in, nodes_of, own_count}
 use Rattle.splices.specs.Settings.{settings_at}
-use Rattle.splices.specs.Warnings.{Source, Told, tell_file}
+use Rattle.splices.specs.Warnings.{Told, tell_file}
 
 -- what a file says, and where
 pub record Said : Type 0 where
   pub path : List ℕ
   pub folder : List ℕ
   pub commands : List Command
-  pub ignored : List Warning
 
 -- The files of some SPLICE lines in their order: of each the splice's name, what the file says, and the
 -- files of its own SPLICE lines.
@@ -65,9 +63,6 @@ final_nodes f =
     nodes_of f.prefix f.said.folder (settings_at f.prefix f.said.commands f.said.commands) (own_count f.said.commands) (finals_in f.said.commands)
 
 -- the files are told in their order
-abbrev pub source_of : OpenFile → Source
-source_of f = record { path = f.said.path; prefix = f.prefix; commands = f.said.commands }
-
 abbrev pub tell_files : Told → List OpenFile → Told
 tell_files told [] = told
-tell_files told (f ∷ fs) = tell_files (tell_file (source_of f) f.said.ignored told) fs
+tell_files told (f ∷ fs) = tell_files (tell_file f.said.path f.prefix f.said.commands told) fs

@@ -13,5 +13,5 @@ pub mod LineScope
 pub mod NameCheck
 pub mod Adds
 pub mod Opened
-pub mod SettingSteps
+pub mod NodeChanges
 pub mod OpenedFiles

@@ -63,11 +63,11 @@ abbrev pub is_place : Option ℕ → ℕ → Bool
 is_place None place = false
 is_place (Some k) place = k == place
 
--- The target of a setting stands for the node at this place of its file: its word is the node's name; ALL_NODES stands
--- for the nodes of the JOB lines.
-abbrev pub reaches : List Command → ℕ → Target → Bool
-reaches commands place (Node word) = is_place (position (bytes_eq word.text) (node_names commands)) place
-reaches commands place (AllNodes span) = nat_lt place (own_count commands)
+-- The target of a setting stands for the node at this place of its file, where these are the names of the JOB lines and of
+-- the FINAL lines: its word is the node's name; ALL_NODES stands for the nodes of the JOB lines.
+abbrev pub reaches : List (List ℕ) → List (List ℕ) → ℕ → Target → Bool
+reaches jobs finals place (Node word) = is_place (position (bytes_eq word.text) (jobs ++ finals)) place
+reaches jobs finals place (AllNodes span) = nat_lt place (length jobs)
 
 -- a node in a file with this prefix and this folder
 abbrev pub node_of : List ℕ → List ℕ → Settings → Declared → FlatNode

@@ -1,12 +1,11 @@
 -- Which files are opened, as the rules say it: each file is there, its lines spell its commands, and the files of its
 -- SPLICE lines are opened in their order, none of them inside itself.
-use Rattle.std.specs.Prelude.{◌≡◌, ℕ, List, [], ◌∷◌, ◌++◌, position, Option, Some, None}
+use Rattle.std.specs.Prelude.{◌≡◌, ℕ, List, [], ◌∷◌, ◌++◌, position, Option, Some, None, Ok}
 use Rattle.std.specs.List.{flat_map}
 use Rattle.std.specs.Str.{bytes_eq}
-use Rattle.std.specs.Str.Lines.{lines}
 use Rattle.dag_reader.specs.declared.command.Command.{Command}
 use Rattle.dag_reader.specs.declared.command.Command.TheVariants.{Splice}
-use Rattle.dag_reader.specs.Grammar.{SayAll}
+use Rattle.dag_reader.specs.Reading.{text_at}
 use Rattle.dag_reader.specs.Word.{PlacedText}
 use Rattle.splices.specs.Paths.{join, dir_text}
 use Rattle.splices.specs.Forest.{Said, Forest, none, more, Tree}
@@ -32,13 +31,13 @@ splice_folder folder s = join folder (dir_text s.dir)
 abbrev pub splice_path : List ℕ → Spliced → List ℕ
 splice_path folder s = join (splice_folder folder s) s.file.text
 
--- the file with this path is there, and its lines spell these commands, with these ignored lines
+-- the file with this path is there, and says these commands
 pub record IsSaid (files : Files) (folder path : List ℕ) (said : Said) : Type 0 where
   pub path_is : said.path ≡ path
   pub folder_is : said.folder ≡ folder
   pub bytes : List ℕ
   pub there : files path ≡ Some bytes
-  pub says : SayAll 1 (lines bytes) said.commands said.ignored
+  pub says : text_at bytes ≡ Ok said.commands
 
 -- The files of SPLICE lines, in a file in this folder; above stand the paths of the files that it lies in, and its own.
 abbrev pub AreOpened : Files → List (List ℕ) → List ℕ → List Spliced → Forest → Type 0

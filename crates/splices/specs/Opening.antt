@@ -6,7 +6,7 @@ use Rattle.dag_reader.specs.declared.command.Command.{Command}
 use Rattle.dag_reader.specs.declared.command.Command.TheVariants.{Job, Splice, Final}
 use Rattle.dag_reader.specs.declared.fault.LineFault.{LineFault}
 use Rattle.dag_reader.specs.Word.{PlacedText}
-use Rattle.dag_reader.specs.Reading.{Contents, text_at}
+use Rattle.dag_reader.specs.Reading.{text_at}
 use Rattle.splices.specs.declared.fault.DagFault.{DagFault}
 use Rattle.splices.specs.declared.open.Used.{Used}
 use Rattle.splices.specs.declared.fault.DagFault.TheVariants.{MissingFile, InFile, Loop, DuplicateName, TooDeep, TooManyNodes, FinalInSplice}
@@ -23,12 +23,12 @@ abbrev pub ◌>>=◌ : {A B : Type 0} → Result A DagFault → (A → Result B 
 abbrev pub Files : Type 0
 Files = List ℕ → Option (List ℕ)
 
-abbrev pub in_file : List ℕ → Result Contents LineFault → Result Contents DagFault
-in_file path (Ok contents) = Ok contents
+abbrev pub in_file : List ℕ → Result (List Command) LineFault → Result (List Command) DagFault
+in_file path (Ok commands) = Ok commands
 in_file path (Err fault) = Err (InFile path fault)
 
 -- what the file with this path says, if it is there
-abbrev pub says_at : List ℕ → Option (List ℕ) → Result Contents DagFault
+abbrev pub says_at : List ℕ → Option (List ℕ) → Result (List Command) DagFault
 says_at path None = Err (MissingFile path)
 says_at path (Some bytes) = in_file path (text_at bytes)
 
@@ -124,15 +124,15 @@ open_lines opener used above folder (c ∷ cs) =
     >>= λ others. Ok (joined first others)
 
 -- what a file says, in its place
-abbrev pub said_by : List ℕ → List ℕ → Contents → Said
-said_by path folder contents = record { path = path; folder = folder; commands = contents.commands; ignored = contents.warnings }
+abbrev pub said_by : List ℕ → List ℕ → List Command → Said
+said_by path folder commands = record { path = path; folder = folder; commands = commands }
 
 -- the file that says this
-abbrev pub open_said : Opener → Used → List (List ℕ) → List ℕ → List ℕ → Contents → Result Tree DagFault
-open_said opener used above folder path contents =
-    check_file used above path contents.commands
-    >>= λ _. open_lines opener (with_file used contents.commands) above folder contents.commands
-    >>= λ inner. Ok (record { file = said_by path folder contents; inner = inner })
+abbrev pub open_said : Opener → Used → List (List ℕ) → List ℕ → List ℕ → List Command → Result Tree DagFault
+open_said opener used above folder path commands =
+    check_file used above path commands
+    >>= λ _. open_lines opener (with_file used commands) above folder commands
+    >>= λ inner. Ok (record { file = said_by path folder commands; inner = inner })
 
 -- The file with this path. So many files may lie in one another; above stand those that it lies in, and itself.
 abbrev pub open_file : Files → ℕ → Opener

@@ -1,14 +1,11 @@
 -- What a user is told: the ignored lines, and the lines with a setting that a later one replaces.
-use Rattle.std.specs.Prelude.{ℕ, ◌==◌, nat_lt, Bool, true, false, List, [], ◌∷◌, ◌++◌, length, map, find, Option, Some, None, if◌then◌else◌}
+use Rattle.std.specs.Prelude.{ℕ, ◌==◌, List, [], ◌∷◌, ◌++◌, length, map, find, Option, Some, None, if◌then◌else◌}
 use Rattle.std.specs.List.{flat_map, list_any, range_with_len}
 use Rattle.std.specs.Str.{bytes_eq}
 use Rattle.dag_reader.specs.declared.command.Command.{Command}
-use Rattle.dag_reader.specs.declared.command.Command.TheVariants.{Job, ParentChild, Script, Retry, PreSkip, Vars, Priority, Category, MaxJobs, AbortDagOn, Final, Splice}
+use Rattle.dag_reader.specs.declared.command.Command.TheVariants.{Script, Retry, PreSkip, Vars, Priority, Category, MaxJobs, AbortDagOn, Ignored}
 use Rattle.dag_reader.specs.declared.command.ScriptKind.{ScriptKind}
 use Rattle.dag_reader.specs.declared.command.ScriptKind.TheVariants.{Pre, Post}
-use Rattle.dag_reader.specs.declared.command.Target.{Target}
-use Rattle.dag_reader.specs.declared.command.Warning.{Warning}
-use Rattle.dag_reader.specs.declared.command.Warning.TheVariants.{Ignored}
 use Rattle.dag_reader.specs.Word.{PlacedText}
 use Rattle.splices.specs.declared.flat.CategoryLimit.{CategoryLimit}
 use Rattle.splices.specs.declared.flat.DagWarning.{DagWarning}
@@ -16,8 +13,8 @@ use Rattle.splices.specs.declared.flat.DagWarning.TheVariants as warnings
 use Rattle.splices.specs.declared.flat.MacroSetting.{MacroSetting}
 use Rattle.splices.specs.declared.flat.ScriptSetting.{ScriptSetting}
 use Rattle.splices.specs.declared.flat.Settings.{Settings}
-use Rattle.splices.specs.Nodes.{node_names, reaches}
-use Rattle.splices.specs.Settings.{full_category, is_namesake, line_of, macros_in, settings_at, with_macro}
+use Rattle.splices.specs.Nodes.{job_names, final_names, node_names}
+use Rattle.splices.specs.Settings.{full_category, is_for, is_namesake, macros_of, settings_at, target_of, with_macro}
 
 -- a line's number, where the setting is there
 abbrev pub line_if : {X : Type 0} → (X → ℕ) → Option X → List ℕ
@@ -39,26 +36,11 @@ abbrev pub replaced_in : Settings → Command → List ℕ
 replaced_in settings (Script kind target program arguments) = line_if (λ s. s.line) (script_setting kind settings)
 replaced_in settings (Retry target n v) = line_if (λ s. s.line) settings.retry
 replaced_in settings (PreSkip target v) = line_if (λ s. s.line) settings.pre_skip
-replaced_in settings (Vars target placement macros) = replaced_by settings.macros (macros_in (λ _. true) (Vars target placement macros))
+replaced_in settings (Vars target placement macros) = replaced_by settings.macros (macros_of target placement macros)
 replaced_in settings (Priority target k) = line_if (λ s. s.line) settings.priority
 replaced_in settings (Category target category) = line_if (λ s. s.line) settings.category
 replaced_in settings (AbortDagOn target v status) = line_if (λ s. s.line) settings.abort
 replaced_in settings _ = []
-
--- the target of a setting
-abbrev pub target_of : Command → Option Target
-target_of (Script kind target program arguments) = Some target
-target_of (Retry target n v) = Some target
-target_of (PreSkip target v) = Some target
-target_of (Vars target placement macros) = Some target
-target_of (Priority target k) = Some target
-target_of (Category target category) = Some target
-target_of (AbortDagOn target v status) = Some target
-target_of _ = None
-
-abbrev pub is_reached : List Command → ℕ → Option Target → Bool
-is_reached commands place None = false
-is_reached commands place (Some target) = reaches commands place target
 
 -- these numbers, each once, in the order in which they come first
 abbrev pub joined : List ℕ → List ℕ → List ℕ
@@ -71,7 +53,7 @@ each_once numbers = joined [] numbers
 -- the lines of a file that a line replaces, each once: node after node, the lines before it being these
 abbrev pub replaced_lines : List ℕ → List Command → List Command → Command → List ℕ
 replaced_lines prefix commands before c =
-    each_once (flat_map (λ place. if is_reached commands place (target_of c) then replaced_in (settings_at prefix commands before place) c else [])
+    each_once (flat_map (λ place. if is_for (job_names commands) (final_names commands) (target_of c) place then replaced_in (settings_at prefix commands before place) c else [])
     (range_with_len 0 (length (node_names commands))))
 
 -- The limits of categories so far: of two MAXJOBS of one category the later wins, at the place of the first.
@@ -84,14 +66,9 @@ pub record Told : Type 0 where
   pub limits : List CategoryLimit
   pub warnings : List DagWarning
 
--- a file: its path, the prefix of its names, its commands
-pub record Source : Type 0 where
-  pub path : List ℕ
-  pub prefix : List ℕ
-  pub commands : List Command
-
-abbrev pub limit_of : Source → PlacedText → ℕ → CategoryLimit
-limit_of source category n = record { name = full_category source.prefix category.text; limit = n; path = source.path; line = category.span.line }
+-- what MAXJOBS says in the file of this path, whose names have this prefix
+abbrev pub limit_of : List ℕ → List ℕ → PlacedText → ℕ → CategoryLimit
+limit_of path prefix category n = record { name = full_category prefix category.text; limit = n; path = path; line = category.span.line }
 
 abbrev pub overridden : CategoryLimit → DagWarning
 overridden limit = warnings.Overridden limit.path limit.line
@@ -104,59 +81,22 @@ overridden_if (Some other) = overridden other ∷ []
 abbrev pub replaced_limit : List CategoryLimit → CategoryLimit → List DagWarning
 replaced_limit limits limit = overridden_if (find (λ other. bytes_eq limit.name other.name) limits)
 
--- a line is told, those before it being these
-abbrev pub tell_line : Source → List Command → Told → Command → Told
-tell_line source before told (MaxJobs category n) = record {
-  limits = with_limit told.limits (limit_of source category n);
-  warnings = told.warnings ++ replaced_limit told.limits (limit_of source category n);
-}
-tell_line source before told c = record told {
-  warnings = told.warnings ++ map (λ line. warnings.Overridden source.path line) (replaced_lines source.prefix source.commands before c);
-}
+-- a category has a limit, in place of the one that it had
+abbrev pub tell_limit : Told → CategoryLimit → Told
+tell_limit told limit = record { limits = with_limit told.limits limit; warnings = told.warnings ++ replaced_limit told.limits limit }
 
--- the number of a command's line
-abbrev pub first_line : List PlacedText → ℕ
-first_line [] = 0
-first_line (w ∷ ws) = w.span.line
+-- a line of the file of this path, whose names have this prefix, is told: it replaces the settings of these lines
+abbrev pub tell_line : List ℕ → List ℕ → Told → Command → List ℕ → Told
+tell_line path prefix told (MaxJobs category n) replaced = tell_limit told (limit_of path prefix category n)
+tell_line path prefix told (Ignored span) replaced = record told { warnings = told.warnings ++ warnings.Ignored path span.line ∷ [] }
+tell_line path prefix told c replaced = record told { warnings = told.warnings ++ map (λ line. warnings.Overridden path line) replaced }
 
-abbrev pub command_line : Command → ℕ
-command_line (Job name file dir noop done) = name.span.line
-command_line (ParentChild parents children) = first_line parents
-command_line (Script kind target program arguments) = line_of target
-command_line (Retry target n v) = line_of target
-command_line (PreSkip target v) = line_of target
-command_line (Vars target placement macros) = line_of target
-command_line (Priority target k) = line_of target
-command_line (Category target category) = line_of target
-command_line (MaxJobs category n) = category.span.line
-command_line (AbortDagOn target v status) = line_of target
-command_line (Final name file dir noop) = name.span.line
-command_line (Splice name file dir) = name.span.line
-
--- the ignored lines that stand above a line, and the others behind them
-abbrev pub ignored_line : Warning → ℕ
-ignored_line (Ignored span) = span.line
-
-abbrev pub above_line : ℕ → List Warning → List Warning
-above_line line [] = []
-above_line line (w ∷ ws) = if nat_lt (ignored_line w) line then w ∷ above_line line ws else []
-
-abbrev pub from_line : ℕ → List Warning → List Warning
-from_line line [] = []
-from_line line (w ∷ ws) = if nat_lt (ignored_line w) line then from_line line ws else w ∷ ws
-
-abbrev pub tell_ignored : Source → Told → List Warning → Told
-tell_ignored source told ignored = record told {
-  warnings = told.warnings ++ map (λ w. warnings.Ignored source.path (ignored_line w)) ignored;
-}
-
--- Some lines of a file are told, with the ignored ones among them, each at its place; the lines before them are these.
-abbrev pub tell_lines : Source → List Command → List Warning → Told → List Command → Told
-tell_lines source before ignored told [] = tell_ignored source told ignored
-tell_lines source before ignored told (c ∷ cs) =
-    tell_lines source (before ++ c ∷ []) (from_line (command_line c) ignored)
-    (tell_line source before (tell_ignored source told (above_line (command_line c) ignored)) c) cs
+-- some lines of such a file, which has these lines, are told; the lines before them are these
+abbrev pub tell_lines : List ℕ → List ℕ → List Command → List Command → Told → List Command → Told
+tell_lines path prefix commands before told [] = told
+tell_lines path prefix commands before told (c ∷ cs) =
+    tell_lines path prefix commands (before ++ c ∷ []) (tell_line path prefix told c (replaced_lines prefix commands before c)) cs
 
 -- a file is told
-abbrev pub tell_file : Source → List Warning → Told → Told
-tell_file source ignored told = tell_lines source [] ignored told source.commands
+abbrev pub tell_file : List ℕ → List ℕ → List Command → Told → Told
+tell_file path prefix commands told = tell_lines path prefix commands [] told commands

@@ -2,7 +2,8 @@
 
 ghost use Rattle.std.specs.Prelude.{◌≡◌, ◌++◌, ◌+◌, ◌^◌, ◌<◌, ◌≤◌, ℕ, length, position};
 ghost use Rattle.std.specs.Str.{bytes_eq};
-ghost use Rattle.splices.specs.SettingSteps.{is_between, stands_for};
+ghost use Rattle.splices.specs.NodeChanges.{is_between};
+ghost use Rattle.splices.specs.Nodes.{reaches};
 
 use crate::name_table::NameTable;
 use dag_reader::Target;
@@ -44,7 +45,7 @@ impl Names {
     /// the second.
     pub(crate) fn reached(&self, target: &Target) -> (usize, usize)
         requires { length self.now.jobs + length self.now.finals < 2 ^ 64 }
-        ensures are { (place : ℕ) → stands_for self.now.jobs self.now.finals place target.now
+        ensures are { (place : ℕ) → reaches self.now.jobs self.now.finals place target.now
             ≡ is_between result.0 result.1 place }
         ensures ordered { result.0 ≤ result.1 }
         ensures within { result.1 ≤ length self.now.jobs + length self.now.finals }

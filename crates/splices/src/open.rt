@@ -3,7 +3,7 @@
 ghost use Rattle.std.specs.Prelude.{◌≡◌, ◌+◌, ◌-◌, ◌∷◌, [], ◌++◌, ◌<◌, ◌≤◌, ◌^◌, length, drop, map, IfOk, OnOk, vec_len, ℕ, List};
 ghost use Rattle.std.specs.List.{flat_map};
 ghost use Rattle.std.specs.Option.{option_or};
-ghost use Rattle.dag_reader.specs.Reading.{contents_of};
+ghost use Rattle.dag_reader.specs.Reading.{commands_of};
 ghost use Rattle.splices.specs.Edges.{part_of, line_edges};
 ghost use Rattle.splices.specs.Faults.{first_some, line_fault};
 ghost use Rattle.splices.specs.Nodes.{job_names, final_names, splice_names};
@@ -117,7 +117,7 @@ fn open_top(
 
 /// What the file of this path says.
 fn read_file(alloc: Global, files: &FileSet, path: &str) -> Result<DagFile, SpliceFault>
-    ensures { Gives contents_of result (says_at path.now (bytes_of files.now path.now)) }
+    ensures { Gives commands_of result (says_at path.now (bytes_of files.now path.now)) }
 {
     let Some(bytes) = files.get(path) else {
         return Err(SpliceFault::Dag(DagFault::MissingFile(Text::new(alloc, path)?)));
@@ -198,7 +198,7 @@ fn add_own(
     requires fits { draft.old.used.nodes + (length names.now.jobs + length names.now.finals) ≤ 4096 }
     ensures files { (counts : List ℕ) → OnOk result (AddsFiles draft.old draft.new (record {
       prefix = prefix.now;
-      said = said_by path.now folder.now (contents_of file.now);
+      said = said_by path.now folder.now (commands_of file.now);
       counts = counts;
     } ∷ [])) }
     ensures edges { OnOk result (draft.new.edges ≡ draft.old.edges) }

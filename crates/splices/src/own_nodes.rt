@@ -2,16 +2,16 @@
 
 ghost use Rattle.std.specs.Prelude.{◌≡◌, ◌++◌, ◌+◌, ◌≤◌, false, length, map, IfOk, OnOk};
 ghost use Rattle.splices.specs.Nodes.{final_in, final_names, finals_in, job_in, job_names, jobs_in, nodes_of};
-ghost use Rattle.splices.specs.Settings.{settings_at};
-ghost use Rattle.splices.specs.SettingSteps.{changed_where, is_between, is_for, plain_node, replaced_among, set_node};
-ghost use Rattle.splices.specs.Warnings.{target_of, tell_file};
+ghost use Rattle.splices.specs.NodeChanges.{changed_where, is_between, plain_node, replaced_among, set_node};
+ghost use Rattle.splices.specs.Settings.{is_for, settings_at, target_of};
+ghost use Rattle.splices.specs.Warnings.{tell_file};
 
 use crate::flat::{FlatNode, Settings};
 use crate::names::Names;
 use crate::nodes::dir_text;
 use crate::paths::path_in;
 use crate::settings::target_of;
-use crate::told::{Told, command_line, count_above};
+use crate::told::Told;
 use dag_reader::{Command, DagFile, Text, Word};
 use std::alloc::{AllocError, Global};
 
@@ -32,20 +32,14 @@ pub(crate) fn own_nodes(
         (λ nodes. nodes.items ≡ nodes_of prefix.now folder.now
         (settings_at prefix.now commands commands) 0 (jobs_in commands ++ finals_in commands)) }
     ensures told { let commands = file.now.commands.items in OnOk result (told.new
-        ≡ tell_file (record { path = path.now; prefix = prefix.now; commands = commands })
-        file.now.warnings.items told.old) }
+        ≡ tell_file path.now prefix.now commands told.old) }
 {
     let commands = file.commands.as_slice();
     let mut nodes = plain_nodes(alloc, prefix, folder, commands)?;
-    let mut ignored = file.warnings.as_slice();
     for command in commands {
-        let (above, others) = ignored.split_at(count_above(ignored, command_line(command)));
-        told.tell_ignored(alloc, path, above)?;
         let replaced = set_line(alloc, prefix, names, command, &mut nodes)?;
-        told.tell_command(alloc, path, prefix, command, replaced.as_slice())?;
-        ignored = others;
+        told.tell_line(alloc, path, prefix, command, replaced.as_slice())?;
     }
-    told.tell_ignored(alloc, path, ignored)?;
     Ok(nodes)
 }
 

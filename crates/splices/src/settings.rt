@@ -3,9 +3,8 @@
 ghost use Rattle.std.specs.Prelude.{◌≡◌, ◌∷◌, [], Some, not, find, map, IfOk, OnOk};
 ghost use Rattle.std.specs.List.{filter};
 ghost use Rattle.std.specs.Option.{option_map};
-ghost use Rattle.splices.specs.Settings.{full_category, is_namesake, line_of, macro_of, with_macro};
-ghost use Rattle.splices.specs.SettingSteps.{no_settings, script_of, with_line, with_macros, with_script};
-ghost use Rattle.splices.specs.Warnings.{joined, line_if, replaced_by, replaced_in, script_setting, target_of};
+ghost use Rattle.splices.specs.Settings.{full_category, is_namesake, line_of, macro_of, macros_of, no_settings, script_of, target_of, with_line, with_macro, with_macros, with_script};
+ghost use Rattle.splices.specs.Warnings.{joined, line_if, replaced_by, replaced_in, script_setting};
 
 use crate::flat::{
     AbortSetting, CategorySetting, MacroSetting, MacroSettings, PreSkipSetting, PrioritySetting,
@@ -313,9 +312,9 @@ impl MacroSettings {
         replaced: &mut Vec<usize>,
     ) -> Result<(), AllocError>
         ensures macros { OnOk result
-            (self.new ≡ with_macros self.old (map (macro_of (line_of target.now) placement) macros.now)) }
+            (self.new ≡ with_macros self.old (macros_of target.now placement macros.now)) }
         ensures replaced { OnOk result (replaced.new.items
-            ≡ joined replaced.old.items (replaced_by self.old (map (macro_of (line_of target.now) placement) macros.now))) }
+            ≡ joined replaced.old.items (replaced_by self.old (macros_of target.now placement macros.now))) }
     {
         for one in macros {
             self.put(

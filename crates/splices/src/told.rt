@@ -1,14 +1,13 @@
 //! What is told of the files: the limits of categories, and the warnings.
 
-ghost use Rattle.std.specs.Prelude.{◌≡◌, [], ◌++◌, ◌≤◌, drop, length, map, take, OnOk, IfOk};
+ghost use Rattle.std.specs.Prelude.{◌≡◌, [], ◌++◌, map, OnOk, IfOk};
 ghost use Rattle.splices.specs.declared.flat.DagWarning.TheVariants as warnings;
-ghost use Rattle.splices.specs.SettingSteps.{category_limit, tell_command, tell_limit};
-ghost use Rattle.splices.specs.Warnings.{above_line, command_line, from_line, ignored_line};
+ghost use Rattle.splices.specs.Warnings.{limit_of, tell_line, tell_limit};
 
 use crate::flat::{CategoryLimit, DagWarning};
 use crate::name_table::NameTable;
-use crate::settings::{full_category, target_line};
-use dag_reader::{Command, Text, Warning, Word};
+use crate::settings::full_category;
+use dag_reader::{Command, Text, Word};
 use std::alloc::{AllocError, Global};
 use std::marker::Model;
 
@@ -51,21 +50,6 @@ impl Told {
         (self.limits, self.warnings)
     }
 
-    /// Tells of ignored lines of a file.
-    pub(crate) fn tell_ignored(
-        &mut self,
-        alloc: Global,
-        path: &str,
-        ignored: &[Warning],
-    ) -> Result<(), AllocError>
-        ensures { OnOk result (self.new ≡ record self.old {
-          warnings = self.old.warnings
-              ++ map (λ w. warnings.Ignored path.now (ignored_line w)) ignored.now;
-        }) }
-    {
-        push_ignored(alloc, path, ignored, &mut self.warnings)
-    }
-
     /// Tells of lines of a file whose settings are replaced.
     fn tell_overridden(
         &mut self,
@@ -103,7 +87,7 @@ impl Told {
     }
 
     /// Tells of a line of a file, which replaces the settings of these lines.
-    pub(crate) fn tell_command(
+    pub(crate) fn tell_line(
         &mut self,
         alloc: Global,
         path: &str,
@@ -112,12 +96,17 @@ impl Told {
         replaced: &[usize],
     ) -> Result<(), AllocError>
         ensures { OnOk result (self.new
-            ≡ tell_command path.now prefix.now self.old command.now replaced.now) }
+            ≡ tell_line path.now prefix.now self.old command.now replaced.now) }
     {
         match command {
             Command::MaxJobs { category, limit } => {
                 let limit = CategoryLimit::new(alloc, path, prefix, category, *limit)?;
                 self.set_limit(alloc, limit)
+            }
+            Command::Ignored(span) => {
+                let path = Text::new(alloc, path)?;
+                self.warnings.push(DagWarning::Ignored(path, span.line))?;
+                Ok(())
             }
             _ => self.tell_overridden(alloc, path, replaced),
         }
@@ -133,7 +122,7 @@ impl CategoryLimit {
         limit: u32,
     ) -> Result<CategoryLimit, AllocError>
         ensures { IfOk result
-            (λ l. l ≡ category_limit path.now prefix.now category.now limit) }
+            (λ l. l ≡ limit_of path.now prefix.now category.now limit) }
     {
         Ok(CategoryLimit {
             name: full_category(alloc, prefix, category.text())?,
@@ -142,23 +131,6 @@ impl CategoryLimit {
             line: category.span().line,
         })
     }
-}
-
-fn push_ignored(
-    alloc: Global,
-    path: &str,
-    ignored: &[Warning],
-    told: &mut Vec<DagWarning>,
-) -> Result<(), AllocError>
-    ensures { OnOk result (told.new.items ≡ told.old.items
-        ++ map (λ w. warnings.Ignored path.now (ignored_line w)) ignored.now) }
-{
-    for warning in ignored {
-        let path = Text::new(alloc, path)?;
-        let line = warning.span().line;
-        told.push(DagWarning::Ignored(path, line))?;
-    }
-    Ok(())
 }
 
 fn push_overridden(
@@ -175,41 +147,4 @@ fn push_overridden(
         told.push(DagWarning::Overridden(path, *line))?;
     }
     Ok(())
-}
-
-/// The number of a command's line.
-pub(crate) fn command_line(command: &Command) -> usize
-    ensures { result ≡ command_line command.now }
-{
-    match command {
-        Command::Job { name, .. } | Command::Final { name, .. } | Command::Splice { name, .. } => {
-            name.span().line
-        }
-        Command::ParentChild { parents, .. } => match parents.as_slice() {
-            [first, ..] => first.span().line,
-            [] => 0,
-        },
-        Command::Script { node, .. }
-        | Command::Retry { node, .. }
-        | Command::PreSkip { node, .. }
-        | Command::Vars { node, .. }
-        | Command::Priority { node, .. }
-        | Command::Category { node, .. }
-        | Command::AbortDagOn { node, .. } => target_line(node),
-        Command::MaxJobs { category, .. } => category.span().line,
-    }
-}
-
-/// How many of these ignored lines stand above a line, from the first on.
-pub(crate) fn count_above(ignored: &[Warning], line: usize) -> usize
-    ensures above { take result ignored.now ≡ above_line line ignored.now }
-    ensures others { drop result ignored.now ≡ from_line line ignored.now }
-    ensures within { result ≤ length ignored.now }
-{
-    for (place, warning) in ignored.iter().enumerate() {
-        if warning.span().line >= line {
-            return place;
-        }
-    }
-    ignored.len()
 }

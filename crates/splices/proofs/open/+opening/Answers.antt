@@ -2,7 +2,7 @@ use Rattle.std.proofs.Common.{◌∙◌, sym, ap, ◌<◌, length, [], arith, �
 use Rattle.std.proofs.lemmas.Result.{err_from_is_err_and}
 use Rattle.std.specs.Prelude.{position}
 use Rattle.std.specs.Str.{bytes_eq}
-use Rattle.dag_reader.specs.Reading.{contents_of}
+use Rattle.dag_reader.specs.Reading.{commands_of}
 use Rattle.splices.specs.FileSet.{bytes_of}
 use Rattle.splices.specs.declared.flat.FlatNode.{FlatNode}
 use Rattle.splices.specs.declared.flat.Edge.{Edge}
@@ -62,12 +62,12 @@ pub open_tree-returns-in_err-inner-clause-opened :
 open_tree-returns-in_err-inner-clause-opened t c =
     let p = err_from_is_err_and c.from_residual-in_err-inner.result c.from_residual-in_err-inner.ensures.1 in
     let some : 0 < c.args.left = omega arith in
-    rw (p.1, p.2) (tree_fails (bytes_of c.args.files.now) c.args.left c.args.draft.now.used c.add_own.new.draft.used c.args.above.now c.args.folder.now c.args.path.now (contents_of c.in_ok-file.file) c.as_slice-lines.result.now c.in_err-inner.field-0.0
+    rw (p.1, p.2) (tree_fails (bytes_of c.args.files.now) c.args.left c.args.draft.now.used c.add_own.new.draft.used c.args.above.now c.args.folder.now c.args.path.now (commands_of c.in_ok-file.file) c.as_slice-lines.result.now c.in_err-inner.field-0.0
     some c.in_ok-file.ensures c.as_slice-lines.ensures.value c.in_ok-names.ensures.right c.in_ok-add_own.ensures.used c.in_err-inner.ensures.opened)
 
 pub open_tree-close-requires-clause-names : goal.open_tree-close-requires-clause-names
 open_tree-close-requires-clause-names t c =
-    scope_fits c.args.prefix.now c.args.folder.now c.args.path.now (contents_of c.in_ok-file.file) c.args.draft.now c.add_own.new.draft c.open_forest.new.draft
+    scope_fits c.args.prefix.now c.args.folder.now c.args.path.now (commands_of c.in_ok-file.file) c.args.draft.now c.add_own.new.draft c.open_forest.new.draft
     c.in_ok-inner.ensures.opened.0 c.in_ok-names.names.jobs c.as_slice-first.result.now
     (record { files = c.in_ok-add_own.ensures.files; edges = ap (λ (v : Vec Edge Global). v.items) c.in_ok-add_own.ensures.edges; used = c.in_ok-add_own.ensures.used })
     c.in_ok-inner.ensures.opened.2 (c.in_ok-names.ensures.jobs ∙ ap job_names c.as_slice-lines.ensures.value) c.as_slice-first.ensures.value
@@ -77,7 +77,7 @@ open_tree-returns-clause-opened t c =
     let some : 0 < c.args.left = omega arith in
     let opened = c.in_ok-inner.ensures.opened in
     let mid = c.add_own.new.draft in
-    tree_opens (bytes_of c.args.files.now) c.args.left c.args.above.now c.args.folder.now c.args.path.now c.args.prefix.now (contents_of c.in_ok-file.file) c.as_slice-lines.result.now
+    tree_opens (bytes_of c.args.files.now) c.args.left c.args.above.now c.args.folder.now c.args.path.now c.args.prefix.now (commands_of c.in_ok-file.file) c.as_slice-lines.result.now
     c.args.draft.now mid c.open_forest.new.draft c.close.new.draft c.as_slice-parts.result.now c.in_ok-names.names.jobs c.in_ok-names.names.finals c.in_ok-names.names.splices
     (length c.as_slice-first.result.now) (length c.as_slice-start.result.now) c.in_ok-close.field-0 _ c.in_ok-inner.inner
     some c.in_ok-file.ensures c.as_slice-lines.ensures.value c.in_ok-names.ensures.right

@@ -1,6 +1,6 @@
 use Rattle.std.proofs.Common.{◌≡◌, ◌++◌, map, take}
 use Rattle.splices.specs.Nodes.{finals_in}
-use Rattle.splices.specs.SettingSteps.{plain_node}
+use Rattle.splices.specs.NodeChanges.{plain_node}
 use Rattle.splices.proofs.own_nodes.add_finals.Given as goal
 
 abbrev pub invariant-loop-command : goal.invariant-loop-command

@@ -1,6 +1,6 @@
 use Rattle.std.proofs.Common.{◌≡◌, ◌++◌, map, take}
 use Rattle.splices.specs.Nodes.{jobs_in}
-use Rattle.splices.specs.SettingSteps.{plain_node}
+use Rattle.splices.specs.NodeChanges.{plain_node}
 use Rattle.splices.proofs.own_nodes.add_jobs.Given as goal
 
 abbrev pub invariant-loop-command : goal.invariant-loop-command

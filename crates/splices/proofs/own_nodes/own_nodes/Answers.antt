@@ -1,8 +1,8 @@
-use Rattle.std.proofs.Common.{◌≡◌, ◌∙◌, ◌+◌, ap, sym, drop, length, take, ◌++◌, [], List, ℕ, arith}
-use Rattle.dag_reader.specs.declared.command.Warning.{Warning}
+use Rattle.std.proofs.Common.{◌≡◌, ◌∙◌, ◌+◌, refl, ap, sym, drop, length, take, ◌++◌, arith}
+use Rattle.splices.specs.NodeChanges.{changed_where, replaced_among, set_node}
 use Rattle.splices.specs.Nodes.{final_names, finals_in, job_names, jobs_in}
-use Rattle.splices.specs.SettingSteps.{changed_where, is_for, replaced_among, set_node}
-use Rattle.splices.specs.Warnings.{Source, above_line, from_line, replaced_lines, target_of, tell_lines}
+use Rattle.splices.specs.Settings.{is_for, target_of}
+use Rattle.splices.specs.Warnings.{replaced_lines}
 use Rattle.splices.proofs.NodeSteps.{plain_nodes, nodes_set, lines_replaced}
 use Rattle.splices.proofs.TellSteps.{line_more, next_lines, written}
 use Rattle.splices.proofs.own_nodes.own_nodes.Goals as goal
@@ -10,16 +10,14 @@ use Rattle.splices.proofs.own_nodes.own_nodes.Goals as goal
 pub loop-command-init : goal.loop-command-init
 loop-command-init c =
     let commands = c.as_slice-commands.result.now in
-    let source : Source = record { path = c.args.path.now; prefix = c.args.prefix.now; commands = commands } in
     record {
       nodes = c.in_ok-nodes.ensures ∙ plain_nodes c.args.prefix.now c.args.folder.now commands 0 (jobs_in commands ++ finals_in commands);
-      told = ap (λ (ws : List Warning). tell_lines source [] ws c.args.told.now commands) c.as_slice-ignored.ensures.value;
+      told = refl;
     }
 
 pub loop-command-preserved : goal.loop-command-preserved
 loop-command-preserved c =
     let commands = c.as_slice-commands.result.now in
-    let source : Source = record { path = c.args.path.now; prefix = c.args.prefix.now; commands = commands } in
     let jobs : c.args.names.now.jobs ≡ job_names commands = c.requires.jobs ∙ ap job_names (sym c.as_slice-commands.ensures.value) in
     let finals : c.args.names.now.finals ≡ final_names commands = c.requires.finals ∙ ap final_names (sym c.as_slice-commands.ensures.value) in
     let i = c.loop-command.command-index in
@@ -31,9 +29,7 @@ loop-command-preserved c =
     let lines : c.as_slice.result.now ≡ replaced_lines c.args.prefix.now commands (take i commands) command =
     c.as_slice.ensures.value ∙ c.in_ok-replaced.ensures.replaced ∙ ap (replaced_among (is_for c.args.names.now.jobs c.args.names.now.finals (target_of command)) command) c.deref_mut.ensures.value
     ∙ lines_replaced c.args.prefix.now c.args.folder.now commands (take i commands) command c.args.names.now.jobs c.args.names.now.finals nodes jobs finals c.loop-command.invariant.nodes in
-    let above = c.split_at.ensures.front ∙ c.count_above.ensures.above ∙ ap (λ (n : ℕ). above_line n c.loop-command.ignored.now) c.command_line.ensures in
-    let others = c.split_at.ensures.back ∙ c.count_above.ensures.others ∙ ap (λ (n : ℕ). from_line n c.loop-command.ignored.now) c.command_line.ensures in
     record {
       nodes = whole ∙ nodes_set c.args.prefix.now c.args.folder.now commands (take i commands) (take (i + 1) commands) command c.args.names.now.jobs c.args.names.now.finals (jobs_in commands ++ finals_in commands) nodes new jobs finals c.loop-command.invariant.nodes set (next_lines commands i command c.loop-command-test.true c.command-item.is);
-      told = line_more source i command c.loop-command.ignored.now c.split_at.result.0.now c.split_at.result.1.now c.loop-command.told c.tell_ignored.new.self c.tell_command.new.self _ c.as_slice.result.now c.loop-command-test.true c.command-item.is above others c.in_ok-tell_ignored.ensures lines c.in_ok-tell_command.ensures c.loop-command.invariant.told;
+      told = line_more c.args.path.now c.args.prefix.now commands i command c.loop-command.told c.tell_line.new.self _ c.as_slice.result.now c.loop-command-test.true c.command-item.is lines c.in_ok-tell_line.ensures c.loop-command.invariant.told;
     }

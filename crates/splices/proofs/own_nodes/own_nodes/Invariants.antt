@@ -7,5 +7,5 @@ use Rattle.splices.proofs.own_nodes.own_nodes.Given as goal
 abbrev pub invariant-loop-command : goal.invariant-loop-command
 invariant-loop-command l = record {
   nodes : l.nodes.items ≡ nodes_of l.prefix l.folder (settings_at l.prefix l.commands (take l.command-index l.commands)) 0 (jobs_in l.commands ++ finals_in l.commands);
-  told : tell_lines (record { path = l.path; prefix = l.prefix; commands = l.commands }) (take l.command-index l.commands) l.ignored l.told (drop l.command-index l.commands) ≡ tell_file (record { path = l.path; prefix = l.prefix; commands = l.commands }) l.file.warnings.items l.initial.told;
+  told : tell_lines l.path l.prefix l.commands (take l.command-index l.commands) l.told (drop l.command-index l.commands) ≡ tell_file l.path l.prefix l.commands l.initial.told;
 }

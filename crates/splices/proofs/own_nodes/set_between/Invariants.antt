@@ -1,5 +1,5 @@
 use Rattle.std.proofs.Common.{◌≡◌}
-use Rattle.splices.specs.SettingSteps.{changed_where, is_between, replaced_among, set_node}
+use Rattle.splices.specs.NodeChanges.{changed_where, is_between, replaced_among, set_node}
 use Rattle.splices.proofs.own_nodes.set_between.Given as goal
 
 abbrev pub invariant-loop-place : goal.invariant-loop-place

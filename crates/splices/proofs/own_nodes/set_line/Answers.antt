@@ -1,6 +1,7 @@
 use Rattle.std.proofs.Common.{◌∙◌, Option, sym, ap}
 use Rattle.dag_reader.specs.declared.command.Target.{Target}
-use Rattle.splices.specs.SettingSteps.{changed_where, is_for, replaced_among, set_node}
+use Rattle.splices.specs.NodeChanges.{changed_where, replaced_among, set_node}
+use Rattle.splices.specs.Settings.{is_for}
 use Rattle.splices.specs.Warnings.{each_once, replaced_in}
 use Rattle.splices.proofs.NodeSteps.{changed_none, given_none}
 use Rattle.splices.proofs.own_nodes.set_line.Goals as goal

@@ -1,6 +1,6 @@
 use Rattle.std.proofs.Common.{◌≡◌, map, drop}
 use Rattle.splices.specs.Settings.{line_of, macro_of}
-use Rattle.splices.specs.SettingSteps.{with_macros}
+use Rattle.splices.specs.Settings.{with_macros}
 use Rattle.splices.specs.Warnings.{joined, replaced_by}
 use Rattle.splices.proofs.flat.MacroSettings.put_all.Given as goal
 
