@@ -10,7 +10,7 @@ use Rattle.dag_reader.specs.declared.command.Command.{Command}
 use Rattle.dag_reader.specs.declared.command.Command.TheVariants.{Job, ParentChild, Script, Retry, PreSkip, Vars, Priority, Category, MaxJobs, AbortDagOn, Final, Splice, Ignored}
 use Rattle.dag_reader.specs.Lines.{is_control}
 use Rattle.dag_reader.specs.Word.{PlacedText}
-use Rattle.dag_reader.specs.Words.{is_blank, words}
+use Rattle.dag_reader.specs.Words.{is_blank}
 use Rattle.dag_reader.specs.Keywords.{joins_names, is_name}
 use Rattle.dag_reader.specs.Grammar.{SayAll}
 use Rattle.dag_reader.proofs.Named.{Declares, IsDeclared, each_declared}
