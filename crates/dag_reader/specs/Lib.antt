@@ -10,6 +10,7 @@ pub mod Macros
 pub mod Layouts
 pub mod LayoutViews
 pub mod Leftmost
+pub mod Blanks
 pub mod MacroReading
 pub mod MacroReader
 pub mod Reading
