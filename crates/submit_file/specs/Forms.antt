@@ -76,11 +76,15 @@ row looks says = record { looks = looks; says = says }
 -- comes before U4, and U4 before U2, which is what a line of no form is.
 abbrev pub forms : Bool → List Form
 forms queued =
+    -- no word, or a comment
     row is_silent (λ line. Silent)
+    -- U5: queue with other words than a count, or what is left out
     ∷ row (λ line. is_queue line && not (list_all is_ascii_digit (behind_word line))) (λ line. Wrong Unsupported)
     ∷ row (λ line. is_left_out (first_word line) && not (begins_with 61 (behind_word line))) (λ line. Wrong Unsupported)
+    -- U4: queue once more, or with another count than 1
     ∷ row (λ line. is_queue line && (queued || not (is_once (behind_word line)))) (λ line. Wrong QueueCount)
     ∷ row is_queue (λ line. Queues)
+    -- a name, an equals sign and a value; any other line is U2
     ∷ row is_assignment (λ line. Assigns (name_in line) (value_in line))
     ∷ []
 
