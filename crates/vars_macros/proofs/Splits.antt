@@ -93,6 +93,11 @@ plain_split text r e h =
 pub one_list : (text : List ℕ) (words others : List (List ℕ)) → SpellsArguments text words → SpellsArguments text others → words ≡ others
 one_list text words others p q = let same : Ok words ≡ Ok others = sym (only text words p) ∙ only text others q in cc
 
+pub only_these : (text : List ℕ) (r : Result (List (List ℕ)) MacroFault) → IsSplit (SpellsArguments text) r → (words : List (List ℕ)) → SpellsArguments text words → Gives (λ given. given) r (Ok words)
+only_these text (Ok given) h words spells = ap (λ (ws : List (List ℕ)). Ok ws) (one_list text words given spells h)
+only_these text (Err fault) (inl memory) words spells = subst (λ (f : MacroFault). Fails f (Ok words)) (sym memory) tt
+only_these text (Err fault) (inr (is, none)) words spells = absurd (none words spells)
+
 -- What is answered of arguments, as a value.
 pub gives_arguments : (text : List ℕ) (r : Result (List (List ℕ)) MacroFault) → IsSplit (SpellsArguments text) r → Gives (λ words. words) r (arguments text)
 gives_arguments text (Ok words) h = only text words h

@@ -1,7 +1,8 @@
 //! Splits arguments into words.
 
-ghost use Rattle.std.specs.Prelude.{◌≡◌, ◌==◌, ◌||◌, ◌&&◌, ◌<◌, ◌-◌, ◌∷◌, not, false, length, slice_get, option_map, unwrap_or, IsTrue, if◌then◌else◌};
+ghost use Rattle.std.specs.Prelude.{◌≡◌, ◌==◌, ◌||◌, ◌&&◌, ◌<◌, ◌-◌, ◌∷◌, ℕ, List, Ok, not, false, length, slice_get, option_map, unwrap_or, IsTrue, if◌then◌else◌};
 ghost use Rattle.std.specs.Str.{IsUtf8};
+ghost use Rattle.vars_macros.specs.Answers.{Gives};
 ghost use Rattle.vars_macros.specs.Cut.{begins_with};
 ghost use Rattle.vars_macros.specs.ArgumentGrammar.{is_blank, SpellsNewPart, SpellsOldPart, SpellsWords, SpellsArguments, IsSplit};
 ghost use Rattle.vars_macros.specs.declared.words.Symbol.TheVariants.{Letter, Mark, Gap, Broken};
@@ -24,7 +25,11 @@ use std::alloc::Global;
 /// `BadQuote` of a text in new style that no double quote ends, in which another stands alone, or
 /// whose group is open at its end. `Memory` where memory runs out.
 pub fn split_arguments(alloc: Global, text: &str) -> Result<Texts, MacroFault>
-    ensures { IsSplit (SpellsArguments text.now) result }
+    // The words are those that the text spells, and it is refused where it spells none.
+    ensures spelled { IsSplit (SpellsArguments text.now) result }
+
+    // Where the text spells words, these are given, unless memory runs out.
+    ensures only { (words : List (List ℕ)) → SpellsArguments text.now words → Gives (λ given. given) result (Ok words) }
 {
     split_bytes(alloc, text.as_bytes())
 }
