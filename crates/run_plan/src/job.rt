@@ -4,7 +4,7 @@ ghost use Rattle.std.specs.Prelude.{◌≡◌, ◌≢◌, false, IfOk, IfErr, op
 ghost use Rattle.vars_macros.specs.declared.fault.MacroFault.TheVariants as macro;
 ghost use Rattle.splices.specs.Paths.{join};
 ghost use Rattle.std.specs.List.{list_all};
-ghost use Rattle.vars_macros.specs.Arguments.{arguments};
+ghost use Rattle.vars_macros.proofs.Symbols.{arguments};
 ghost use Rattle.vars_macros.specs.Expansion.{expansion};
 ghost use Rattle.vars_macros.specs.Meaning.{scope_of};
 ghost use Rattle.vars_macros.specs.Output.{expansion_of};
@@ -164,11 +164,18 @@ fn program_at(
     program_in(alloc, folder, &executable)
 }
 
+/// The words of a text of arguments.
+fn words_of(alloc: Global, text: &str) -> Result<Texts, MacroFault>
+    ensures { expanding.Gives (λ words. words) result (arguments text.now) }
+{
+    split_arguments(alloc, text)
+}
+
 fn words_in(alloc: Global, arguments: &Option<Text>) -> Result<Texts, JobFault>
     ensures { Gives (λ t. t) result (words_in arguments.now) }
 {
     match arguments {
-        Some(text) => Ok(split_arguments(alloc, text.as_str())?),
+        Some(text) => Ok(words_of(alloc, text.as_str())?),
         None => Ok(Texts::new(alloc)),
     }
 }
@@ -198,7 +205,7 @@ fn environment_in(alloc: Global, environment: &Option<Text>) -> Result<Texts, Jo
 fn settings_in(alloc: Global, text: &str) -> Result<Texts, JobFault>
     ensures { Gives (λ t. t) result (settings_in (arguments text.now)) }
 {
-    let words = split_arguments(alloc, text)?;
+    let words = words_of(alloc, text)?;
     if are_settings(words.as_slice()) {
         Ok(words)
     } else {

@@ -4,19 +4,15 @@ use Rattle.std.proofs.lemmas.Bool.{cases_Bool, false≢true, eqb-true}
 use Rattle.std.proofs.lemmas.Grind.{common_steps}
 use Rattle.std.proofs.lemmas.List.{reverse-reverse, reverse-append}
 use Rattle.std.proofs.lemmas.List.Splits.{slice_split_none, slice_split_first}
-use Rattle.std.proofs.lemmas.List.Quantifiers.{position-Some}
 use Rattle.std.proofs.lemmas.Option.{get_or_from_slice_get, slice_get_within}
 use Rattle.std.proofs.lemmas.Str.{IsUtf8-append, IsUtf8-take, IsUtf8-drop, IsCharBoundary-before_ascii, IsCharBoundary-after_ascii}
 use Rattle.std.proofs.lemmas.List.Elements.{All-from_get_or}
-use Rattle.std.proofs.lemmas.List.Sums.{fails_before_first, passes_at_first}
-use Rattle.std.specs.Prelude.{codes}
-use Rattle.std.specs.Char.{is_ascii_digit}
-use Rattle.std.specs.List.{All, AllByRecursion, list_all, position_or_len, slice_get, slice_split, position}
+use Rattle.std.proofs.lemmas.List.Sums.{take_while-cons, fails_before_first, passes_at_first}
+use Rattle.std.specs.List.{All, AllByRecursion, position_or_len, slice_get, slice_split}
 use Rattle.std.specs.Str.{IsUtf8}
 use Rattle.std.specs.Str.Lines.{lines, lines_of_parts, strip_carriage_return}
-use Rattle.submit_file.specs.Lines.{Statement, is_blank, trim_start, begins_with, is_byte, is_comment, is_continued, front, statements, joined}
-use Rattle.submit_file.specs.Says.{Saying, Silent, Assigns, Queues, Wrong, trimmed, first_word, behind_word, is_word, is_left_out, assigned, is_named, assignment_at, assignment, queue_says, is_one, words_say, bare_says, line_says}
-use Rattle.submit_file.specs.declared.fault.LineFault.TheVariants.{BadLine, QueueCount, Unsupported}
+use Rattle.submit_file.specs.Lines.{Statement, is_blank, trim_start, is_byte, is_comment, is_continued, front, statements, joined}
+use Rattle.submit_file.specs.Forms.{Saying, Silent, Assigns, Queues, Wrong, trimmed, before_equals, name_in, value_in, is_name, is_assignment, Form, forms, first_form, line_says}
 
 -- up to an ASCII byte, and behind it
 pub utf8_before : (bs : List ℕ) (i c : ℕ) → IsUtf8 bs → i < length bs → get_or bs i 0 ≡ c → c < 128 → IsUtf8 (take i bs)
@@ -70,6 +66,36 @@ utf8_trim_end (b ∷ bs) u =
 utf8_trimmed : (bs : List ℕ) → IsUtf8 bs → IsUtf8 (trimmed bs)
 utf8_trimmed bs u = utf8_trim_end (reverse (trim_start bs)) (subst IsUtf8 (sym (reverse-reverse (trim_start bs))) (utf8_trim_start bs u))
 
+both_left : (a b : Bool) → (a && b) ≡ true → a ≡ true
+both_left true b h = refl
+both_left false b h = h
+
+-- What stands before the first equals sign, and behind it.
+abbrev no_equals : ℕ → Bool
+no_equals b = not (nat_eq b 61)
+
+cut_equals : (line : List ℕ) → length (before_equals line) < length line → get_or line (length (before_equals line)) 0 ≡ 61
+cut_equals [] lt = absurd (omega arith)
+cut_equals (b ∷ bs) lt =
+    ⊎_elim
+    (λ (yes : nat_eq b 61 ≡ true).
+    let none : before_equals (b ∷ bs) ≡ [] = take_while-cons no_equals b bs ∙ ap (λ (x : Bool). cond (not x) (b ∷ before_equals bs) []) yes in
+    ap (λ (xs : List ℕ). get_or (b ∷ bs) (length xs) 0) none ∙ eqb-true b 61 yes)
+    (λ (other : nat_eq b 61 ≡ false).
+    let more : before_equals (b ∷ bs) ≡ b ∷ before_equals bs = take_while-cons no_equals b bs ∙ ap (λ (x : Bool). cond (not x) (b ∷ before_equals bs) []) other in
+    let long = ap length more in
+    ap (λ (xs : List ℕ). get_or (b ∷ bs) (length xs) 0) more ∙ cut_equals bs (omega (arith, lt, long)))
+    (cases_Bool (nat_eq b 61))
+
+front_equals : (line : List ℕ) → take (length (before_equals line)) line ≡ before_equals line
+front_equals [] = refl
+front_equals (b ∷ bs) =
+    subst (λ (xs : List ℕ). take (length xs) (b ∷ bs) ≡ xs) (sym (take_while-cons no_equals b bs))
+    (⊎_elim
+    (λ (yes : nat_eq b 61 ≡ true). rw yes refl)
+    (λ (other : nat_eq b 61 ≡ false). rw other (ap (λ (xs : List ℕ). b ∷ xs) (front_equals bs)))
+    (cases_Bool (nat_eq b 61)))
+
 -- What a line says.
 abbrev pub IsText : Saying → Type 0
 IsText Silent = Unit {0}
@@ -77,44 +103,29 @@ IsText (Assigns name value) = IsUtf8 name × IsUtf8 value
 IsText Queues = Unit {0}
 IsText (Wrong fault) = Unit {0}
 
-either : (b : Bool) (x y : Saying) → IsText x → IsText y → IsText (cond b x y)
-either true x y p q = p
+assigned_text : (line : List ℕ) → IsUtf8 line → is_assignment line ≡ true → IsText (Assigns (name_in line) (value_in line))
+assigned_text line u is =
+    let n = length (before_equals line) in
+    let inside = both_left (nat_lt n (length line)) (is_name (name_in line)) is in
+    let lt : n < length line = grind (arith, inside) in
+    let at = cut_equals line lt in (
+      utf8_trimmed (before_equals line) (subst IsUtf8 (front_equals line) (utf8_before line n 61 u lt at (omega arith))),
+      utf8_trimmed (drop (n + 1) line) (utf8_behind line n 61 u lt at (omega arith)),
+    )
+
+either : (b : Bool) (x y : Saying) → (b ≡ true → IsText x) → IsText y → IsText (cond b x y)
+either true x y p q = p refl
 either false x y p q = q
 
-assigned_text : (name value : List ℕ) → IsUtf8 name → IsUtf8 value → IsText (assigned name value)
-assigned_text name value p q = either (is_named name) (Assigns name value) (Wrong BadLine) (p, q) tt
+form_text : (forms : List Form) (line : List ℕ) → AllByRecursion (λ (f : Form). f.looks line ≡ true → IsText (f.says line)) forms → IsText (first_form forms line)
+form_text [] line all = tt
+form_text (f ∷ others) line (here, all) = either (f.looks line) (f.says line) (first_form others line) here (form_text others line all)
 
-assignment_text_at : (text : List ℕ) (place : Option ℕ) → IsUtf8 text → position (λ b. nat_eq b 61) text ≡ place → IsText (assignment_at place text)
-assignment_text_at text None u e = tt
-assignment_text_at text (Some n) u e =
-    let p = position-Some (λ b. nat_eq b 61) text n 0 e in
-    let is : get_or text n 0 ≡ 61 = eqb-true (get_or text n 0) 61 p.1 in
-    assigned_text (trimmed (take n text)) (trimmed (drop (n + 1) text))
-    (utf8_trimmed (take n text) (utf8_before text n 61 u p.0 is (omega arith)))
-    (utf8_trimmed (drop (n + 1) text) (utf8_behind text n 61 u p.0 is (omega arith)))
-
-assignment_text : (text : List ℕ) → IsUtf8 text → IsText (assignment text)
-assignment_text text u = assignment_text_at text (position (λ b. nat_eq b 61) text) u refl
-
-queue_text : (text : List ℕ) → IsText (queue_says text)
-queue_text [] = tt
-queue_text (b ∷ bs) = either (list_all is_ascii_digit (b ∷ bs)) (cond (is_one (b ∷ bs)) Queues (Wrong QueueCount)) (Wrong Unsupported) (either (is_one (b ∷ bs)) Queues (Wrong QueueCount) tt tt) tt
-
-words_text : (text : List ℕ) → IsUtf8 text → IsText (words_say text)
-unfolding words_say
-words_text text u =
-    let left_out = is_left_out (first_word text) && not (begins_with 61 (behind_word text)) in
-    either (is_word (first_word text) (codes "queue")) (queue_says (behind_word text)) (cond left_out (Wrong Unsupported) (assignment text))
-    (queue_text (behind_word text))
-    (either left_out (Wrong Unsupported) (assignment text) tt (assignment_text text u))
-
-bare_text : (text : List ℕ) → IsUtf8 text → IsText (bare_says text)
-bare_text [] u = tt
-bare_text (b ∷ bs) u = either (nat_eq b 35) Silent (words_say (b ∷ bs)) tt (words_text (b ∷ bs) u)
-
-pub line_text : (text : List ℕ) → IsUtf8 text → IsText (line_says text)
+pub line_text : (queued : Bool) (text : List ℕ) → IsUtf8 text → IsText (line_says queued text)
 unfolding line_says
-line_text text u = bare_text (trim_start text) (utf8_trim_start text u)
+line_text queued text u =
+    let line = trim_start text in
+    form_text (forms queued) line ((λ _. tt), ((λ _. tt), ((λ _. tt), ((λ _. tt), ((λ _. tt), (assigned_text line (utf8_trim_start text u), tt))))))
 
 -- Joined lines.
 abbrev pub AreTexts : List Statement → Type 0
@@ -123,10 +134,6 @@ AreTexts ss = AllByRecursion (λ (s : Statement). IsUtf8 s.text) ss
 last_is : (c : ℕ) (o : Option ℕ) → is_byte c o ≡ true → o ≡ Some c
 last_is c None h = absurd (false≢true h)
 last_is c (Some b) h = ap (λ (x : ℕ). Some x) (eqb-true b c h)
-
-both_left : (a b : Bool) → (a && b) ≡ true → a ≡ true
-both_left true b h = refl
-both_left false b h = h
 
 utf8_front : (text : List ℕ) → IsUtf8 text → is_continued text ≡ true → IsUtf8 (front text)
 unfolding is_continued
@@ -194,8 +201,8 @@ pub all_texts : (n : ℕ) (text : List ℕ) → IsUtf8 text → AreTexts (statem
 all_texts n text u = utf8_statements n (lines text) (utf8_lines _ (utf8_parts (length text) text (omega arith) u))
 
 -- What the code has of them.
-pub says_text : (text : List ℕ) (said : Saying) → IsUtf8 text → said ≡ line_says text → IsText said
-says_text text said u e = subst IsText (sym e) (line_text text u)
+pub says_text : (queued : Bool) (text : List ℕ) (said : Saying) → IsUtf8 text → said ≡ line_says queued text → IsText said
+says_text queued text said u e = subst IsText (sym e) (line_text queued text u)
 
 pub first_text : (n : ℕ) (t : List ℕ) (all more : List Statement) → all ≡ record { number = n; text = t } ∷ more → AreTexts all → IsUtf8 t × AreTexts more
 first_text n t all more e texts = subst AreTexts e texts

@@ -1,7 +1,4 @@
 pub mod Lines
-pub mod Says
-pub mod Sayings
+pub mod Forms
 pub mod Submit
-pub mod Shapes
-pub mod Spelling
-pub mod Grammar
+pub mod Readings

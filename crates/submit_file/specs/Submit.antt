@@ -1,13 +1,49 @@
 -- What a submit description says.
-use Rattle.std.specs.Prelude.{◌≡◌, ℕ, Bool, true, false, List, [], ◌∷◌, ◌++◌, Option, Some, None, Result, Ok, Err, if◌then◌else◌}
+use Rattle.std.specs.Prelude.{◌≡◌, ◌⊎◌, ℕ, Bool, true, false, List, [], ◌∷◌, ◌++◌, Option, Some, None, Result, Ok, Err, if◌then◌else◌}
+use Rattle.std.specs.Str.{IsUtf8}
 use Rattle.std.specs.Str.Lines.{lines}
 use Rattle.submit_file.specs.Lines.{Statement, statements}
-use Rattle.submit_file.specs.Says.{Saying, Silent, Assigns, Queues, Wrong, line_says, is_word}
+use Rattle.submit_file.specs.Forms.{Saying, Silent, Assigns, Queues, Wrong, line_says, is_word}
 use Rattle.submit_file.specs.declared.submit.Assignment.{Assignment}
-use Rattle.submit_file.specs.declared.submit.Reader.{Reader}
-use Rattle.submit_file.specs.declared.fault.LineFault.TheVariants.{QueueCount}
+use Rattle.submit_file.specs.declared.fault.LineFault.{LineFault}
 use Rattle.submit_file.specs.declared.fault.SubmitFault.{SubmitFault}
 use Rattle.submit_file.specs.declared.fault.SubmitFault.TheVariants.{NotText, NoQueue, InLine, Memory}
+
+abbrev pub an_assignment : List ℕ → List ℕ → Assignment
+an_assignment name value = record { name = name; value = value }
+
+-- Each line says nothing or assigns, and these are the assignments.
+abbrev pub AssignAll : Bool → List Statement → List Assignment → Type 0
+AssignAll queued [] pairs = pairs ≡ []
+AssignAll queued (s ∷ ss) pairs = ((line_says queued s.text ≡ Silent) × AssignAll queued ss pairs)
+    ⊎ ((name value : List ℕ) × (others : List Assignment) × (line_says queued s.text ≡ Assigns name value) × (pairs ≡ an_assignment name value ∷ others) × AssignAll queued ss others)
+
+-- One line queues the job, and these are the assignments above it. Those below it are read and have no effect.
+abbrev pub SayAll : List Statement → List Assignment → Type 0
+SayAll ss pairs = (front : List Statement) × (queue : Statement) × (back : List Statement) × (late : List Assignment)
+    × (ss ≡ front ++ queue ∷ back) × AssignAll false front pairs × (line_says false queue.text ≡ Queues) × AssignAll true back late
+
+abbrev pub Says : List ℕ → List Assignment → Type 0
+Says text pairs = IsUtf8 text × SayAll (statements 1 (lines text)) pairs
+
+-- A line that can't be read, and its fault, where the lines above it can: they have no queue line, or one.
+abbrev pub IsWrongBelow : List Statement → List ℕ → LineFault → Type 0
+IsWrongBelow front text f = (pairs : List Assignment) × ((AssignAll false front pairs × (line_says false text ≡ Wrong f)) ⊎ (SayAll front pairs × (line_says true text ≡ Wrong f)))
+
+-- The fault is that of the first line that can't be read; or all can be read, and none queues the job.
+abbrev pub IsFirstFault : List Statement → SubmitFault → Type 0
+IsFirstFault ss Memory = Unit {0}
+IsFirstFault ss NotText = ⊥
+IsFirstFault ss NoQueue = (pairs : List Assignment) × AssignAll false ss pairs
+IsFirstFault ss (InLine number f) = (front : List Statement) × (s : Statement) × (back : List Statement)
+    × (ss ≡ front ++ s ∷ back) × (number ≡ s.number) × IsWrongBelow front s.text f
+
+-- a fault of a text: it is not UTF-8, or its lines have the fault
+abbrev pub IsFault : List ℕ → SubmitFault → Type 0
+IsFault text Memory = Unit {0}
+IsFault text NotText = ¬ (IsUtf8 text)
+IsFault text NoQueue = IsUtf8 text × IsFirstFault (statements 1 (lines text)) NoQueue
+IsFault text (InLine number f) = IsUtf8 text × IsFirstFault (statements 1 (lines text)) (InLine number f)
 
 -- the assignments so far, and whether the queue line stood
 pub record Reading : Type 0 where
@@ -17,22 +53,14 @@ pub record Reading : Type 0 where
 abbrev pub nothing_read : Reading
 nothing_read = record { assigned = []; queued = false }
 
--- Assignments behind the queue line have no effect.
+-- One line more. Assignments below the queue line have no effect.
 abbrev pub with_assignment : Reading → List ℕ → List ℕ → Reading
-with_assignment r name value = if r.queued then r else record r { assigned = r.assigned ++ record { name = name; value = value } ∷ [] }
+with_assignment r name value = if r.queued then r else record r { assigned = r.assigned ++ an_assignment name value ∷ [] }
 
-abbrev pub reading_of : Reader → Reading
-reading_of r = record { assigned = r.assigned.items; queued = r.queued }
-
--- the queue line, which stands once
-abbrev pub with_queue : Reading → ℕ → Result Reading SubmitFault
-with_queue r number = if r.queued then Err (InLine number QueueCount) else Ok (record r { queued = true })
-
--- one line more
 abbrev pub with_line : Reading → ℕ → Saying → Result Reading SubmitFault
 with_line r number Silent = Ok r
 with_line r number (Assigns name value) = Ok (with_assignment r name value)
-with_line r number Queues = with_queue r number
+with_line r number Queues = Ok (record r { queued = true })
 with_line r number (Wrong fault) = Err (InLine number fault)
 
 infixl 10 ◌>>=◌
@@ -40,12 +68,11 @@ abbrev pub ◌>>=◌ : {A B : Type 0} → Result A SubmitFault → (A → Result
 (Ok x) >>= f = f x
 (Err e) >>= f = Err e
 
--- all lines, and then the queue line must have stood
+-- all lines, one after the other, and then the queue line must have stood
 unfoldable pub read_from : Reading → List Statement → Result (List Assignment) SubmitFault
 read_from r [] = if r.queued then Ok r.assigned else Err NoQueue
-read_from r (s ∷ ss) = with_line r s.number (line_says s.text) >>= λ more. read_from more ss
+read_from r (s ∷ ss) = with_line r s.number (line_says r.queued s.text) >>= λ more. read_from more ss
 
--- the assignments of a text
 abbrev pub submit_of : List ℕ → Result (List Assignment) SubmitFault
 submit_of text = read_from nothing_read (statements 1 (lines text))
 

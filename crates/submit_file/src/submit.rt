@@ -2,13 +2,13 @@
 
 ghost use Rattle.std.specs.Prelude.{◌≡◌, List, Ok, Err, IfOk, IfErr, option_copied};
 ghost use Rattle.std.specs.Str.{IsUtf8};
-ghost use Rattle.submit_file.specs.Says.{line_says};
-ghost use Rattle.submit_file.specs.Submit.{Gives, submit_of, with_line, with_assignment, with_queue, reading_of};
-ghost use Rattle.submit_file.specs.Grammar.{Says, IsFault};
+ghost use Rattle.submit_file.specs.Forms.{line_says};
+ghost use Rattle.submit_file.specs.Readings.{reading_of};
+ghost use Rattle.submit_file.specs.Submit.{Gives, submit_of, with_line, with_assignment, Says, IsFault};
 ghost use Rattle.submit_file.specs.declared.submit.Assignment.{Assignment};
 ghost use Rattle.submit_file.specs.declared.fault.SubmitFault.TheVariants.{NotText};
 
-use crate::fault::{LineFault, SubmitFault};
+use crate::fault::SubmitFault;
 use crate::line::{Saying, is_word, line_says};
 use crate::lines::first_statement;
 use dag_reader::Text;
@@ -39,12 +39,15 @@ impl Reader {
     /// Takes one line more.
     fn read(&mut self, alloc: Global, number: usize, text: &[u8]) -> Result<(), SubmitFault>
         requires { IsUtf8 text.now }
-        ensures { Gives (λ _. reading_of self.new) result (with_line (reading_of self.old) number (line_says text.now)) }
+        ensures { Gives (λ _. reading_of self.new) result (with_line (reading_of self.old) number (line_says self.old.queued text.now)) }
     {
-        match line_says(text) {
+        match line_says(text, self.queued) {
             Saying::Silent => Ok(()),
             Saying::Assigns(name, value) => self.assign(alloc, name, value),
-            Saying::Queues => self.queue(number),
+            Saying::Queues => {
+                self.queued = true;
+                Ok(())
+            }
             Saying::Wrong(fault) => Err(SubmitFault::InLine(number, fault)),
         }
     }
@@ -60,17 +63,6 @@ impl Reader {
             let value = text_of(alloc, value)?;
             self.assigned.push(Assignment { name, value })?;
         }
-        Ok(())
-    }
-
-    /// Notes the queue line, unless one stood.
-    fn queue(&mut self, number: usize) -> Result<(), SubmitFault>
-        ensures { Gives (λ _. reading_of self.new) result (with_queue (reading_of self.old) number) }
-    {
-        if self.queued {
-            return Err(SubmitFault::InLine(number, LineFault::QueueCount));
-        }
-        self.queued = true;
         Ok(())
     }
 }

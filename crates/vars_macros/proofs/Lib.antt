@@ -1,3 +1,4 @@
+pub mod Symbols
 pub mod Names
 pub mod Room
 pub mod Cuts
@@ -25,3 +26,5 @@ pub mod Balanced
 pub mod SpelledWords
 pub mod SpelledParts
 pub mod SpelledArguments
+pub mod Takes
+pub mod Splits

@@ -2,7 +2,11 @@
 use Rattle.std.proofs.Common.{◌≡◌, ◌∙◌, sym, ap, refl, subst, ℕ, zero, suc, ◌<◌, ◌==◌, Bool, true, false, ◌||◌, ◌&&◌, List, [], ◌∷◌, ◌++◌, length, drop, arith, Ok, Err, append_assoc, append-nil}
 use Rattle.std.proofs.lemmas.Bool.{eqb-true, and_parts}
 use Rattle.vars_macros.specs.Cut.{begins_with}
-use Rattle.vars_macros.specs.Arguments.{Symbol, Letter, Mark, Gap, Broken, Gathering, gathered, is_blank, is_pair, new_symbol, grouped_after, new_symbols, is_escape, old_symbol, old_symbols}
+use Rattle.vars_macros.proofs.Symbols.{gathered, is_pair, new_symbol, grouped_after, new_symbols, is_escape, old_symbol, old_symbols}
+use Rattle.vars_macros.specs.ArgumentGrammar.{is_blank}
+use Rattle.vars_macros.specs.Gathered.{Gathering}
+use Rattle.vars_macros.specs.declared.words.Symbol.{Symbol}
+use Rattle.vars_macros.specs.declared.words.Symbol.TheVariants.{Letter, Mark, Gap, Broken}
 use Rattle.vars_macros.specs.ArgumentGrammar.{is_quote, SpellsGroup, group_end, group_byte, group_double_quote, group_single_quote, SpellsNewPart, new_byte, new_double_quote, new_group, SpellsOldPart, old_double_quote, old_byte}
 use Rattle.vars_macros.specs.declared.fault.MacroFault.TheVariants.{BadQuote}
 use Rattle.vars_macros.proofs.Groups.{opens, double_quote, single_quote, plain}

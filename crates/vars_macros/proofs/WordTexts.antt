@@ -1,13 +1,29 @@
 -- The words of a UTF-8 text are UTF-8.
-use Rattle.std.proofs.Common.{◌≡◌, ◌∙◌, sym, ap, subst, ℕ, ◌<◌, ◌-◌, ◌⊎◌, inl, inr, Bool, true, false, cond, ◌&&◌, ◌||◌, not, nat_eq, List, [], ◌∷◌, ◌++◌, arith, ⊎_elim, length, take, refl, Option, Some, None, slice_get}
+use Rattle.std.proofs.Common.{◌≡◌, ◌∙◌, sym, ap, subst, ℕ, ◌<◌, ◌-◌, ◌⊎◌, inl, inr, Bool, true, false, cond, ◌&&◌, ◌||◌, not, nat_eq, List, [], ◌∷◌, ◌++◌, arith, ⊎_elim, length, take, drop, refl, Option, Some, None, slice_get}
 use Rattle.std.proofs.lemmas.Bool.{cases_Bool, eqb-true, false≢true}
 use Rattle.std.proofs.lemmas.Str.{IsUtf8-append}
 use Rattle.std.proofs.lemmas.Option.{get_or_from_slice_get, slice_get_within}
 use Rattle.std.specs.Str.{IsUtf8}
 use Rattle.vars_macros.specs.Cut.{begins_with}
-use Rattle.vars_macros.specs.Arguments.{Symbol, Letter, Mark, Gap, Broken, is_blank, is_pair, new_symbol, is_escape, old_symbol, is_last, is_byte}
-use Rattle.vars_macros.specs.Gathered.{MayTake, Leaves}
+use Rattle.vars_macros.proofs.Symbols.{is_pair, new_symbol, is_escape, old_symbol, is_last, is_byte}
+use Rattle.vars_macros.specs.ArgumentGrammar.{is_blank}
+use Rattle.vars_macros.specs.declared.words.Symbol.{Symbol}
+use Rattle.vars_macros.specs.declared.words.Symbol.TheVariants.{Letter, Mark, Gap, Broken}
 use Rattle.vars_macros.proofs.Utf8.{utf8_before, seam_before, seam_behind, without, replaced, moved}
+
+-- A word is over where its bytes are a text.
+abbrev pub MayTake : Symbol → List ℕ → Type 0
+MayTake (Letter b) word = Unit {0}
+MayTake Mark word = Unit {0}
+MayTake Gap word = IsUtf8 word
+MayTake Broken word = Unit {0}
+
+-- the bytes of the word that has begun, before and after the symbol
+abbrev pub Leaves : Symbol → List ℕ → List ℕ → Type 0
+Leaves (Letter b) old new = new ≡ old ++ b ∷ []
+Leaves Mark old new = new ≡ old
+Leaves Gap old new = IsUtf8 new
+Leaves Broken old new = ⊥
 
 -- The byte is that of the symbol, or both are ASCII.
 abbrev pub Fits : Symbol → ℕ → Type 0
@@ -122,3 +138,14 @@ last_text text h u =
     let n = length text - 1 in
     let at : slice_get text n ≡ Some 34 = last_is (slice_get text n) h in
     utf8_before text n 34 u (slice_get_within text n 34 at) (get_or_from_slice_get text n 34 0 at) (omega arith)
+
+take_whole : (xs : List ℕ) → take (length xs) xs ≡ xs
+take_whole [] = refl
+take_whole (x ∷ xs) = ap (λ (ys : List ℕ). x ∷ ys) (take_whole xs)
+
+-- what is behind a double quote
+pub behind_text : (text : List ℕ) → begins_with 34 text ≡ true → IsUtf8 text → IsUtf8 (take (length text - 1) (drop 1 text))
+behind_text [] h u = absurd (false≢true h)
+behind_text (b ∷ bs) h u =
+    let less : length (b ∷ bs) - 1 ≡ length bs = omega arith in
+    subst IsUtf8 (sym (ap (λ (n : ℕ). take n bs) less ∙ take_whole bs)) (seam_behind [] bs b (byte_low b 34 (omega arith) h) u)

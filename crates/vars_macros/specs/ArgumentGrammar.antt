@@ -1,7 +1,12 @@
 -- The grammar of arguments, from the left: a relation has a text, the bytes that its front spells, and the rest of it.
-use Rattle.std.specs.Prelude.{◌≡◌, ℕ, Bool, true, false, ◌||◌, ◌&&◌, ◌==◌, List, [], ◌∷◌, ◌++◌}
+use Rattle.std.specs.Prelude.{◌≡◌, ◌⊎◌, ℕ, Bool, true, false, ◌||◌, ◌&&◌, ◌==◌, List, [], ◌∷◌, ◌++◌, Result, Ok, Err}
 use Rattle.vars_macros.specs.Cut.{begins_with}
-use Rattle.vars_macros.specs.Arguments.{is_blank}
+use Rattle.vars_macros.specs.declared.fault.MacroFault.{MacroFault}
+use Rattle.vars_macros.specs.declared.fault.MacroFault.TheVariants.{BadQuote, Memory}
+
+-- a space or a tab
+abbrev pub is_blank : ℕ → Bool
+is_blank b = b == 32 || b == 9
 
 -- a double (34) or a single (39) quote
 abbrev pub is_quote : ℕ → Bool
@@ -47,3 +52,8 @@ pub data SpellsWords (Part : List ℕ → List ℕ → List ℕ → Type 0) : Li
 pub data SpellsArguments : List ℕ → List (List ℕ) → Type 0 where
   new_style : {body : List ℕ} {words : List (List ℕ)} → SpellsWords SpellsNewPart body words → SpellsArguments (34 ∷ (body ++ 34 ∷ [])) words
   old_style : {text : List ℕ} {words : List (List ℕ)} → begins_with 34 text ≡ false → SpellsWords SpellsOldPart text words → SpellsArguments text words
+
+-- What is answered of a text of such words: the words that it spells, or BadQuote where it spells none; or memory ran out.
+abbrev pub IsSplit : (List (List ℕ) → Type 0) → Result (List (List ℕ)) MacroFault → Type 0
+IsSplit Spells (Ok words) = Spells words
+IsSplit Spells (Err fault) = (fault ≡ Memory) ⊎ ((fault ≡ BadQuote) × ((words : List (List ℕ)) → Spells words → ⊥))

@@ -10,7 +10,6 @@ pub mod Frames
 pub mod Machine
 pub mod Answers
 pub mod Output
-pub mod Arguments
 pub mod Gathered
 pub mod Defined
 pub mod Script

@@ -1,11 +1,11 @@
 //! Splits arguments into words.
 
-ghost use Rattle.std.specs.Prelude.{◌≡◌, ◌<◌, ◌-◌, false, length, take, IsTrue};
+ghost use Rattle.std.specs.Prelude.{◌≡◌, ◌==◌, ◌||◌, ◌&&◌, ◌<◌, ◌-◌, ◌∷◌, ℕ, List, Ok, not, false, length, slice_get, option_map, unwrap_or, IsTrue, if◌then◌else◌};
 ghost use Rattle.std.specs.Str.{IsUtf8};
-ghost use Rattle.vars_macros.specs.Cut.{begins_with};
-ghost use Rattle.vars_macros.specs.Arguments.{arguments, is_blank, is_pair, new_symbol, grouped_after, new_symbols, is_escape, old_symbol, old_symbols, is_last, quoted, gathered, no_words};
 ghost use Rattle.vars_macros.specs.Answers.{Gives};
-ghost use Rattle.vars_macros.specs.Gathered.{symbol_of};
+ghost use Rattle.vars_macros.specs.Cut.{begins_with};
+ghost use Rattle.vars_macros.specs.ArgumentGrammar.{is_blank, SpellsNewPart, SpellsOldPart, SpellsWords, SpellsArguments, IsSplit};
+ghost use Rattle.vars_macros.specs.declared.words.Symbol.TheVariants.{Letter, Mark, Gap, Broken};
 
 use crate::cut::begins_with;
 use crate::fault::MacroFault;
@@ -25,26 +25,30 @@ use std::alloc::Global;
 /// `BadQuote` of a text in new style that no double quote ends, in which another stands alone, or
 /// whose group is open at its end. `Memory` where memory runs out.
 pub fn split_arguments(alloc: Global, text: &str) -> Result<Texts, MacroFault>
-    ensures { Gives (λ words. words) result (arguments text.now) }
+    // The words are those that the text spells, and it is refused where it spells none.
+    ensures spelled { IsSplit (SpellsArguments text.now) result }
+
+    // Where the text spells words, these are given, unless memory runs out.
+    ensures only { (words : List (List ℕ)) → SpellsArguments text.now words → Gives (λ given. given) result (Ok words) }
 {
     split_bytes(alloc, text.as_bytes())
 }
 
 fn split_bytes(alloc: Global, text: &[u8]) -> Result<Texts, MacroFault>
     requires { IsUtf8 text.now }
-    ensures { Gives (λ words. words) result (arguments text.now) }
+    ensures { IsSplit (SpellsArguments text.now) result }
 {
-    match text.split_first() {
-        Some((first, behind)) if *first == b'"' => split_quoted(alloc, behind),
-        _ => split_old(alloc, text),
+    if begins_with(b'"', text) {
+        split_quoted(alloc, &text[1..])
+    } else {
+        split_old(alloc, text)
     }
 }
 
 /// The words up to the double quote at the end.
-#[tactic(auto, unfolding(crate::specs::Arguments::gathered))]
 fn split_quoted(alloc: Global, behind: &[u8]) -> Result<Texts, MacroFault>
     requires { IsUtf8 behind.now }
-    ensures { Gives (λ words. words) result (gathered no_words (quoted behind.now)) }
+    ensures { IsSplit (SpellsArguments (34 ∷ behind.now)) result }
 {
     if !is_last(b'"', behind) {
         return Err(MacroFault::BadQuote);
@@ -53,7 +57,7 @@ fn split_quoted(alloc: Global, behind: &[u8]) -> Result<Texts, MacroFault>
 }
 
 fn is_last(byte: u8, text: &[u8]) -> bool
-    ensures value { result ≡ is_last byte text.now }
+    ensures value { result ≡ unwrap_or (option_map (λ b. b == byte) (slice_get text.now (length text.now - 1))) false }
     ensures some { IsTrue result → 0 < length text.now }
 {
     match text.last() {
@@ -64,7 +68,7 @@ fn is_last(byte: u8, text: &[u8]) -> bool
 
 fn split_new(alloc: Global, text: &[u8]) -> Result<Texts, MacroFault>
     requires { IsUtf8 text.now }
-    ensures { Gives (λ words. words) result (gathered no_words (new_symbols false false text.now)) }
+    ensures { IsSplit (SpellsWords SpellsNewPart text.now) result }
 {
     let mut words = Words::new(alloc);
     let mut paired = false;
@@ -86,16 +90,18 @@ fn split_new(alloc: Global, text: &[u8]) -> Result<Texts, MacroFault>
     words.finish(alloc)
 }
 
-#[tactic(auto, unfolding(crate::specs::Arguments::is_pair))]
 fn is_pair(grouped: bool, byte: u8, after: &[u8]) -> bool
-    ensures { result ≡ is_pair grouped byte after.now }
+    ensures { result ≡ ((byte == 34 || (byte == 39 && grouped)) && begins_with byte after.now) }
 {
     (byte == b'"' || byte == b'\'' && grouped) && begins_with(byte, after)
 }
 
-#[tactic(auto, unfolding(crate::specs::Arguments::new_symbol))]
 fn new_symbol(grouped: bool, byte: u8, after: &[u8]) -> Symbol
-    ensures { symbol_of result ≡ new_symbol grouped byte after.now }
+    ensures { result ≡ (if (byte == 34 || (byte == 39 && grouped)) && begins_with byte after.now then Letter byte
+        else if byte == 34 then Broken
+        else if byte == 39 then Mark
+        else if is_blank byte && not grouped then Gap
+        else Letter byte) }
 {
     if is_pair(grouped, byte, after) {
         return Symbol::Letter(byte);
@@ -108,9 +114,8 @@ fn new_symbol(grouped: bool, byte: u8, after: &[u8]) -> Symbol
     }
 }
 
-#[tactic(auto, unfolding(crate::specs::Arguments::grouped_after))]
 fn grouped_after(grouped: bool, byte: u8, after: &[u8]) -> bool
-    ensures { result ≡ grouped_after grouped byte after.now }
+    ensures { result ≡ (if byte == 39 && not ((byte == 34 || (byte == 39 && grouped)) && begins_with byte after.now) then not grouped else grouped) }
 {
     if byte == b'\'' && !is_pair(grouped, byte, after) {
         !grouped
@@ -121,7 +126,7 @@ fn grouped_after(grouped: bool, byte: u8, after: &[u8]) -> bool
 
 fn split_old(alloc: Global, text: &[u8]) -> Result<Texts, MacroFault>
     requires { IsUtf8 text.now }
-    ensures { Gives (λ words. words) result (gathered no_words (old_symbols false text.now)) }
+    ensures { IsSplit (SpellsWords SpellsOldPart text.now) result }
 {
     let mut words = Words::new(alloc);
     let mut escaped = false;
@@ -138,16 +143,14 @@ fn split_old(alloc: Global, text: &[u8]) -> Result<Texts, MacroFault>
     words.finish(alloc)
 }
 
-#[tactic(auto, unfolding(crate::specs::Arguments::is_escape))]
 fn is_escape(byte: u8, after: &[u8]) -> bool
-    ensures { result ≡ is_escape byte after.now }
+    ensures { result ≡ (byte == 92 && begins_with 34 after.now) }
 {
     byte == b'\\' && begins_with(b'"', after)
 }
 
-#[tactic(auto, unfolding(crate::specs::Arguments::old_symbol))]
 fn old_symbol(byte: u8, after: &[u8]) -> Symbol
-    ensures { symbol_of result ≡ old_symbol byte after.now }
+    ensures { result ≡ (if byte == 92 && begins_with 34 after.now then Letter 34 else if is_blank byte then Gap else Letter byte) }
 {
     if is_escape(byte, after) {
         return Symbol::Letter(b'"');

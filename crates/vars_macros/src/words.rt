@@ -1,8 +1,7 @@
 //! Words that are gathered letter by letter.
 
-ghost use Rattle.std.specs.Prelude.{◌≡◌, [], Ok, IfOk};
+ghost use Rattle.std.specs.Prelude.{◌≡◌, Ok, IfOk};
 ghost use Rattle.std.specs.Str.{IsUtf8};
-ghost use Rattle.vars_macros.specs.Arguments.{gathered, no_words, closed};
 ghost use Rattle.vars_macros.specs.Answers.{Gives};
 
 use crate::fault::MacroFault;
@@ -30,7 +29,8 @@ pub(crate) struct Words {
 }
 
 impl Words {
-    ghost use Rattle.vars_macros.specs.Gathered.{symbol_of, gathering_of, Takes, MayTake, Leaves};
+    ghost use Rattle.vars_macros.specs.Gathered.{gathering_of, no_words, closed, taken};
+    ghost use Rattle.vars_macros.specs.declared.words.Symbol.TheVariants.{Gap};
 
     /// No words.
     pub(crate) fn new(alloc: Global) -> Words
@@ -44,11 +44,9 @@ impl Words {
     }
 
     /// Takes the next symbol in.
-    #[tactic(auto, unfolding(crate::specs::Arguments::gathered))]
     pub(crate) fn take(&mut self, alloc: Global, symbol: Symbol) -> Result<(), MacroFault>
-        requires { MayTake (symbol_of symbol) self.old.word.items }
-        ensures takes { Takes result (gathering_of self.old) (symbol_of symbol) (gathering_of self.new) }
-        ensures word { IfOk result (λ _. Leaves (symbol_of symbol) self.old.word.items self.new.word.items) }
+        requires { symbol ≡ Gap → IsUtf8 self.old.word.items }
+        ensures { Gives (λ _. gathering_of self.new) result (taken (gathering_of self.old) symbol) }
     {
         match symbol {
             Symbol::Letter(byte) => {
@@ -80,10 +78,9 @@ impl Words {
     }
 
     /// The words, the last of them ended.
-    #[tactic(auto, unfolding(crate::specs::Arguments::gathered))]
     pub(crate) fn finish(mut self, alloc: Global) -> Result<Texts, MacroFault>
         requires { IsUtf8 self.word.items }
-        ensures { Gives (λ words. words) result (gathered (gathering_of self) []) }
+        ensures { Gives (λ words. words) result (Ok (closed (gathering_of self)).words) }
     {
         self.close(alloc)?;
         Ok(self.words)

@@ -1,7 +1,8 @@
 use Rattle.std.proofs.Common.{◌≡◌, ◌≤◌, ◌+◌, length}
 use Rattle.std.specs.Str.Lines.{lines}
 use Rattle.submit_file.specs.Lines.{statements}
-use Rattle.submit_file.specs.Submit.{read_from, reading_of, submit_of}
+use Rattle.submit_file.specs.Readings.{reading_of}
+use Rattle.submit_file.specs.Submit.{read_from, submit_of}
 use Rattle.submit_file.proofs.Utf8.{AreTexts}
 use Rattle.submit_file.proofs.submit.read_lines.Given as goal
 
