@@ -1,5 +1,6 @@
 //! What is refused, and the line that tells it.
 
+use crate::NO_LIMITS;
 use dag_main::{Request, read_words, rehearse_text};
 use splices::FileSet;
 use std::alloc::Global;
@@ -10,7 +11,7 @@ use std::test::Fail;
 fn fault_of(alloc: Global, dag: &str, outcomes: &str) -> Result<String, Fail> {
     let mut files = FileSet::new(alloc);
     files.add(alloc, "-", dag.as_bytes())?;
-    match rehearse_text(alloc, &files, "-", Some(outcomes.as_bytes())) {
+    match rehearse_text(alloc, &files, "-", Some(outcomes.as_bytes()), NO_LIMITS) {
         Ok(_) => Ok(String::from_str(alloc, "not refused")?),
         Err(fault) => Ok(format!(in alloc; "{fault}")?),
     }
@@ -55,32 +56,9 @@ fn files_and_graph(rt: HostRuntime) -> Result<(), Fail> {
 }
 
 #[test]
-fn not_yet_run(rt: HostRuntime) -> Result<(), Fail> {
-    check(
-        &rt,
-        &[
-            ("JOB A a\nPRIORITY A 0", "B2 NotYet"),
-            ("JOB A a\nCATEGORY A c\nMAXJOBS c 1", "B2 NotYet"),
-            ("JOB A a\nABORT-DAG-ON A 7", "B2 NotYet"),
-            ("FINAL F f", "B2 NotYet"),
-        ],
-    )
-}
-
-#[test]
-fn graph_before_what_is_not_run(rt: HostRuntime) -> Result<(), Fail> {
-    let dag = "JOB A a\nPRIORITY A 1\nPARENT A CHILD A";
-    let fault = fault_of(rt.alloc(), dag, "A 0 JOB")?;
-    assert_eq!(rt; fault.as_str(), "G1 Cycle A");
-    let fault = fault_of(rt.alloc(), "JOB A a\nPRIORITY A 1", "A 0 JOB")?;
-    assert_eq!(rt; fault.as_str(), "B2 NotYet");
-    Ok(())
-}
-
-#[test]
 fn missing_file(rt: HostRuntime) -> Result<(), Fail> {
     let alloc = rt.alloc();
-    match rehearse_text(alloc, &FileSet::new(alloc), "x.dag", None) {
+    match rehearse_text(alloc, &FileSet::new(alloc), "x.dag", None, NO_LIMITS) {
         Ok(_) => panic!(rt; "not refused"),
         Err(fault) => {
             let line = format!(in alloc; "{fault}")?;
@@ -108,13 +86,13 @@ fn dag_before_table(rt: HostRuntime) -> Result<(), Fail> {
 fn words(rt: HostRuntime) -> Result<(), Fail> {
     let alloc = rt.alloc();
     match read_words(alloc, &["dagrun"]) {
-        Ok(Request::Rehearse { dag, outcomes }) => {
+        Ok(Request::Rehearse { dag, outcomes, .. }) => {
             assert!(rt; dag == "-" && outcomes.is_none());
         }
         _ => panic!(rt; "no words are a rehearsal of standard input"),
     }
     match read_words(alloc, &["dagrun", "rehearse", "x.dag", "table"]) {
-        Ok(Request::Rehearse { dag, outcomes }) => {
+        Ok(Request::Rehearse { dag, outcomes, .. }) => {
             assert!(rt; dag == "x.dag" && outcomes == Some("table"));
         }
         _ => panic!(rt; "a DAG file and a table are a rehearsal"),

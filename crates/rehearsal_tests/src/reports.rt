@@ -1,5 +1,6 @@
 //! Reports by tables: what is printed and the exit status.
 
+use crate::NO_LIMITS;
 use dag_main::rehearse_text;
 use splices::FileSet;
 use std::process::Abort;
@@ -22,7 +23,7 @@ fn check<R: Abort + AllocGlobal>(rt: &R, rows: &[Row]) -> Result<(), Fail> {
     let mut files = FileSet::new(alloc);
     for row in rows {
         files.add(alloc, "x.dag", row.dag.as_bytes())?;
-        let answer = rehearse_text(alloc, &files, "x.dag", Some(row.outcomes.as_bytes()))?;
+        let answer = rehearse_text(alloc, &files, "x.dag", Some(row.outcomes.as_bytes()), NO_LIMITS)?;
         assert_eq!(rt; answer.text.as_str(), row.text);
         assert_eq!(rt; answer.status, row.status);
     }

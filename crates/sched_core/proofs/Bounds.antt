@@ -103,12 +103,12 @@ step-left course stand outcome phase is le =
         (closed course stand.attempt (value_of outcome) (int_eq (value_of outcome) (pos 0))) (omega arith) (decided 2 (omega arith))
     go Post = decided 1 (omega arith)
 
-not-false : (b : Bool) → not b ≡ false → b ≡ true
+pub not-false : (b : Bool) → not b ≡ false → b ≡ true
 not-false true e = refl
 not-false false e = absurd cc
 
 -- no phase comes behind an attempt of the abort value
-Quiet : Course → Stand → Type 0
+unfoldable pub Quiet : Course → Stand → Type 0
 Quiet course stand = (stand.phase ≡ None) ⊎ (is_met course.abort_on stand.value ≡ false)
 
 or-false : (a b : Bool) → (a || b) ≡ false → b ≡ false
@@ -157,7 +157,7 @@ quiet-first : (course : Course) → Quiet course (stand_before course 0 None fal
 unfolding Quiet
 quiet-first course = inr refl
 
-quiet-after : (course : Course) (es : List Ended) → Quiet course (stand_after course es)
+pub quiet-after : (course : Course) (es : List Ended) → Quiet course (stand_after course es)
 quiet-after course es = quiet-steps course (stand_before course 0 None false) es (quiet-first course)
 
 all_below-some : (test : ℕ → Bool) (n : ℕ) → all_below test n ≡ false → (k : ℕ) × (k < n) × (test k ≡ false)

@@ -8,6 +8,7 @@ ghost use Rattle.std.specs.Prelude.{◌≡◌};
 ghost use Rattle.sched_core.specs.declared.CoreFault.TheVariants.{Memory};
 
 pub mod examples;
+mod facts;
 pub mod laws;
 mod nodes;
 mod scheduler;
