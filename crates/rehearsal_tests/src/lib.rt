@@ -9,8 +9,6 @@ mod cores;
 mod course;
 #[cfg(test)]
 mod refused;
-#[cfg(test)]
-mod reports;
 
 #[cfg(test)]
 use throttles::Limits;

@@ -7,6 +7,32 @@ use std::alloc::Global;
 use std::process::Abort;
 use std::test::Fail;
 
+/// Words of limits, and the limits on jobs, PRE scripts and POST scripts that they say.
+const LIMITS: [(&[&str], [u32; 3]); 4] = [
+    (&["dagrun", "rehearse", "x.dag"], [0, 0, 0]),
+    (
+        &["dagrun", "rehearse", "--maxjobs", "3", "x.dag", "--maxpre=0"],
+        [3, 0, 0],
+    ),
+    (
+        &["dagrun", "rehearse", "x.dag", "--maxpost=65535", "table", "--maxpre", "+2"],
+        [0, 2, 65535],
+    ),
+    (&["dagrun"], [0, 0, 0]),
+];
+
+/// Words that are no request.
+const REFUSED: [&[&str]; 8] = [
+    &["dagrun", "check", "x.dag", "table"],
+    &["dagrun", "rehearse"],
+    &["dagrun", "--help"],
+    &["dagrun", "fly", "x.dag"],
+    &["dagrun", "rehearse", "x.dag", "--maxjobs", "65536"],
+    &["dagrun", "rehearse", "x.dag", "--maxpre=-1"],
+    &["dagrun", "rehearse", "x.dag", "--maxjobs=1", "--maxjobs=1"],
+    &["dagrun", "check", "x.dag", "--maxjobs", "1"],
+];
+
 /// What a rehearsal of one file named `-` answers: the fault's line.
 fn fault_of(alloc: Global, dag: &str, outcomes: &str) -> Result<String, Fail> {
     let mut files = FileSet::new(alloc);
@@ -101,9 +127,20 @@ fn words(rt: HostRuntime) -> Result<(), Fail> {
         Ok(Request::Check { dag }) => assert_eq!(rt; dag, "x.dag"),
         _ => panic!(rt; "a DAG file is checked"),
     }
-    assert!(rt; read_words(alloc, &["dagrun", "check", "x.dag", "table"]).is_err());
-    assert!(rt; read_words(alloc, &["dagrun", "rehearse"]).is_err());
-    assert!(rt; read_words(alloc, &["dagrun", "--help"]).is_err());
-    assert!(rt; read_words(alloc, &["dagrun", "fly", "x.dag"]).is_err());
+    for words in &REFUSED {
+        assert!(rt; read_words(alloc, words).is_err());
+    }
+    Ok(())
+}
+
+#[test]
+fn limits(rt: HostRuntime) -> Result<(), Fail> {
+    for (words, due) in &LIMITS {
+        let Ok(Request::Rehearse { limits, .. }) = read_words(rt.alloc(), words) else {
+            panic!(rt; "a rehearsal");
+        };
+        assert_eq!(rt; [limits.jobs, limits.pre, limits.post], *due);
+        assert_eq!(rt; limits.children, 1024);
+    }
     Ok(())
 }

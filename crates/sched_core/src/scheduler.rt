@@ -294,7 +294,7 @@ impl<'a> Core<'a> {
     }
 
     /// Whether this phase is outstanding.
-    fn is_outstanding(&self, key: &Key) -> bool
+    pub fn is_outstanding(&self, key: &Key) -> bool
         ensures is { result ≡ is_among key.now (outstanding self.now.plan self.now.past) }
         ensures within { IsTrue result → key.now.node ≤ count_of self.now.plan }
     {

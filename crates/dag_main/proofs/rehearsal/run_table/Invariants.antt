@@ -6,7 +6,7 @@ use Rattle.dag_main.proofs.rehearsal.run_table.Given as goal
 abbrev pub invariant-loop-core : goal.invariant-loop-core
 invariant-loop-core l = record {
   going : IsGoing l.plan (table_by l.plan l.table) l.core;
-  limits : l.core.limits ≡ l.limits;
+  limits : l.core.limits ≡ l.fn.limits;
 }
 
 abbrev pub decreases-loop-core : goal.decreases-loop-core
