@@ -1,7 +1,7 @@
 -- The best of the phases that may be started.
-use Rattle.std.proofs.Common.{nat_lt, ltb, lt-ltb, not, ◌&&◌, ◌||◌, ◌+◌, zero, ◌≡◌, ℕ, suc, ◌<◌, ◌≤◌, inl, inr, Bool, true, false, List, [], ◌∷◌, length, Option, Some, None, ◌==◌, refl, sym, ap, ◌∙◌, subst, arith, eqb-true, if◌then◌else◌}
-use Rattle.std.specs.Prelude.{ℤ, ◌<ℤ◌, ◌≤ℤ◌, int_lt, IfSome, IfNone, replicate, slice_index}
-use Rattle.std.proofs.lemmas.Bool.{eqb-false, ltb-true, ltb-false, and_parts, and_from, false≢true}
+use Rattle.std.proofs.Common.{nat_lt, lt-ltb, not, ◌||◌, zero, ◌≡◌, ℕ, suc, ◌<◌, ◌≤◌, inl, inr, Bool, true, false, List, [], ◌∷◌, length, Option, Some, None, ◌==◌, refl, sym, ap, ◌∙◌, subst, arith, eqb-true, if◌then◌else◌}
+use Rattle.std.specs.Prelude.{ℤ, ◌<ℤ◌, ◌≤ℤ◌, int_lt, IfSome, replicate, slice_index}
+use Rattle.std.proofs.lemmas.Bool.{eqb-false, ltb-true, ltb-false, and_from, false≢true}
 use Rattle.std.proofs.lemmas.Int.{ints, by_lt_z}
 use Rattle.node_machine.specs.declared.Key.{Key}
 use Rattle.node_machine.specs.declared.Phase.{Phase}
@@ -9,14 +9,14 @@ use Rattle.node_machine.specs.declared.Phase.TheVariants.{Pre, Job, Post}
 use Rattle.throttles.specs.declared.Limits.{Limits}
 use Rattle.throttles.specs.Throttled.{is_below, none_running, lets_phase, limit_of, of_kind}
 use Rattle.throttles.proofs.Counts.{none-all}
-use Rattle.run_plan.specs.Plan.{Plan, node_at, count_of, all_below}
+use Rattle.run_plan.specs.Plan.{Plan, node_at, count_of}
 use Rattle.sched_core.specs.declared.Record.{Record}
 use Rattle.sched_core.specs.declared.Record.TheVariants.{Launch}
 use Rattle.sched_core.specs.declared.Choice.{Choice}
 use Rattle.sched_core.specs.declared.Choice.TheVariants as choices
 use Rattle.sched_core.specs.Run.{outstanding, is_nothing, is_open, may_launch, may_follow, launch_number}
 use Rattle.sched_core.specs.Core.{launchable, nothing_launchable, if_let_in, startable, better_of, IsBestBelow, IsChoice}
-use Rattle.sched_core.specs.Limits.{limits_of, running_in, throttled_in, lets_in, member_of, IsBetter}
+use Rattle.sched_core.specs.Limits.{limits_of, lets_in, IsBetter}
 use Rattle.sched_core.proofs.Sweeps.{all_below-from, all_below-not}
 use Rattle.sched_core.proofs.Leaf.{key-node}
 use Rattle.sched_core.proofs.Held.{launch-within}

@@ -1,6 +1,5 @@
 -- The outcome of a phase, looked up in the records.
-use Rattle.std.proofs.Common.{◌≡◌, ℕ, zero, suc, ◌+◌, ◌≤◌, Bool, true, false, ◌&&◌, List, [], ◌∷◌, ◌++◌, ◌==◌, Option, Some, None, is_none, unwrap_or, refl, sym, ap, ◌∙◌, subst, arith, if◌then◌else◌}
-use Rattle.std.proofs.lemmas.Bool.{false≢true, ltb-true}
+use Rattle.std.proofs.Common.{◌≡◌, ℕ, ◌≤◌, Bool, true, false, ◌&&◌, List, [], ◌∷◌, ◌++◌, ◌==◌, Option, Some, None, is_none, unwrap_or, refl, sym, ap, ◌∙◌, arith, if◌then◌else◌}
 use Rattle.node_machine.specs.declared.Phase.{Phase}
 use Rattle.node_machine.specs.declared.Outcome.{Outcome}
 use Rattle.node_machine.specs.declared.Outcome.TheVariants.{Exit}
@@ -8,12 +7,11 @@ use Rattle.node_machine.specs.declared.Ended.{Ended}
 use Rattle.node_machine.specs.declared.Key.{Key}
 use Rattle.node_machine.specs.Story.{is_phase, outcome_in, phase_number}
 use Rattle.node_machine.proofs.Trees.{got}
-use Rattle.run_plan.specs.Plan.{Plan, node_at, count_of}
+use Rattle.run_plan.specs.Plan.{Plan, count_of}
 use Rattle.sched_core.specs.declared.Record.{Record}
 use Rattle.sched_core.specs.declared.Record.TheVariants.{Life, Launch, End, Finish}
-use Rattle.sched_core.specs.Run.{history, outstanding, is_among, is_same, is_lawful}
-use Rattle.sched_core.specs.Commands.{ended_by, first_ended}
-use Rattle.sched_core.specs.Bound.{sum_below}
+use Rattle.sched_core.specs.Run.{history, outstanding, is_among, is_lawful}
+use Rattle.sched_core.specs.Commands.{first_ended}
 use Rattle.sched_core.proofs.Keys.{each_among}
 use Rattle.sched_core.proofs.Held.{Within, outstanding-within}
 

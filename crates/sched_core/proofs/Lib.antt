@@ -18,3 +18,4 @@ pub mod Throttling
 pub mod Best
 pub mod Aborts
 mod FactsLemmas
+pub mod Alone

@@ -11,16 +11,15 @@ use Rattle.run_plan.specs.Plan.{Plan, node_at, count_of}
 use Rattle.node_machine.specs.NodeProgress.{NodeProgress}
 use Rattle.sched_core.specs.declared.Record.{Record}
 use Rattle.sched_core.specs.declared.Choice.TheVariants as choices
-use Rattle.sched_core.specs.declared.Choice.{Choice}
 use Rattle.sched_core.specs.declared.Record.TheVariants.{Life, Launch, End, Finish}
 use Rattle.sched_core.specs.Run.{next, is_met, has_abort_value, is_aborted, outstanding, without, is_among, is_next, is_free, is_nothing, is_open, is_ready, is_final_ready, may_launch, may_follow, is_lawful, job_launches, launch_number, exit_status}
-use Rattle.sched_core.specs.Core.{Shows, AreFresh, IsChoice, nothing_launchable, is_running, runs_after, aborted_after, jobs_after, launchable, first_launched}
+use Rattle.sched_core.specs.Core.{Shows, AreFresh, IsChoice, is_running, runs_after, aborted_after, jobs_after, launchable, first_launched}
 use Rattle.sched_core.proofs.Keys.{Each, each_among, each_without, same-self}
 use Rattle.sched_core.proofs.Sound.{sound}
-use Rattle.sched_core.proofs.Held.{Within, outstanding-within, among-is, launch-within, launched-within, end-within}
+use Rattle.sched_core.proofs.Held.{Within, outstanding-within, among-is, launched-within, end-within}
 use Rattle.sched_core.proofs.Shown.{shows-after}
 use Rattle.sched_core.proofs.Leaf.{key-node}
-use Rattle.sched_core.proofs.Sweeps.{all_below-from, all_below-not}
+use Rattle.sched_core.proofs.Sweeps.{all_below-from}
 
 -- no more launches of jobs than records
 pub jobs-few : (past : List Record) → job_launches past ≤ length past

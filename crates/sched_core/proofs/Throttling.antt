@@ -1,15 +1,14 @@
 -- What throttles count is what is outstanding.
-use Rattle.std.proofs.Common.{◌≡◌, ℕ, zero, suc, ◌+◌, ◌^◌, ◌<◌, ◌≤◌, Bool, true, false, not, ◌&&◌, ◌||◌, ◌==◌, List, [], ◌∷◌, length, reverse, Option, Some, None, refl, sym, ap, ◌∙◌, subst, arith, eq-eqb, if◌then◌else◌}
+use Rattle.std.proofs.Common.{◌≡◌, ℕ, suc, ◌+◌, ◌<◌, ◌≤◌, Bool, true, false, not, ◌&&◌, ◌||◌, ◌==◌, List, [], ◌∷◌, length, reverse, refl, sym, ap, ◌∙◌, subst, arith, eq-eqb, if◌then◌else◌}
 use Rattle.std.specs.Prelude.{IfSome}
 use Rattle.std.proofs.lemmas.Bool.{and_parts, false≢true}
 use Rattle.std.proofs.lemmas.List.{length-map}
 use Rattle.node_machine.specs.declared.Key.{Key}
-use Rattle.node_machine.specs.declared.Outcome.{Outcome}
 use Rattle.splices.specs.declared.flat.CategoryLimit.{CategoryLimit}
 use Rattle.throttles.specs.declared.Limits.{Limits}
 use Rattle.throttles.specs.Throttled.{Throttled, Running, none_running, with_one, without_one, such_in, all_in, IsPlace}
 use Rattle.throttles.proofs.Counts.{with-length, none-length, undo, one-there, still-there, swap-one, with-all, none-all}
-use Rattle.run_plan.specs.Plan.{Plan, node_at, count_of}
+use Rattle.run_plan.specs.Plan.{Plan, node_at}
 use Rattle.run_plan.specs.Planned.{IsPlanned}
 use Rattle.run_plan.proofs.PlanFacts.{category-placed}
 use Rattle.sched_core.specs.declared.Record.{Record}

@@ -1,6 +1,6 @@
 //! Laws of the definitions alone. No program calls them.
 
-ghost use Rattle.std.specs.Prelude.{◌≡◌, ◌≢◌, ℕ, ◌<◌, true, false, List, [], ◌∷◌, ◌++◌, map, drop, pos, is_some, IsTrue, IsFalse};
+ghost use Rattle.std.specs.Prelude.{◌≡◌, ◌≢◌, ℕ, ◌<◌, ◌≤◌, ◌+◌, ◌*◌, length, true, false, List, [], ◌∷◌, ◌++◌, map, drop, pos, is_some, IsTrue, IsFalse};
 ghost use Rattle.std.specs.List.{list_all, Contains};
 ghost use Rattle.node_machine.specs.declared.Phase.{Phase};
 ghost use Rattle.node_machine.specs.declared.Outcome.{Outcome};
@@ -10,7 +10,7 @@ ghost use Rattle.sched_core.specs.declared.Choice.{Choice};
 ghost use Rattle.sched_core.specs.declared.Choice.TheVariants as choices;
 ghost use Rattle.throttles.specs.declared.Limits.{Limits};
 ghost use Rattle.sched_core.specs.Core.{IsChoice};
-ghost use Rattle.sched_core.specs.Bound.{records_left};
+ghost use Rattle.sched_core.specs.Bound.{records_left, has_no_life, all_phases};
 ghost use Rattle.sched_core.specs.declared.Record.TheVariants.{Life, Launch, End, Finish};
 ghost use Rattle.node_machine.specs.declared.Phase.TheVariants.{Job};
 ghost use Rattle.node_machine.specs.declared.Outcome.TheVariants.{Exit};
@@ -149,6 +149,14 @@ pub fn runs_end()
     ensures end { (plan : Plan) (past : List Record) (key : Key) (outcome : Outcome) →
         IsTrue (is_lawful plan past) → IsTrue (may_follow plan past (End key outcome)) →
         records_left plan (End key outcome ∷ past) < records_left plan past }
+{}
+
+/// One life adds at most two records for each phase of each attempt that its nodes may have, and two
+/// more: its Life, and the Finish of the run.
+pub fn lives_are_short()
+    ensures { (plan : Plan) (begun own : List Record) →
+        IsTrue (is_lawful plan (own ++ Life ∷ begun)) → IsTrue (has_no_life own) →
+        length (own ++ Life ∷ []) ≤ 2 * all_phases plan + 2 }
 {}
 
 /// What is to be done next is determined, and it may be done: a launch, or the end of the run.

@@ -1,7 +1,5 @@
-use Rattle.std.proofs.Common.{◌≡◌, true, suc, Some, None}
-use Rattle.run_plan.specs.Plan.{count_of}
+use Rattle.std.proofs.Common.{◌≡◌, true}
 use Rattle.sched_core.specs.Run.{is_nothing, outstanding}
-use Rattle.sched_core.specs.Core.{IsBestBelow}
 use Rattle.sched_core.proofs.Best.{best-start, best-none, nothing-to-start}
 use Rattle.sched_core.proofs.scheduler.Core.choose.Goals as goal
 
