@@ -50,6 +50,18 @@ check retry_until_good 0 "$(cat examples/retry_until_good.expected)$newline" '' 
     rehearse examples/retry_until_good.dag examples/retry_until_good.outcomes
 check scripts 0 "$(cat examples/scripts.expected)$newline" '' rehearse examples/scripts.dag examples/scripts.outcomes
 
+# An end that a command substitution would drop is kept by a letter.
+abort=$(cat examples/abort.expected; printf x)
+final=$(cat examples/final.expected; printf x)
+check priorities 9 "$(cat examples/priorities.expected)$newline" '' \
+    rehearse --maxjobs 1 examples/priorities.dag examples/priorities.outcomes
+check categories 9 "$(cat examples/categories.expected)$newline" '' \
+    rehearse examples/categories.dag examples/categories.outcomes
+check categories_one_job 9 "$(cat examples/categories.one_job.expected)$newline" '' \
+    rehearse examples/categories.dag examples/categories.outcomes --maxjobs=1
+check abort 42 "${abort%x}" '' rehearse examples/abort.dag examples/abort.outcomes
+check final 0 "${final%x}" '' rehearse examples/final.dag examples/abort.outcomes
+
 # The files of splices and the submit files are seen from the folder in which dagrun is called.
 folder=examples
 check diamond_checked 0 "ok nodes=4 edges=4 final=no$newline" '' check diamond.dag
@@ -79,7 +91,6 @@ check folder_as_dag 125 '' 'dagrun: S1 MissingFile examples' rehearse examples
 check bad_outcomes 125 '' 'dagrun: N3 BadLine 1' rehearse examples/diamond.dag examples/diamond.dag
 check unknown_command 125 '' 'dagrun: L2 UnknownCommand -:1:1' <<<'FOO A'
 check name_declared_twice 125 '' 'dagrun: S4 DuplicateName -:2:5' <<<$'JOB A a.sub\nJOB A b.sub'
-check not_yet 125 '' 'dagrun: B2 NotYet' <<<$'JOB A a.sub\nPRIORITY A 1'
 check_full refused_output rehearse examples/diamond.dag
 
 printf '%s passed, %s failed\n' "$passed" "$failed"

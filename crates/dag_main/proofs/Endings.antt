@@ -11,7 +11,8 @@ use Rattle.sched_core.specs.declared.Record.{Record}
 use Rattle.sched_core.specs.declared.Record.TheVariants.{End, Finish}
 use Rattle.sched_core.specs.Run.{outstanding, is_among, is_open, may_follow, is_finished, is_lawful}
 use Rattle.sched_core.specs.Lives.{HasOutcomesOf}
-use Rattle.sched_core.specs.Core.{Progress}
+use Rattle.throttles.specs.declared.Limits.{Limits}
+use Rattle.sched_core.specs.Core.{Progress, GoesByChoice}
 use Rattle.sched_core.specs.Bound.{records_left}
 use Rattle.sched_core.proofs.LivesLemmas.{table-fates}
 use Rattle.dag_main.specs.Rehearsal.{table_by, ending_of, IsRehearsed, IsGoing}
@@ -40,10 +41,12 @@ end-told plan past entries key h = (λ calm j. if sym calm j then Exit 0 else ta
 
 -- a finished run by the table
 pub rehearsed : (plan : Plan) (table : Table) (core : Progress) → core.plan ≡ plan → (status : ℕ) (past : List Record) → core.past ≡ Finish status ∷ past
-    → is_lawful plan past ≡ true → may_follow plan past (Finish status) ≡ true → HasOutcomesOf plan table past → IsRehearsed plan table core
-rehearsed plan table core p status past e lawful follows h = record {
+    → is_lawful plan past ≡ true → may_follow plan past (Finish status) ≡ true → GoesByChoice core.limits plan (Finish status ∷ past) → HasOutcomesOf plan table past
+    → IsRehearsed plan table core
+rehearsed plan table core p status past e lawful follows by h = record {
   plan_is = p;
   finished = finished;
+  chosen = subst (GoesByChoice core.limits plan) (sym e) by;
   outcomes = told;
   fates = λ calm. table-fates plan table core.past (record { finished = finished; calm = calm; outcomes = told });
 }
@@ -55,14 +58,16 @@ rehearsed plan table core p status past e lawful follows h = record {
     finished = subst (λ t. is_finished plan t ≡ true) (sym e) (and_from _ _ lawful follows)
 
 -- a run that goes on
-pub goes-on : (plan : Plan) (table : Table) (before core : Progress) → core.plan ≡ before.plan → before.plan ≡ plan → (entry : Record) → core.past ≡ entry ∷ before.past
-    → is_open (entry ∷ before.past) ≡ true → HasOutcomesOf plan table (entry ∷ before.past)
+pub goes-on : (plan : Plan) (table : Table) (before core : Progress) → core.plan ≡ before.plan → before.plan ≡ plan → core.limits ≡ before.limits
+    → (entry : Record) → core.past ≡ entry ∷ before.past → is_open (entry ∷ before.past) ≡ true
+    → GoesByChoice before.limits plan (entry ∷ before.past) → HasOutcomesOf plan table (entry ∷ before.past)
     → records_left plan (entry ∷ before.past) < records_left plan before.past
     → IsGoing plan table core × (records_left plan core.past < records_left plan before.past)
-goes-on plan table before core p q entry e open_now told less = (
+goes-on plan table before core p q r entry e open_now by told less = (
   record {
     plan_is = p ∙ q;
     going = subst (λ t. is_open t ≡ true) (sym e) open_now;
+    chosen = subst (λ (l : Limits). GoesByChoice l plan core.past) (sym r) (subst (GoesByChoice before.limits plan) (sym e) by);
     outcomes = subst (HasOutcomesOf plan table) (sym e) told;
   },
   subst (λ t. records_left plan t < records_left plan before.past) (sym e) less,

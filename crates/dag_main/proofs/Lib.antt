@@ -4,3 +4,4 @@ pub mod OneReport
 pub mod RescueParts
 pub mod PlansOfFiles
 mod Checks
+pub mod CalmReports

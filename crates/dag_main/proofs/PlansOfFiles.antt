@@ -10,9 +10,8 @@ use Rattle.run_plan.specs.Submitted.{first_fault, all_nodes, plan_at, bare_plan}
 use Rattle.run_plan.specs.declared.fault.PlanFault.{PlanFault}
 use Rattle.run_plan.proofs.PlansWithoutRescue.{bare-made, built-fine, built-faulty, told-fault}
 use Rattle.dag_main.specs.Checked.{IsCheckFault, in_plan}
-use Rattle.dag_main.specs.Refusals.{IsPlanOf, IsPlanFault}
-use Rattle.dag_main.specs.Rehearsed.{is_rehearsed}
-use Rattle.dag_main.specs.declared.fault.RunFault.TheVariants.{InPlan, NotYet, Memory}
+use Rattle.dag_main.specs.Refusals.{IsPlanOf}
+use Rattle.dag_main.specs.declared.fault.RunFault.TheVariants.{InPlan, Memory}
 
 -- a plan with no submit file read
 module _ (files : Files) (path : List ℕ) (graph : Network) (plan : Plan) (dag : dag_at files path ≡ Ok graph.dag) (acyclic : IsAcyclic graph.dag.edges)
@@ -23,16 +22,12 @@ module _ (files : Files) (path : List ℕ) (graph : Network) (plan : Plan) (dag 
   graph-is : plan.graph ≡ graph
   graph-is = ap (λ (p : Plan). p.graph) is-bare
 
-  pub not-yet : is_rehearsed plan.graph.dag ≡ false → IsPlanFault files path NotYet
-  not-yet is = (graph.dag, dag, acyclic, subst (λ (g : Network). is_rehearsed g.dag ≡ false) graph-is is)
-
-  pub is-plan : IsOrderOf plan.graph.dag plan.graph.order → is_rehearsed plan.graph.dag ≡ true → IsPlanOf files path plan
-  is-plan order is = record {
+  pub is-plan : IsOrderOf plan.graph.dag plan.graph.order → IsPlanOf files path plan
+  is-plan order = record {
     is_dag = dag ∙ ap (λ (g : Network). Ok g.dag) (sym graph-is);
     acyclic = subst (λ (g : Network). IsAcyclic g.dag.edges) (sym graph-is) acyclic;
     is_order = order;
     made = is-bare ∙ ap bare_plan (sym graph-is);
-    is_run = is;
   }
 
 -- a plan with its submit files

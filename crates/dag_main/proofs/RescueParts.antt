@@ -1,5 +1,5 @@
 -- The text of the rescue file, by the marks of a core.
-use Rattle.std.proofs.Common.{◌≡◌, ℕ, suc, ◌+◌, ◌<◌, Bool, true, false, List, [], ◌∷◌, length, unwrap_or, refl, sym, ap, ◌∙◌, subst, arith, add-zero, if◌then◌else◌}
+use Rattle.std.proofs.Common.{◌≡◌, ℕ, suc, ◌+◌, ◌<◌, Bool, true, false, List, [], ◌∷◌, length, unwrap_or, refl, sym, ap, ◌∙◌, subst, arith, add-zero, append_assoc, ◌++◌, if◌then◌else◌}
 use Rattle.std.specs.Prelude.{slice_get}
 use Rattle.std.specs.List.{list_all}
 use Rattle.rescue_file.specs.Written.{ordinary_names, rescue_text_of}
@@ -8,30 +8,33 @@ use Rattle.sched_core.specs.declared.Record.{Record}
 use Rattle.sched_core.specs.Core.{AreMarks}
 use Rattle.sched_core.specs.Fate.{Fate, is_done_state, shown}
 use Rattle.sched_core.proofs.Finished.{state-done}
-use Rattle.dag_main.specs.Report.{marks_from, rescue_part}
+use Rattle.sched_core.specs.Run.{is_done, needs_rescue}
+use Rattle.dag_main.specs.Report.{marks_from, marked_text, rescue_part, reported, node_lines, result_line, report_of}
 
-marks-are : (fates : ℕ → Fate) (number : ℕ) (marks : List Bool)
-    → ((i : ℕ) → i < length marks → unwrap_or (slice_get marks i) false ≡ is_done_state (fates (number + i)).state)
-    → marks ≡ marks_from fates number (length marks)
-marks-are fates number [] each = refl
-marks-are fates number (mark ∷ marks) each =
-    let here : mark ≡ is_done_state (fates number).state = each 0 (omega arith) ∙ ap (λ (k : ℕ). is_done_state (fates k).state) (add-zero number) in
-    let rest = marks-are fates (number + 1) marks (λ i lt. each (suc i) (omega arith)
-    ∙ ap (λ (k : ℕ). is_done_state (fates k).state) (let e : number + suc i ≡ number + 1 + i = omega arith in e)) in
+marks-are : (test : ℕ → Bool) (number : ℕ) (marks : List Bool)
+    → ((i : ℕ) → i < length marks → unwrap_or (slice_get marks i) false ≡ test (number + i))
+    → marks ≡ marks_from test number (length marks)
+marks-are test number [] each = refl
+marks-are test number (mark ∷ marks) each =
+    let here : mark ≡ test number = each 0 (omega arith) ∙ ap test (add-zero number) in
+    let rest = marks-are test (number + 1) marks (λ i lt. each (suc i) (omega arith)
+    ∙ ap test (let e : number + suc i ≡ number + 1 + i = omega arith in e)) in
     λ j. here j ∷ rest j
 
-module _ (plan : Plan) (past : List Record) (marks : List Bool) (are : AreMarks plan past marks) where
-  same : marks ≡ marks_from (shown plan past) 0 (count_of plan)
-  same =
-      marks-are (shown plan past) 0 marks (λ i lt. are.each i (subst (λ (n : ℕ). i < n) are.many lt) ∙ sym (state-done plan past i)
-      ∙ ap (λ (k : ℕ). is_done_state (shown plan past k).state) (let e : i ≡ 0 + i = omega arith in e))
-      ∙ ap (marks_from (shown plan past) 0) are.many
+pub marks-of : (plan : Plan) (past : List Record) (marks : List Bool) → AreMarks plan past marks → marks ≡ marks_from (is_done plan past) 0 (count_of plan)
+marks-of plan past marks are =
+    marks-are (is_done plan past) 0 marks (λ i lt. are.each i (subst (λ (n : ℕ). i < n) are.many lt) ∙ ap (is_done plan past) (let e : i ≡ 0 + i = omega arith in e))
+    ∙ ap (marks_from (is_done plan past) 0) are.many
 
-  pub all-done : list_all (λ (mark : Bool). mark) marks ≡ true → [] ≡ rescue_part plan (marks_from (shown plan past) 0 (count_of plan))
-  all-done all =
-      sym (ap (λ (b : Bool). if b then [] else rescue_text_of (ordinary_names plan.graph.dag) marks) all) ∙ ap (rescue_part plan) same
+pub needed : (plan : Plan) (past : List Record) (text : List ℕ) → needs_rescue plan past ≡ true → text ≡ marked_text plan (is_done plan past) → text ≡ rescue_part plan past
+needed plan past text need e = e ∙ (λ j. if sym need j then marked_text plan (is_done plan past) else [])
 
-  pub some-left : list_all (λ (mark : Bool). mark) marks ≡ false
-      → rescue_text_of (ordinary_names plan.graph.dag) marks ≡ rescue_part plan (marks_from (shown plan past) 0 (count_of plan))
-  some-left all =
-      sym (ap (λ (b : Bool). if b then [] else rescue_text_of (ordinary_names plan.graph.dag) marks) all) ∙ ap (rescue_part plan) same
+pub not-needed : (plan : Plan) (past : List Record) (text : List ℕ) → needs_rescue plan past ≡ false → text ≡ [] → text ≡ rescue_part plan past
+not-needed plan past text need e = e ∙ (λ j. if sym need j then marked_text plan (is_done plan past) else [])
+
+-- the parts of a report, one behind another
+pub whole-report : (plan : Plan) (past : List Record) (status n : ℕ) → n ≡ reported plan → (nodes result rescue text : List ℕ) → nodes ≡ node_lines plan past n
+    → result ≡ nodes ++ result_line status → rescue ≡ rescue_part plan past → text ≡ result ++ rescue → text ≡ report_of plan past status
+whole-report plan past status n at nodes result rescue text a b c d =
+    d ∙ (λ j. b j ++ c j) ∙ append_assoc nodes (result_line status) (rescue_part plan past)
+    ∙ ap (λ (t : List ℕ). t ++ (result_line status ++ rescue_part plan past)) (a ∙ ap (node_lines plan past) at)

@@ -10,6 +10,7 @@ use std::alloc::Global;
 use std::fs;
 use std::io::ErrorKind;
 use std::rt::Files;
+use throttles::Limits;
 
 /// The exit status of whatever is refused.
 const REFUSED: u8 = 125;
@@ -23,7 +24,11 @@ const REFUSED: u8 = 125;
 pub fn run<R: Files + Input + Print + Eprint + AllocGlobal>(rt: &R, words: &[&str]) -> u8 {
     match read_words(rt.alloc(), words) {
         Ok(Request::Check { dag }) => finish(rt, check(rt, dag)),
-        Ok(Request::Rehearse { dag, outcomes }) => finish(rt, rehearse(rt, dag, outcomes)),
+        Ok(Request::Rehearse {
+            dag,
+            outcomes,
+            limits,
+        }) => finish(rt, rehearse(rt, dag, outcomes, limits)),
         Err(error) => {
             let _ = eprint!(rt; "{error}");
             REFUSED
@@ -61,6 +66,7 @@ fn rehearse<R: Files + Input + AllocGlobal>(
     rt: &R,
     dag: &str,
     outcomes: Option<&str>,
+    limits: Limits,
 ) -> Result<Answer, RunFault> {
     let table = match outcomes {
         Some(path) => Some(read_outcomes(rt, path)?),
@@ -68,8 +74,8 @@ fn rehearse<R: Files + Input + AllocGlobal>(
     };
     let files = files_of(rt, dag, Reading::SplicesAlone)?;
     match &table {
-        Some(bytes) => rehearse_text(rt.alloc(), &files, dag, Some(bytes.as_slice())),
-        None => rehearse_text(rt.alloc(), &files, dag, None),
+        Some(bytes) => rehearse_text(rt.alloc(), &files, dag, Some(bytes.as_slice()), limits),
+        None => rehearse_text(rt.alloc(), &files, dag, None, limits),
     }
 }
 

@@ -21,8 +21,6 @@ pub enum RunFault {
     Cycle(Texts),
     /// A submit file, or a text of a node's job, is refused.
     InPlan(PlanFault),
-    /// A setting is read and not run yet: PRIORITY, MAXJOBS, ABORT-DAG-ON or FINAL.
-    NotYet,
     /// A line of the table of outcomes is not spelled rightly.
     InTable(TableFault),
     /// The system refuses the file of this path.
@@ -37,7 +35,6 @@ impl fmt::Display for RunFault {
             RunFault::InFiles(fault) => write!(f, "{fault}"),
             RunFault::Cycle(names) => write!(f, "G1 Cycle{names}"),
             RunFault::InPlan(fault) => write!(f, "{fault}"),
-            RunFault::NotYet => write!(f, "B2 NotYet"),
             RunFault::InTable(fault) => write!(f, "{fault}"),
             RunFault::FileRefused(path) => write!(f, "X2 FileRefused {path}"),
             RunFault::Memory => write!(f, "X1 Memory"),

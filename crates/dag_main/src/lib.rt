@@ -10,6 +10,7 @@ mod plans;
 mod rehearsal;
 mod report;
 mod request;
+mod status;
 mod warnings;
 
 pub use check::check_text;
@@ -17,5 +18,6 @@ pub use commands::run;
 pub use fault::RunFault;
 pub use rehearsal::run_table;
 pub use report::rehearse_text;
+pub use status::NodeStatus;
 pub use request::{Request, read_words};
 pub use warnings::Answer;

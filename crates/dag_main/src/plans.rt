@@ -1,20 +1,18 @@
 //! The graph and the plan of the files of a DAG.
 
-ghost use Rattle.std.specs.Prelude.{◌≡◌, true, ◌&&◌, is_none, IfOk, IfErr, Ok, Some};
-ghost use Rattle.std.specs.List.{list_all};
+ghost use Rattle.std.specs.Prelude.{◌≡◌, IfOk, IfErr, Ok, Some};
 ghost use Rattle.splices.specs.FileSet.{bytes_of};
 ghost use Rattle.splices.specs.Opened.{dag_at};
 ghost use Rattle.dag_graph.specs.Graph.{IsAcyclic};
 ghost use Rattle.run_plan.specs.Submitted.{first_fault, all_nodes};
 ghost use Rattle.dag_main.specs.Checked.{IsCheckFault, in_plan};
-ghost use Rattle.dag_main.specs.Rehearsed.{IsGraphFault, is_rehearsed};
+ghost use Rattle.dag_main.specs.Rehearsed.{IsGraphFault};
 ghost use Rattle.dag_main.specs.Refusals.{IsPlanOf, IsPlanFault};
 
 use crate::fault::RunFault;
 use dag_graph::{Graph, GraphFault};
 use run_plan::{Plan, PlanFault};
-use sched_core::Core;
-use splices::{FileSet, FlatDag, FlatNode, SpliceFault, open_dag};
+use splices::{FileSet, FlatDag, SpliceFault, open_dag};
 use std::alloc::Global;
 
 fn dag_of(alloc: Global, files: &FileSet, path: &str) -> Result<FlatDag, RunFault>
@@ -42,26 +40,7 @@ pub(crate) fn graph_of(alloc: Global, files: &FileSet, path: &str) -> Result<Gra
     }
 }
 
-fn have_no_abort(nodes: &[FlatNode]) -> bool
-    ensures { result ≡ list_all (λ node. is_none node.settings.abort) nodes.now }
-{
-    for node in nodes {
-        if node.settings.abort.is_some() {
-            return false;
-        }
-    }
-    true
-}
-
-/// Whether a rehearsal runs each setting of the plan's files.
-fn is_rehearsed(plan: &Plan) -> bool
-    ensures { result ≡ is_rehearsed plan.now.graph.dag }
-{
-    let dag = plan.graph().flat();
-    Core::takes(plan) && dag.final_node().is_none() && have_no_abort(dag.nodes())
-}
-
-/// The plan of the files of this path, each of whose settings a rehearsal runs.
+/// The plan of the files of this path, with no submit file read.
 pub(crate) fn plan_of(alloc: Global, files: &FileSet, path: &str) -> Result<Plan, RunFault>
     ensures plan { IfOk result (IsPlanOf (bytes_of files.now) path.now) }
     ensures refused { IfErr result (IsPlanFault (bytes_of files.now) path.now) }
@@ -70,9 +49,6 @@ pub(crate) fn plan_of(alloc: Global, files: &FileSet, path: &str) -> Result<Plan
     let Ok(plan) = Plan::build_bare(alloc, graph, None) else {
         return Err(RunFault::Memory);
     };
-    if !is_rehearsed(&plan) {
-        return Err(RunFault::NotYet);
-    }
     let _order = plan.graph().order();
     Ok(plan)
 }

@@ -11,6 +11,7 @@ use node_machine::{Key, Outcome, Phase, Table};
 use run_plan::Plan;
 use sched_core::{Choice, Core, CoreFault, Record};
 use std::alloc::Global;
+use throttles::Limits;
 
 /// What a phase ends with: the table's outcome, and Exit 0 for the job of a NOOP.
 fn ending(plan: &Plan, table: &Table, key: &Key) -> Outcome
@@ -29,6 +30,7 @@ fn ending(plan: &Plan, table: &Table, key: &Key) -> Outcome
 fn add(core: &mut Core<'_>, entry: Record) -> Result<(), CoreFault>
     requires { IsTrue (may_follow core.old.plan core.old.past entry) }
     ensures plan { core.new.plan ≡ core.old.plan }
+    ensures limits { core.new.limits ≡ core.old.limits }
     ensures past { OnOk result (core.new.past ≡ entry ∷ core.old.past) }
     ensures err { IfErr result (λ fault. fault ≡ Memory) }
 {
@@ -38,11 +40,12 @@ fn add(core: &mut Core<'_>, entry: Record) -> Result<(), CoreFault>
 }
 
 /// A run that has begun.
-fn begin<'a>(alloc: Global, plan: &'a Plan) -> Result<Core<'a>, CoreFault>
-    ensures ok { IfOk result (λ core. (core.plan ≡ plan.now) × (core.past ≡ Record.Life ∷ [])) }
+fn begin<'a>(alloc: Global, plan: &'a Plan, limits: Limits) -> Result<Core<'a>, CoreFault>
+    ensures ok { IfOk result (λ core. (core.plan ≡ plan.now)
+        × (core.limits ≡ limits) × (core.past ≡ Record.Life ∷ [])) }
     ensures err { IfErr result (λ fault. fault ≡ Memory) }
 {
-    let mut core = Core::new(alloc, plan)?;
+    let mut core = Core::new(alloc, plan, limits)?;
     add(&mut core, Record::Life)?;
     Ok(core)
 }
@@ -54,6 +57,7 @@ fn step(core: &mut Core<'_>, plan: &Plan, table: &Table) -> Result<bool, CoreFau
     requires going { IsGoing plan.now (table_by plan.now table.now) core.old }
     ensures ok { IfOk result (λ over.
         IsAfterStep over plan.now (table_by plan.now table.now) core.old core.new) }
+    ensures limits { core.new.limits ≡ core.old.limits }
     ensures err { IfErr result (λ fault. fault ≡ Memory) }
 {
     core.keeps_the_law();
@@ -78,17 +82,24 @@ fn step(core: &mut Core<'_>, plan: &Plan, table: &Table) -> Result<bool, CoreFau
     }
 }
 
-/// Runs a plan at the outcomes of a table: whatever may be launched is launched, in plan order;
-/// then the phase that was launched first ends; and so on until the run is finished.
+/// Runs a plan at the outcomes of a table: whatever may be launched and is let in by the limits is
+/// launched, the greatest priority first and then in plan order; then the phase that was launched
+/// first ends; and so on until the run is finished.
 ///
 /// The core that it answers is finished, and its endings are the table's. It is refused for
 /// want of memory alone.
-pub fn run_table<'a>(alloc: Global, plan: &'a Plan, table: &Table) -> Result<Core<'a>, CoreFault>
+pub fn run_table<'a>(
+    alloc: Global,
+    plan: &'a Plan,
+    table: &Table,
+    limits: Limits,
+) -> Result<Core<'a>, CoreFault>
     requires possible { HasPossibleOutcomes table.now }
-    ensures run { IfOk result (λ core. IsRehearsed plan.now (table_by plan.now table.now) core) }
+    ensures run { IfOk result (λ core.
+        IsRehearsed plan.now (table_by plan.now table.now) core × (core.limits ≡ limits)) }
     ensures err { IfErr result (λ fault. fault ≡ Memory) }
 {
-    let mut core = begin(alloc, plan)?;
+    let mut core = begin(alloc, plan, limits)?;
     loop {
         if step(&mut core, plan, table)? {
             return Ok(core);

@@ -1,13 +1,11 @@
 //! The report of a rehearsal.
 
-ghost use Rattle.std.specs.Prelude.{◌≡◌, ◌<◌, ◌++◌, ℕ, List, OnOk, IfOk, IfErr, string_bytes};
-ghost use Rattle.std.specs.List.{list_all};
+ghost use Rattle.std.specs.Prelude.{◌≡◌, ◌≤◌, ◌+◌, ◌++◌, List, OnOk, IfOk, IfErr, string_bytes};
 ghost use Rattle.std.specs.Option.{option_map};
 ghost use Rattle.node_machine.specs.OutcomeTable.{Entry, SameOutcomes, HasPossibleOutcomes};
 ghost use Rattle.splices.specs.FileSet.{bytes_of};
-ghost use Rattle.run_plan.specs.Plan.{node_at, count_of};
-ghost use Rattle.sched_core.specs.Fate.{shown};
-ghost use Rattle.dag_main.specs.Report.{state_word, status_line, fate_line, marks_from, rescue_part, report_of, warning_lines};
+ghost use Rattle.run_plan.specs.Plan.{count_of};
+ghost use Rattle.dag_main.specs.Report.{status_line, node_line, reported, rescue_part, report_of, warning_lines};
 ghost use Rattle.dag_main.specs.Rehearsed.{HasEntries, IsRehearsalOf, IsOwed};
 ghost use Rattle.dag_main.specs.Refusals.{ReportsRun, IsTableFault};
 ghost use Rattle.dag_main.specs.declared.fault.RunFault.TheVariants.{Memory};
@@ -16,34 +14,37 @@ use crate::fault::RunFault;
 use crate::plans::plan_of;
 use crate::rehearsal::run_table;
 use crate::warnings::{Answer, warning_text};
-use node_machine::{State, Table, TableFault, read_table};
+use crate::status::{NodeStatus, status_of};
+use node_machine::{Table, TableFault, read_table};
 use rescue_file::rescue_text;
 use run_plan::Plan;
 use sched_core::{Core, Verdict};
 use splices::FileSet;
 use std::alloc::{AllocError, Global};
+use throttles::Limits;
 
 /// Rehearses the DAG file of this path and those of its splices, which stand in the file set: runs
-/// the nodes at the outcomes of a table, with no child and no disk.
+/// the nodes at the outcomes of a table under these limits, with no child and no disk.
 ///
 /// `outcomes` is the text of the table; without it each phase ends with Exit 0. The report has a
 /// line for each node in plan order, `name STATE attempts=n value=v`, then `result N`, N the exit
-/// status, and where a node is not done the text of the rescue file. No submit file is read.
+/// status, and the text of the rescue file where the run was aborted, a node is not done, or FINAL
+/// failed. No submit file is read.
 ///
 /// # Errors
-/// The first fault that opening the files meets (`InFiles`), a cycle (`Cycle`), a setting that is
-/// not run yet (`NotYet`: PRIORITY, MAXJOBS, ABORT-DAG-ON and FINAL), the first bad line of the
-/// table (`InTable`), in this order; and want of memory. After a missing file the caller may add
-/// it and ask again.
+/// The first fault that opening the files meets (`InFiles`), a cycle (`Cycle`), the first bad line
+/// of the table (`InTable`), in this order; and want of memory. After a missing file the caller
+/// may add it and ask again.
 pub fn rehearse_text(
     alloc: Global,
     files: &FileSet,
     path: &str,
     outcomes: Option<&[u8]>,
+    limits: Limits,
 ) -> Result<Answer, RunFault>
-    // The report is that of the fates, for these bytes.
+    // The report is that of a run, which without abort shows the fates (`laws::calm_reports`).
     ensures report { IfOk result (λ answer. IsRehearsalOf (bytes_of files.now) path.now
-        (option_map (λ b. b.now) outcomes.entry)
+        (option_map (λ b. b.now) outcomes.entry) limits
         (string_bytes answer.text) (string_bytes answer.warnings) answer.status) }
 
     // It is refused only where an input is, or for want of memory.
@@ -52,19 +53,24 @@ pub fn rehearse_text(
 {
     let plan = plan_of(alloc, files, path)?;
     let table = table_of(alloc, outcomes)?;
-    rehearse_plan(alloc, &plan, &table)
+    rehearse_plan(alloc, &plan, &table, limits)
 }
 
 /// The report of a plan at the outcomes of a table.
-fn rehearse_plan(alloc: Global, plan: &Plan, table: &Table) -> Result<Answer, RunFault>
+fn rehearse_plan(
+    alloc: Global,
+    plan: &Plan,
+    table: &Table,
+    limits: Limits,
+) -> Result<Answer, RunFault>
     requires possible { HasPossibleOutcomes table.now }
     ensures run { IfOk result (λ answer.
-        ReportsRun plan.now table.now (string_bytes answer.text) answer.status) }
+        ReportsRun limits plan.now table.now (string_bytes answer.text) answer.status) }
     ensures warnings { IfOk result (λ answer.
         string_bytes answer.warnings ≡ warning_lines plan.now.graph.dag.warnings) }
     ensures err { IfErr result (λ fault. fault ≡ Memory) }
 {
-    let Ok(core) = run_table(alloc, plan, table) else {
+    let Ok(core) = run_table(alloc, plan, table, limits) else {
         return Err(RunFault::Memory);
     };
     let status = core.verdict();
@@ -92,67 +98,62 @@ fn table_of(alloc: Global, outcomes: Option<&[u8]>) -> Result<Table, RunFault>
     }
 }
 
-fn state_word(state: State) -> &'static str
-    ensures { result.now ≡ state_word state }
-{
-    match state {
-        State::Done => "DONE",
-        State::Error => "ERROR",
-        State::NotRun => "NOT_READY",
-    }
-}
-
 /// The line of a node.
 fn push_line(
     text: &mut String,
     name: &str,
-    state: State,
+    status: NodeStatus,
     attempts: u64,
     value: Option<i32>,
 ) -> Result<(), AllocError>
     ensures { OnOk result (string_bytes text.new
-        ≡ string_bytes text.old ++ status_line name.now state attempts value) }
+        ≡ string_bytes text.old ++ status_line name.now status attempts value) }
 {
-    let state = state_word(state);
+    let status = status.word();
     match value {
-        Some(value) => writeln!(text, "{name} {state} attempts={attempts} value={value}"),
-        None => writeln!(text, "{name} {state} attempts={attempts} value=-"),
+        Some(value) => writeln!(text, "{name} {status} attempts={attempts} value={value}"),
+        None => writeln!(text, "{name} {status} attempts={attempts} value=-"),
     }
 }
 
 /// The line of the node of this number.
 fn push_node(text: &mut String, core: &Core<'_>, node: u32) -> Result<(), AllocError>
-    requires { node < count_of core.now.plan }
-    ensures { OnOk result (string_bytes text.new ≡ string_bytes text.old
-        ++ fate_line (node_at core.now.plan node).name (shown core.now.plan core.now.past node)) }
+    requires { node ≤ count_of core.now.plan }
+    ensures { OnOk result (string_bytes text.new ≡ string_bytes text.old ++ node_line core.now.plan core.now.past node) }
 {
     push_line(
         text,
         core.plan().spec(node).name(),
-        core.node_state(node),
+        status_of(core, node),
         core.attempts_ended(node),
         core.last_value(node),
     )
 }
 
-fn are_all(marks: &[bool]) -> bool
-    ensures { result ≡ list_all (λ mark. mark) marks.now }
+/// How many nodes have a line: the ordinary ones, and FINAL behind them.
+fn reported(core: &Core<'_>) -> u32
+    ensures is { result ≡ reported core.now.plan }
+    ensures few { result ≤ count_of core.now.plan + 1 }
 {
-    marks.iter().all(|mark| *mark)
+    let plan = core.plan();
+    if plan.has_final() {
+        plan.count() + 1
+    } else {
+        plan.count()
+    }
 }
 
-/// The text of the rescue file, where a node is not done.
+/// The text of the rescue file, where one is needed.
 fn rescue_part(alloc: Global, core: &Core<'_>) -> Result<String, RunFault>
-    ensures ok { IfOk result (λ text. string_bytes text
-        ≡ rescue_part core.now.plan (marks_from (shown core.now.plan core.now.past) 0 (count_of core.now.plan))) }
+    ensures ok { IfOk result (λ text. string_bytes text ≡ rescue_part core.now.plan core.now.past) }
     ensures err { IfErr result (λ fault. fault ≡ Memory) }
 {
+    if !core.needs_rescue() {
+        return Ok(String::new(alloc));
+    }
     let Ok(marks) = core.marks(alloc) else {
         return Err(RunFault::Memory);
     };
-    if are_all(marks.as_slice()) {
-        return Ok(String::new(alloc));
-    }
     match rescue_text(alloc, core.plan().graph(), marks.as_slice()) {
         Ok(text) => Ok(text),
         Err(_) => Err(RunFault::Memory),
@@ -161,12 +162,11 @@ fn rescue_part(alloc: Global, core: &Core<'_>) -> Result<String, RunFault>
 
 /// The report of a run that ends with this status.
 fn report_of(alloc: Global, core: &Core<'_>, status: Verdict) -> Result<String, RunFault>
-    ensures ok { IfOk result (λ text. string_bytes text
-        ≡ report_of core.now.plan (shown core.now.plan core.now.past) status) }
+    ensures ok { IfOk result (λ text. string_bytes text ≡ report_of core.now.plan core.now.past status) }
     ensures err { IfErr result (λ fault. fault ≡ Memory) }
 {
     let mut text = String::new(alloc);
-    for node in 0..core.plan().count() {
+    for node in 0..reported(core) {
         push_node(&mut text, core, node)?;
     }
     writeln!(text, "result {status}")?;

@@ -2,8 +2,17 @@
 
 ghost use Rattle.std.specs.Prelude.{◌≤◌, length, IsOk};
 
-use clap::{Arg, ArgAction, Command, Error};
+use clap::{Arg, ArgAction, ArgMatches, Command, Error, value_parser};
 use std::alloc::{AllocError, Global};
+use throttles::Limits;
+
+/// No limits but that on all children.
+const NO_LIMITS: Limits = Limits {
+    jobs: 0,
+    pre: 0,
+    post: 0,
+    children: 1024,
+};
 
 /// What the words of a command line ask for.
 #[derive(Clone, Copy, Debug)]
@@ -18,6 +27,7 @@ pub enum Request<'a> {
     Rehearse {
         dag: &'a str,
         outcomes: Option<&'a str>,
+        limits: Limits,
     },
 }
 
@@ -34,6 +44,32 @@ fn check_command<'a>(alloc: Global) -> Result<Command<'a>, AllocError> {
         .arg(dag_argument(alloc))
 }
 
+/// An option with a number from 0 to 65,535.
+fn limit_argument<'a>(alloc: Global, name: &'a str, help: &'a str) -> Arg<'a> {
+    Arg::new(alloc, name)
+        .long(name)
+        .action(ArgAction::Set)
+        .value_parser(value_parser!(u16))
+        .help(help)
+}
+
+/// The limit of this name; 0, which is none, where it is not given.
+fn limit_of(found: &ArgMatches<'_>, name: &str) -> u32 {
+    match found.get_one::<u16>(name) {
+        Some(limit) => u32::from(limit),
+        None => 0,
+    }
+}
+
+fn limits_of(found: &ArgMatches<'_>) -> Limits {
+    Limits {
+        jobs: limit_of(found, "maxjobs"),
+        pre: limit_of(found, "maxpre"),
+        post: limit_of(found, "maxpost"),
+        ..NO_LIMITS
+    }
+}
+
 fn rehearse_command<'a>(alloc: Global) -> Result<Command<'a>, AllocError> {
     Command::new(alloc, "rehearse")
         .about("Runs a DAG file at the outcomes of a table, and starts no program")
@@ -42,7 +78,10 @@ fn rehearse_command<'a>(alloc: Global) -> Result<Command<'a>, AllocError> {
             Arg::new(alloc, "OUTCOMES").action(ArgAction::Set).help(
                 "Lines `name attempt PRE|JOB|POST outcome`; without it all phases exit with 0",
             ),
-        )
+        )?
+        .arg(limit_argument(alloc, "maxjobs", "How many jobs may run at once; 0 is no limit"))?
+        .arg(limit_argument(alloc, "maxpre", "How many PRE scripts may run at once"))?
+        .arg(limit_argument(alloc, "maxpost", "How many POST scripts may run at once"))
 }
 
 fn dagrun_command<'a>(alloc: Global) -> Result<Command<'a>, AllocError> {
@@ -64,6 +103,7 @@ pub fn read_words<'a>(alloc: Global, words: &'a [&'a str]) -> Result<Request<'a>
         return Ok(Request::Rehearse {
             dag: "-",
             outcomes: None,
+            limits: NO_LIMITS,
         });
     }
     let matches = dagrun_command(alloc)?.try_get_matches_from(words)?;
@@ -74,10 +114,12 @@ pub fn read_words<'a>(alloc: Global, words: &'a [&'a str]) -> Result<Request<'a>
         Some((_, found)) => Ok(Request::Rehearse {
             dag: found.get_str("DAG").unwrap_or("-"),
             outcomes: found.get_str("OUTCOMES"),
+            limits: limits_of(found),
         }),
         None => Ok(Request::Rehearse {
             dag: "-",
             outcomes: None,
+            limits: NO_LIMITS,
         }),
     }
 }

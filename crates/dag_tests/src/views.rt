@@ -94,9 +94,9 @@ fn spec(alloc: Global, spec: &NodeSpec) -> Result<String, AllocError> {
     let course = course(alloc, spec.course())?;
     let done = if spec.is_done() { " DONE" } else { "" };
     let priority = spec.priority();
-    let category = spec.category().unwrap_or("-");
+    let category = spec.category();
     let status = spec.abort_return();
-    format!(in alloc; "{name} {parents:?}{course}{done} {priority} {category} {status:?};")
+    format!(in alloc; "{name} {parents:?}{course}{done} {priority} {category:?} {status:?};")
 }
 
 fn course(alloc: Global, course: &Course) -> Result<String, AllocError> {

@@ -1,5 +1,6 @@
 //! What `check` answers.
 
+use crate::NO_LIMITS;
 use dag_main::{check_text, rehearse_text};
 use splices::FileSet;
 use std::alloc::Global;
@@ -71,7 +72,7 @@ fn nested_splices(rt: HostRuntime) -> Result<(), Fail> {
 fn nested_splices_rehearsed(rt: HostRuntime) -> Result<(), Fail> {
     let alloc = rt.alloc();
     let files = files_of(alloc, &DAGS)?;
-    let answer = rehearse_text(alloc, &files, "t.dag", Some(b"Z+A 0 JOB 2".as_slice()))?;
+    let answer = rehearse_text(alloc, &files, "t.dag", Some(b"Z+A 0 JOB 2".as_slice()), NO_LIMITS)?;
     let lines = "S DONE attempts=1 value=0\nE NOT_READY attempts=0 value=-\n\
         Y+A DONE attempts=1 value=0\nY+B DONE attempts=1 value=0\n\
         Y+X+L DONE attempts=1 value=0\nZ+A ERROR attempts=1 value=2\n\
@@ -143,7 +144,7 @@ fn warnings(rt: HostRuntime) -> Result<(), Fail> {
     let due = "warning: x.dag:3 ignored\nwarning: x.dag:2 overridden\n";
     assert_eq!(rt; check_text(alloc, &files, "x.dag")?.warnings.as_str(), due);
     assert_eq!(rt;
-        rehearse_text(alloc, &files, "x.dag", None)?
+        rehearse_text(alloc, &files, "x.dag", None, NO_LIMITS)?
             .warnings
             .as_str(),
         due

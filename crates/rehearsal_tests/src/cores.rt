@@ -1,16 +1,16 @@
 //! What a core tells of a finished run.
 
+use crate::NO_LIMITS;
 use dag_graph::Graph;
 use dag_main::run_table;
 use node_machine::{Outcome, Phase, read_table};
 use run_plan::{Plan, PlanFault};
-use sched_core::Core;
 use splices::{FileSet, open_dag};
 use std::alloc::Global;
 use std::process::Abort;
 use std::test::Fail;
 
-fn plan_of(alloc: Global, text: &str) -> Result<Plan, Fail> {
+pub fn plan_of(alloc: Global, text: &str) -> Result<Plan, Fail> {
     let mut files = FileSet::new(alloc);
     files.add(alloc, "x.dag", text.as_bytes())?;
     let dag = open_dag(alloc, &files, "x.dag")?;
@@ -27,41 +27,12 @@ fn fault_of(refused: (Graph, PlanFault)) -> Fail {
     Fail::from(fault)
 }
 
-/// Whether a core takes the settings of a plan.
-///
-/// A value of many parts is let go by a call, since a proof spells each part where a block's end
-/// lets it go.
-fn takes(plan: Plan) -> bool {
-    let answer = Core::takes(&plan);
-    drop(plan);
-    answer
-}
-
-#[test]
-fn settings_that_are_run(rt: HostRuntime) -> Result<(), Fail> {
-    let rows = [
-        (
-            "JOB A a NOOP\nJOB B b DONE\nSCRIPT PRE A q\nSCRIPT POST A p\nPRE_SKIP A 1",
-            true,
-        ),
-        ("JOB A a\nRETRY A 1 UNLESS-EXIT 2\nVARS A x=\"y\"", true),
-        ("JOB A a\nABORT-DAG-ON A 1\nFINAL F f\nCATEGORY A c", true),
-        ("JOB A a\nPRIORITY A 0", false),
-        ("JOB A a\nMAXJOBS c 1", false),
-    ];
-    for (text, taken) in rows {
-        let plan = plan_of(rt.alloc(), text)?;
-        assert_eq!(rt; takes(plan), taken);
-    }
-    Ok(())
-}
-
 /// The history of B and the marks, where the job of B exits with 1 and then with 2.
 fn told(rt: &impl Abort, alloc: Global, plan: &Plan) -> Result<(), Fail> {
     let Ok(table) = read_table(alloc, b"B 0 JOB 1\nB 1 JOB 2\n") else {
         panic!(rt; "no table");
     };
-    let Ok(core) = run_table(alloc, plan, &table) else {
+    let Ok(core) = run_table(alloc, plan, &table, NO_LIMITS) else {
         panic!(rt; "no run");
     };
     let Ok(history) = core.history(alloc, 1) else {

@@ -6,6 +6,18 @@ mod checks;
 #[cfg(test)]
 mod cores;
 #[cfg(test)]
-mod refused;
+mod course;
 #[cfg(test)]
-mod reports;
+mod refused;
+
+#[cfg(test)]
+use throttles::Limits;
+
+/// No limits but that on all children.
+#[cfg(test)]
+const NO_LIMITS: Limits = Limits {
+    jobs: 0,
+    pre: 0,
+    post: 0,
+    children: 1024,
+};

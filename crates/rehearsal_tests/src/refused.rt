@@ -1,16 +1,43 @@
 //! What is refused, and the line that tells it.
 
+use crate::NO_LIMITS;
 use dag_main::{Request, read_words, rehearse_text};
 use splices::FileSet;
 use std::alloc::Global;
 use std::process::Abort;
 use std::test::Fail;
 
+/// Words of limits, and the limits on jobs, PRE scripts and POST scripts that they say.
+const LIMITS: [(&[&str], [u32; 3]); 4] = [
+    (&["dagrun", "rehearse", "x.dag"], [0, 0, 0]),
+    (
+        &["dagrun", "rehearse", "--maxjobs", "3", "x.dag", "--maxpre=0"],
+        [3, 0, 0],
+    ),
+    (
+        &["dagrun", "rehearse", "x.dag", "--maxpost=65535", "table", "--maxpre", "+2"],
+        [0, 2, 65535],
+    ),
+    (&["dagrun"], [0, 0, 0]),
+];
+
+/// Words that are no request.
+const REFUSED: [&[&str]; 8] = [
+    &["dagrun", "check", "x.dag", "table"],
+    &["dagrun", "rehearse"],
+    &["dagrun", "--help"],
+    &["dagrun", "fly", "x.dag"],
+    &["dagrun", "rehearse", "x.dag", "--maxjobs", "65536"],
+    &["dagrun", "rehearse", "x.dag", "--maxpre=-1"],
+    &["dagrun", "rehearse", "x.dag", "--maxjobs=1", "--maxjobs=1"],
+    &["dagrun", "check", "x.dag", "--maxjobs", "1"],
+];
+
 /// What a rehearsal of one file named `-` answers: the fault's line.
 fn fault_of(alloc: Global, dag: &str, outcomes: &str) -> Result<String, Fail> {
     let mut files = FileSet::new(alloc);
     files.add(alloc, "-", dag.as_bytes())?;
-    match rehearse_text(alloc, &files, "-", Some(outcomes.as_bytes())) {
+    match rehearse_text(alloc, &files, "-", Some(outcomes.as_bytes()), NO_LIMITS) {
         Ok(_) => Ok(String::from_str(alloc, "not refused")?),
         Err(fault) => Ok(format!(in alloc; "{fault}")?),
     }
@@ -55,32 +82,9 @@ fn files_and_graph(rt: HostRuntime) -> Result<(), Fail> {
 }
 
 #[test]
-fn not_yet_run(rt: HostRuntime) -> Result<(), Fail> {
-    check(
-        &rt,
-        &[
-            ("JOB A a\nPRIORITY A 0", "B2 NotYet"),
-            ("JOB A a\nCATEGORY A c\nMAXJOBS c 1", "B2 NotYet"),
-            ("JOB A a\nABORT-DAG-ON A 7", "B2 NotYet"),
-            ("FINAL F f", "B2 NotYet"),
-        ],
-    )
-}
-
-#[test]
-fn graph_before_what_is_not_run(rt: HostRuntime) -> Result<(), Fail> {
-    let dag = "JOB A a\nPRIORITY A 1\nPARENT A CHILD A";
-    let fault = fault_of(rt.alloc(), dag, "A 0 JOB")?;
-    assert_eq!(rt; fault.as_str(), "G1 Cycle A");
-    let fault = fault_of(rt.alloc(), "JOB A a\nPRIORITY A 1", "A 0 JOB")?;
-    assert_eq!(rt; fault.as_str(), "B2 NotYet");
-    Ok(())
-}
-
-#[test]
 fn missing_file(rt: HostRuntime) -> Result<(), Fail> {
     let alloc = rt.alloc();
-    match rehearse_text(alloc, &FileSet::new(alloc), "x.dag", None) {
+    match rehearse_text(alloc, &FileSet::new(alloc), "x.dag", None, NO_LIMITS) {
         Ok(_) => panic!(rt; "not refused"),
         Err(fault) => {
             let line = format!(in alloc; "{fault}")?;
@@ -108,13 +112,13 @@ fn dag_before_table(rt: HostRuntime) -> Result<(), Fail> {
 fn words(rt: HostRuntime) -> Result<(), Fail> {
     let alloc = rt.alloc();
     match read_words(alloc, &["dagrun"]) {
-        Ok(Request::Rehearse { dag, outcomes }) => {
+        Ok(Request::Rehearse { dag, outcomes, .. }) => {
             assert!(rt; dag == "-" && outcomes.is_none());
         }
         _ => panic!(rt; "no words are a rehearsal of standard input"),
     }
     match read_words(alloc, &["dagrun", "rehearse", "x.dag", "table"]) {
-        Ok(Request::Rehearse { dag, outcomes }) => {
+        Ok(Request::Rehearse { dag, outcomes, .. }) => {
             assert!(rt; dag == "x.dag" && outcomes == Some("table"));
         }
         _ => panic!(rt; "a DAG file and a table are a rehearsal"),
@@ -123,9 +127,20 @@ fn words(rt: HostRuntime) -> Result<(), Fail> {
         Ok(Request::Check { dag }) => assert_eq!(rt; dag, "x.dag"),
         _ => panic!(rt; "a DAG file is checked"),
     }
-    assert!(rt; read_words(alloc, &["dagrun", "check", "x.dag", "table"]).is_err());
-    assert!(rt; read_words(alloc, &["dagrun", "rehearse"]).is_err());
-    assert!(rt; read_words(alloc, &["dagrun", "--help"]).is_err());
-    assert!(rt; read_words(alloc, &["dagrun", "fly", "x.dag"]).is_err());
+    for words in &REFUSED {
+        assert!(rt; read_words(alloc, words).is_err());
+    }
+    Ok(())
+}
+
+#[test]
+fn limits(rt: HostRuntime) -> Result<(), Fail> {
+    for (words, due) in &LIMITS {
+        let Ok(Request::Rehearse { limits, .. }) = read_words(rt.alloc(), words) else {
+            panic!(rt; "a rehearsal");
+        };
+        assert_eq!(rt; [limits.jobs, limits.pre, limits.post], *due);
+        assert_eq!(rt; limits.children, 1024);
+    }
     Ok(())
 }

@@ -9,3 +9,4 @@ pub mod CommandsExist
 pub mod PlainCommands
 pub mod PlanCommands
 pub mod PlansWithoutRescue
+pub mod CategoryPlaces

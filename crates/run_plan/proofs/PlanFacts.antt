@@ -1,20 +1,23 @@
 -- The plan of a graph: its nodes by their numbers, and its parents.
 use Rattle.std.proofs.Common.{◌≡◌, ℕ, zero, suc, ◌+◌, ◌<◌, ◌≤◌, Bool, true, false, cond, List, [], ◌∷◌, ◌++◌, length, filter, Option, Some, None, unwrap_or, refl, sym, ap, subst, ◌∙◌, arith, nat_lt, lt-ltb, add-zero, take, get_or}
-use Rattle.std.specs.Prelude.{slice_get}
+use Rattle.std.specs.Prelude.{slice_get, IfSome}
 use Rattle.std.specs.Option.{option_map}
-use Rattle.std.specs.List.{All, Contains, list_all, list_any, range_with_len}
-use Rattle.std.proofs.lemmas.Bool.{and_parts, and_from}
+use Rattle.std.specs.List.{All, Contains, list_all, list_any, range_with_len, position_or_len}
+use Rattle.std.proofs.lemmas.Bool.{and_parts, and_from, ltb-true}
 use Rattle.std.proofs.lemmas.Grind.{common_steps}
 use Rattle.std.proofs.lemmas.List.{take_more}
 use Rattle.std.proofs.lemmas.List.Elements.{All-nil, All-cons, All-head, All-tail, All-filter, All-contains}
 use Rattle.std.proofs.lemmas.Option.{slice_get_past}
 use Rattle.splices.specs.Dag.{Dag}
 use Rattle.splices.specs.declared.flat.FlatNode.{FlatNode}
+use Rattle.splices.specs.declared.flat.CategoryLimit.{CategoryLimit}
+use Rattle.splices.specs.declared.flat.CategorySetting.{CategorySetting}
+use Rattle.std.specs.Str.{bytes_eq}
 use Rattle.dag_graph.specs.Graph.{Network, IsParent, IsOrderOf, is_edge, rank_in, parents_of}
 use Rattle.dag_graph.proofs.Told.{any_edge}
 use Rattle.run_plan.specs.Plan.{Plan, Job, NodeSpec, no_node, node_at, count_of, has_parents_below, IsRankedBy}
 use Rattle.run_plan.specs.Planned.{IsPlanned}
-use Rattle.run_plan.specs.Specs.{Sources, spec_of, specs_from, final_spec, plan_of}
+use Rattle.run_plan.specs.Specs.{Sources, place_of, spec_of, specs_from, final_spec, plan_of}
 
 pub specs-length : (dag : Dag) (sources : Sources) (number : ℕ) (nodes : List FlatNode) → length (specs_from dag sources number nodes) ≡ length nodes
 specs-length dag sources number [] = refl
@@ -33,30 +36,30 @@ pub specs-append : (dag : Dag) (sources : Sources) (number : ℕ) (xs ys : List 
 specs-append dag sources number [] ys = ap (λ (k : ℕ). specs_from dag sources k ys) (sym (add-zero number))
 specs-append dag sources number (x ∷ xs) ys =
     let shift : number + 1 + length xs ≡ number + suc (length xs) = omega arith in
-    ap (λ (ss : List NodeSpec). spec_of (parents_of dag number) (sources.job x) (sources.marked number) x ∷ ss) (specs-append dag sources (number + 1) xs ys
+    ap (λ (ss : List NodeSpec). spec_of dag.categories (parents_of dag number) (sources.job x) (sources.marked number) x ∷ ss) (specs-append dag sources (number + 1) xs ys
     ∙ ap (λ (k : ℕ). specs_from dag sources (number + 1) xs ++ specs_from dag sources k ys) shift)
 
 pub specs-more : (dag : Dag) (sources : Sources) (nodes : List FlatNode) (i : ℕ) (d : FlatNode) → i < length nodes
-    → specs_from dag sources 0 (take (i + 1) nodes) ≡ specs_from dag sources 0 (take i nodes) ++ spec_of (parents_of dag i) (sources.job (get_or nodes i d)) (sources.marked i) (get_or nodes i d) ∷ []
+    → specs_from dag sources 0 (take (i + 1) nodes) ≡ specs_from dag sources 0 (take i nodes) ++ spec_of dag.categories (parents_of dag i) (sources.job (get_or nodes i d)) (sources.marked i) (get_or nodes i d) ∷ []
 specs-more dag sources nodes i d small =
     let len : length (take i nodes) ≡ i = grind (arith, common_steps) in
     let start : 0 + length (take i nodes) ≡ i = omega arith in
     ap (specs_from dag sources 0) (take_more nodes i d small) ∙ specs-append dag sources 0 (take i nodes) (get_or nodes i d ∷ [])
-    ∙ ap (λ (k : ℕ). specs_from dag sources 0 (take i nodes) ++ spec_of (parents_of dag k) (sources.job (get_or nodes i d)) (sources.marked k) (get_or nodes i d) ∷ []) start
+    ∙ ap (λ (k : ℕ). specs_from dag sources 0 (take i nodes) ++ spec_of dag.categories (parents_of dag k) (sources.job (get_or nodes i d)) (sources.marked k) (get_or nodes i d) ∷ []) start
 
 -- one turn of the loop over the nodes
 pub specs-step : (dag : Dag) (sources : Sources) (seen : List FlatNode) (i : ℕ) (specs new : List NodeSpec) (spec : NodeSpec) (node : FlatNode) (parents : List ℕ) (job : Job) (marked : Bool)
     → seen ≡ dag.nodes → i < length seen → node ≡ get_or seen i node → specs ≡ specs_from dag sources 0 (take i dag.nodes) → new ≡ specs ++ spec ∷ []
-    → spec ≡ spec_of parents job marked node → parents ≡ parents_of dag i → job ≡ sources.job node → marked ≡ sources.marked i
+    → spec ≡ spec_of dag.categories parents job marked node → parents ≡ parents_of dag i → job ≡ sources.job node → marked ≡ sources.marked i
     → new ≡ specs_from dag sources 0 (take (i + 1) dag.nodes)
 specs-step dag sources seen i specs new spec node parents job marked same small is specs_are new_is spec_is parents_are job_is marked_is =
     let small_here : i < length dag.nodes = subst (λ (ns : List FlatNode). i < length ns) same small in
     let node_is : node ≡ get_or dag.nodes i node = is ∙ ap (λ (ns : List FlatNode). get_or ns i node) same in
     new_is ∙ ap (λ (ss : List NodeSpec). ss ++ spec ∷ []) specs_are
     ∙ ap (λ (s : NodeSpec). specs_from dag sources 0 (take i dag.nodes) ++ s ∷ [])
-    (spec_is ∙ ap (λ (ps : List ℕ). spec_of ps job marked node) parents_are ∙ ap (λ (j : Job). spec_of (parents_of dag i) j marked node) job_is
-    ∙ ap (λ (m : Bool). spec_of (parents_of dag i) (sources.job node) m node) marked_is
-    ∙ ap (λ (n : FlatNode). spec_of (parents_of dag i) (sources.job n) (sources.marked i) n) node_is)
+    (spec_is ∙ ap (λ (ps : List ℕ). spec_of dag.categories ps job marked node) parents_are ∙ ap (λ (j : Job). spec_of dag.categories (parents_of dag i) j marked node) job_is
+    ∙ ap (λ (m : Bool). spec_of dag.categories (parents_of dag i) (sources.job node) m node) marked_is
+    ∙ ap (λ (n : FlatNode). spec_of dag.categories (parents_of dag i) (sources.job n) (sources.marked i) n) node_is)
     ∙ sym (specs-more dag sources dag.nodes i node small_here)
 
 -- Parents are ordinary nodes, and each has an edge to its child.
@@ -106,6 +109,48 @@ made-below graph sources digest node =
     let plan = plan_of graph sources digest in
     all_get (has_parents_below (count_of plan)) plan.nodes (unwrap_or plan.final_node no_node)
     (specs-below graph.dag sources (count_of plan) 0 graph.dag.nodes (count-is graph sources digest)) (final-below sources (count_of plan) graph.dag.final_node) node
+
+-- a place among the categories
+abbrev place-below : ℕ → Option ℕ → Bool
+place-below n None = true
+place-below n (Some place) = nat_lt place n
+
+place-within : (limits : List CategoryLimit) (setting : Option CategorySetting) → place-below (length limits) (place_of limits setting) ≡ true
+place-within limits None = refl
+place-within limits (Some s) = go (nat_lt (position_or_len (λ limit. bytes_eq s.name limit.name) limits) (length limits)) refl
+  where
+    go : (b : Bool) → nat_lt (position_or_len (λ limit. bytes_eq s.name limit.name) limits) (length limits) ≡ b
+        → place-below (length limits) (cond b (Some (position_or_len (λ limit. bytes_eq s.name limit.name) limits)) None) ≡ true
+    go true e = e
+    go false e = refl
+
+specs-placed : (dag : Dag) (sources : Sources) (number : ℕ) (nodes : List FlatNode) → list_all (λ spec. place-below (length dag.categories) spec.category) (specs_from dag sources number nodes) ≡ true
+specs-placed dag sources number [] = refl
+specs-placed dag sources number (x ∷ xs) = and_from _ _ (place-within dag.categories x.settings.category) (specs-placed dag sources (number + 1) xs)
+
+place-none : (n : ℕ) (setting : Option CategorySetting) → place-below n (place_of [] setting) ≡ true
+place-none n None = refl
+place-none n (Some s) = refl
+
+final-placed : (sources : Sources) (n : ℕ) (final_node : Option FlatNode) → place-below n (unwrap_or (option_map (final_spec sources) final_node) no_node).category ≡ true
+final-placed sources n None = refl
+final-placed sources n (Some node) = place-none n node.settings.category
+
+made-placed : (graph : Network) (sources : Sources) (digest : List ℕ) (node : ℕ)
+    → place-below (length graph.dag.categories) (node_at (plan_of graph sources digest) node).category ≡ true
+made-placed graph sources digest node =
+    let plan = plan_of graph sources digest in
+    all_get (λ (spec : NodeSpec). place-below (length graph.dag.categories) spec.category) plan.nodes (unwrap_or plan.final_node no_node)
+    (specs-placed graph.dag sources 0 graph.dag.nodes) (final-placed sources (length graph.dag.categories) graph.dag.final_node) node
+
+some-place : (n : ℕ) (o : Option ℕ) → place-below n o ≡ true → IfSome o (λ place. place < n)
+some-place n None h = tt
+some-place n (Some place) h = ltb-true place n h
+
+pub category-placed : (plan : Plan) → IsPlanned plan → (node : ℕ) → IfSome (node_at plan node).category (λ place. place < length plan.graph.dag.categories)
+category-placed plan is node =
+    some-place (length plan.graph.dag.categories) (node_at plan node).category
+    (subst (λ (p : Plan). place-below (length plan.graph.dag.categories) (node_at p node).category ≡ true) (sym is.made) (made-placed plan.graph is.sources plan.digest node))
 
 pub parents-below : (plan : Plan) → IsPlanned plan → (node : ℕ) → has_parents_below (count_of plan) (node_at plan node) ≡ true
 parents-below plan is node =

@@ -67,8 +67,8 @@ pub specs_same : (dag : Dag) (job : FlatNode → Job) (marked other : ℕ → Bo
     → specs_from dag (record { job = job; marked = marked }) number nodes ≡ specs_from dag (record { job = job; marked = other }) number nodes
 specs_same dag job marked other number [] same = refl
 specs_same dag job marked other number (x ∷ xs) same =
-    ap (λ (m : Bool). spec_of (parents_of dag number) (job x) m x ∷ specs_from dag (record { job = job; marked = marked }) (number + 1) xs) (same number (omega arith))
-    ∙ ap (λ (ss : List NodeSpec). spec_of (parents_of dag number) (job x) (other number) x ∷ ss)
+    ap (λ (m : Bool). spec_of dag.categories (parents_of dag number) (job x) m x ∷ specs_from dag (record { job = job; marked = marked }) (number + 1) xs) (same number (omega arith))
+    ∙ ap (λ (ss : List NodeSpec). spec_of dag.categories (parents_of dag number) (job x) (other number) x ∷ ss)
     (specs_same dag job marked other (number + 1) xs (λ n small. same n (omega arith)))
 
 module _ (graph : Network) (files : Option Files) (rescue : Option (List ℕ)) (digest : List ℕ) where

@@ -7,6 +7,7 @@ use Rattle.std.proofs.lemmas.Bool.{and_from}
 use Rattle.splices.specs.Dag.{Dag}
 use Rattle.splices.specs.Opening.{Files}
 use Rattle.splices.specs.declared.flat.FlatNode.{FlatNode}
+use Rattle.splices.specs.declared.flat.CategoryLimit.{CategoryLimit}
 use Rattle.submit_file.specs.declared.submit.Assignment.{Assignment}
 use Rattle.vars_macros.specs.Meaning.{Scope}
 use Rattle.vars_macros.specs.declared.assignment.Macro.{Macro}
@@ -67,25 +68,25 @@ job_has_command (Some files) node job e = go node.noop e
     go true e = let same : Program node.file ≡ job = cc in program_command node job same
     go false e = submitted_command files node job e
 
-spec_sound : (parents : List ℕ) (job : Job) (marked : Bool) (node : FlatNode) → HasCommand node job → is_sound (spec_of parents job marked node) ≡ true
+spec_sound : (limits : List CategoryLimit) (parents : List ℕ) (job : Job) (marked : Bool) (node : FlatNode) → HasCommand node job → is_sound (spec_of limits parents job marked node) ≡ true
 unfolding is_sound HasCommand
-spec_sound parents job marked node has = has
+spec_sound limits parents job marked node has = has
 
 -- A node whose job was read without a fault is sound, and the nodes behind it have none.
-first_sound : (files : Option Files) (parents : List ℕ) (marked : Bool) (node : FlatNode) (nodes : List FlatNode) → first_fault files (node ∷ nodes) ≡ Ok tt
-    → (is_sound (spec_of parents (job_or_program node (job_at files node)) marked node) ≡ true) × (first_fault files nodes ≡ Ok tt)
-first_sound files parents marked node nodes = go (job_at files node) refl
+first_sound : (files : Option Files) (limits : List CategoryLimit) (parents : List ℕ) (marked : Bool) (node : FlatNode) (nodes : List FlatNode) → first_fault files (node ∷ nodes) ≡ Ok tt
+    → (is_sound (spec_of limits parents (job_or_program node (job_at files node)) marked node) ≡ true) × (first_fault files nodes ≡ Ok tt)
+first_sound files limits parents marked node nodes = go (job_at files node) refl
   where
     go : (r : Result Job PlanFault) → job_at files node ≡ r → (r >>= λ job. first_fault files nodes) ≡ Ok tt
-        → (is_sound (spec_of parents (job_or_program node r) marked node) ≡ true) × (first_fault files nodes ≡ Ok tt)
-    go (Ok job) is e = (spec_sound parents job marked node (job_has_command files node job is), e)
+        → (is_sound (spec_of limits parents (job_or_program node r) marked node) ≡ true) × (first_fault files nodes ≡ Ok tt)
+    go (Ok job) is e = (spec_sound limits parents job marked node (job_has_command files node job is), e)
     go (Err fault) is e = cc
 
 specs_sound : (files : Option Files) (numbers : List ℕ) (dag : Dag) (number : ℕ) (nodes : List FlatNode) → first_fault files nodes ≡ Ok tt
     → list_all is_sound (specs_from dag (sources_of files numbers) number nodes) ≡ true
 specs_sound files numbers dag number [] none = refl
 specs_sound files numbers dag number (x ∷ xs) none =
-    let here = first_sound files (parents_of dag number) ((sources_of files numbers).marked number) x xs none in
+    let here = first_sound files dag.categories (parents_of dag number) ((sources_of files numbers).marked number) x xs none in
     and_from _ _ here.0 (specs_sound files numbers dag (number + 1) xs here.1)
 
 none_sound : is_sound no_node ≡ true
@@ -95,7 +96,7 @@ none_sound = refl
 final_sound : (files : Option Files) (numbers : List ℕ) (final_node : Option FlatNode) → first_fault files (option_to_list final_node) ≡ Ok tt
     → is_sound (unwrap_or (option_map (final_spec (sources_of files numbers)) final_node) no_node) ≡ true
 final_sound files numbers None none = none_sound
-final_sound files numbers (Some node) none = (first_sound files [] false node [] none).0
+final_sound files numbers (Some node) none = (first_sound files [] [] false node [] none).0
 
 both : (first second : Result (Unit {0}) PlanFault) → (first >>= λ none. second) ≡ Ok tt → (first ≡ Ok tt) × (second ≡ Ok tt)
 both (Ok x) second e = (refl, e)

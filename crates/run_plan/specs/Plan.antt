@@ -20,7 +20,8 @@ pub record Orders : Type 0 where
   pub job : Job
 
 -- a node: its name, what the files say of its attempts, whether it is done from the start, its parents' numbers,
--- the status of an abort that it causes, its priority, the name of its category, and what its children are started by
+-- the status of an abort that it causes, its priority, the place of its category among those that have a limit, if it is in
+-- one of them, and what its children are started by
 pub record NodeSpec : Type 0 where
   pub name : List ℕ
   pub course : Course
@@ -28,7 +29,7 @@ pub record NodeSpec : Type 0 where
   pub parents : List ℕ
   pub abort_return : Option ℕ
   pub priority : ℤ
-  pub category : Option (List ℕ)
+  pub category : Option ℕ
   pub orders : Orders
 
 -- the ordinary nodes by their numbers, the FINAL node, which has the next number, the graph that they were made from, and

@@ -1,5 +1,5 @@
 -- The plan of a graph: what the files say of each node.
-use Rattle.std.specs.Prelude.{ℕ, ◌+◌, ◌==◌, ◌||◌, ℤ, pos, Bool, false, List, [], ◌∷◌, Option, Some, None, is_some}
+use Rattle.std.specs.Prelude.{ℕ, ◌+◌, ◌==◌, ◌||◌, ℤ, pos, Bool, false, List, [], ◌∷◌, Option, Some, None, is_some, position}
 use Rattle.std.specs.List.{list_any}
 use Rattle.std.specs.Option.{option_map}
 use Rattle.dag_graph.specs.Graph.{Network, parents_of}
@@ -9,6 +9,9 @@ use Rattle.splices.specs.declared.flat.FlatNode.{FlatNode}
 use Rattle.splices.specs.declared.flat.ScriptSetting.{ScriptSetting}
 use Rattle.splices.specs.declared.flat.RetrySetting.{RetrySetting}
 use Rattle.splices.specs.declared.flat.AbortSetting.{AbortSetting}
+use Rattle.std.specs.Str.{bytes_eq}
+use Rattle.splices.specs.declared.flat.CategoryLimit.{CategoryLimit}
+use Rattle.splices.specs.declared.flat.CategorySetting.{CategorySetting}
 use Rattle.splices.specs.declared.flat.PrioritySetting.{PrioritySetting}
 use Rattle.run_plan.specs.Plan.{Job, Program, Orders, NodeSpec, Plan}
 
@@ -55,16 +58,21 @@ orders_of job node = record {
   job = job;
 }
 
+-- the place of a category among those that have a limit; none for another
+abbrev pub place_of : List CategoryLimit → Option CategorySetting → Option ℕ
+place_of limits None = None
+place_of limits (Some s) = position (λ limit. bytes_eq s.name limit.name) limits
+
 -- what the files say of a node with these parents and this job, which a rescue file may have marked as done
-abbrev pub spec_of : List ℕ → Job → Bool → FlatNode → NodeSpec
-spec_of parents job marked node = record {
+abbrev pub spec_of : List CategoryLimit → List ℕ → Job → Bool → FlatNode → NodeSpec
+spec_of limits parents job marked node = record {
   name = node.name;
   course = course_of node;
   done = node.done || marked;
   parents = parents;
   abort_return = abort_return_of node.settings.abort;
   priority = priority_of node.settings.priority;
-  category = option_map (λ s. s.name) node.settings.category;
+  category = place_of limits node.settings.category;
   orders = orders_of job node;
 }
 
@@ -77,11 +85,11 @@ pub record Sources : Type 0 where
 abbrev pub specs_from : Dag → Sources → ℕ → List FlatNode → List NodeSpec
 specs_from dag sources number [] = []
 specs_from dag sources number (node ∷ nodes) =
-    spec_of (parents_of dag number) (sources.job node) (sources.marked number) node ∷ specs_from dag sources (number + 1) nodes
+    spec_of dag.categories (parents_of dag number) (sources.job node) (sources.marked number) node ∷ specs_from dag sources (number + 1) nodes
 
--- the specification of the FINAL node, which no rescue file marks
+-- the specification of the FINAL node, which no rescue file marks, and which is in no category
 abbrev pub final_spec : Sources → FlatNode → NodeSpec
-final_spec sources node = spec_of [] (sources.job node) false node
+final_spec sources node = spec_of [] [] (sources.job node) false node
 
 -- the plan of a graph
 abbrev pub plan_of : Network → Sources → List ℕ → Plan

@@ -1,6 +1,6 @@
 //! The plan of a graph.
 
-ghost use Rattle.std.specs.Prelude.{◌≡◌, ◌≢◌, ◌⊎◌, ◌+◌, ◌^◌, ◌<◌, ◌≤◌, ℕ, List, [], IsTrue, IfOk, IfErr, Some, None, Ok, is_some, length, option_to_list, slice_index_or, false};
+ghost use Rattle.std.specs.Prelude.{◌≡◌, ◌≢◌, ◌⊎◌, ◌+◌, ◌^◌, ◌<◌, ◌≤◌, ℕ, List, [], IsTrue, IfOk, IfErr, IfSome, Some, None, Ok, is_some, length, option_to_list, slice_index_or, false};
 ghost use Rattle.std.specs.Option.{option_map, option_map_or};
 ghost use Rattle.splices.specs.FileSet.{bytes_of, entries_of};
 ghost use Rattle.dag_graph.specs.Graph.{rank_in};
@@ -194,6 +194,8 @@ impl Plan {
         requires { node ≤ count_of self.now }
         ensures is { result.now ≡ node_at self.now node }
         ensures parents { IsTrue (has_parents_below (count_of self.now) (node_at self.now node)) }
+        // Its category is one of those that have a limit.
+        ensures category { IfSome (node_at self.now node).category (λ place. place < length self.now.graph.dag.categories) }
         // Each of its phases has a command in each attempt that is allowed (`laws::commands_exist`).
         ensures sound { IsTrue (is_sound (node_at self.now node)) }
     {
@@ -342,7 +344,8 @@ fn specs_of(
         let job = job_at(alloc, files, node)?;
         let parents = graph.parents(number as u32);
         let marked = marks.get(number).copied().unwrap_or(false);
-        let Ok(spec) = NodeSpec::new(alloc, parents, job, marked, node) else {
+        let limits = graph.flat().categories();
+        let Ok(spec) = NodeSpec::new(alloc, parents, job, marked, limits, node) else {
             return Err(PlanFault::Memory);
         };
         specs.push(spec)?;
@@ -363,7 +366,7 @@ fn final_of(
         return Ok(None);
     };
     let job = job_at(alloc, files, node)?;
-    match NodeSpec::new(alloc, &[], job, false, node) {
+    match NodeSpec::new(alloc, &[], job, false, &[], node) {
         Ok(spec) => Ok(Some(spec)),
         Err(_) => Err(PlanFault::Memory),
     }

@@ -1,13 +1,14 @@
 //! What the files say of a node.
 
-ghost use Rattle.std.specs.Prelude.{◌≡◌, [], is_some, IfOk, IfErr};
+ghost use Rattle.std.specs.Prelude.{◌≡◌, [], is_some, position, IfOk, IfErr};
+ghost use Rattle.std.specs.Str.{bytes_eq};
 ghost use Rattle.std.specs.Option.{option_map};
 ghost use Rattle.std.specs.List.{list_any};
 ghost use Rattle.vars_macros.specs.Script.{is_whole_run};
 ghost use Rattle.run_plan.specs.Plan.{no_node};
 ghost use Rattle.run_plan.specs.Commands.{command_of, command_of_job, script_facts, words_of, job_reads_launch, orders_use_whole_run, uses_whole_run};
 ghost use Rattle.run_plan.specs.JobAnswers.{Gives};
-ghost use Rattle.run_plan.specs.Specs.{course_of, retries_of, unless_exit_of, abort_return_of, priority_of, spec_of};
+ghost use Rattle.run_plan.specs.Specs.{course_of, retries_of, unless_exit_of, abort_return_of, priority_of, place_of, spec_of};
 ghost use Rattle.run_plan.specs.declared.job.JobFault.TheVariants.{Memory};
 
 use crate::command::{ChildCommand, PhaseFacts};
@@ -17,7 +18,7 @@ use crate::script::{bare_command, script_command};
 use dag_reader::{Text, Texts};
 use node_machine::{Course, Phase};
 use splices::{
-    AbortSetting, CategorySetting, FlatNode, PreSkipSetting, PrioritySetting, RetrySetting,
+    AbortSetting, CategoryLimit, CategorySetting, FlatNode, PreSkipSetting, PrioritySetting, RetrySetting,
 };
 use std::alloc::{AllocError, Global};
 use std::marker::Model;
@@ -31,7 +32,7 @@ pub struct NodeSpec {
     parents: Vec<u32>,
     abort_return: Option<u8>,
     priority: i32,
-    category: Option<Text>,
+    category: Option<usize>,
     orders: Orders,
     whole_run: bool,
 }
@@ -126,14 +127,11 @@ impl NodeSpec {
         self.priority
     }
 
-    /// The full name of the node's category, if it has one.
-    pub fn category(&self) -> Option<&str>
-        ensures { option_map (λ c. c.now) result ≡ self.now.category }
+    /// The place of the node's category among those that have a limit, if it is in one of them.
+    pub fn category(&self) -> Option<usize>
+        ensures { result ≡ self.now.category }
     {
-        match &self.category {
-            Some(name) => Some(name.as_str()),
-            None => None,
-        }
+        self.category
     }
 
     /// Whether a word of the node's commands is known in a whole run alone: `$DAG_STATUS`,
@@ -151,9 +149,10 @@ impl NodeSpec {
         parents: &[u32],
         job: Job,
         marked: bool,
+        limits: &[CategoryLimit],
         node: &FlatNode,
     ) -> Result<NodeSpec, JobFault>
-        ensures ok { IfOk result (λ spec. spec ≡ spec_of parents.now job marked node.now) }
+        ensures ok { IfOk result (λ spec. spec ≡ spec_of limits.now parents.now job marked node.now) }
         ensures err { IfErr result (λ fault. fault ≡ Memory) }
     {
         let course = course_of(node);
@@ -166,7 +165,7 @@ impl NodeSpec {
             parents: Vec::from_slice(alloc, parents)?,
             abort_return: abort_return_of(&node.settings.abort),
             priority: priority_of(&node.settings.priority),
-            category: category_of(alloc, &node.settings.category)?,
+            category: category_of(limits, &node.settings.category),
             orders,
             whole_run,
         })
@@ -373,11 +372,24 @@ fn priority_of(setting: &Option<PrioritySetting>) -> i32
     }
 }
 
-fn category_of(alloc: Global, setting: &Option<CategorySetting>) -> Result<Option<Text>, AllocError>
-    ensures { IfOk result (λ name. name ≡ option_map (λ s. s.name) setting.now) }
+/// The place of a category among those that have a limit.
+fn category_of(limits: &[CategoryLimit], setting: &Option<CategorySetting>) -> Option<usize>
+    ensures { result ≡ place_of limits.now setting.now }
 {
     match setting {
-        Some(category) => Ok(Some(Text::new(alloc, category.name.as_str())?)),
-        None => Ok(None),
+        Some(category) => place_of(limits, category.name.as_str()),
+        None => None,
     }
+}
+
+/// The place of the first category of this name.
+fn place_of(limits: &[CategoryLimit], name: &str) -> Option<usize>
+    ensures { result ≡ position (λ limit. bytes_eq name.now limit.name) limits.now }
+{
+    for (place, limit) in limits.iter().enumerate() {
+        if name == limit.name.as_str() {
+            return Some(place);
+        }
+    }
+    None
 }

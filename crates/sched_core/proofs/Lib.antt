@@ -14,3 +14,8 @@ pub mod Moves
 pub mod Bounds
 pub mod Turns
 pub mod RunCommands
+pub mod Throttling
+pub mod Best
+pub mod Aborts
+mod FactsLemmas
+pub mod Alone

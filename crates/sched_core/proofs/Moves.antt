@@ -6,20 +6,20 @@ use Rattle.node_machine.specs.declared.Key.{Key}
 use Rattle.node_machine.specs.declared.Outcome.{Outcome}
 use Rattle.node_machine.specs.Story.{phase_number}
 use Rattle.node_machine.proofs.Beginnings.{nil-value}
+use Rattle.throttles.specs.declared.Limits.{Limits}
 use Rattle.run_plan.specs.Plan.{Plan, node_at, count_of}
 use Rattle.node_machine.specs.NodeProgress.{NodeProgress}
 use Rattle.sched_core.specs.declared.Record.{Record}
 use Rattle.sched_core.specs.declared.Choice.TheVariants as choices
-use Rattle.sched_core.specs.declared.Choice.{Choice}
 use Rattle.sched_core.specs.declared.Record.TheVariants.{Life, Launch, End, Finish}
 use Rattle.sched_core.specs.Run.{next, is_met, has_abort_value, is_aborted, outstanding, without, is_among, is_next, is_free, is_nothing, is_open, is_ready, is_final_ready, may_launch, may_follow, is_lawful, job_launches, launch_number, exit_status}
-use Rattle.sched_core.specs.Core.{Shows, AreFresh, IsChoice, nothing_launchable, is_running, runs_after, aborted_after, jobs_after, launchable, first_launched}
+use Rattle.sched_core.specs.Core.{Shows, AreFresh, IsChoice, is_running, runs_after, aborted_after, jobs_after, launchable, first_launched}
 use Rattle.sched_core.proofs.Keys.{Each, each_among, each_without, same-self}
 use Rattle.sched_core.proofs.Sound.{sound}
-use Rattle.sched_core.proofs.Held.{Within, outstanding-within, among-is, launch-within, launched-within, end-within}
+use Rattle.sched_core.proofs.Held.{Within, outstanding-within, among-is, launched-within, end-within}
 use Rattle.sched_core.proofs.Shown.{shows-after}
 use Rattle.sched_core.proofs.Leaf.{key-node}
-use Rattle.sched_core.proofs.Sweeps.{all_below-from, all_below-not}
+use Rattle.sched_core.proofs.Sweeps.{all_below-from}
 
 -- no more launches of jobs than records
 pub jobs-few : (past : List Record) → job_launches past ≤ length past
@@ -130,15 +130,11 @@ start-follows plan past node key open_now e =
     (eq-eqb (launch_number past key) (launch_number past key) refl)
 
 -- what is chosen may follow
-pub finish-follows : (plan : Plan) (past : List Record) (status : ℕ) → is_open past ≡ true → IsChoice plan past (choices.Finish status)
+pub finish-follows : (limits : Limits) (plan : Plan) (past : List Record) (status : ℕ) → is_open past ≡ true → IsChoice limits plan past (choices.Finish status)
     → may_follow plan past (Finish status) ≡ true
 unfolding may_follow
-finish-follows plan past status open_now c =
+finish-follows limits plan past status open_now c =
     and_from _ _ (and_from _ _ (and_from _ _ open_now c.1) c.0) (eq-eqb status (exit_status plan past) c.2)
-
-pub chosen-follows : (plan : Plan) (past : List Record) (key : Key) → is_open past ≡ true → IsChoice plan past (choices.Start key)
-    → may_follow plan past (Launch key (launch_number past key)) ≡ true
-chosen-follows plan past key open_now c = start-follows plan past key.node key open_now c.0
 
 -- what is of no node of the plan may not follow
 pub launch-outside : (plan : Plan) (past : List Record) (key : Key) (number : ℕ) → count_of plan < key.node → may_follow plan past (Launch key number) ≡ false
@@ -212,50 +208,3 @@ pub first-none : (plan : Plan) (past : List Record) (answer : Option Key) → an
     → IfNone answer (is_nothing (outstanding plan past) ≡ true)
 first-none plan past (Some key) e = tt
 first-none plan past None e = oldest-none plan past (sym e)
-
-same-number : (m n : ℕ) → (m < n → ⊥) → (n < m → ⊥) → m ≡ n
-same-number m n below above = omega arith
-
--- one answer alone is the choice
-pub choice-one : (plan : Plan) (past : List Record) (a b : Choice) → IsChoice plan past a → IsChoice plan past b → a ≡ b
-choice-one plan past (choices.Start key) b c d = started-one b d
-  where
-    launched : may_launch plan past key.node ≡ true
-    launched = (launchable-next plan past key.node key c.0).0
-
-    within : key.node < suc (count_of plan)
-    within = launch-within plan past key.node launched
-
-    -- a node that may be launched is among those below the bound
-    clash : (n : ℕ) → key.node < n → nothing_launchable plan past n ≡ true → ⊥
-    clash n lt nothing = false≢true (sym (all_below-not (λ node. not (may_launch plan past node)) n key.node lt (ap not launched)) ∙ nothing)
-
-    started-one : (b : Choice) → IsChoice plan past b → choices.Start key ≡ b
-    started-one choices.Wait d = absurd (clash (suc (count_of plan)) within d.0)
-    started-one (choices.Finish status) d = absurd (clash (suc (count_of plan)) within d.0)
-    started-one (choices.Start other) d =
-        let other_launched : may_launch plan past other.node ≡ true = (launchable-next plan past other.node other d.0).0 in
-        let below : key.node < other.node → ⊥ = λ lt. clash other.node lt d.1 in
-        let above : other.node < key.node → ⊥ = λ lt.
-        false≢true (sym (all_below-not (λ node. not (may_launch plan past node)) key.node other.node lt (ap not other_launched)) ∙ c.1) in
-        let same : key.node ≡ other.node = same-number key.node other.node below above in
-        let one : Some key ≡ Some other = sym c.0 ∙ ap (launchable plan past) same ∙ d.0 in
-        cc
-choice-one plan past choices.Wait b c d = waiting-one b d
-  where
-    waiting-one : (b : Choice) → IsChoice plan past b → choices.Wait ≡ b
-    waiting-one choices.Wait d = refl
-    waiting-one (choices.Finish status) d = absurd (false≢true (sym c.1 ∙ d.1))
-    waiting-one (choices.Start key) d =
-        let launched : may_launch plan past key.node ≡ true = (launchable-next plan past key.node key d.0).0 in
-        absurd (false≢true (sym (all_below-not (λ node. not (may_launch plan past node)) (suc (count_of plan)) key.node
-        (launch-within plan past key.node launched) (ap not launched)) ∙ c.0))
-choice-one plan past (choices.Finish status) b c d = finished-one b d
-  where
-    finished-one : (b : Choice) → IsChoice plan past b → choices.Finish status ≡ b
-    finished-one choices.Wait d = absurd (false≢true (sym d.1 ∙ c.1))
-    finished-one (choices.Finish other) d = ap choices.Finish (c.2 ∙ sym d.2)
-    finished-one (choices.Start key) d =
-        let launched : may_launch plan past key.node ≡ true = (launchable-next plan past key.node key d.0).0 in
-        absurd (false≢true (sym (all_below-not (λ node. not (may_launch plan past node)) (suc (count_of plan)) key.node
-        (launch-within plan past key.node launched) (ap not launched)) ∙ c.0))

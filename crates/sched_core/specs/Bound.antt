@@ -1,36 +1,68 @@
--- How many records a run can still add. Each of them lowers the number, so a run ends.
-use Rattle.std.specs.Prelude.{ℕ, zero, suc, ◌+◌, ◌-◌, ◌*◌, List, Option, Some, None, if◌then◌else◌}
+-- How many records one life of a run can add. Each launch and each ending lowers what is left, so a run ends.
+use Rattle.std.specs.Prelude.{ℕ, zero, suc, ◌+◌, ◌-◌, ◌*◌, Bool, true, false, not, ◌&&◌, List, [], ◌∷◌, Option, Some, None, is_some, nat_lt, if◌then◌else◌}
 use Rattle.node_machine.specs.declared.Phase.{Phase}
 use Rattle.node_machine.specs.declared.Phase.TheVariants.{Pre, Job, Post}
 use Rattle.node_machine.specs.declared.Course.{Course}
 use Rattle.node_machine.specs.NodeProgress.{NodeProgress}
-use Rattle.run_plan.specs.Plan.{Plan, count_of}
+use Rattle.run_plan.specs.Plan.{Plan, node_at, count_of}
 use Rattle.sched_core.specs.declared.Record.{Record}
+use Rattle.sched_core.specs.declared.Record.TheVariants.{Life, Launch, End, Finish}
 use Rattle.sched_core.specs.Run.{is_aborted}
 use Rattle.sched_core.specs.Core.{run_of}
-
--- how many phases of an attempt are to come, this one among them
-abbrev pub phases_from : Phase → ℕ
-phases_from Pre = 3
-phases_from Job = 2
-phases_from Post = 1
-
--- how many phases can still end, where this one comes next: each further attempt has three at most
-abbrev pub phases_left : Course → ℕ → Option Phase → ℕ
-phases_left course attempt None = 0
-phases_left course attempt (Some phase) = phases_from phase + 3 * (course.retries - attempt)
-
--- a phase that is to come is launched and ends, one that is outstanding only ends
-abbrev pub records_of : NodeProgress → ℕ
-records_of run = 2 * phases_left run.course run.stand.attempt run.stand.phase - (if run.running then 1 else 0)
 
 -- the sum over the numbers below n
 abbrev pub sum_below : (ℕ → ℕ) → ℕ → ℕ
 sum_below f zero = 0
 sum_below f (suc n) = f n + sum_below f n
 
--- the records that the nodes can still add; an abort makes what was outstanding be launched no more
+-- the phases of an attempt: PRE and POST where there are such scripts, and the job
+abbrev pub phases_in : Course → ℕ
+phases_in course = (if course.pre then 1 else 0) + 1 + (if course.post then 1 else 0)
+
+-- the phases of all attempts that a node may have
+abbrev pub phases_of_node : Plan → ℕ → ℕ
+phases_of_node plan node = phases_in (node_at plan node).course * suc (node_at plan node).course.retries
+
+-- the nodes of a plan, FINAL among them where there is one
+abbrev pub all_nodes : Plan → ℕ
+all_nodes plan = if is_some plan.final_node then suc (count_of plan) else count_of plan
+
+-- the sum over the nodes of phases times (retries + 1)
+abbrev pub all_phases : Plan → ℕ
+all_phases plan = sum_below (phases_of_node plan) (all_nodes plan)
+
+-- these records hold no Life
+abbrev pub has_no_life : List Record → Bool
+has_no_life [] = true
+has_no_life (Life ∷ past) = false
+has_no_life (Launch key number ∷ past) = has_no_life past
+has_no_life (End key outcome ∷ past) = has_no_life past
+has_no_life (Finish status ∷ past) = has_no_life past
+
+-- of an attempt: this phase and those behind it
+abbrev pub phases_from : Course → Phase → ℕ
+phases_from course Pre = 2 + (if course.post then 1 else 0)
+phases_from course Job = 1 + (if course.post then 1 else 0)
+phases_from course Post = 1
+
+-- how many phases can still end, where this one comes next
+abbrev pub phases_left : Course → ℕ → Option Phase → ℕ
+phases_left course attempt None = 0
+phases_left course attempt (Some phase) = phases_from course phase + phases_in course * (course.retries - attempt)
+
+-- a phase that is to come is launched and ends, one that is outstanding only ends
+abbrev pub records_of : NodeProgress → ℕ
+records_of run = 2 * phases_left run.course run.stand.attempt run.stand.phase - (if run.running then 1 else 0)
+
+-- a node can still have phases: it is not done from the start, and behind an abort it is FINAL
+abbrev pub may_go_on : Plan → List Record → ℕ → Bool
+may_go_on plan past node =
+    not (node_at plan node).done && (if nat_lt node (count_of plan) then not (is_aborted plan past) else is_some plan.final_node)
+
+-- the records that a node can still add in this life
+abbrev pub node_records_left : Plan → List Record → ℕ → ℕ
+node_records_left plan past node = if may_go_on plan past node then records_of (run_of plan past node) else 0
+
+-- the records that the nodes can still add in this life
 unfoldable pub records_left : Plan → List Record → ℕ
-records_left plan past =
-    sum_below (λ node. records_of (run_of plan past node)) (suc (count_of plan))
-    + (if is_aborted plan past then 0 else suc (count_of plan))
+records_left plan past = sum_below (node_records_left plan past) (suc (count_of plan))

@@ -1,9 +1,11 @@
 -- A core as contracts see it, and what it keeps beside its records.
-use Rattle.std.specs.Prelude.{◌≡◌, ℕ, suc, ◌+◌, ◌<◌, Bool, true, false, not, ◌&&◌, ◌||◌, List, [], ◌∷◌, length, map, Option, Some, None, is_some, unwrap_or, slice_get, slice_set, IsTrue, IsFalse, ◌==◌, if◌then◌else◌}
+use Rattle.std.specs.Prelude.{◌≡◌, ℕ, suc, ◌+◌, ◌<◌, Bool, true, false, not, ◌&&◌, ◌||◌, List, [], ◌∷◌, length, map, Option, Some, None, is_some, unwrap_or, slice_get, slice_set, IsTrue, IsFalse, int_lt, ◌==◌, if◌then◌else◌}
 use Rattle.node_machine.specs.declared.Key.{Key}
 use Rattle.node_machine.specs.Story.{phase_number}
 use Rattle.node_machine.specs.Stand.{stand_after, stand_before, next_of}
 use Rattle.node_machine.specs.NodeRun.{started, stopped, ended_with}
+use Rattle.throttles.specs.declared.Limits.{Limits}
+use Rattle.sched_core.specs.Limits.{lets_in, IsBetter}
 use Rattle.run_plan.specs.Plan.{Plan, no_node, node_at, count_of, all_below}
 use Rattle.node_machine.specs.NodeProgress.{NodeProgress}
 use Rattle.sched_core.specs.declared.Choice.{Choice}
@@ -14,9 +16,10 @@ use Rattle.sched_core.specs.declared.Record.{Record}
 use Rattle.sched_core.specs.declared.Record.TheVariants.{Life, Launch, End, Finish}
 use Rattle.sched_core.specs.Run.{history, next, is_done, outstanding, is_among, is_aborted, is_lawful, may_launch, is_nothing, job_launches, is_met, is_over, exit_status}
 
--- the plan, the records, the newest first, and how many more need no memory
+-- the plan, the limits, the records, the newest first, and how many more need no memory
 pub record Progress : Type 0 where
   pub plan : Plan
+  pub limits : Limits
   pub past : List Record
   pub room : ℕ
 
@@ -110,16 +113,38 @@ launchable plan past node = if may_launch plan past node then next plan past nod
 abbrev pub nothing_launchable : Plan → List Record → ℕ → Bool
 nothing_launchable plan past n = all_below (λ node. not (may_launch plan past node)) n
 
--- What is to be done next: the first node's phase that may be launched, in plan order; else, where
--- something is outstanding, to wait; else to finish with the verdict.
-abbrev pub IsChoice : Plan → List Record → Choice → Type 0
-IsChoice plan past (choices.Start key) =
-    (launchable plan past key.node ≡ Some key) × IsTrue (nothing_launchable plan past key.node)
-IsChoice plan past choices.Wait =
-    IsTrue (nothing_launchable plan past (suc (count_of plan))) × IsFalse (is_nothing (outstanding plan past))
-IsChoice plan past (choices.Finish status) =
+abbrev pub if_let_in : Limits → Plan → List Record → Option Key → Option Key
+if_let_in limits plan past None = None
+if_let_in limits plan past (Some key) = if lets_in limits plan (outstanding plan past) key then Some key else None
+
+-- a node's phase that may be launched and is let in
+abbrev pub startable : Limits → Plan → List Record → ℕ → Option Key
+startable limits plan past node = if_let_in limits plan past (launchable plan past node)
+
+-- What is to be done next: of the phases that may be launched and are let in the one than whose node no other is better; else,
+-- where something is outstanding, to wait; else, where nothing may be launched, to finish with the verdict.
+abbrev pub IsChoice : Limits → Plan → List Record → Choice → Type 0
+IsChoice limits plan past (choices.Start key) =
+    (startable limits plan past key.node ≡ Some key)
+    × ((node : ℕ) (other : Key) → startable limits plan past node ≡ Some other → IsBetter plan node key.node → ⊥)
+IsChoice limits plan past choices.Wait =
+    IsFalse (is_nothing (outstanding plan past)) × ((node : ℕ) → startable limits plan past node ≡ None)
+IsChoice limits plan past (choices.Finish status) =
     IsTrue (nothing_launchable plan past (suc (count_of plan))) × IsTrue (is_nothing (outstanding plan past))
     × (status ≡ exit_status plan past)
+
+-- of the nodes below a number the best whose phase may be launched and is let in, if there is one
+abbrev pub IsBestBelow : Limits → Plan → List Record → ℕ → Option Key → Type 0
+IsBestBelow limits plan past n None = (node : ℕ) → node < n → startable limits plan past node ≡ None
+IsBestBelow limits plan past n (Some key) =
+    (startable limits plan past key.node ≡ Some key) × (key.node < n)
+    × ((node : ℕ) (other : Key) → node < n → startable limits plan past node ≡ Some other → IsBetter plan node key.node → ⊥)
+
+-- the better of two phases, of which the second is of a later node
+abbrev pub better_of : Plan → Option Key → Option Key → Option Key
+better_of plan None next = next
+better_of plan (Some best) None = Some best
+better_of plan (Some best) (Some next) = if int_lt (node_at plan best.node).priority (node_at plan next.node).priority then Some next else Some best
 
 -- of these phases the one that was launched first, counting the launches since the last Life alone
 abbrev pub first_launched : List Key → List Record → Option Key
@@ -130,6 +155,17 @@ first_launched keys (Launch key number ∷ past) =
     else Some key
 first_launched keys (End key outcome ∷ past) = first_launched keys past
 first_launched keys (Finish status ∷ past) = first_launched keys past
+
+-- One life in which each record is what is to be done next under these limits: the launch of the phase that is chosen; where
+-- none can be started, the end of the phase that was launched first; and the end of the run.
+abbrev pub GoesByChoice : Limits → Plan → List Record → Type 0
+GoesByChoice limits plan [] = Unit {0}
+GoesByChoice limits plan (Life ∷ past) = past ≡ []
+GoesByChoice limits plan (Launch key number ∷ past) = IsChoice limits plan past (choices.Start key) × GoesByChoice limits plan past
+GoesByChoice limits plan (End key outcome ∷ past) =
+    IsChoice limits plan past choices.Wait × (first_launched (outstanding plan past) past ≡ Some key)
+    × GoesByChoice limits plan past
+GoesByChoice limits plan (Finish status ∷ past) = IsChoice limits plan past (choices.Finish status) × GoesByChoice limits plan past
 
 -- one mark for each ordinary node: whether it is done
 pub record AreMarks (plan : Plan) (past : List Record) (marks : List Bool) : Type 0 where

@@ -48,6 +48,12 @@ fate_by plan table fates node =
 abbrev pub AreFates : Plan → Table → (ℕ → Fate) → Type 0
 AreFates plan table fates = (node : ℕ) → node < count_of plan → fates node ≡ fate_by plan table fates node
 
+-- the fate of the FINAL node, whatever the others come to: its story
+abbrev pub final_fate : Plan → Table → Fate
+final_fate plan table =
+    if (node_at plan (count_of plan)).done then without_attempts Done
+    else told_by (story (node_at plan (count_of plan)).course (table (count_of plan)))
+
 -- what the records show of a node
 abbrev pub shown : Plan → List Record → ℕ → Fate
 shown plan past node =

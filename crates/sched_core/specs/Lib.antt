@@ -4,7 +4,7 @@ pub mod Agree
 pub mod Lives
 pub mod Example
 pub mod Rounds
+pub mod Limits
 pub mod Core
 pub mod Bound
 pub mod Commands
-pub mod TakenSettings

@@ -1,6 +1,6 @@
 //! Laws of the definitions alone. No program calls them.
 
-ghost use Rattle.std.specs.Prelude.{◌≡◌, ◌≢◌, ℕ, ◌<◌, true, false, List, [], ◌∷◌, ◌++◌, map, drop, pos, IsTrue, IsFalse};
+ghost use Rattle.std.specs.Prelude.{◌≡◌, ◌≢◌, ℕ, ◌<◌, ◌≤◌, ◌+◌, ◌*◌, length, true, false, List, [], ◌∷◌, ◌++◌, map, drop, pos, is_some, IsTrue, IsFalse};
 ghost use Rattle.std.specs.List.{list_all, Contains};
 ghost use Rattle.node_machine.specs.declared.Phase.{Phase};
 ghost use Rattle.node_machine.specs.declared.Outcome.{Outcome};
@@ -8,8 +8,9 @@ ghost use Rattle.node_machine.specs.Story.{Table, story, phases_of, is_history, 
 ghost use Rattle.sched_core.specs.declared.Record.{Record};
 ghost use Rattle.sched_core.specs.declared.Choice.{Choice};
 ghost use Rattle.sched_core.specs.declared.Choice.TheVariants as choices;
+ghost use Rattle.throttles.specs.declared.Limits.{Limits};
 ghost use Rattle.sched_core.specs.Core.{IsChoice};
-ghost use Rattle.sched_core.specs.Bound.{records_left};
+ghost use Rattle.sched_core.specs.Bound.{records_left, has_no_life, all_phases};
 ghost use Rattle.sched_core.specs.declared.Record.TheVariants.{Life, Launch, End, Finish};
 ghost use Rattle.node_machine.specs.declared.Phase.TheVariants.{Job};
 ghost use Rattle.node_machine.specs.declared.Outcome.TheVariants.{Exit};
@@ -17,7 +18,7 @@ ghost use Rattle.node_machine.specs.declared.State.TheVariants.{Done, Error, Not
 ghost use Rattle.run_plan.specs.Plan.{Plan, node_at, count_of, IsRankedBy};
 ghost use Rattle.run_plan.specs.Commands.{command_of, is_sound, uses_whole_run};
 ghost use Rattle.sched_core.specs.Run.{table_of, history, is_done, is_lawful, is_finished, is_aborted, is_launched, is_open, launch_number, may_follow};
-ghost use Rattle.sched_core.specs.Fate.{Fate, AreFates, shown, is_done_state};
+ghost use Rattle.sched_core.specs.Fate.{Fate, AreFates, final_fate, shown, is_done_state};
 ghost use Rattle.sched_core.specs.Agree.{AgreeOnFates, Agree};
 ghost use Rattle.sched_core.specs.Commands.{command_by, with_commands, facts_in};
 ghost use Rattle.sched_core.specs.Lives.{Span, AreLives, HasOutcomesOf, IsRunBy, IsTurnOf};
@@ -51,6 +52,10 @@ pub fn finished_runs()
         AreFates plan (table_of records) (shown plan records) }
     ensures marks { (plan : Plan) (records : List Record) (node : ℕ) →
         is_done plan records node ≡ is_done_state (shown plan records node).state }
+    // With abort or without, FINAL comes to the end of its story.
+    ensures final_node { (plan : Plan) (table : Table) (records : List Record) →
+        IsTrue (is_finished plan records) → HasOutcomesOf plan table records → is_some plan.final_node ≡ true →
+        shown plan records (count_of plan) ≡ final_fate plan table }
 {}
 
 /// The recursion over parents has one solution for each plan in which no node is its own ancestor.
@@ -83,6 +88,15 @@ pub fn lives()
         command_of (node_at plan key.node) key.attempt key.phase
         (facts_in plan (Launch key number ∷ past) key)
         ≡ command_by plan table key.node key.attempt key.phase }
+{}
+
+/// Whether a run meets an abort follows from the plan and the table: where one finished run meets
+/// none, no lawful list of records with the same outcomes does, whatever was chosen in it.
+pub fn aborts()
+    ensures { (plan : Plan) (table : Table) (rank : ℕ → ℕ) → IsRankedBy rank plan →
+        (records other : List Record) → IsRunBy plan table records →
+        IsTrue (is_lawful plan other) → HasOutcomesOf plan table other →
+        IsFalse (is_aborted plan other) }
 {}
 
 /// Two runs whose plans and tables agree on a node and all above it agree on that node: on its fate,
@@ -137,15 +151,23 @@ pub fn runs_end()
         records_left plan (End key outcome ∷ past) < records_left plan past }
 {}
 
+/// One life adds at most two records for each phase of each attempt that its nodes may have, and two
+/// more: its Life, and the Finish of the run.
+pub fn lives_are_short()
+    ensures { (plan : Plan) (begun own : List Record) →
+        IsTrue (is_lawful plan (own ++ Life ∷ begun)) → IsTrue (has_no_life own) →
+        length (own ++ Life ∷ []) ≤ 2 * all_phases plan + 2 }
+{}
+
 /// What is to be done next is determined, and it may be done: a launch, or the end of the run.
 pub fn choices()
-    ensures one { (plan : Plan) (past : List Record) (choice other : Choice) →
-        IsChoice plan past choice → IsChoice plan past other → choice ≡ other }
-    ensures start { (plan : Plan) (past : List Record) (key : Key) → IsTrue (is_open past) →
-        IsChoice plan past (choices.Start key) →
+    ensures one { (limits : Limits) (plan : Plan) (past : List Record) (choice other : Choice) →
+        IsChoice limits plan past choice → IsChoice limits plan past other → choice ≡ other }
+    ensures start { (limits : Limits) (plan : Plan) (past : List Record) (key : Key) → IsTrue (is_open past) →
+        IsChoice limits plan past (choices.Start key) →
         IsTrue (may_follow plan past (Launch key (launch_number past key))) }
-    ensures finish { (plan : Plan) (past : List Record) (status : ℕ) → IsTrue (is_open past) →
-        IsChoice plan past (choices.Finish status) → IsTrue (may_follow plan past (Finish status)) }
+    ensures finish { (limits : Limits) (plan : Plan) (past : List Record) (status : ℕ) → IsTrue (is_open past) →
+        IsChoice limits plan past (choices.Finish status) → IsTrue (may_follow plan past (Finish status)) }
 {}
 
 /// In a lawful list the phases of a node that ended are a history: each is the next of the node's

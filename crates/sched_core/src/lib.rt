@@ -8,6 +8,7 @@ ghost use Rattle.std.specs.Prelude.{◌≡◌};
 ghost use Rattle.sched_core.specs.declared.CoreFault.TheVariants.{Memory};
 
 pub mod examples;
+mod facts;
 pub mod laws;
 mod nodes;
 mod scheduler;
@@ -38,7 +39,7 @@ pub type Verdict = u8;
 pub enum Choice {
     /// This phase is to be launched.
     Start(Key),
-    /// Something is outstanding, and nothing can be launched before it ends.
+    /// Something is outstanding, and a limit holds whatever may be launched.
     Wait,
     /// Nothing is outstanding and nothing can be launched: the run ends with this verdict.
     Finish(Verdict),

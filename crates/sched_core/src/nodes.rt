@@ -1,18 +1,23 @@
 //! What a core keeps of each node, and what a record makes of it.
 
-ghost use Rattle.std.specs.Prelude.{reverse, None, Some, true, false, IfOk, ◌≡◌, ℕ, ◌+◌, ◌^◌, ◌<◌, ◌≤◌, ◌++◌, ◌∷◌, [], ◌==◌, ◌||◌, ◌&&◌, suc, map, length, not, slice_set, vec_len, vec_capacity, is_none, IsTrue, if◌then◌else◌};
+ghost use Rattle.std.specs.Prelude.{reverse, None, Some, true, false, IfOk, IfErr, ◌≡◌, ℕ, ◌+◌, ◌^◌, ◌<◌, ◌≤◌, ◌++◌, ◌∷◌, [], ◌==◌, ◌||◌, ◌&&◌, suc, map, length, not, slice_set, vec_len, vec_capacity, is_none, IsTrue, if◌then◌else◌};
 ghost use Rattle.node_machine.specs.Story.{phase_number, is_possible, may_end_with};
 ghost use Rattle.node_machine.specs.Stand.{next_of};
 ghost use Rattle.node_machine.specs.NodeRun.{started, stopped, ended_with};
 ghost use Rattle.run_plan.specs.Plan.{node_at, count_of};
 ghost use Rattle.sched_core.specs.declared.CoreFault.TheVariants.{NotLawful, Finished};
 ghost use Rattle.sched_core.specs.Run.{history, key_at, is_next, is_same, is_met, is_over, is_open, abort_status};
+ghost use Rattle.splices.specs.declared.flat.CategoryLimit.{CategoryLimit};
+ghost use Rattle.throttles.specs.Throttled.{all_in};
+ghost use Rattle.sched_core.specs.Limits.{limits_of, throttled_in, throttled_after, IsOfNode, IsCounted};
 ghost use Rattle.sched_core.specs.Core.{AreFresh, run_at, aborted_in, runs_ended, runs_after, aborted_after, jobs_after};
 
 use crate::{CoreFault, Record};
 use node_machine::{Ended, Key, NodeRun, Outcome, Phase, State};
 use run_plan::{NodeSpec, Plan};
+use splices::CategoryLimit;
 use std::alloc::{AllocError, Global};
+use throttles::{Limits, Throttles};
 
 pub fn run_of(runs: &[NodeRun], node: u32) -> NodeRun
     requires { node < length runs.now }
@@ -274,6 +279,48 @@ pub fn fresh_runs(alloc: Global, plan: &Plan) -> Result<Vec<NodeRun>, AllocError
         runs.push(NodeRun::new(*plan.spec(node).course()))?;
     }
     Ok(runs)
+}
+
+/// The limits of the categories that have one.
+fn category_limits(alloc: Global, limits: &[CategoryLimit]) -> Result<Vec<u32>, AllocError>
+    ensures { IfOk result (λ v. v.items ≡ map (λ (l : CategoryLimit). l.limit) limits.now) }
+{
+    limits.iter().map(|l| l.limit).collect(alloc)
+}
+
+/// Nothing runs before any record. Throttles are refused for memory alone.
+pub fn fresh_throttles(alloc: Global, plan: &Plan, limits: Limits) -> Result<Throttles, AllocError>
+    ensures { IfOk result (λ t. t ≡ throttled_in limits plan.now []) }
+{
+    let categories = category_limits(alloc, plan.graph().flat().categories())?;
+    match Throttles::new(alloc, limits, &categories) {
+        Ok(throttles) => Ok(throttles),
+        Err(_) => Err(AllocError),
+    }
+}
+
+/// What a record makes of the throttles.
+pub fn throttle(plan: &Plan, throttles: &mut Throttles, entry: Record, stops: bool)
+    requires node { IsOfNode plan.now entry }
+    requires categories { throttles.old.categories ≡ limits_of plan.now }
+    requires room { all_in throttles.old.running + 1 < 2 ^ 64 }
+    requires counted { IsCounted plan.now throttles.old entry }
+    ensures { throttles.new ≡ throttled_after plan.now throttles.old entry stops }
+{
+    match entry {
+        Record::Life => throttles.clear(),
+        Record::Launch(key, _) => {
+            throttles.note(key.phase, plan.spec(key.node).category());
+        }
+        Record::End(key, _) => {
+            if stops {
+                throttles.clear();
+            } else {
+                let _ = throttles.end(key.phase, plan.spec(key.node).category());
+            }
+        }
+        Record::Finish(_) => {}
+    }
 }
 
 pub fn both(first: bool, second: bool) -> bool

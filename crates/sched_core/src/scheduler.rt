@@ -6,20 +6,22 @@ ghost use Rattle.node_machine.specs.Story.{may_end_with, phase_number};
 ghost use Rattle.run_plan.specs.Plan.{node_at, count_of, all_below};
 ghost use Rattle.sched_core.specs.Run.{history, next, is_done, attempts_in, value_in, has_abort_value, is_aborted, outstanding, is_among, is_free, is_nothing, is_ready, is_final_ready, may_launch, job_launches, launch_number, status_of_abort, exit_status, is_over, is_open, may_follow, is_lawful, needs_rescue};
 ghost use Rattle.sched_core.specs.Fate.{shown};
-ghost use Rattle.sched_core.specs.TakenSettings.{takes_settings};
-ghost use Rattle.sched_core.specs.Core.{Progress, Shows, Takes, is_running, has_key_of, runs_after, aborted_after, jobs_after, fault_after, launchable, first_launched, AreMarks, IsChoice};
+ghost use Rattle.sched_core.specs.Core.{Progress, Shows, Takes, is_running, has_key_of, runs_after, aborted_after, jobs_after, fault_after, launchable, first_launched, startable, better_of, AreMarks, IsBestBelow, IsChoice};
+ghost use Rattle.sched_core.specs.Limits.{lets_in};
+ghost use Rattle.sched_core.specs.Commands.{is_in_error, failed_in, facts_in};
 
+use crate::facts::{dag_status, newest_launch, outcome_of, pre_value};
 use crate::nodes::{
-    both, count_and_one, count_jobs, end_phase, fault_by, fresh_runs, history_of, is_done_at,
-    is_job, is_key, is_met_by, last_is_finish, last_is_open, launch_phase, may_end, next_at,
-    push_in_room, run_of, status_by, stop_all, stop_at_abort,
+    both, count_and_one, count_jobs, end_phase, fault_by, fresh_runs, fresh_throttles, history_of,
+    is_done_at, is_job, is_key, is_met_by, last_is_finish, last_is_open, launch_phase, may_end,
+    next_at, push_in_room, run_of, status_by, stop_all, stop_at_abort, throttle,
 };
 use crate::{Choice, CoreFault, Record};
-use node_machine::{Ended, Key, NodeRun, Outcome, State};
-use run_plan::Plan;
-use splices::FlatNode;
+use node_machine::{Ended, Key, NodeRun, Outcome, Phase, State, value_of};
+use run_plan::{PhaseFacts, Plan};
 use std::alloc::Global;
 use std::marker::Model;
+use throttles::{Limits, Throttles};
 
 /// A run of a plan: its records, and where each node stands.
 #[derive(Drop)]
@@ -29,17 +31,20 @@ pub struct Core<'a> {
     runs: Vec<NodeRun>,
     aborted: bool,
     jobs: u64,
+    throttles: Throttles,
 }
 
 impl<'a> Model for Core<'a> {
     ghost use Rattle.std.specs.Prelude.{reverse, ◌-◌, vec_len, vec_capacity};
     ghost use Rattle.sched_core.specs.Core.{Progress, Shows};
+    ghost use Rattle.sched_core.specs.Limits.{IsThrottled};
 
     ghost Value = { Progress };
 
-    ghost view = { λ a. record { plan = a.plan.now; past = reverse a.records.items; room = vec_capacity a.records - vec_len a.records } };
+    ghost view = { λ a. record { plan = a.plan.now; limits = a.throttles.limits; past = reverse a.records.items; room = vec_capacity a.records - vec_len a.records } };
 
-    ghost invariant = { λ a. Shows a.plan.now (reverse a.records.items) a.runs.items a.aborted a.jobs };
+    ghost invariant = { λ a. Shows a.plan.now (reverse a.records.items) a.runs.items a.aborted a.jobs
+        × IsThrottled a.plan.now (reverse a.records.items) a.throttles };
 }
 
 /// What a record makes of the nodes; the answer is the flag for an abort.
@@ -66,28 +71,28 @@ fn advance(plan: &Plan, runs: &mut [NodeRun], aborted: bool, entry: Record) -> b
     }
 }
 
-/// Whether no node has a priority.
-fn have_no_priority(nodes: &[FlatNode]) -> bool
-    ensures { result ≡ list_all (λ node. is_none node.settings.priority) nodes.now }
+/// The better of two phases, of which the second is of a later node.
+fn better_of(plan: &Plan, best: Option<Key>, next: Option<Key>) -> Option<Key>
+    requires best { IfSome best (λ key. key.node ≤ count_of plan.now) }
+    requires next { IfSome next (λ key. key.node ≤ count_of plan.now) }
+    ensures { result ≡ better_of plan.now best next }
 {
-    for node in nodes {
-        if node.settings.priority.is_some() {
-            return false;
-        }
+    match best {
+        None => next,
+        Some(old) => match next {
+            None => Some(old),
+            Some(new) => {
+                if plan.spec(old.node).priority() < plan.spec(new.node).priority() {
+                    Some(new)
+                } else {
+                    Some(old)
+                }
+            }
+        },
     }
-    true
 }
 
 impl<'a> Core<'a> {
-    /// Whether a core runs each setting of the plan's files. It chooses in plan order and knows no
-    /// limits, so those that it does not run are PRIORITY and MAXJOBS.
-    pub fn takes(plan: &Plan) -> bool
-        ensures { result ≡ takes_settings plan.now.graph.dag }
-    {
-        let dag = plan.graph().flat();
-        have_no_priority(dag.nodes()) && dag.categories().is_empty()
-    }
-
     /// The plan that was handed in.
     pub fn plan(&self) -> &'a Plan
         ensures { result.now ≡ self.now.plan }
@@ -194,7 +199,8 @@ impl<'a> Core<'a> {
         }
     }
 
-    fn parents_done(&self, node: u32) -> bool
+    /// Whether all parents of a node are done.
+    pub fn parents_done(&self, node: u32) -> bool
         requires { node ≤ count_of self.now.plan }
         ensures { result ≡ list_all (is_done self.now.plan self.now.past) (node_at self.now.plan node).parents }
     {
@@ -263,8 +269,9 @@ impl<'a> Core<'a> {
         true
     }
 
+    /// Whether the next phase of the FINAL node may be launched: it is its turn.
     #[tactic(auto, unfolding(crate::specs::Run::is_final_ready))]
-    fn is_final_ready(&self) -> bool
+    pub fn is_final_ready(&self) -> bool
         ensures { result ≡ is_final_ready self.now.plan self.now.past }
     {
         let plan = self.plan();
@@ -287,7 +294,7 @@ impl<'a> Core<'a> {
     }
 
     /// Whether this phase is outstanding.
-    fn is_outstanding(&self, key: &Key) -> bool
+    pub fn is_outstanding(&self, key: &Key) -> bool
         ensures is { result ≡ is_among key.now (outstanding self.now.plan self.now.past) }
         ensures within { IsTrue result → key.now.node ≤ count_of self.now.plan }
     {
@@ -441,13 +448,18 @@ impl<'a> Core<'a> {
         requires room { 0 < self.old.room }
         requires lawful { IsTrue (may_follow self.old.plan self.old.past entry) }
         ensures plan { self.new.plan ≡ self.old.plan }
+        ensures limits { self.new.limits ≡ self.old.limits }
         ensures past { self.new.past ≡ entry ∷ self.old.past }
         ensures room { self.old.room ≤ self.new.room + 1 }
     {
         let plan = self.plan;
         let _more = count_and_one(&self.records);
+        let _graph = plan.graph();
+        let was_aborted = self.aborted;
         self.jobs = count_jobs(self.jobs, entry);
         self.aborted = advance(plan, &mut self.runs, self.aborted, entry);
+        let stops = both(self.aborted, !was_aborted);
+        throttle(plan, &mut self.throttles, entry, stops);
         push_in_room(&mut self.records, entry);
     }
 
@@ -456,6 +468,7 @@ impl<'a> Core<'a> {
         requires { 0 < self.old.room }
         ensures lawful { IsOk result ↔ IsTrue (may_follow self.old.plan self.old.past entry) }
         ensures plan { self.new.plan ≡ self.old.plan }
+        ensures limits { self.new.limits ≡ self.old.limits }
         ensures past { OnOk result (self.new.past ≡ entry ∷ self.old.past) }
         ensures room { OnOk result (self.old.room ≤ self.new.room + 1) }
         ensures unchanged { OnErr result (self.new ≡ self.old) }
@@ -471,6 +484,7 @@ impl<'a> Core<'a> {
     /// Makes room for so many records more.
     pub fn reserve(&mut self, count: usize) -> Result<(), CoreFault>
         ensures plan { self.new.plan ≡ self.old.plan }
+        ensures limits { self.new.limits ≡ self.old.limits }
         ensures past { self.new.past ≡ self.old.past }
         ensures ok { OnOk result (count ≤ self.new.room) }
         ensures room { self.old.room ≤ self.new.room }
@@ -481,35 +495,75 @@ impl<'a> Core<'a> {
     }
 
     /// A run with no records.
-    pub fn new(alloc: Global, plan: &'a Plan) -> Result<Core<'a>, CoreFault>
-        ensures ok { IfOk result (λ core. (core.plan ≡ plan.now) × (core.past ≡ [])) }
+    pub fn new(alloc: Global, plan: &'a Plan, limits: Limits) -> Result<Core<'a>, CoreFault>
+        ensures ok { IfOk result (λ core. (core.plan ≡ plan.now) × (core.limits ≡ limits) × (core.past ≡ [])) }
         ensures err { IfErr result (λ fault. fault ≡ CoreFault.Memory) }
     {
         let runs = fresh_runs(alloc, plan)?;
+        let throttles = fresh_throttles(alloc, plan, limits)?;
         Ok(Core {
             plan,
             records: Vec::new(alloc),
             runs,
             aborted: false,
             jobs: 0,
+            throttles,
         })
     }
 
-    /// What is to be done next, in a run that has begun and is not over.
-    pub fn choose(&self) -> Choice
-        requires { IsTrue (is_open self.now.past) }
-        ensures { IsChoice self.now.plan self.now.past result }
+    /// The limits that were handed in.
+    pub fn limits(&self) -> Limits
+        ensures { result ≡ self.now.limits }
     {
-        for node in 0..self.plan().count() + 1 {
-            match self.launchable(node) {
-                Some(key) => return Choice::Start(key),
-                None => {}
-            }
+        self.throttles.limits()
+    }
+
+    /// Whether no limit that counts this phase is reached.
+    fn lets_in(&self, key: &Key) -> bool
+        requires { key.now.node ≤ count_of self.now.plan }
+        ensures { result ≡ lets_in self.now.limits self.now.plan (outstanding self.now.plan self.now.past) key.now }
+    {
+        let plan = self.plan;
+        let category = plan.spec(key.node).category();
+        self.throttles.may_start(key.phase, category)
+    }
+
+    /// A node's phase that may be launched and is let in.
+    fn startable(&self, node: u32) -> Option<Key>
+        requires { node ≤ count_of self.now.plan }
+        ensures { result ≡ startable self.now.limits self.now.plan self.now.past node }
+    {
+        match self.launchable(node) {
+            Some(key) => { if self.lets_in(&key) { Some(key) } else { None } }
+            None => None,
         }
-        if self.nothing_running() {
-            Choice::Finish(self.verdict())
-        } else {
-            Choice::Wait
+    }
+
+    /// The best phase that may be launched and is let in.
+    fn best(&self) -> Option<Key>
+        ensures { IsBestBelow self.now.limits self.now.plan self.now.past (suc (count_of self.now.plan)) result }
+    {
+        let mut best: Option<Key> = None;
+        for node in 0..self.plan().count() + 1 {
+            best = better_of(self.plan(), best, self.startable(node));
+        }
+        best
+    }
+
+    /// What is to be done next: of the phases that may be launched and that no limit holds, the
+    /// one whose node has the greatest priority, and of these the first in plan order.
+    pub fn choose(&self) -> Choice
+        ensures { IsChoice self.now.limits self.now.plan self.now.past result }
+    {
+        match self.best() {
+            Some(key) => Choice::Start(key),
+            None => {
+                if self.nothing_running() {
+                    Choice::Finish(self.verdict())
+                } else {
+                    Choice::Wait
+                }
+            }
         }
     }
 
@@ -519,6 +573,54 @@ impl<'a> Core<'a> {
         ensures err { IfErr result (λ fault. fault ≡ CoreFault.Memory) }
     {
         Ok(history_of(alloc, &self.records, node)?)
+    }
+
+    /// Whether a node is not done, and no phase of it is to come.
+    fn is_in_error(&self, node: u32) -> bool
+        requires { node ≤ count_of self.now.plan }
+        ensures { result ≡ is_in_error self.now.plan self.now.past node }
+    {
+        !self.is_done(node) && self.next(node).is_none()
+    }
+
+    /// How many ordinary nodes are in error.
+    fn failed(&self) -> u32
+        ensures { result ≡ failed_in self.now.plan self.now.past }
+    {
+        let mut failed = 0;
+        for node in 0..self.plan().count() {
+            if self.is_in_error(node) {
+                failed += 1;
+            }
+        }
+        failed
+    }
+
+    /// What the records say of an outstanding phase at its launch: the facts that its command is
+    /// made of. It takes no memory, and goes over the records and the nodes.
+    pub fn facts(&self, key: &Key) -> PhaseFacts
+        requires { IsTrue (is_among key.now (outstanding self.now.plan self.now.past)) }
+        ensures { result ≡ facts_in self.now.plan self.now.past key.now }
+    {
+        self.keeps_the_law();
+        let records = self.records();
+        let job = Key {
+            phase: Phase::Job,
+            ..*key
+        };
+        let pre = Key {
+            phase: Phase::Pre,
+            ..*key
+        };
+        let failed = self.failed();
+        PhaseFacts {
+            launch: newest_launch(records, key),
+            job_launch: newest_launch(records, &job),
+            job_value: value_of(outcome_of(records, &job)),
+            pre_value: pre_value(self.plan().spec(key.node), outcome_of(records, &pre)),
+            dag_status: dag_status(self.aborted(), failed),
+            failed,
+        }
     }
 
     /// What a node has come to.

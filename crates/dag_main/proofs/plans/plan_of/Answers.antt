@@ -1,13 +1,8 @@
-use Rattle.std.proofs.Common.{sym}
 use Rattle.splices.specs.FileSet.{bytes_of}
-use Rattle.dag_main.proofs.PlansOfFiles.{not-yet, is-plan}
+use Rattle.dag_main.proofs.PlansOfFiles.{is-plan}
 use Rattle.dag_main.proofs.plans.plan_of.Goals as goal
-
-pub returns-then-not-is_rehearsed-clause-refused : goal.returns-then-not-is_rehearsed-clause-refused
-returns-then-not-is_rehearsed-clause-refused c =
-    not-yet (bytes_of c.args.files.now) c.args.path.now c.in_ok-graph.graph c.in-Ok.plan c.in_ok-graph.ensures.graph c.in_ok-graph.ensures.acyclic c.in-Ok.ensures.plan (sym c.if-not-is_rehearsed.ensures)
 
 pub returns-clause-plan : goal.returns-clause-plan
 returns-clause-plan c =
     is-plan (bytes_of c.args.files.now) c.args.path.now c.in_ok-graph.graph c.in-Ok.plan c.in_ok-graph.ensures.graph c.in_ok-graph.ensures.acyclic c.in-Ok.ensures.plan
-    (rw (← c.graph.ensures.is) c.order-order.ensures.parents_first) (sym c.if-not-is_rehearsed.ensures)
+    (rw (← c.graph.ensures.is) c.order-order.ensures.parents_first)

@@ -5,4 +5,4 @@ use Rattle.dag_main.proofs.rehearsal.begin.Goals as goal
 
 pub add-requires : goal.add-requires
 unfolding may_follow
-add-requires c = ap (λ (past : List Record). not (is_over past)) c.in_ok-core.ensures.ok.1
+add-requires c = ap (λ (past : List Record). not (is_over past)) c.in_ok-core.ensures.ok.2

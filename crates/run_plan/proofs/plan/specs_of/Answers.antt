@@ -5,6 +5,8 @@ use Rattle.splices.specs.Dag.{Dag}
 use Rattle.splices.specs.FileSet.{bytes_of}
 use Rattle.splices.specs.declared.file_set.FileSet.{FileSet}
 use Rattle.splices.specs.declared.flat.FlatNode.{FlatNode}
+use Rattle.splices.specs.declared.flat.CategoryLimit.{CategoryLimit}
+use Rattle.run_plan.specs.Specs.{spec_of}
 use Rattle.run_plan.specs.PlanAnswers.{Fails}
 use Rattle.run_plan.specs.Planned.{marked_sources}
 use Rattle.run_plan.specs.Submitted.{job_at, job_or_program, first_fault}
@@ -22,7 +24,7 @@ loop-number-preserved c =
     record {
       specs = specs-step c.args.graph.now.dag (marked_sources files c.args.marks.now) c.nodes-node-items.result.now c.loop-number.number c.loop-number.specs.items c.push.new.self.items
           c.in-Ok.spec node c.parents-parents.result.now c.in_ok-job.job c.unwrap_or-marked.result
-          seen c.loop-number-test.true c.node-item.is c.loop-number.invariant.specs c.in_ok-push.ensures.items c.in-Ok.ensures.ok c.parents-parents.ensures
+          seen c.loop-number-test.true c.node-item.is c.loop-number.invariant.specs c.in_ok-push.ensures.items (c.in-Ok.ensures.ok ∙ ap (λ (ls : List CategoryLimit). spec_of ls c.parents-parents.result.now c.in_ok-job.job c.unwrap_or-marked.result node) (c.categories-limits.ensures ∙ ap (λ (d : Dag). d.categories) c.flat-in-loop-number.ensures)) c.parents-parents.ensures
           (sym (ap (job_or_program node) c.in_ok-job.ensures)) (search rules);
       none = faults_more files c.args.graph.now.dag.nodes c.loop-number.number node c.in_ok-job.job small c.loop-number.invariant.none
           (subst (λ (n : FlatNode). job_at files n ≡ Ok c.in_ok-job.job) here c.in_ok-job.ensures);

@@ -1,6 +1,6 @@
 use Rattle.std.proofs.Common.{◌∙◌, ◌≤◌, length, sym, ap, arith, unwrap_or, Option}
 use Rattle.run_plan.specs.Plan.{NodeSpec, no_node}
-use Rattle.run_plan.proofs.PlanFacts.{parents-below, node-past}
+use Rattle.run_plan.proofs.PlanFacts.{parents-below, category-placed, node-past}
 use Rattle.run_plan.proofs.plan.Plan.spec.Goals as goal
 
 pub returns-then-index-len-clause-parents : goal.returns-then-index-len-clause-parents
@@ -30,3 +30,12 @@ returns-in-Some-clause-sound c = rw (← c.self.view_is) (c.self.invariant.0.sou
 
 pub returns-in-None-clause-sound : goal.returns-in-None-clause-sound
 returns-in-None-clause-sound c = rw (← c.self.view_is) (c.self.invariant.0.sound c.args.node)
+
+pub returns-then-index-len-clause-category : goal.returns-then-index-len-clause-category
+returns-then-index-len-clause-category c = rw (← c.self.view_is) (category-placed _ c.self.invariant.0 c.args.node)
+
+pub returns-in-Some-clause-category : goal.returns-in-Some-clause-category
+returns-in-Some-clause-category c = rw (← c.self.view_is) (category-placed _ c.self.invariant.0 c.args.node)
+
+pub returns-in-None-clause-category : goal.returns-in-None-clause-category
+returns-in-None-clause-category c = rw (← c.self.view_is) (category-placed _ c.self.invariant.0 c.args.node)

@@ -1,11 +1,12 @@
-use Rattle.std.proofs.Common.{◌≡◌, ◌∙◌, true, List, [], ◌∷◌, length, reverse, ap, sym, subst, arith}
+use Rattle.std.proofs.Common.{◌≡◌, ◌∙◌, ◌+◌, ◌<◌, true, List, [], ◌∷◌, length, reverse, ap, sym, subst, arith}
 use Rattle.std.proofs.lemmas.List.{length-reverse, reverse-append}
 use Rattle.sched_core.specs.declared.Record.{Record}
 use Rattle.node_machine.specs.NodeProgress.{NodeProgress}
 use Rattle.sched_core.specs.Run.{may_follow}
-use Rattle.sched_core.specs.Core.{Progress, Takes}
+use Rattle.sched_core.specs.Core.{Progress, Takes, Shows}
 use Rattle.sched_core.proofs.Shown.{shows-takes}
 use Rattle.sched_core.proofs.Moves.{jobs-few, add-shown}
+use Rattle.sched_core.proofs.Throttling.{entry-of_node, same-categories, entry-counted, few-running, throttled-added}
 use Rattle.sched_core.proofs.scheduler.Core.add.Goals as goal
 
 pub count_jobs-self-inside-requires : goal.count_jobs-self-inside-requires
@@ -20,13 +21,35 @@ advance-self-inside-requires-clause-takes c =
     let may : may_follow c.self.inside.plan.now (reverse c.self.inside.records.items) c.args.entry ≡ true =
     subst (λ (v : Progress). may_follow v.plan v.past c.args.entry ≡ true) (sym c.self.view_is) c.requires.lawful in
     subst (λ (l : List NodeProgress). Takes c.self.inside.plan.now l c.args.entry) (sym c.deref_mut.ensures.value)
-    (shows-takes _ _ _ _ _ c.self.invariant c.args.entry may)
+    (shows-takes _ _ _ _ _ c.self.invariant.0 c.args.entry may)
+
+pub throttle-requires : goal.throttle-requires
+throttle-requires c =
+    let may : may_follow c.self.inside.plan.now (reverse c.self.inside.records.items) c.args.entry ≡ true =
+    subst (λ (v : Progress). may_follow v.plan v.past c.args.entry ≡ true) (sym c.self.view_is) c.requires.lawful in
+    let same : length c.deref.result.now ≡ length c.self.inside.records.items = ap (λ (l : List Record). length l) c.deref.ensures.value in
+    let size = length-reverse c.self.inside.records.items in
+    let small = c.count_and_one-more.ensures.small in
+    let lt : length (reverse c.self.inside.records.items) + 1 < 18446744073709551616 = omega arith in
+    record {
+      node = entry-of_node c.self.inside.plan.now c.graph-graph.ensures.made (reverse c.self.inside.records.items) c.self.inside.throttles c.self.invariant.1 c.args.entry c.self.invariant.0.lawful may;
+      categories = same-categories c.self.inside.plan.now c.graph-graph.ensures.made (reverse c.self.inside.records.items) c.self.inside.throttles c.self.invariant.1;
+      room = few-running c.self.inside.plan.now c.graph-graph.ensures.made (reverse c.self.inside.records.items) c.self.inside.throttles c.self.invariant.1 18446744073709551616 lt;
+      counted = entry-counted c.self.inside.plan.now c.graph-graph.ensures.made (reverse c.self.inside.records.items) c.self.inside.throttles c.self.invariant.1 c.args.entry may;
+    }
 
 pub invariant_of-self : goal.invariant_of-self
 invariant_of-self c =
     let may : may_follow c.self.inside.plan.now (reverse c.self.inside.records.items) c.args.entry ≡ true =
     subst (λ (v : Progress). may_follow v.plan v.past c.args.entry ≡ true) (sym c.self.view_is) c.requires.lawful in
+    let past : reverse c.push_in_room.new.records.items ≡ c.args.entry ∷ reverse c.self.inside.records.items =
+    ap (λ (l : List Record). reverse l) c.push_in_room.ensures.items ∙ reverse-append c.self.inside.records.items (c.args.entry ∷ []) in
+    let shown : Shows c.self.inside.plan.now (reverse c.push_in_room.new.records.items) _ c.advance-self-inside.result c.count_jobs-self-inside.result =
     add-shown c.self.inside.plan.now c.self.inside.records.items c.push_in_room.new.records.items c.args.entry c.self.inside.runs.items c.deref_mut.result.now
     c.advance-self-inside.new.runs c.self.inside.runs.len c.self.inside.aborted c.advance-self-inside.result c.self.inside.jobs c.count_jobs-self-inside.result
-    c.self.invariant may c.deref_mut.ensures.value c.deref_mut.ensures.len c.advance-self-inside.ensures.runs c.advance-self-inside.ensures.flag c.count_jobs-self-inside.ensures
-    (ap (λ (l : List Record). reverse l) c.push_in_room.ensures.items ∙ reverse-append c.self.inside.records.items (c.args.entry ∷ []))
+    c.self.invariant.0 may c.deref_mut.ensures.value c.deref_mut.ensures.len c.advance-self-inside.ensures.runs c.advance-self-inside.ensures.flag c.count_jobs-self-inside.ensures past in (
+      shown,
+      throttled-added c.self.inside.plan.now c.graph-graph.ensures.made (reverse c.self.inside.records.items) (reverse c.push_in_room.new.records.items) c.args.entry
+          c.self.inside.throttles c.throttle.new.throttles c.self.inside.aborted c.advance-self-inside.result c.both-stops.result
+          c.self.invariant.1 c.self.invariant.0.lawful may c.throttle.ensures c.both-stops.ensures shown.aborted_is c.self.invariant.0.aborted_is past,
+    )

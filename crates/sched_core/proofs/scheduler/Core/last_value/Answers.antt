@@ -10,4 +10,4 @@ returns c =
     let p = ap (λ (v : Progress). count_of v.plan) c.self.view_is in
     let lt : c.args.node < suc (count_of c.self.inside.plan.now) = omega arith in
     let run : c.run_of-run.result ≡ run_at c.self.inside.runs.items c.args.node = c.run_of-run.ensures ∙ ap (λ (l : List NodeProgress). run_at l c.args.node) c.deref.ensures.value in
-    rw (← c.self.view_is) (c.last_value.ensures.is ∙ value-shown _ _ _ _ _ c.self.invariant c.args.node lt c.run_of-run.result run)
+    rw (← c.self.view_is) (c.last_value.ensures.is ∙ value-shown _ _ _ _ _ c.self.invariant.0 c.args.node lt c.run_of-run.result run)

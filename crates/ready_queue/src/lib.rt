@@ -1,0 +1,227 @@
+//! The nodes that may start, best first: those of greater priority, and of one priority those that
+//! come first in plan order.
+#![tactic(auto)]
+
+ghost use Rattle.std.specs.Prelude.{◌≡◌, ◌<◌, ◌≤◌, ◌+◌, ℕ, [], ◌↔◌, length, slice_index_or, IsTrue, IsOk, IfOk, IfErr, OnOk, OnErr, vec_len, vec_capacity};
+ghost use Rattle.std.specs.List.{Contains, insert, remove};
+ghost use Rattle.ready_queue.specs.declared.Member.{Member};
+ghost use Rattle.ready_queue.specs.declared.QueueFault.TheVariants.{Present, Absent, Memory};
+ghost use Rattle.ready_queue.specs.Queue.{ComesBefore, IsOrdered, IsBest, IsPlaceOf};
+
+use std::alloc::{AllocError, AllocFailed, Global};
+use std::marker::Model;
+use thiserror::Error;
+
+/// A node that may start: its number in plan order, and its priority.
+#[derive(Clone, Copy, Debug, PartialEq, Eq)]
+pub struct Member {
+    pub node: u32,
+    pub priority: i32,
+}
+
+/// Why a call of a queue is refused.
+#[derive(Clone, Copy, Debug, PartialEq, Eq, Error)]
+pub enum QueueFault {
+    /// What is added is a member already.
+    #[error("Q1 Present")]
+    Present,
+    /// What is removed is no member.
+    #[error("Q2 Absent")]
+    Absent,
+    /// Memory was refused.
+    #[error("Q3 Memory")]
+    Memory,
+}
+
+impl From<AllocError> for QueueFault {
+    ghost from_gives = { λ _ fault. fault ≡ Memory };
+
+    fn from(_e: AllocError) -> QueueFault {
+        QueueFault::Memory
+    }
+}
+
+impl<T: Drop> From<AllocFailed<T>> for QueueFault {
+    ghost from_gives = { λ _ fault. fault ≡ Memory };
+
+    fn from(_e: AllocFailed<T>) -> QueueFault {
+        QueueFault::Memory
+    }
+}
+
+/// Nodes with their priorities, best first. A place is found by halving.
+#[derive(Drop)]
+pub struct ReadyQueue {
+    members: Vec<Member>,
+}
+
+impl Model for ReadyQueue {
+    ghost use Rattle.std.specs.Prelude.{◌-◌, vec_len, vec_capacity};
+    ghost use Rattle.ready_queue.specs.Queue.{Queue, IsOrdered};
+
+    ghost Value = { Queue };
+
+    ghost view = { λ a. record { members = a.members.items; room = vec_capacity a.members - vec_len a.members } };
+
+    ghost invariant = { λ a. IsOrdered a.members.items };
+}
+
+/// Whether one member stands before another.
+fn comes_before(member: Member, other: Member) -> bool
+    ensures { IsTrue result ↔ ComesBefore member other }
+{
+    if member.priority == other.priority {
+        member.node < other.node
+    } else {
+        member.priority > other.priority
+    }
+}
+
+/// The place of a member among these, or that where it belongs.
+fn place_of(members: &[Member], member: Member) -> usize
+    requires { IsOrdered members.now }
+    ensures { IsPlaceOf members.now member result }
+{
+    let mut low = 0;
+    let mut high = members.len();
+    while low < high {
+        let middle = low + (high - low) / 2;
+        if comes_before(members[middle], member) {
+            low = middle + 1;
+        } else {
+            high = middle;
+        }
+    }
+    low
+}
+
+fn is_same(member: Member, other: Member) -> bool
+    ensures { IsTrue result ↔ (member ≡ other) }
+{
+    member == other
+}
+
+/// Whether this member stands at its place among these.
+fn is_there(members: &[Member], member: Member, place: usize) -> bool
+    requires ordered { IsOrdered members.now }
+    requires place { IsPlaceOf members.now member place }
+    ensures is { IsTrue result ↔ Contains members.now member }
+    ensures there { IsTrue result → (place < length members.now) × (slice_index_or members.now place member ≡ member) }
+{
+    place < members.len() && is_same(members[place], member)
+}
+
+impl ReadyQueue {
+    /// A queue without members.
+    pub fn new(alloc: Global) -> ReadyQueue
+        ensures { result.members ≡ [] }
+    {
+        ReadyQueue {
+            members: Vec::new(alloc),
+        }
+    }
+
+    /// Makes room for so many members more.
+    pub fn reserve(&mut self, count: usize) -> Result<(), QueueFault>
+        ensures members { self.new.members ≡ self.old.members }
+        ensures ok { OnOk result (count ≤ self.new.room) }
+        ensures room { self.old.room ≤ self.new.room }
+        ensures err { IfErr result (λ fault. fault ≡ Memory) }
+    {
+        self.members.reserve(count)?;
+        Ok(())
+    }
+
+    /// The members, best first.
+    pub fn members(&self) -> &[Member]
+        ensures is { result.now ≡ self.now.members }
+        ensures ordered { IsOrdered self.now.members }
+    {
+        &self.members
+    }
+
+    /// Adds a member, at its place. It takes no memory.
+    pub fn add(&mut self, member: Member) -> Result<(), QueueFault>
+        requires { 0 < self.old.room }
+        ensures refused { IsOk result ↔ (Contains self.old.members member → ⊥) }
+        ensures added { OnOk result ((place : ℕ) × (place ≤ length self.old.members)
+            × (self.new.members ≡ insert self.old.members place member)) }
+        ensures room { self.old.room ≤ self.new.room + 1 }
+        ensures unchanged { OnErr result (self.new ≡ self.old) }
+        ensures err { IfErr result (λ fault. fault ≡ Present) }
+    {
+        let place = place_of(&self.members, member);
+        if is_there(&self.members, member, place) {
+            return Err(QueueFault::Present);
+        }
+        insert_in_room(&mut self.members, place, member);
+        Ok(())
+    }
+
+    /// Takes a member out.
+    pub fn remove(&mut self, member: Member) -> Result<(), QueueFault>
+        ensures refused { IsOk result ↔ Contains self.old.members member }
+        ensures removed { OnOk result ((place : ℕ) × (place < length self.old.members)
+            × (slice_index_or self.old.members place member ≡ member)
+            × (self.new.members ≡ remove self.old.members place)) }
+        ensures room { self.old.room ≤ self.new.room }
+        ensures unchanged { OnErr result (self.new ≡ self.old) }
+        ensures err { IfErr result (λ fault. fault ≡ Absent) }
+    {
+        let place = place_of(&self.members, member);
+        if !is_there(&self.members, member, place) {
+            return Err(QueueFault::Absent);
+        }
+        remove_at(&mut self.members, place);
+        Ok(())
+    }
+
+    /// Takes all members out.
+    pub fn clear(&mut self)
+        ensures members { self.new.members ≡ [] }
+        ensures room { self.old.room + length self.old.members ≤ self.new.room }
+    {
+        self.members.clear();
+    }
+
+    /// The best of the members whose nodes are allowed, or none where none is.
+    pub fn best_where<F: Fn(u32) -> bool>(&self, allowed: F) -> Option<Member>
+        requires { F.IsAlwaysCallable allowed }
+        ensures { IsBest (F.post allowed) self.now.members result }
+    {
+        best_in(&self.members, allowed)
+    }
+}
+
+/// The first of these members whose node is allowed, or none where none is.
+fn best_in<F: Fn(u32) -> bool>(members: &[Member], allowed: F) -> Option<Member>
+    requires ordered { IsOrdered members.now }
+    requires callable { F.IsAlwaysCallable allowed }
+    ensures { IsBest (F.post allowed) members.now result }
+{
+    for member in members {
+        if allowed(member.node) {
+            return Some(*member);
+        }
+    }
+    None
+}
+
+fn insert_in_room(members: &mut Vec<Member>, place: usize, member: Member)
+    requires place { place ≤ vec_len members.old }
+    requires room { vec_len members.old < vec_capacity members.old }
+    ensures items { members.new.items ≡ insert members.old.items place member }
+    ensures len { vec_len members.new ≡ vec_len members.old + 1 }
+    ensures capacity { vec_capacity members.old ≤ vec_capacity members.new }
+{
+    let _ = members.insert(place, member);
+}
+
+fn remove_at(members: &mut Vec<Member>, place: usize)
+    requires { place < vec_len members.old }
+    ensures items { members.new.items ≡ remove members.old.items place }
+    ensures len { vec_len members.new + 1 ≡ vec_len members.old }
+    ensures capacity { vec_capacity members.old ≤ vec_capacity members.new }
+{
+    let _ = members.remove(place);
+}
