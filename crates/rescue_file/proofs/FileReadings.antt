@@ -8,54 +8,61 @@ use Rattle.std.specs.Str.Lines.{lines}
 use Rattle.splices.specs.Dag.{Dag}
 use Rattle.rescue_file.specs.declared.fault.RescueFault.{RescueFault}
 use Rattle.rescue_file.specs.declared.fault.RescueFault.TheVariants.{BadLine, UnknownNode, FinalDone, NotThere, Memory}
-use Rattle.rescue_file.specs.Grammar.{Says, SayAll, IsBad, StopsAt, IsFirstBad}
+use Rattle.rescue_file.specs.Grammar.{SayAll, IsFirstBad}
 use Rattle.rescue_file.specs.Reading.{◌>>=◌, line_at, lines_at, rescued_of, Fails, Gives}
-use Rattle.rescue_file.proofs.LineReadings.{good, LineIs, line_is, says_again, bad_again}
+use Rattle.rescue_file.proofs.LineReadings.{good, line_ordinary}
+
+-- where reading stops
+abbrev StopsAt : Dag → ℕ → List (List ℕ) → RescueFault → Type 0
+StopsAt dag number ls fault = (front : List (List ℕ)) × (line : List ℕ) × (back : List (List ℕ)) × (nodes : List ℕ)
+    × (ls ≡ front ++ line ∷ back) × SayAll dag number front nodes × (line_at dag (number + length front) line ≡ Err fault)
 
 abbrev LinesAre : Dag → ℕ → List (List ℕ) → Result (List ℕ) RescueFault → Type 0
 LinesAre dag number ls (Ok nodes) = SayAll dag number ls nodes
 LinesAre dag number ls (Err fault) = StopsAt dag number ls fault
 
 -- the first line, and the others
-both : (dag : Dag) (number : ℕ) (line : List ℕ) (more : List (List ℕ)) (first : Result (Option ℕ) RescueFault) (others : Result (List ℕ) RescueFault) → LineIs dag number line first → LinesAre dag (number + 1) more others
+both : (dag : Dag) (number : ℕ) (line : List ℕ) (more : List (List ℕ)) (first : Result (Option ℕ) RescueFault) (others : Result (List ℕ) RescueFault) → line_at dag number line ≡ first → LinesAre dag (number + 1) more others
     → LinesAre dag number (line ∷ more) (first >>= λ o. others >>= λ ns. Ok (option_to_list o ++ ns))
 both dag number line more (Err e) others here later =
-    let at : number ≡ number + 0 = omega arith in
-    ([], line, more, [], refl, refl, subst (λ (n : ℕ). IsBad dag n line e) at here)
+    let at : number + 0 ≡ number = omega arith in
+    ([], line, more, [], refl, refl, ap (λ (n : ℕ). line_at dag n line) at ∙ here)
 both dag number line more (Ok o) (Ok ns) here later = (o, ns, here, later, refl)
 both dag number line more (Ok o) (Err e) here (front, l, back, nodes, split, all, stop) =
-    let at : number + 1 + length front ≡ number + suc (length front) = omega arith in
-    (line ∷ front, l, back, option_to_list o ++ nodes, ap (λ (xs : List (List ℕ)). line ∷ xs) split, (o, nodes, here, all, refl), subst (λ (n : ℕ). IsBad dag n l e) at stop)
+    let at : number + suc (length front) ≡ number + 1 + length front = omega arith in
+    (line ∷ front, l, back, option_to_list o ++ nodes, ap (λ (xs : List (List ℕ)). line ∷ xs) split, (o, nodes, here, all, refl), ap (λ (n : ℕ). line_at dag n l) at ∙ stop)
 
 lines_are : (dag : Dag) (number : ℕ) (ls : List (List ℕ)) → LinesAre dag number ls (lines_at dag number ls)
 unfolding lines_at
 lines_are dag number [] = refl
 lines_are dag number (line ∷ more) =
-    both dag number line more (line_at dag number line) (lines_at dag (number + 1) more) (line_is dag number line) (lines_are dag (number + 1) more)
+    both dag number line more (line_at dag number line) (lines_at dag (number + 1) more) refl (lines_are dag (number + 1) more)
 
 pub lines_again : (dag : Dag) (number : ℕ) (ls : List (List ℕ)) (nodes : List ℕ) → SayAll dag number ls nodes → lines_at dag number ls ≡ Ok nodes
 unfolding lines_at
 lines_again dag number [] nodes e = ap (λ (ns : List ℕ). good ns) (sym e)
 lines_again dag number (line ∷ more) nodes (first, others, says, all, e) =
-    rw (says_again dag number line first says, lines_again dag (number + 1) more others all) (ap (λ (ns : List ℕ). good ns) (sym e))
+    rw (says, lines_again dag (number + 1) more others all) (ap (λ (ns : List ℕ). good ns) (sym e))
 
 stops_again : (dag : Dag) (number : ℕ) (front : List (List ℕ)) (line : List ℕ) (back : List (List ℕ)) (nodes : List ℕ) (fault : RescueFault) → SayAll dag number front nodes
-    → IsBad dag (number + length front) line fault → lines_at dag number (front ++ line ∷ back) ≡ Err fault
+    → line_at dag (number + length front) line ≡ Err fault → lines_at dag number (front ++ line ∷ back) ≡ Err fault
 unfolding lines_at
 stops_again dag number [] line back nodes fault all is =
-    let at : number + 0 ≡ number = omega arith in
-    rw (bad_again dag number line fault (subst (λ (n : ℕ). IsBad dag n line fault) at is)) refl
+    let at : number ≡ number + 0 = omega arith in
+    let here : line_at dag number line ≡ Err fault = ap (λ (n : ℕ). line_at dag n line) at ∙ is in
+    rw here refl
 stops_again dag number (x ∷ front) line back nodes fault (first, others, says, all, e) is =
-    let at : number + suc (length front) ≡ number + 1 + length front = omega arith in
-    rw (says_again dag number x first says, stops_again dag (number + 1) front line back others fault all (subst (λ (n : ℕ). IsBad dag n line fault) at is)) refl
+    let at : number + 1 + length front ≡ number + suc (length front) = omega arith in
+    let there : line_at dag (number + 1 + length front) line ≡ Err fault = ap (λ (n : ℕ). line_at dag n line) at ∙ is in
+    rw (says, stops_again dag (number + 1) front line back others fault all there) refl
 
 first_bad_again : (dag : Dag) (ls : List (List ℕ)) (fault : RescueFault) → IsFirstBad dag ls fault → lines_at dag 1 ls ≡ Err fault
 first_bad_again dag ls fault (front, line, back, nodes, split, all, is) = ap (lines_at dag 1) split ∙ stops_again dag 1 front line back nodes fault all is
 
 -- Each node is an ordinary one.
-with_first : (dag : Dag) (number : ℕ) (line : List ℕ) (o : Option ℕ) (ns : List ℕ) → Says dag number line o → All (λ node. node < length dag.nodes) ns → All (λ node. node < length dag.nodes) (option_to_list o ++ ns)
+with_first : (dag : Dag) (number : ℕ) (line : List ℕ) (o : Option ℕ) (ns : List ℕ) → line_at dag number line ≡ Ok o → All (λ node. node < length dag.nodes) ns → All (λ node. node < length dag.nodes) (option_to_list o ++ ns)
 with_first dag number line None ns says all = all
-with_first dag number line (Some node) ns (name, says, is) all = All-cons (λ n. n < length dag.nodes) node ns is.below all
+with_first dag number line (Some node) ns says all = All-cons (λ n. n < length dag.nodes) node ns (line_ordinary dag number line node says) all
 
 are_ordinary : (dag : Dag) (number : ℕ) (ls : List (List ℕ)) (nodes : List ℕ) → SayAll dag number ls nodes → All (λ node. node < length dag.nodes) nodes
 are_ordinary dag number [] nodes e = subst (All (λ node. node < length dag.nodes)) (sym e) (All-nil (λ node. node < length dag.nodes))

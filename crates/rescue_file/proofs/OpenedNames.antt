@@ -8,7 +8,7 @@ use Rattle.std.specs.Prelude.{position}
 use Rattle.std.specs.Str.{bytes_eq}
 use Rattle.std.specs.Str.Lines.{lines}
 use Rattle.dag_reader.specs.declared.command.Command.{Command}
-use Rattle.dag_reader.specs.declared.command.Command.TheVariants.{Job, ParentChild, Script, Retry, PreSkip, Vars, Priority, Category, MaxJobs, AbortDagOn, Final, Splice, Ignored}
+use Rattle.dag_reader.specs.declared.command.Command.TheVariants.{Splice}
 use Rattle.dag_reader.specs.declared.fault.LineFault.{LineFault}
 use Rattle.dag_reader.specs.Grammar.{SayAll}
 use Rattle.dag_reader.specs.Reading.{text_at}
@@ -77,18 +77,7 @@ module _ (opener : Opener) (left : ℕ) (each : (used : _) (above : List (List �
       let (tree, opened, made) = then_ok (enter_at opener used above (splice_folder folder s) (splice_path folder s) place) _ first is in
       let o = each (with_splice used) (above ++ splice_path folder s ∷ []) (splice_folder folder s) (splice_path folder s) tree (entered opener used above (splice_folder folder s) (splice_path folder s) place tree opened) in
       subst (IsForest left used.nodes (name.text ∷ [])) (given (more name.text tree.file tree.inner none) first made) (alone left used.nodes name.text tree o)
-  line_forest used above folder (Job name file dir noop done) first is few = silent used.nodes first few is
-  line_forest used above folder (ParentChild parents children) first is few = silent used.nodes first few is
-  line_forest used above folder (Script kind target program arguments) first is few = silent used.nodes first few is
-  line_forest used above folder (Retry target n v) first is few = silent used.nodes first few is
-  line_forest used above folder (PreSkip target v) first is few = silent used.nodes first few is
-  line_forest used above folder (Vars target placement macros) first is few = silent used.nodes first few is
-  line_forest used above folder (Priority target k) first is few = silent used.nodes first few is
-  line_forest used above folder (Category target category) first is few = silent used.nodes first few is
-  line_forest used above folder (MaxJobs category k) first is few = silent used.nodes first few is
-  line_forest used above folder (AbortDagOn target v status) first is few = silent used.nodes first few is
-  line_forest used above folder (Final name file dir noop) first is few = silent used.nodes first few is
-  line_forest used above folder (Ignored span) first is few = silent used.nodes first few is
+  line_forest used above folder c first is few = silent used.nodes first few is
 
   lines_forest : (cs : List Command) (used : _) (above : List (List ℕ)) (folder : List ℕ) (forest : Forest) → open_lines opener used above folder cs ≡ Ok forest → used.nodes ≤ 4096 → IsForest left used.nodes (splice_names cs) forest
   lines_forest [] used above folder forest is few = silent used.nodes forest few is

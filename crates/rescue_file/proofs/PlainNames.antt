@@ -7,7 +7,7 @@ use Rattle.std.proofs.lemmas.List.Elements.{All-nil, All-cons, All-head, All-tai
 use Rattle.std.proofs.lemmas.Slice.Eq.{bytes_eq-Decides}
 use Rattle.std.specs.List.{All, flat_map, list_any}
 use Rattle.dag_reader.specs.declared.command.Command.{Command}
-use Rattle.dag_reader.specs.declared.command.Command.TheVariants.{Job, ParentChild, Script, Retry, PreSkip, Vars, Priority, Category, MaxJobs, AbortDagOn, Final, Splice, Ignored}
+use Rattle.dag_reader.specs.declared.command.Command.TheVariants.{Job, Splice}
 use Rattle.dag_reader.specs.Lines.{is_control}
 use Rattle.dag_reader.specs.Word.{PlacedText}
 use Rattle.dag_reader.specs.Words.{is_blank}
@@ -69,17 +69,7 @@ declared_plain (Job name file dir noop done) first ws (more, e, named) all =
     (just name.text (plain_name name (second_word first name (first ∷ ws) more (ap (λ (xs : List PlacedText). first ∷ xs) e) all) named), All-nil IsPlain)
 declared_plain (Splice name file dir) first ws (more, e, named) all =
     (All-nil IsPlain, just name.text (plain_name name (second_word first name (first ∷ ws) more (ap (λ (xs : List PlacedText). first ∷ xs) e) all) named))
-declared_plain (Final name file dir noop) first ws says all = no_names
-declared_plain (ParentChild parents children) first ws says all = no_names
-declared_plain (Script kind target program arguments) first ws says all = no_names
-declared_plain (Retry target n v) first ws says all = no_names
-declared_plain (PreSkip target v) first ws says all = no_names
-declared_plain (Vars target placement macros) first ws says all = no_names
-declared_plain (Priority target k) first ws says all = no_names
-declared_plain (Category target category) first ws says all = no_names
-declared_plain (MaxJobs category k) first ws says all = no_names
-declared_plain (AbortDagOn target v status) first ws says all = no_names
-declared_plain (Ignored span) first ws says all = no_names
+declared_plain c first ws says all = no_names
 
 pub jobs_are : (cs : List Command) → job_names cs ≡ flat_map job_name cs
 jobs_are [] = refl
@@ -163,36 +153,14 @@ new_job : (path : List ℕ) (before : List Command) (c : Command) → check_line
 new_job path before (Job name file dir noop done) is =
     let free = or_parts (list_any (bytes_eq name.text) (job_names before)) _ (not_taken (is_declared before name) path name is) in
     only_name name.text (flat_map job_name before) (subst (λ (ns : List (List ℕ)). Others ns name.text) (jobs_are before) (other_names name.text (job_names before) free.0))
-new_job path before (Splice name file dir) is = no_name (flat_map job_name before)
-new_job path before (Final name file dir noop) is = no_name (flat_map job_name before)
-new_job path before (ParentChild parents children) is = no_name (flat_map job_name before)
-new_job path before (Script kind target program arguments) is = no_name (flat_map job_name before)
-new_job path before (Retry target n v) is = no_name (flat_map job_name before)
-new_job path before (PreSkip target v) is = no_name (flat_map job_name before)
-new_job path before (Vars target placement macros) is = no_name (flat_map job_name before)
-new_job path before (Priority target k) is = no_name (flat_map job_name before)
-new_job path before (Category target category) is = no_name (flat_map job_name before)
-new_job path before (MaxJobs category k) is = no_name (flat_map job_name before)
-new_job path before (AbortDagOn target v status) is = no_name (flat_map job_name before)
-new_job path before (Ignored span) is = no_name (flat_map job_name before)
+new_job path before c is = no_name (flat_map job_name before)
 
 new_splice : (path : List ℕ) (before : List Command) (c : Command) → check_line path before c ≡ Ok tt → AreNew (splice_names before) (splice_name c) × AreApart (splice_name c)
 new_splice path before (Splice name file dir) is =
     let free = or_parts (list_any (bytes_eq name.text) (job_names before)) _ (not_taken (is_declared before name) path name is) in
     let other = or_parts (list_any (bytes_eq name.text) (final_names before)) _ free.1 in
     only_name name.text (splice_names before) (other_names name.text (splice_names before) other.1)
-new_splice path before (Job name file dir noop done) is = no_name (splice_names before)
-new_splice path before (Final name file dir noop) is = no_name (splice_names before)
-new_splice path before (ParentChild parents children) is = no_name (splice_names before)
-new_splice path before (Script kind target program arguments) is = no_name (splice_names before)
-new_splice path before (Retry target n v) is = no_name (splice_names before)
-new_splice path before (PreSkip target v) is = no_name (splice_names before)
-new_splice path before (Vars target placement macros) is = no_name (splice_names before)
-new_splice path before (Priority target k) is = no_name (splice_names before)
-new_splice path before (Category target category) is = no_name (splice_names before)
-new_splice path before (MaxJobs category k) is = no_name (splice_names before)
-new_splice path before (AbortDagOn target v status) is = no_name (splice_names before)
-new_splice path before (Ignored span) is = no_name (splice_names before)
+new_splice path before c is = no_name (splice_names before)
 
 pub names_apart : (path : List ℕ) (cs : List Command) → check_lines path [] cs ≡ Ok tt → AreApart (job_names cs) × AreApart (splice_names cs)
 names_apart path cs is = (

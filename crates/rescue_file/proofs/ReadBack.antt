@@ -10,10 +10,10 @@ use Rattle.splices.specs.declared.flat.FlatNode.{FlatNode}
 use Rattle.splices.specs.Dag.{Dag}
 use Rattle.dag_graph.specs.Graph.{names_of, final_names}
 use Rattle.rescue_file.specs.Written.{ordinary_names, marked, rescue_text_of}
-use Rattle.rescue_file.specs.Grammar.{number_of, SayAll}
-use Rattle.rescue_file.specs.Reading.{rescued_of}
+use Rattle.rescue_file.specs.Grammar.{SayAll}
+use Rattle.rescue_file.specs.Reading.{number_of, rescued_of}
 use Rattle.rescue_file.specs.Fit.{IsFit, AreFit}
-use Rattle.rescue_file.proofs.LineReadings.{good}
+use Rattle.rescue_file.proofs.LineReadings.{good, says_again}
 use Rattle.rescue_file.proofs.FileReadings.{lines_again}
 use Rattle.rescue_file.proofs.WrittenLines.{title, total_line, premarked_line, title_says, total_says, premarked_says, empty_says, done_words, done_says, written_lines}
 
@@ -64,7 +64,7 @@ done_say dag number at (name ∷ names) [] fit are within = refl
 done_say dag number at (name ∷ names) (true ∷ marks) fit are within = (
   Some at,
   marked (range_with_len (at + 1) (length names)) marks,
-  (name, done_says number name (All-head IsFit name names fit), record { named = first_is dag at name names are; below = omega arith }),
+  says_again dag number (done_words name) (Some at) (name, done_says number name (All-head IsFit name names fit), record { named = first_is dag at name names are; below = omega arith }),
   done_say dag (number + 1) (at + 1) names marks (All-tail IsFit name names fit) (others_are dag at name names are) (omega arith),
   refl,
 )
@@ -82,6 +82,6 @@ read_again dag marks fit =
     let nodes = marked (range_with_len 0 (length names)) marks in
     let says : SayAll dag 5 (map done_words done) nodes = done_say dag 5 0 names marks fit.fit are (omega arith) in
     let all : SayAll dag 1 (title ∷ total_line (length names) ∷ premarked_line (length done) ∷ [] ∷ map done_words done) nodes =
-    (None, nodes, title_says dag 1, (None, nodes, total_says dag 2 (length names) total_few, (None, nodes, premarked_says dag 3 (length done) done_few, (None, nodes, empty_says dag 4, says, refl), refl), refl), refl) in
+    (None, nodes, says_again dag 1 title None (title_says dag 1), (None, nodes, says_again dag 2 (total_line (length names)) None (total_says dag 2 (length names) total_few), (None, nodes, says_again dag 3 (premarked_line (length done)) None (premarked_says dag 3 (length done) done_few), (None, nodes, says_again dag 4 [] None (empty_says dag 4), says, refl), refl), refl), refl) in
     lines_again dag 1 _ nodes (subst (λ (ls : List (List ℕ)). SayAll dag 1 ls nodes) (sym (written_lines (length names) (length done) done total_few done_few (marked_fit names marks fit.fit))) all)
     ∙ ap (λ (n : ℕ). good (marked (range_with_len 0 n) marks)) count

@@ -1,6 +1,6 @@
 pub mod Written
 pub mod Results
-pub mod Grammar
 pub mod Reading
+pub mod Grammar
 pub mod Numbered
 pub mod Fit

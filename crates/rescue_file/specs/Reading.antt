@@ -1,6 +1,7 @@
 -- Reading a rescue file line by line, up to the first fault.
-use Rattle.std.specs.Prelude.{◌≡◌, ℕ, ◌+◌, List, [], ◌∷◌, ◌++◌, length, Option, Some, None, Result, Ok, Err, nat_lt, codes, if◌then◌else◌}
+use Rattle.std.specs.Prelude.{◌≡◌, ℕ, ◌+◌, List, [], ◌∷◌, ◌++◌, length, Option, Some, None, position, Result, Ok, Err, nat_lt, codes, if◌then◌else◌}
 use Rattle.std.specs.Option.{option_to_list}
+use Rattle.std.specs.Str.{bytes_eq}
 use Rattle.std.specs.Str.Lines.{lines}
 use Rattle.dag_reader.specs.declared.fault.LineFault.{LineFault}
 use Rattle.dag_reader.specs.Word.{PlacedText}
@@ -8,7 +9,7 @@ use Rattle.dag_reader.specs.Words.{words}
 use Rattle.dag_reader.specs.Keywords.{is_keyword, is_comment}
 use Rattle.dag_reader.specs.Reading.{text_of}
 use Rattle.splices.specs.Dag.{Dag}
-use Rattle.rescue_file.specs.Grammar.{number_of}
+use Rattle.dag_graph.specs.Graph.{names_of}
 pub use Rattle.rescue_file.specs.Results.{◌>>=◌}
 use Rattle.rescue_file.specs.declared.fault.RescueFault.{RescueFault}
 use Rattle.rescue_file.specs.declared.fault.RescueFault.TheVariants.{BadLine, UnknownNode, FinalDone, NotThere, Memory}
@@ -38,6 +39,10 @@ text_says number (Err fault) = Err (BadLine number)
 -- the name that a line says, if it says one
 unfoldable pub name_at : ℕ → List ℕ → Result (Option (List ℕ)) RescueFault
 name_at number bytes = text_says number (text_of number bytes)
+
+-- The number of the first node with this name; the FINAL node's is the last one.
+abbrev pub number_of : Dag → List ℕ → Option ℕ
+number_of dag name = position (bytes_eq name) (names_of dag)
 
 -- the node with this number, which has to be an ordinary one
 abbrev pub ordinary_of : Dag → ℕ → Option ℕ → Result ℕ RescueFault

@@ -3,7 +3,7 @@ use Rattle.std.proofs.Common.{◌≡◌, ℕ, zero, suc, List, [], ◌∷◌, �
 use Rattle.std.specs.Prelude.{position}
 use Rattle.std.specs.Str.{bytes_eq}
 use Rattle.dag_reader.specs.declared.command.Command.{Command}
-use Rattle.dag_reader.specs.declared.command.Command.TheVariants.{Job, ParentChild, Script, Retry, PreSkip, Vars, Priority, Category, MaxJobs, AbortDagOn, Final, Splice, Ignored}
+use Rattle.dag_reader.specs.declared.command.Command.TheVariants.{Splice}
 use Rattle.dag_reader.specs.declared.fault.LineFault.{LineFault}
 use Rattle.dag_reader.specs.Reading.{text_at}
 use Rattle.splices.specs.declared.fault.DagFault.{DagFault}
@@ -57,18 +57,7 @@ module _ (files : Files) (opener : Opener) (each : (used : Used) (above : List (
       let e = entered opener used above (splice_folder folder s) (splice_path folder s) (position (bytes_eq (splice_path folder s)) above) tree b.1 in
       let o = each (with_splice used) (above ++ splice_path folder s ∷ []) (splice_folder folder s) (splice_path folder s) tree e.1 in
       subst (λ (f : Forest). AreOpened files above folder (s ∷ ss) (joined f others)) (given (more name.text tree.file tree.inner none) first b.2) (refl, e.0, o.0, o.1, rest)
-  line-opens used above folder (Job name file dir noop done) ss first others is rest = silent above folder ss first others is rest
-  line-opens used above folder (ParentChild parents children) ss first others is rest = silent above folder ss first others is rest
-  line-opens used above folder (Script kind target program arguments) ss first others is rest = silent above folder ss first others is rest
-  line-opens used above folder (Retry target n v) ss first others is rest = silent above folder ss first others is rest
-  line-opens used above folder (PreSkip target v) ss first others is rest = silent above folder ss first others is rest
-  line-opens used above folder (Vars target placement macros) ss first others is rest = silent above folder ss first others is rest
-  line-opens used above folder (Priority target k) ss first others is rest = silent above folder ss first others is rest
-  line-opens used above folder (Category target category) ss first others is rest = silent above folder ss first others is rest
-  line-opens used above folder (MaxJobs category k) ss first others is rest = silent above folder ss first others is rest
-  line-opens used above folder (AbortDagOn target v status) ss first others is rest = silent above folder ss first others is rest
-  line-opens used above folder (Final name file dir noop) ss first others is rest = silent above folder ss first others is rest
-  line-opens used above folder (Ignored span) ss first others is rest = silent above folder ss first others is rest
+  line-opens used above folder c ss first others is rest = silent above folder ss first others is rest
 
   lines-open : (cs : List Command) (used : Used) (above : List (List ℕ)) (folder : List ℕ) (forest : Forest) → open_lines opener used above folder cs ≡ Ok forest → AreOpened files above folder (splices_in cs) forest
   lines-open [] used above folder forest is = subst (AreOpened files above folder []) (given none forest is) tt

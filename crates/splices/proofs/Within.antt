@@ -6,7 +6,7 @@ use Rattle.std.specs.List.{All, flat_map, range_with_len}
 use Rattle.std.specs.Prelude.{position, slice_get}
 use Rattle.std.specs.Str.{bytes_eq}
 use Rattle.dag_reader.specs.declared.command.Command.{Command}
-use Rattle.dag_reader.specs.declared.command.Command.TheVariants.{Job, ParentChild, Script, Retry, PreSkip, Vars, Priority, Category, MaxJobs, AbortDagOn, Final, Splice, Ignored}
+use Rattle.dag_reader.specs.declared.command.Command.TheVariants.{ParentChild}
 use Rattle.dag_reader.specs.Word.{PlacedText}
 use Rattle.splices.specs.declared.flat.Edge.{Edge}
 use Rattle.splices.specs.declared.flat.Side.{Side}
@@ -81,18 +81,7 @@ pairs_below n (p ∷ ps) children above below =
 line_below : (n : ℕ) (scope : Scope) (c : Command) → scope.first + length scope.jobs ≤ n → All (PartBelow n) scope.parts → All (IsBelow n) (line_edges scope c)
 line_below n scope (ParentChild parents children) fits below =
     pairs_below n (all_stand_for Parent scope parents) (all_stand_for Child scope children) (all_below n Parent scope parents fits below) (all_below n Child scope children fits below)
-line_below n scope (Job name file dir noop done) fits below = All-nil (IsBelow n)
-line_below n scope (Script kind target program arguments) fits below = All-nil (IsBelow n)
-line_below n scope (Retry target k v) fits below = All-nil (IsBelow n)
-line_below n scope (PreSkip target v) fits below = All-nil (IsBelow n)
-line_below n scope (Vars target placement macros) fits below = All-nil (IsBelow n)
-line_below n scope (Priority target k) fits below = All-nil (IsBelow n)
-line_below n scope (Category target category) fits below = All-nil (IsBelow n)
-line_below n scope (MaxJobs category k) fits below = All-nil (IsBelow n)
-line_below n scope (AbortDagOn target v status) fits below = All-nil (IsBelow n)
-line_below n scope (Final name file dir noop) fits below = All-nil (IsBelow n)
-line_below n scope (Splice name file dir) fits below = All-nil (IsBelow n)
-line_below n scope (Ignored span) fits below = All-nil (IsBelow n)
+line_below n scope c fits below = All-nil (IsBelow n)
 
 file_below : (n first : ℕ) (cs : List Command) (edges : List Edge) (parts : List Part) → first + own_count cs ≤ n → All (IsBelow n) edges → All (PartBelow n) parts → All (IsBelow n) (file_edges first cs edges parts)
 file_below n first cs edges parts fits inner below =
