@@ -1,22 +1,19 @@
 -- Without abort the report of a run is that of the fates.
-use Rattle.std.proofs.Common.{◌≡◌, ℕ, zero, suc, ◌+◌, ◌<◌, ◌≤◌, ℤ, Bool, true, false, not, ◌&&◌, ◌||◌, List, [], ◌∷◌, ◌++◌, Option, Some, None, is_some, is_none, refl, sym, ap, ◌∙◌, subst, arith, lt-ltb, ltb-true, ltb-false, if◌then◌else◌}
+use Rattle.std.proofs.Common.{◌≡◌, ℕ, zero, suc, ◌+◌, ◌<◌, Bool, true, false, not, ◌&&◌, ◌||◌, List, [], ◌∷◌, ◌++◌, Option, Some, None, is_some, is_none, refl, sym, ap, ◌∙◌, subst, arith, lt-ltb, ltb-true, ltb-false, if◌then◌else◌}
 use Rattle.std.specs.Prelude.{nat_lt}
 use Rattle.std.specs.List.{list_all}
-use Rattle.std.proofs.lemmas.Bool.{false≢true, eqb-false}
 use Rattle.node_machine.specs.declared.Key.{Key}
 use Rattle.node_machine.specs.declared.State.TheVariants as states
-use Rattle.node_machine.specs.Story.{Table}
 use Rattle.run_plan.specs.Plan.{Plan, node_at, count_of, all_below}
 use Rattle.sched_core.specs.declared.Record.{Record}
 use Rattle.sched_core.specs.Run.{next, is_done, is_final_ready, is_aborted, is_finished, attempts_in, value_in, status_of_abort, exit_status, needs_rescue}
-use Rattle.sched_core.specs.Core.{is_running}
-use Rattle.sched_core.specs.Fate.{Fate, shown, is_done_state}
+use Rattle.sched_core.specs.Fate.{shown, is_done_state}
 use Rattle.sched_core.proofs.Finished.{state-done, finished-waits, final-ended}
 use Rattle.sched_core.proofs.Sweeps.{all_below-same}
 use Rattle.rescue_file.specs.Written.{ordinary_names, rescue_text_of}
-use Rattle.dag_main.specs.Report.{status_before, status_in, is_at_turn, while_running, node_lines, status_line, status_by, fate_lines, reported, marks_from, marked_text, rescue_part, result_line, report_of, fates_need_rescue, fated_report}
+use Rattle.dag_main.specs.Report.{status_before, status_in, is_at_turn, while_running, node_lines, status_line, status_by, fate_lines, reported, marks_from, marked_text, result_line, report_of, fates_need_rescue, fated_report}
 use Rattle.dag_main.specs.Rehearsed.{status_of}
-use Rattle.dag_main.specs.declared.status.NodeStatus.TheVariants.{Done, Error, Ready, NotReady}
+use Rattle.dag_main.specs.declared.status.NodeStatus.TheVariants.{Done, Ready, NotReady}
 
 module _ (plan : Plan) (past : List Record) (finished : is_finished plan past ≡ true) (calm : is_aborted plan past ≡ false) where
   ordinary-status : (node : ℕ) → node < count_of plan → status_in plan past node ≡ status_by (shown plan past node).state

@@ -1,26 +1,14 @@
 -- The report of a rehearsal is that of the fates.
-use Rattle.std.proofs.Common.{◌≡◌, ℕ, zero, suc, ◌+◌, ℤ, true, false, not, List, [], ◌∷◌, Option, Some, None, is_some, is_none, unwrap_or, Result, Ok, Err, refl, sym, ap, ◌∙◌, subst, if◌then◌else◌}
-use Rattle.std.proofs.lemmas.Bool.{and_parts, false≢true}
-use Rattle.std.specs.Prelude.{slice_get, IfOk, IfErr}
-use Rattle.std.specs.List.{list_all}
-use Rattle.std.specs.Option.{option_map}
+use Rattle.std.proofs.Common.{◌≡◌, ℕ, List, Option, Result, Ok, Err, sym, subst}
+use Rattle.std.specs.Prelude.{IfOk, IfErr}
 use mathlib.Core.Path.{fun_ext}
 use Rattle.node_machine.specs.declared.Phase.{Phase}
 use Rattle.node_machine.specs.Story.{Table}
 use Rattle.node_machine.specs.OutcomeTable.{Entry, SameOutcomes}
 use Rattle.throttles.specs.declared.Limits.{Limits}
-use Rattle.splices.specs.Dag.{Dag}
-use Rattle.splices.specs.declared.flat.FlatNode.{FlatNode}
-use Rattle.splices.specs.declared.flat.AbortSetting.{AbortSetting}
 use Rattle.splices.specs.Opening.{Files}
-use Rattle.run_plan.specs.Plan.{Plan, NodeSpec, no_node, node_at, count_of, all_below}
-use Rattle.run_plan.specs.Specs.{Sources, final_spec, specs_from}
-use Rattle.run_plan.specs.Submitted.{sources_of, bare_plan}
-use Rattle.sched_core.specs.declared.Record.{Record}
-use Rattle.sched_core.specs.Run.{is_done, is_met, value_in, has_abort_value, is_aborted, status_of_abort, exit_status}
-use Rattle.sched_core.specs.Fate.{AreFates, shown, is_done_state}
-use Rattle.sched_core.proofs.Finished.{state-done}
-use Rattle.sched_core.proofs.Sweeps.{all_below-from, all_below-same}
+use Rattle.run_plan.specs.Plan.{Plan, node_at}
+use Rattle.run_plan.specs.Submitted.{bare_plan}
 use Rattle.dag_main.specs.Rehearsal.{table_by}
 use Rattle.dag_main.specs.Rehearsed.{HasEntries, IsRehearsalOf, IsOwed}
 use Rattle.sched_core.specs.Lives.{HasOutcomesOf}

@@ -1,13 +1,9 @@
 -- The text of the rescue file, by the marks of a core.
 use Rattle.std.proofs.Common.{◌≡◌, ℕ, suc, ◌+◌, ◌<◌, Bool, true, false, List, [], ◌∷◌, length, unwrap_or, refl, sym, ap, ◌∙◌, subst, arith, add-zero, append_assoc, ◌++◌, if◌then◌else◌}
 use Rattle.std.specs.Prelude.{slice_get}
-use Rattle.std.specs.List.{list_all}
-use Rattle.rescue_file.specs.Written.{ordinary_names, rescue_text_of}
 use Rattle.run_plan.specs.Plan.{Plan, count_of}
 use Rattle.sched_core.specs.declared.Record.{Record}
 use Rattle.sched_core.specs.Core.{AreMarks}
-use Rattle.sched_core.specs.Fate.{Fate, is_done_state, shown}
-use Rattle.sched_core.proofs.Finished.{state-done}
 use Rattle.sched_core.specs.Run.{is_done, needs_rescue}
 use Rattle.dag_main.specs.Report.{marks_from, marked_text, rescue_part, reported, node_lines, result_line, report_of}
 

@@ -1,5 +1,5 @@
 -- What the parts of a rehearsal answer.
-use Rattle.std.specs.Prelude.{◌≡◌, ℕ, true, false, List, Option, Some, Ok, Err, IsTrue}
+use Rattle.std.specs.Prelude.{◌≡◌, ℕ, List, Option, Some, Ok, Err, IsTrue}
 use Rattle.std.specs.Str.Lines.{lines}
 use Rattle.node_machine.specs.OutcomeTable.{Entry}
 use Rattle.node_machine.specs.OutcomesFile as outcomes_file

@@ -24,11 +24,13 @@ const REFUSED: u8 = 125;
 pub fn run<R: Files + Input + Print + Eprint + AllocGlobal>(rt: &R, words: &[&str]) -> u8 {
     match read_words(rt.alloc(), words) {
         Ok(Request::Check { dag }) => finish(rt, check(rt, dag)),
-        Ok(Request::Rehearse {
-            dag,
-            outcomes,
-            limits,
-        }) => finish(rt, rehearse(rt, dag, outcomes, limits)),
+        Ok(
+            Request::Rehearse {
+                dag,
+                outcomes,
+                limits,
+            },
+        ) => finish(rt, rehearse(rt, dag, outcomes, limits)),
         Err(error) => {
             let _ = eprint!(rt; "{error}");
             REFUSED

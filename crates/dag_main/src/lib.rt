@@ -18,6 +18,6 @@ pub use commands::run;
 pub use fault::RunFault;
 pub use rehearsal::run_table;
 pub use report::rehearse_text;
-pub use status::NodeStatus;
 pub use request::{Request, read_words};
+pub use status::NodeStatus;
 pub use warnings::Answer;

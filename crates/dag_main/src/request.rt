@@ -79,7 +79,11 @@ fn rehearse_command<'a>(alloc: Global) -> Result<Command<'a>, AllocError> {
                 "Lines `name attempt PRE|JOB|POST outcome`; without it all phases exit with 0",
             ),
         )?
-        .arg(limit_argument(alloc, "maxjobs", "How many jobs may run at once; 0 is no limit"))?
+        .arg(limit_argument(
+            alloc,
+            "maxjobs",
+            "How many jobs may run at once; 0 is no limit",
+        ))?
         .arg(limit_argument(alloc, "maxpre", "How many PRE scripts may run at once"))?
         .arg(limit_argument(alloc, "maxpost", "How many POST scripts may run at once"))
 }

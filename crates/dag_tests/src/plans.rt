@@ -4,7 +4,10 @@ use crate::shown::{View, compare};
 use std::test::Fail;
 
 /// The files beside t.dag.
-const OTHERS: [(&str, &str); 1] = [("y.dag", "JOB A a\nCATEGORY A c\nMAXJOBS c 3\nRETRY A 9\nRETRY A 2\n")];
+const OTHERS: [(&str, &str); 1] = [(
+    "y.dag",
+    "JOB A a\nCATEGORY A c\nMAXJOBS c 3\nRETRY A 9\nRETRY A 2\n",
+)];
 
 /// Of each node its name and parents, PRE, NOOP and POST, retries, the values of UNLESS-EXIT,
 /// PRE_SKIP and ABORT-DAG-ON, DONE, its priority, the place of its category

@@ -142,8 +142,8 @@ first-best answers members place z ordered inside before allowed = (
   (place, inside, get_or_default members place _ z inside),
   allowed,
   λ other within b. by_lt within.0 place
-  (λ lt. subst (λ m. answers m.node false) within.2 (before within.0 other lt))
-  (λ ge. absurd (no other within b ge)),
+      (λ lt. subst (λ m. answers m.node false) within.2 (before within.0 other lt))
+      (λ ge. absurd (no other within b ge)),
 )
   where
     no : (other : Member) (within : Contains members other) → ComesBefore other (get_or members place z) → place ≤ within.0 → ⊥

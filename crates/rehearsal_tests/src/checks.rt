@@ -72,7 +72,13 @@ fn nested_splices(rt: HostRuntime) -> Result<(), Fail> {
 fn nested_splices_rehearsed(rt: HostRuntime) -> Result<(), Fail> {
     let alloc = rt.alloc();
     let files = files_of(alloc, &DAGS)?;
-    let answer = rehearse_text(alloc, &files, "t.dag", Some(b"Z+A 0 JOB 2".as_slice()), NO_LIMITS)?;
+    let answer = rehearse_text(
+        alloc,
+        &files,
+        "t.dag",
+        Some(b"Z+A 0 JOB 2".as_slice()),
+        NO_LIMITS,
+    )?;
     let lines = "S DONE attempts=1 value=0\nE NOT_READY attempts=0 value=-\n\
         Y+A DONE attempts=1 value=0\nY+B DONE attempts=1 value=0\n\
         Y+X+L DONE attempts=1 value=0\nZ+A ERROR attempts=1 value=2\n\

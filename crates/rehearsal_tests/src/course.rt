@@ -27,8 +27,22 @@ fn launches(rt: &impl Abort, alloc: Global, plan: &Plan, limits: Limits) -> Resu
     let mut text = String::new(alloc);
     for entry in core.records() {
         match entry {
-            Record::Launch(Key { node, phase: Phase::Job, .. }, _) => write!(text, "{node} ")?,
-            Record::End(Key { node, phase: Phase::Job, .. }, _) => write!(text, "({node}) ")?,
+            Record::Launch(
+                Key {
+                    node,
+                    phase: Phase::Job,
+                    ..
+                },
+                _,
+            ) => write!(text, "{node} ")?,
+            Record::End(
+                Key {
+                    node,
+                    phase: Phase::Job,
+                    ..
+                },
+                _,
+            ) => write!(text, "({node}) ")?,
             _ => {}
         }
     }
@@ -70,13 +84,30 @@ fn queue(rt: HostRuntime) -> Result<(), Fail> {
     let nodes: Vec<u32> = queue.members().iter().map(|m| m.node).collect(rt.alloc())?;
     assert_eq!(rt; nodes.as_slice(), [1, 0, 2].as_slice());
     let best = queue.best_where(|_| true);
-    assert!(rt; best == Some(Member { node: 1, priority: 5 }));
+    assert!(rt;
+        best == Some(Member {
+            node: 1,
+            priority: 5
+        })
+    );
     let second = queue.best_where(|node| node != 1);
-    assert!(rt; second == Some(Member { node: 0, priority: 0 }));
+    assert!(rt;
+        second
+            == Some(Member {
+                node: 0,
+                priority: 0
+            })
+    );
     assert!(rt; queue.best_where(|_| false).is_none());
-    let again = Member { node: 0, priority: 0 };
+    let again = Member {
+        node: 0,
+        priority: 0,
+    };
     assert!(rt; queue.add(again) == Err(QueueFault::Present));
-    let stranger = Member { node: 9, priority: 0 };
+    let stranger = Member {
+        node: 9,
+        priority: 0,
+    };
     assert!(rt; queue.remove(stranger) == Err(QueueFault::Absent));
     queue.remove(again)?;
     assert_eq!(rt; queue.members().len(), 2);

@@ -11,11 +11,26 @@ use std::test::Fail;
 const LIMITS: [(&[&str], [u32; 3]); 4] = [
     (&["dagrun", "rehearse", "x.dag"], [0, 0, 0]),
     (
-        &["dagrun", "rehearse", "--maxjobs", "3", "x.dag", "--maxpre=0"],
+        &[
+            "dagrun",
+            "rehearse",
+            "--maxjobs",
+            "3",
+            "x.dag",
+            "--maxpre=0",
+        ],
         [3, 0, 0],
     ),
     (
-        &["dagrun", "rehearse", "x.dag", "--maxpost=65535", "table", "--maxpre", "+2"],
+        &[
+            "dagrun",
+            "rehearse",
+            "x.dag",
+            "--maxpost=65535",
+            "table",
+            "--maxpre",
+            "+2",
+        ],
         [0, 2, 65535],
     ),
     (&["dagrun"], [0, 0, 0]),

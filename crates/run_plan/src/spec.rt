@@ -18,7 +18,8 @@ use crate::script::{bare_command, script_command};
 use dag_reader::{Text, Texts};
 use node_machine::{Course, Phase};
 use splices::{
-    AbortSetting, CategoryLimit, CategorySetting, FlatNode, PreSkipSetting, PrioritySetting, RetrySetting,
+    AbortSetting, CategoryLimit, CategorySetting, FlatNode, PreSkipSetting, PrioritySetting,
+    RetrySetting,
 };
 use std::alloc::{AllocError, Global};
 use std::marker::Model;

@@ -19,3 +19,4 @@ pub mod Best
 pub mod Aborts
 mod FactsLemmas
 pub mod Alone
+mod OneRun

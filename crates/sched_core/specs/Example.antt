@@ -69,6 +69,12 @@ diamond_run = reverse (
     ∷ Life ∷ Launch (key 1 0 Job) 3 ∷ Launch (key 2 0 Job) 4 ∷ End (key 1 0 Job) (Exit 0)
     ∷ Life ∷ Launch (key 2 0 Job) 5 ∷ End (key 2 0 Job) (Exit 0) ∷ Launch (key 3 0 Job) 6 ∷ End (key 3 0 Job) (Exit 0) ∷ Finish 0 ∷ [])
 
+-- the same in one life
+abbrev pub diamond_life : List Record
+diamond_life = reverse (
+    Life ∷ Launch (key 0 0 Job) 1 ∷ End (key 0 0 Job) (Exit 0) ∷ Launch (key 1 0 Job) 2 ∷ Launch (key 2 0 Job) 3
+    ∷ End (key 1 0 Job) (Exit 0) ∷ End (key 2 0 Job) (Exit 0) ∷ Launch (key 3 0 Job) 4 ∷ End (key 3 0 Job) (Exit 0) ∷ Finish 0 ∷ [])
+
 -- B aborts at 7, beside A; F is the FINAL node
 abbrev pub abort_plan : Plan
 abort_plan = record {

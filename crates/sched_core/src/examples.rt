@@ -2,7 +2,7 @@
 //! refused.
 //! No program calls these functions.
 
-ghost use Rattle.std.specs.Prelude.{◌≡◌, ◌≢◌, ℕ, ◌<◌, List, [], ◌∷◌, ◌++◌, map, drop, pos, true, false, IsTrue, IsFalse};
+ghost use Rattle.std.specs.Prelude.{◌≡◌, ◌≢◌, ℕ, ◌<◌, ◌+◌, ◌*◌, length, List, [], ◌∷◌, ◌++◌, map, drop, pos, true, false, IsTrue, IsFalse};
 ghost use Rattle.std.specs.List.{list_all, Contains};
 ghost use Rattle.node_machine.specs.declared.Phase.{Phase};
 ghost use Rattle.node_machine.specs.declared.Outcome.{Outcome};
@@ -16,10 +16,11 @@ ghost use Rattle.run_plan.specs.Plan.{Plan, node_at, count_of, IsRankedBy};
 ghost use Rattle.run_plan.specs.Commands.{is_sound, uses_whole_run};
 ghost use Rattle.sched_core.specs.Run.{table_of, history, is_done, is_lawful, is_finished, is_aborted, is_launched, may_follow};
 ghost use Rattle.sched_core.specs.Fate.{Fate, AreFates, shown, is_done_state};
+ghost use Rattle.sched_core.specs.Bound.{all_phases};
 ghost use Rattle.sched_core.specs.Agree.{Agree};
 ghost use Rattle.sched_core.specs.Lives.{Span, AreLives, HasOutcomesOf, IsRunBy, IsTurnOf};
 ghost use Rattle.sched_core.specs.Rounds.{Round, AreRounds, RoundsAgree, WasMarked, is_marked};
-ghost use Rattle.sched_core.specs.Example.{key, two_nodes, its_run, its_lives, diamond, diamond_run, abort_plan, abort_run, noop_plan, noop_table, noop_run, plan_p, plan_q, first_fails, round_of};
+ghost use Rattle.sched_core.specs.Example.{key, two_nodes, its_run, its_lives, diamond, diamond_run, diamond_life, abort_plan, abort_run, noop_plan, noop_table, noop_run, plan_p, plan_q, first_fails, round_of};
 ghost use Rattle.node_machine.specs.declared.Key.{Key};
 
 /// Such plans and runs exist: each list is lawful and finished, and shows these states and values.
@@ -35,6 +36,9 @@ pub fn examples()
     ensures abort_aborted { IsTrue (is_aborted abort_plan abort_run) }
     ensures abort_states { map (λ node. (shown abort_plan abort_run node).state)
         (0 ∷ 1 ∷ 2 ∷ []) ≡ Error ∷ NotRun ∷ Done ∷ [] }
+    // The bound on the records of a life is reached.
+    ensures one_life { IsTrue (is_finished diamond diamond_life) }
+    ensures one_life_bound { length diamond_life ≡ 2 * all_phases diamond + 2 }
     ensures namesakes { Agree plan_p (first_fails 1) plan_q (first_fails 2) 1 2 }
     ensures two_rounds { AreRounds (round_of (Exit 0) 0 ∷ round_of (Exit 1) 1 ∷ []) }
     ensures noop { IsTrue (is_finished noop_plan noop_run) }

@@ -63,9 +63,11 @@ undo r Job None p = λ j. record r { free_jobs = more-less r.free_jobs j }
 undo r Post category p = λ j. record r { post = more-less r.post j }
 undo r Job (Some place) p =
     let n = get_or r.category_jobs place 0 in
-    λ j. record r { category_jobs = (set-twice r.category_jobs place (n + 1) (get_or (set r.category_jobs place (n + 1)) place 0 - 1)
-    ∙ ap (λ (v : ℕ). set r.category_jobs place (v - 1)) (get-same r.category_jobs place (n + 1) p)
-    ∙ ap (λ (v : ℕ). set r.category_jobs place v) (more-less n) ∙ set-own r.category_jobs place) j }
+    λ j. record r {
+      category_jobs = (set-twice r.category_jobs place (n + 1) (get_or (set r.category_jobs place (n + 1)) place 0 - 1)
+          ∙ ap (λ (v : ℕ). set r.category_jobs place (v - 1)) (get-same r.category_jobs place (n + 1) p)
+          ∙ ap (λ (v : ℕ). set r.category_jobs place v) (more-less n) ∙ set-own r.category_jobs place) j;
+    }
 
 -- with one more there is one
 pub one-there : (r : Running) (phase : Phase) (category : Option ℕ) → IsCounted r category → 0 < such_in (with_one r phase category) phase category

@@ -1,5 +1,5 @@
-use Rattle.std.proofs.Common.{◌++◌, ◌∙◌, ◌≡◌, arith, ap, sym, string_bytes}
-use Rattle.dag_main.specs.Report.{report_of, reported, node_lines}
+use Rattle.std.proofs.Common.{◌++◌, ◌∙◌, ◌≡◌, arith, ap, string_bytes}
+use Rattle.dag_main.specs.Report.{reported}
 use Rattle.dag_main.proofs.RescueParts.{whole-report}
 use Rattle.dag_main.proofs.report.report_of.Goals as goal
 

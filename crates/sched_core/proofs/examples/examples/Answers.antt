@@ -79,3 +79,7 @@ returns-clause-noop_sound c = refl
 pub returns-clause-noop_plain : goal.returns-clause-noop_plain
 unfolding uses_whole_run
 returns-clause-noop_plain c = refl
+
+pub returns-clause-one_life : goal.returns-clause-one_life
+unfolding story attempts_after next_after is_good_after value_after is_aborted is_ready is_final_ready may_launch may_follow
+returns-clause-one_life c = refl
