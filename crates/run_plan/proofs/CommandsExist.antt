@@ -3,7 +3,7 @@ use Rattle.std.proofs.Common.{◌≡◌, ◌∙◌, sym, ap, refl, subst, ℕ, �
 use Rattle.std.proofs.lemmas.Bool.{false≢true}
 use Rattle.std.specs.Prelude.{is_ok}
 use Rattle.std.specs.List.{list_any, list_all}
-use Rattle.vars_macros.proofs.Symbols.{arguments}
+use Rattle.vars_macros.specs.Symbols.{arguments}
 use Rattle.vars_macros.specs.Cut.{begins_with}
 use Rattle.vars_macros.specs.Expansion.{Expansion, expansion}
 use Rattle.vars_macros.specs.Meaning.{Scope, last_of}

@@ -4,7 +4,7 @@ use Rattle.std.specs.List.{list_any, list_all}
 use Rattle.node_machine.specs.declared.Phase.{Phase}
 use Rattle.node_machine.specs.declared.Phase.TheVariants.{Pre, Job, Post}
 use Rattle.splices.specs.Paths.{join}
-use Rattle.vars_macros.proofs.Symbols.{arguments}
+use Rattle.vars_macros.specs.Symbols.{arguments}
 use Rattle.vars_macros.specs.Expansion.{Expansion, expansion}
 use Rattle.vars_macros.specs.Meaning.{Scope, last_of}
 use Rattle.vars_macros.specs.Names.{same_name}

@@ -4,7 +4,7 @@ ghost use Rattle.std.specs.Prelude.{◌≡◌, ◌≢◌, false, IfOk, IfErr, op
 ghost use Rattle.vars_macros.specs.declared.fault.MacroFault.TheVariants as macro;
 ghost use Rattle.splices.specs.Paths.{join};
 ghost use Rattle.std.specs.List.{list_all};
-ghost use Rattle.vars_macros.proofs.Symbols.{arguments};
+ghost use Rattle.vars_macros.specs.Symbols.{arguments};
 ghost use Rattle.vars_macros.specs.Expansion.{expansion};
 ghost use Rattle.vars_macros.specs.Meaning.{scope_of};
 ghost use Rattle.vars_macros.specs.Output.{expansion_of};

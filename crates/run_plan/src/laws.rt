@@ -1,26 +1,11 @@
 //! Laws of the definitions alone. No program calls them.
 
-ghost use Rattle.std.specs.Prelude.{◌≡◌, ℕ, ◌≤◌, true, false, List, Ok, Err};
+ghost use Rattle.std.specs.Prelude.{◌≡◌, ℕ, ◌≤◌, true, false, Ok};
 ghost use Rattle.node_machine.specs.declared.Phase.{Phase};
-ghost use Rattle.vars_macros.specs.ArgumentGrammar.{SpellsArguments};
-ghost use Rattle.vars_macros.specs.declared.fault.MacroFault.{MacroFault};
-ghost use Rattle.vars_macros.specs.declared.fault.MacroFault.TheVariants.{BadQuote};
-ghost use Rattle.vars_macros.proofs.Symbols.{arguments};
 ghost use Rattle.run_plan.specs.declared.command.ChildCommand.{ChildCommand};
 ghost use Rattle.run_plan.specs.declared.command.PhaseFacts.{PhaseFacts};
 ghost use Rattle.run_plan.specs.Plan.{NodeSpec};
 ghost use Rattle.run_plan.specs.Commands.{command_of, is_sound, uses_whole_run, greatest, HaveSameEnds};
-
-/// The words of a job's arguments are those of their grammar: a text has words exactly where it
-/// spells them, and a text that has none is refused for its quotes.
-pub fn arguments_are_spelled()
-    ensures only { (text : List ℕ) (words : List (List ℕ)) →
-        SpellsArguments text words → arguments text ≡ Ok words }
-    ensures found { (text : List ℕ) (words : List (List ℕ)) →
-        arguments text ≡ Ok words → SpellsArguments text words }
-    ensures refused { (text : List ℕ) (fault : MacroFault) →
-        arguments text ≡ Err fault → fault ≡ BadQuote }
-{}
 
 /// Where the texts of a node's job can be expanded in its last attempt with the greatest launch
 /// number, each of its phases has a command in each attempt that is allowed.

@@ -1,4 +1,3 @@
-pub mod Symbols
 pub mod Names
 pub mod Room
 pub mod Cuts

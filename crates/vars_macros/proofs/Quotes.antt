@@ -1,6 +1,6 @@
 -- Groups that are not closed.
 use Rattle.std.proofs.Common.{◌≡◌, ◌∙◌, ap, refl, ℕ, ◌<◌, Bool, true, false, List, [], ◌∷◌, length, arith, Ok, Err}
-use Rattle.vars_macros.proofs.Symbols.{gathered, is_escape, old_symbol, old_symbols, is_pair, new_symbol, grouped_after, new_symbols}
+use Rattle.vars_macros.specs.Symbols.{gathered, is_escape, old_symbol, old_symbols, is_pair, new_symbol, grouped_after, new_symbols}
 use Rattle.vars_macros.specs.Gathered.{Gathering, closed}
 use Rattle.vars_macros.specs.declared.words.Symbol.{Symbol}
 use Rattle.vars_macros.specs.declared.fault.MacroFault.TheVariants.{BadQuote}

@@ -2,7 +2,7 @@
 use Rattle.std.proofs.Common.{◌≡◌, ◌∙◌, sym, ap, refl, subst, ℕ, ◌-◌, Bool, true, false, List, [], ◌∷◌, ◌++◌, length, take, drop, Ok}
 use Rattle.std.proofs.lemmas.Bool.{cond-false}
 use Rattle.vars_macros.specs.Cut.{begins_with}
-use Rattle.vars_macros.proofs.Symbols.{gathered, new_symbols, old_symbols, is_last, quoted, arguments}
+use Rattle.vars_macros.specs.Symbols.{gathered, new_symbols, old_symbols, is_last, quoted, arguments}
 use Rattle.vars_macros.specs.Gathered.{no_words}
 use Rattle.vars_macros.specs.declared.words.Symbol.TheVariants.{Broken}
 use Rattle.vars_macros.specs.ArgumentGrammar.{SpellsNewPart, SpellsOldPart, SpellsArguments, new_style, old_style}

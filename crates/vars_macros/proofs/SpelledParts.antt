@@ -2,7 +2,7 @@
 use Rattle.std.proofs.Common.{◌≡◌, ◌∙◌, sym, ap, refl, subst, ℕ, zero, suc, ◌<◌, ◌==◌, Bool, true, false, ◌||◌, ◌&&◌, List, [], ◌∷◌, ◌++◌, length, drop, arith, Ok, Err, append_assoc, append-nil}
 use Rattle.std.proofs.lemmas.Bool.{eqb-true, and_parts}
 use Rattle.vars_macros.specs.Cut.{begins_with}
-use Rattle.vars_macros.proofs.Symbols.{gathered, is_pair, new_symbol, grouped_after, new_symbols, is_escape, old_symbol, old_symbols}
+use Rattle.vars_macros.specs.Symbols.{gathered, is_pair, new_symbol, grouped_after, new_symbols, is_escape, old_symbol, old_symbols}
 use Rattle.vars_macros.specs.ArgumentGrammar.{is_blank}
 use Rattle.vars_macros.specs.Gathered.{Gathering}
 use Rattle.vars_macros.specs.declared.words.Symbol.{Symbol}

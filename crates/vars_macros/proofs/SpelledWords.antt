@@ -1,7 +1,7 @@
 -- Words that are spelled are gathered, and words that are gathered are spelled, in either style.
 use Rattle.std.proofs.Common.{◌≡◌, ◌∙◌, sym, ap, refl, subst, ℕ, zero, suc, ◌<◌, ◌≤◌, ◌==◌, Bool, true, false, ◌||◌, List, [], ◌∷◌, ◌++◌, length, arith, Ok, append_assoc, append-nil}
 use Rattle.std.proofs.lemmas.Bool.{eqb-true}
-use Rattle.vars_macros.proofs.Symbols.{gathered}
+use Rattle.vars_macros.specs.Symbols.{gathered}
 use Rattle.vars_macros.specs.ArgumentGrammar.{is_blank}
 use Rattle.vars_macros.specs.Gathered.{Gathering}
 use Rattle.vars_macros.specs.declared.words.Symbol.{Symbol}

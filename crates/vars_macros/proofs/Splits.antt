@@ -9,7 +9,7 @@ use Rattle.vars_macros.specs.declared.fault.MacroFault.{MacroFault}
 use Rattle.vars_macros.specs.declared.fault.MacroFault.TheVariants.{Unclosed, Loop, TooLong, BadQuote, BadReference, Memory}
 use Rattle.vars_macros.specs.declared.words.Symbol.{Symbol}
 use Rattle.vars_macros.specs.declared.words.Symbol.TheVariants.{Letter, Mark, Gap, Broken}
-use Rattle.vars_macros.proofs.Symbols.{gathered, new_symbols, old_symbols, is_byte, is_last, arguments}
+use Rattle.vars_macros.specs.Symbols.{gathered, new_symbols, old_symbols, is_byte, is_last, arguments}
 use Rattle.vars_macros.proofs.SpelledWords.{words_read, words_found}
 use Rattle.vars_macros.proofs.SpelledParts.{broken, new_symbols_are, old_symbols_are}
 use Rattle.vars_macros.proofs.WordsAlike as texts

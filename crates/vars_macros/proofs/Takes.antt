@@ -9,7 +9,7 @@ use Rattle.vars_macros.specs.declared.fault.MacroFault.{MacroFault}
 use Rattle.vars_macros.specs.declared.fault.MacroFault.TheVariants.{Unclosed, Loop, TooLong, BadQuote, BadReference, Memory}
 use Rattle.vars_macros.specs.declared.words.Symbol.{Symbol}
 use Rattle.vars_macros.specs.declared.words.Symbol.TheVariants.{Letter, Mark, Gap, Broken}
-use Rattle.vars_macros.proofs.Symbols.{gathered, is_pair, new_symbol, grouped_after, is_escape, old_symbol}
+use Rattle.vars_macros.specs.Symbols.{gathered, is_pair, new_symbol, grouped_after, is_escape, old_symbol}
 use Rattle.vars_macros.proofs.WordTexts.{MayTake, Leaves}
 
 abbrev fine : Gathering → Result Gathering MacroFault

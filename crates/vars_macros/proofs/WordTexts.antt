@@ -5,7 +5,7 @@ use Rattle.std.proofs.lemmas.Str.{IsUtf8-append}
 use Rattle.std.proofs.lemmas.Option.{get_or_from_slice_get, slice_get_within}
 use Rattle.std.specs.Str.{IsUtf8}
 use Rattle.vars_macros.specs.Cut.{begins_with}
-use Rattle.vars_macros.proofs.Symbols.{is_pair, new_symbol, is_escape, old_symbol, is_last, is_byte}
+use Rattle.vars_macros.specs.Symbols.{is_pair, new_symbol, is_escape, old_symbol, is_last, is_byte}
 use Rattle.vars_macros.specs.ArgumentGrammar.{is_blank}
 use Rattle.vars_macros.specs.declared.words.Symbol.{Symbol}
 use Rattle.vars_macros.specs.declared.words.Symbol.TheVariants.{Letter, Mark, Gap, Broken}

@@ -5,7 +5,7 @@ use Rattle.std.proofs.lemmas.List.Elements.{AllZip-push}
 use Rattle.std.specs.Char.{is_ascii_digit}
 use Rattle.std.specs.Str.{all_ascii_digits}
 use Rattle.vars_macros.specs.Cut.{begins_with}
-use Rattle.vars_macros.proofs.Symbols.{gathered, is_pair, new_symbol, grouped_after, new_symbols, is_escape, old_symbol, old_symbols, is_byte, is_last, quoted, argument_symbols, arguments}
+use Rattle.vars_macros.specs.Symbols.{gathered, is_pair, new_symbol, grouped_after, new_symbols, is_escape, old_symbol, old_symbols, is_byte, is_last, quoted, argument_symbols, arguments}
 use Rattle.vars_macros.specs.ArgumentGrammar.{is_blank}
 use Rattle.vars_macros.specs.Gathered.{Gathering, closed, no_words}
 use Rattle.vars_macros.specs.declared.words.Symbol.{Symbol}

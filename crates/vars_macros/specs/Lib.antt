@@ -17,4 +17,5 @@ pub mod Quoting
 pub mod Numbers
 pub mod Balanced
 pub mod ArgumentGrammar
+pub mod Symbols
 pub mod Pairs

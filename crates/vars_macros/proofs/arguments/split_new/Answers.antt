@@ -8,7 +8,7 @@ use Rattle.vars_macros.specs.declared.words.Symbol.{Symbol}
 use Rattle.vars_macros.specs.declared.fault.MacroFault.TheVariants.{BadQuote}
 use Rattle.vars_macros.proofs.Quotes.{open_group, new_skips, new_takes, new_first, new_over}
 use Rattle.vars_macros.proofs.Splits.{new_split}
-use Rattle.vars_macros.proofs.Symbols.{gathered, is_pair, new_symbols, grouped_after}
+use Rattle.vars_macros.specs.Symbols.{gathered, is_pair, new_symbols, grouped_after}
 use Rattle.vars_macros.proofs.Takes.{takes, leaves, fails, pair_so, new_so, grouped_so}
 use Rattle.vars_macros.proofs.WordTexts.{MayTake, Leaves, new_may, new_leaves, pair_ascii, BeginsAscii, left_out}
 use Rattle.vars_macros.proofs.arguments.split_new.Goals as goal

@@ -1,6 +1,6 @@
 use Rattle.std.proofs.Common.{◌≡◌, ◌++◌, length, true, false}
 use Rattle.std.specs.Str.{IsUtf8}
-use Rattle.vars_macros.proofs.Symbols.{gathered, new_symbols}
+use Rattle.vars_macros.specs.Symbols.{gathered, new_symbols}
 use Rattle.vars_macros.specs.Gathered.{no_words}
 use Rattle.vars_macros.specs.Gathered.{gathering_of}
 use Rattle.vars_macros.proofs.WordTexts.{BeginsAscii}

@@ -7,7 +7,7 @@ use Rattle.vars_macros.specs.Gathered.{gathering_of, no_words}
 use Rattle.vars_macros.specs.declared.words.Symbol.{Symbol}
 use Rattle.vars_macros.proofs.Quotes.{old_skips, old_takes, old_first, old_over}
 use Rattle.vars_macros.proofs.Splits.{old_split}
-use Rattle.vars_macros.proofs.Symbols.{gathered, is_escape, old_symbols}
+use Rattle.vars_macros.specs.Symbols.{gathered, is_escape, old_symbols}
 use Rattle.vars_macros.proofs.Takes.{takes, leaves, fails, escape_so, old_so}
 use Rattle.vars_macros.proofs.WordTexts.{MayTake, Leaves, old_may, old_leaves, escape_ascii, BeginsAscii, left_out}
 use Rattle.vars_macros.proofs.arguments.split_old.Goals as goal

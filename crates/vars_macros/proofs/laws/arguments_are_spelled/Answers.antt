@@ -1,6 +1,6 @@
 use Rattle.vars_macros.proofs.SpelledArguments.{only, found}
 use Rattle.vars_macros.proofs.Splits.{refused_for_quotes}
-use Rattle.run_plan.proofs.laws.arguments_are_spelled.Goals as goal
+use Rattle.vars_macros.proofs.laws.arguments_are_spelled.Goals as goal
 
 pub returns-clause-only : goal.returns-clause-only
 returns-clause-only c = only
