@@ -73,43 +73,25 @@ fn categories(rt: HostRuntime) -> Result<(), Fail> {
     Ok(())
 }
 
+fn member(node: u32, priority: i32) -> Member {
+    Member { node, priority }
+}
+
 /// Best first: by priority, then in plan order.
 #[test]
 fn queue(rt: HostRuntime) -> Result<(), Fail> {
     let mut queue = ReadyQueue::new(rt.alloc());
     queue.reserve(4)?;
-    for (node, priority) in [(2, 0), (0, 0), (1, 5)] {
-        queue.add(Member { node, priority })?;
-    }
-    let nodes: Vec<u32> = queue.members().iter().map(|m| m.node).collect(rt.alloc())?;
-    assert_eq!(rt; nodes.as_slice(), [1, 0, 2].as_slice());
-    let best = queue.best_where(|_| true);
-    assert!(rt;
-        best == Some(Member {
-            node: 1,
-            priority: 5
-        })
-    );
-    let second = queue.best_where(|node| node != 1);
-    assert!(rt;
-        second
-            == Some(Member {
-                node: 0,
-                priority: 0
-            })
-    );
+    queue.add(member(2, 0))?;
+    queue.add(member(0, 0))?;
+    queue.add(member(1, 5))?;
+    assert!(rt; queue.members().first() == Some(&member(1, 5)));
+    assert!(rt; queue.best_where(|_| true) == Some(member(1, 5)));
+    assert!(rt; queue.best_where(|node| node != 1) == Some(member(0, 0)));
     assert!(rt; queue.best_where(|_| false).is_none());
-    let again = Member {
-        node: 0,
-        priority: 0,
-    };
-    assert!(rt; queue.add(again) == Err(QueueFault::Present));
-    let stranger = Member {
-        node: 9,
-        priority: 0,
-    };
-    assert!(rt; queue.remove(stranger) == Err(QueueFault::Absent));
-    queue.remove(again)?;
+    assert!(rt; queue.add(member(0, 0)) == Err(QueueFault::Present));
+    assert!(rt; queue.remove(member(9, 0)) == Err(QueueFault::Absent));
+    queue.remove(member(0, 0))?;
     assert_eq!(rt; queue.members().len(), 2);
     Ok(())
 }
