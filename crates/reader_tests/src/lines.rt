@@ -1,7 +1,7 @@
 //! Lines before their words are read: line ends, and a line that is no DAG line.
 
 use crate::shown::answer;
-use dag_reader::{LineFault, LineReader, Span, line_text, split_line};
+use dag_reader::{LineReader, line_text, split_line};
 use std::test::Fail;
 
 /// Bytes, and what reading them answers.
@@ -37,16 +37,12 @@ fn words_of_another_line(rt: HostRuntime) -> Result<(), Fail> {
     let mut line = LineReader::new(9, text);
     let name = line.next_word().ok_or("a word")?;
     assert!(rt; name.text == "a" && !name.is_comment() && !name.is("job"));
-    let phase = line.word().ok().ok_or("a word")?;
+    let phase = line.next_word().ok_or("a word")?;
     assert!(rt; phase.is("job") && phase.span.start == 2 && phase.span.stop == 5);
-    assert!(rt; line.count(2) == Ok(2));
-    assert!(rt; line.integer() == Ok(-7));
-    assert!(rt; line.finish() == Ok(()));
-    let end = Span {
-        line: 9,
-        start: 12,
-        stop: 12,
-    };
-    assert!(rt; line.count(2) == Err(LineFault::MissingWord(end)));
+    let count = line.next_word().ok_or("a word")?;
+    assert!(rt; count.count(2) == Some(2) && count.count(1).is_none());
+    let number = line.next_word().ok_or("a word")?;
+    assert!(rt; number.integer() == Some(-7) && number.count(9).is_none());
+    assert!(rt; line.next_word().is_none());
     Ok(())
 }
