@@ -13,7 +13,7 @@ use std::fmt;
 
 /// Why a command is refused. It is displayed as `CODE Name detail`, the line that the user reads
 /// behind `dagrun: `.
-#[derive(Debug, Drop)]
+#[derive(Drop)]
 pub enum RunFault {
     /// The files of the DAG are refused.
     InFiles(DagFault),
@@ -39,6 +39,13 @@ impl fmt::Display for RunFault {
             RunFault::FileRefused(path) => write!(f, "X2 FileRefused {path}"),
             RunFault::Memory => write!(f, "X1 Memory"),
         }
+    }
+}
+
+// A derived one goes over each part; the line that a user reads says as much.
+impl fmt::Debug for RunFault {
+    fn fmt<W: fmt::Write>(&self, f: &mut fmt::Formatter<W>) -> fmt::Result {
+        fmt::Display::fmt(self, f)
     }
 }
 

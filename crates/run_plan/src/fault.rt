@@ -13,7 +13,6 @@ use submit_file::SubmitFault;
 use vars_macros::MacroFault;
 
 /// Why there is no plan. It is displayed as its code, its name and its place.
-#[derive(Debug)]
 pub enum PlanFault {
     /// There is no submit file of this path.
     MissingFile(Text),
@@ -83,6 +82,13 @@ impl fmt::Display for PlanFault {
             PlanFault::InRescue(fault) => write!(f, "{fault}"),
             PlanFault::Memory => write!(f, "P7 Memory"),
         }
+    }
+}
+
+// A derived one goes over each part; the line that a user reads says as much.
+impl fmt::Debug for PlanFault {
+    fn fmt<W: fmt::Write>(&self, f: &mut fmt::Formatter<W>) -> fmt::Result {
+        fmt::Display::fmt(self, f)
     }
 }
 

@@ -12,14 +12,14 @@ use vars_macros::Macros;
 
 /// Where the command of a job comes from: a program alone, where no submit file is read, or what is
 /// assigned to names.
-#[derive(Debug, Drop)]
+#[derive(Drop)]
 pub(crate) enum Source {
     Program(Text),
     Described(Macros),
 }
 
 /// What a job is started by.
-#[derive(Debug, Drop)]
+#[derive(Drop)]
 pub(crate) struct Job {
     pub(crate) source: Source,
 }
@@ -35,7 +35,6 @@ impl Model for Job {
 
 /// What the children of a node are started by: its folder, the words of its scripts, of which the
 /// first is the program, and its job.
-#[derive(Debug)]
 pub(crate) struct Orders {
     folder: Text,
     pre: Option<Texts>,
