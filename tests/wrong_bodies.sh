@@ -21,9 +21,14 @@ with_edits() {
     done
 }
 
+# Which tier an edit stands in is no part of the sum.
 sum_of() {
-    (cd "crates/$1" && find src specs proofs must-fail wrong-bodies -type f 2>/dev/null | LC_ALL=C sort | xargs sha256sum) |
-        sha256sum | cut -d ' ' -f 1
+    (
+        cd "crates/$1"
+        find . -path ./out -prune -o -type f -regex '\./\(src\|specs\|proofs\)/.*' -print | LC_ALL=C sort | xargs sha256sum
+        find . -path ./out -prune -o -type f -regex '\./\(must-fail\|wrong-bodies\)/.*\.edit' -exec sha256sum {} + |
+            sed 's| .*/| |' | LC_ALL=C sort -k 2
+    ) | sha256sum | cut -d ' ' -f 1
 }
 
 is_old() {
