@@ -7,7 +7,7 @@ use std::process::Abort;
 use std::test::Fail;
 
 /// Files that are added in this order, and what is there under the name `a` then.
-const ADDED: [(&str, &str, &str); 4] = [
+static ADDED: [(&str, &str, &str); 4] = [
     ("b", "two", "-"),
     ("a", "one", "one"),
     ("A", "three", "one"),
@@ -31,7 +31,7 @@ fn last_file_of_a_name(rt: HostRuntime) -> Result<(), Fail> {
 }
 
 /// Files that are added in this order, and what opening t.dag answers then.
-const STEPS: [(&str, &str, &str); 5] = [
+static STEPS: [(&str, &str, &str); 5] = [
     ("d/y.dag", "JOB D d\n", "S1 MissingFile t.dag"),
     ("t.dag", "SPLICE X x.dag DIR d\n", "S1 MissingFile d/x.dag"),
     (
@@ -68,7 +68,7 @@ fn missing_file_is_added(rt: HostRuntime) -> Result<(), Fail> {
 }
 
 /// A folder, a path, and the path as seen from the folder.
-const PATHS: [(&str, &str, &str); 9] = [
+static PATHS: [(&str, &str, &str); 9] = [
     ("", "", ""),
     ("", "a/b", "a/b"),
     ("", "/a", "/a"),

@@ -4,7 +4,7 @@ use crate::shown::{View, compare};
 use std::test::Fail;
 
 /// The files beside t.dag.
-const OTHERS: [(&str, &str); 4] = [
+static OTHERS: [(&str, &str); 4] = [
     (
         "in.dag",
         "JOB A a.sub\nJOB B b.sub\nSPLICE X leaf.dag\nPARENT A CHILD B X\n",
@@ -25,7 +25,7 @@ const NESTED: &str = "JOB S s.sub\nSPLICE Y in.dag\nSPLICE Z in.dag DIR z\nJOB E
 const REPEATED: &str = "PARENT S CHILD B B\nFINAL F f DIR d\nJOB S s\nJOB B b\n\
     PARENT S S CHILD B Y\nSPLICE Y leaf.dag\nPARENT S B CHILD Y\n";
 
-const LINKS: [(&str, &str); 2] = [
+static LINKS: [(&str, &str); 2] = [
     (
         NESTED,
         "S s.sub '' [] [2];E e.sub '' [6, 7] [];Y+A a.sub '' [0] [3, 4];\
@@ -38,12 +38,12 @@ const LINKS: [(&str, &str); 2] = [
     ),
 ];
 
-const ANCESTORS: [(&str, &str); 1] = [(
+static ANCESTORS: [(&str, &str); 1] = [(
     NESTED,
     "0:;1: 0 2 3 4 5 6 7;2: 0;3: 0 2;4: 0 2;5: 0 2 3 4;6: 0 2 3 4 5;7: 0 2 3 4 5;",
 )];
 
-const NAMES: [(&str, &str); 2] = [
+static NAMES: [(&str, &str); 2] = [
     (
         NESTED,
         "S Some(0);E Some(1);Y+X+L Some(4);Z+X+L Some(7);F None;Y None;A None;y+a None;",
@@ -55,7 +55,7 @@ const NAMES: [(&str, &str); 2] = [
 ];
 
 /// Each of these has one order with parents first.
-const ORDERS: [(&str, &str); 3] = [
+static ORDERS: [(&str, &str); 3] = [
     (
         "JOB C c\nJOB A a\nJOB B b\nPARENT B CHILD C\nPARENT A CHILD B C\n",
         "[1, 2, 0]",

@@ -4,7 +4,7 @@ use crate::shown::{View, compare};
 use std::test::Fail;
 
 /// The files beside t.dag.
-const OTHERS: [(&str, &str); 2] = [
+static OTHERS: [(&str, &str); 2] = [
     (
         "y.dag",
         "JOB B b\nRETRY B 1\nNODE_STATUS_FILE s\nRETRY ALL_NODES 2\nMAXJOBS c 2\n\
@@ -14,7 +14,7 @@ const OTHERS: [(&str, &str); 2] = [
 ];
 
 /// A text of t.dag, and the limits of its categories.
-const LIMITS: [(&str, &str); 5] = [
+static LIMITS: [(&str, &str); 5] = [
     ("JOB A a\nRETRY A 1\nMAXJOBS c 1\n", "c 1 t.dag:3;"),
     (
         "JOB A a\nPRE_SKIP A 1\nABORT-DAG-ON A 1\nPRE_SKIP A 1\nABORT-DAG-ON A 1\n\

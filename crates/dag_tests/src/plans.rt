@@ -4,7 +4,7 @@ use crate::shown::{View, compare};
 use std::test::Fail;
 
 /// The files beside t.dag.
-const OTHERS: [(&str, &str); 1] = [(
+static OTHERS: [(&str, &str); 1] = [(
     "y.dag",
     "JOB A a\nCATEGORY A c\nMAXJOBS c 3\nRETRY A 9\nRETRY A 2\n",
 )];
@@ -12,7 +12,7 @@ const OTHERS: [(&str, &str); 1] = [(
 /// Of each node its name and parents, PRE, NOOP and POST, retries, the values of UNLESS-EXIT,
 /// PRE_SKIP and ABORT-DAG-ON, DONE, its priority, the place of its category
 /// among those that have a limit, and the value of RETURN.
-const PLANS: [(&str, &str); 3] = [
+static PLANS: [(&str, &str); 3] = [
     (
         "JOB A a\nJOB B b NOOP DONE\nFINAL F f\nPARENT A CHILD B B\nSCRIPT PRE A p\n\
         SCRIPT POST B q\nRETRY A 3 UNLESS-EXIT -2\nPRE_SKIP A 4\nPRIORITY B -7\n\

@@ -29,7 +29,7 @@ fn shown_fault(alloc: Global, fault: RescueFault) -> Result<String, Fail> {
 }
 
 /// The marks of the diamond's nodes, and the text.
-const WRITTEN: [([bool; 4], &str); 3] = [
+static WRITTEN: [([bool; 4], &str); 3] = [
     (
         [true, true, false, false],
         "# Rescue DAG file\n# Total number of Nodes: 4\n# Nodes premarked DONE: 2\n\n\
@@ -60,7 +60,7 @@ fn texts(rt: HostRuntime) -> Result<(), Fail> {
 }
 
 /// The text of a rescue file of the diamond, and the numbers of the nodes or the fault.
-const READ: [(&str, &str); 18] = [
+static READ: [(&str, &str); 18] = [
     ("", "[]"),
     (
         "# Rescue DAG file\n# Total number of Nodes: 4\n# Nodes premarked DONE: 2\n\n\
@@ -122,7 +122,7 @@ fn full_names(rt: HostRuntime) -> Result<(), Fail> {
     Ok(())
 }
 
-const NAMES: [(u16, &str); 8] = [
+static NAMES: [(u16, &str); 8] = [
     (1, "x.dag.rescue001"),
     (7, "x.dag.rescue007"),
     (10, "x.dag.rescue010"),
@@ -149,7 +149,7 @@ fn names(rt: HostRuntime) -> Result<(), Fail> {
 }
 
 /// Names with a bar between two, and the highest number of a rescue file of x.dag among them.
-const PICKED: [(&str, u16); 8] = [
+static PICKED: [(&str, u16); 8] = [
     ("", 0),
     ("x.dag.rescue002|x.dag.rescue010", 10),
     ("x.dag.rescue010|x.dag|x.dag.rescue002", 10),

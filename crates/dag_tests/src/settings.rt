@@ -4,7 +4,7 @@ use crate::shown::{View, compare};
 use std::test::Fail;
 
 /// A splice's file, and one that splices it.
-const OTHERS: [(&str, &str); 2] = [
+static OTHERS: [(&str, &str); 2] = [
     (
         "in.dag",
         "JOB A a\nJOB B b\nCATEGORY A c\nCATEGORY B +c\nRETRY ALL_NODES 4\n",
@@ -13,7 +13,7 @@ const OTHERS: [(&str, &str); 2] = [
 ];
 
 /// A text of t.dag, and the settings of each of its nodes.
-const ONE_NODE: [(&str, &str); 7] = [
+static ONE_NODE: [(&str, &str); 7] = [
     ("JOB A a\n", "A;"),
     (
         "RETRY A 1\nRETRY A 2 UNLESS-EXIT -3\nJOB A a\n",
@@ -38,7 +38,7 @@ const ONE_NODE: [(&str, &str); 7] = [
     ),
 ];
 
-const MACROS: [(&str, &str); 4] = [
+static MACROS: [(&str, &str); 4] = [
     (
         "JOB A a\nVARS A m=\"1\" n=\"2\"\nVARS A APPEND M=\"3\"\nVARS A k=\"4\"\n",
         "A 2:PREPEND n=2 3:APPEND M=3 4:PREPEND k=4;",
@@ -57,7 +57,7 @@ const MACROS: [(&str, &str); 4] = [
     ),
 ];
 
-const MORE_NODES: [(&str, &str); 5] = [
+static MORE_NODES: [(&str, &str); 5] = [
     (
         "JOB A a\nFINAL F f\nRETRY ALL_NODES 2\nRETRY A 1\nJOB B b\nSCRIPT POST all_nodes p\n",
         "A 6:POST p 4:RETRY 1 None;B 6:POST p 3:RETRY 2 None;F;",
@@ -85,7 +85,7 @@ const MORE_NODES: [(&str, &str); 5] = [
 ];
 
 /// A text of t.dag, and its nodes: name, submit file, folder, options.
-const DECLARED: [(&str, &str); 2] = [
+static DECLARED: [(&str, &str); 2] = [
     (
         "JOB A a NOOP\nJOB B b DONE DIR d\nFINAL F f DIR e NOOP\nJOB C c DONE NOOP DIR /d\nJOB D /d DIR e\n",
         "A a '' NOOP;B d/b 'd' DONE;C /d/c '/d' NOOP DONE;D /d 'e';F e/f 'e' NOOP;",
@@ -97,7 +97,7 @@ const DECLARED: [(&str, &str); 2] = [
 ];
 
 /// The files beside it.
-const IN_FOLDERS: [(&str, &str); 2] = [
+static IN_FOLDERS: [(&str, &str); 2] = [
     ("g/y.dag", "JOB A a\nJOB B b DIR d\nJOB C /c DIR /d NOOP\n"),
     ("/h/z.dag", "JOB A a DONE\n"),
 ];

@@ -4,7 +4,7 @@ use crate::shown::compare;
 use std::test::Fail;
 
 /// A text, and what it says.
-const NODES: [(&str, &str); 9] = [
+static NODES: [(&str, &str); 9] = [
     ("JOB A a", "JOB A@1:5 a@1:7 noop=false done=false;"),
     (
         "job A a.sub noop",
@@ -31,7 +31,7 @@ const NODES: [(&str, &str); 9] = [
     ),
 ];
 
-const SETTINGS: [(&str, &str); 20] = [
+static SETTINGS: [(&str, &str); 20] = [
     ("SCRIPT PRE A p", "SCRIPT PRE A@1:12 p@1:14 [];"),
     (
         "script post all_nodes p HOLD \"q r",

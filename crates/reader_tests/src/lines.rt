@@ -5,7 +5,7 @@ use dag_reader::{LineReader, line_text, split_line};
 use std::test::Fail;
 
 /// Bytes, and what reading them answers.
-const ENDS: [(&[u8], &str); 5] = [
+static ENDS: [(&[u8], &str); 5] = [
     (b"", ""),
     (b"\n\r\n \t\n#\n", ""),
     (b"\r\nJOB A a\r\n", "JOB A@2:5 a@2:7 noop=false done=false;"),

@@ -4,7 +4,7 @@ use crate::shown::compare;
 use std::test::Fail;
 
 /// A text, and what it says.
-const READ: [(&str, &str); 16] = [
+static READ: [(&str, &str); 16] = [
     ("VARS A a=\"\"", "VARS A@1:6 PREPEND a@1:8=@1:10,;"),
     (
         "vars all_nodes append +x.1_Y = \"v w\"\t_b= \"\" ",
