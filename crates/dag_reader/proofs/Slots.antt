@@ -14,8 +14,13 @@ use Rattle.dag_reader.specs.Word.{PlacedText}
 use Rattle.dag_reader.specs.Results.{◌>>=◌}
 use Rattle.dag_reader.specs.Keywords.{is_keyword}
 use Rattle.dag_reader.specs.Numbers.{integer, count, at_least, nonzero}
-use Rattle.dag_reader.specs.Layouts.{Ending, Brackets, Many, Children, Values, State, state, nothing, no_word, layout, bracket, bracket_of, opened, name_in, node_in, submit_file_in, category_in, script_kind_in, number_in, put, further, reading}
+use Rattle.dag_reader.specs.Layouts.{Ending, Brackets, Many, Children, Values, State, state, nothing, no_word, layout, bracket, bracket_of, opened, name_in, node_in, submit_file_in, category_in, script_kind_in, number_in, put, further, reading, command_of}
 use Rattle.dag_reader.specs.Blanks.{begun, ReadsOnlyItsFields}
+use Rattle.dag_reader.specs.declared.fault.ReadFault.{ReadFault}
+use Rattle.dag_reader.specs.declared.fault.ReadFault.TheVariants as faults
+use Rattle.dag_reader.specs.declared.layout.Layout.{Layout}
+use Rattle.dag_reader.specs.LayoutViews.{HasRow, ending_of}
+use Rattle.dag_reader.specs.Reading.{Fails}
 
 -- the places of words and numbers that are filled
 record Filled : Type 0 where
@@ -182,3 +187,24 @@ pub reads_only_its_fields : ReadsOnlyItsFields
 reads_only_its_fields kind before ws end =
     commands_same kind (reading (state (layout kind).fields (layout kind).ending (begun before)) ws end) (reading (state (layout kind).fields (layout kind).ending nothing) ws end)
     (alike (layout kind).fields (layout kind).ending ws end none (begun before) nothing (kind_steady kind) (nothing_filled before))
+
+-- What reading by a row of the code gives, after what stood before.
+by_row : (l : Layout) (before : Values) (ws : List PlacedText) (end : Span) → HasRow l
+    → (reading (state l.fields.now (ending_of l.ending) (begun before)) ws end >>= λ v. Ok ((layout l.kind).command v)) ≡ command_of l.kind ws end
+by_row l before ws end row =
+    ap (λ (fs : List Field). reading (state fs (ending_of l.ending) (begun before)) ws end >>= λ v. Ok ((layout l.kind).command v)) row.fields
+    ∙ ap (λ (e : Ending). reading (state (layout l.kind).fields e (begun before)) ws end >>= λ v. Ok ((layout l.kind).command v)) row.ending
+    ∙ reads_only_its_fields l.kind before ws end
+
+pub read_ok : (l : Layout) (before start v : Values) (ws : List PlacedText) (end : Span) → HasRow l → start ≡ begun before → reading (state l.fields.now (ending_of l.ending) start) ws end ≡ Ok v
+    → command_of l.kind ws end ≡ Ok ((layout l.kind).command v)
+read_ok l before start v ws end row begins e =
+    sym (by_row l before ws end row) ∙ ap (λ (u : Values). reading (state l.fields.now (ending_of l.ending) u) ws end >>= λ x. Ok ((layout l.kind).command x)) (sym begins)
+    ∙ ap (λ (r : Result Values LineFault). r >>= λ x. Ok ((layout l.kind).command x)) e
+
+pub read_fails : (e : ReadFault) (l : Layout) (before start : Values) (ws : List PlacedText) (end : Span) → HasRow l → start ≡ begun before → Fails e (reading (state l.fields.now (ending_of l.ending) start) ws end)
+    → Fails e (command_of l.kind ws end)
+read_fails faults.Memory l before start ws end row begins e = tt
+read_fails (faults.Line f) l before start ws end row begins e =
+    sym (by_row l before ws end row) ∙ ap (λ (u : Values). reading (state l.fields.now (ending_of l.ending) u) ws end >>= λ x. Ok ((layout l.kind).command x)) (sym begins)
+    ∙ ap (λ (r : Result Values LineFault). r >>= λ x. Ok ((layout l.kind).command x)) e

@@ -51,6 +51,7 @@ impl Drop for Values<'_> {
 }
 
 impl<'a> Values<'a> {
+    ghost use Rattle.dag_reader.specs.Blanks.{begun};
     ghost use Rattle.dag_reader.specs.Layouts.{nothing, bracket, put, bracket_of, layout};
     ghost use Rattle.dag_reader.specs.LayoutViews.{values_of, Leaves};
 
@@ -83,11 +84,18 @@ impl<'a> Values<'a> {
         }
     }
 
-    /// Forgets what was said.
+    /// Forgets the options, the flags and the lists of the line before. Its words and numbers stay,
+    /// and no command of another line has them.
     pub(crate) fn clear(&mut self, alloc: Global)
-        ensures { values_of self.new ≡ nothing }
+        ensures { values_of self.new ≡ begun (values_of self.old) }
     {
-        *self = Values::new(alloc);
+        self.dir = None;
+        self.noop = false;
+        self.done = false;
+        self.unless_exit = None;
+        self.status = None;
+        self.parents = Words::new(alloc);
+        self.words = Words::new(alloc);
     }
 
     /// Takes a word, which has to be this field.
