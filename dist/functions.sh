@@ -53,14 +53,17 @@ is_of_sources() {
     [ -x "$1" ] && [ -f "$2" ] && [ "$(cat "$2")" = "$(sources "$1")" ]
 }
 
-# Hands on how far the check of crate $1 is, number $2 of $3: a line that is written over on a terminal, else one line.
+# Says on standard error how far the check of crate $1 is, number $2 of $3, by what it prints: on a terminal in one line that is
+# written over, else by a line as it begins and one as it ends.
 show_progress() {
-    awk -v crate="$1" -v place="$2" -v count="$3" -v terminal="$([ -t 2 ] && echo 1 || echo 0)" '
-        function told(done, all) { return "proving " crate " (" place " of " count "), " done " of " all " functions" }
-        function say(text) { printf terminal ? "\r%s   " : "%s\n", text >"/dev/stderr" }
-        match($0, /[0-9]+ of [0-9]+ functions checked/) { split(substr($0, RSTART), word, " "); all = word[3]; say(told(0, all)) }
-        match($0, /^checked .*, [0-9]+ of [0-9]+$/) { n = split($0, word, " "); if (terminal) say(told(word[n - 2], all)); last = word[n - 2] }
-        END { if (terminal) printf "\n" >"/dev/stderr"; else if (all) say(told(last + 0, all)) }'
+    awk -v crate="$1" -v place="$2" -v count="$3" -v terminal="$([ -t 2 ] && echo 1)" '
+        function say(text) { printf (terminal ? "\r%s   " : "%s\n"), text >"/dev/stderr"; fflush("/dev/stderr") }
+        function told() { return "proving " crate " (" place " of " count ")" (all ? ", " done " of " all " functions" : "") }
+        BEGIN { say(told()) }
+        / [0-9]+ of [0-9]+ functions checked/ { done = $3; all = $5 }
+        /^checked .*, [0-9]+ of [0-9]+$/ { done = $(NF - 2); all = $NF }
+        all && terminal { say(told()) }
+        END { if (!terminal && all) say(told()); if (terminal) printf "\n" >"/dev/stderr" }'
 }
 
 # Proves and builds the program, over what earlier checks kept. Says how far it is on standard error.
