@@ -1,0 +1,109 @@
+//! Laws of the definitions alone. No program calls them.
+
+ghost use Rattle.std.specs.Prelude.{◌≡◌, ℕ, ◌<◌, true, false, List, [], ◌∷◌, ◌++◌, map, Ok, None, IsTrue};
+ghost use Rattle.std.specs.List.{Contains};
+ghost use Rattle.node_machine.specs.declared.Key.{Key};
+ghost use Rattle.node_machine.specs.Story.{Table};
+ghost use Rattle.run_plan.specs.Plan.{Plan, node_at, count_of, IsRankedBy};
+ghost use Rattle.run_plan.specs.Commands.{CommandOrFault, is_sound, uses_whole_run};
+ghost use Rattle.sched_core.specs.Run.{is_done, is_lawful};
+ghost use Rattle.sched_core.specs.Fate.{AreFates, shown, is_done_state};
+ghost use Rattle.sched_core.specs.Agree.{AgreeOnFates, Agree};
+ghost use Rattle.sched_core.specs.Commands.{command_by, with_commands};
+ghost use Rattle.sched_core.specs.Lives.{AreLives, IsRunBy};
+ghost use Rattle.sched_core.specs.declared.Record.{Record};
+ghost use Rattle.sched_core.specs.declared.Record.TheVariants.{Life};
+ghost use Rattle.event_journal.specs.Image.{Header, header_of, replay_of};
+ghost use Rattle.recovery.specs.Managed.{Managed, plan_of, past_of, read_of, WithOrWithout, ReadsBeforeOrAfter};
+ghost use Rattle.recovery.specs.Recovery.{IsMomentOfBegin, IsRecovered};
+ghost use Rattle.recovery.specs.Chain.{Command, ManagerLife, IsLifeOf, AreManagerLives, HandsOver, Leaves, span, life_of};
+
+use event_journal::Disk;
+
+/// Over every list of lives, each on what the one before left, whose last finished the run without
+/// abort: each ordinary node's attempts, exit value, state and mark are those of the recursion over
+/// its parents, read from the table of outcomes; and so is each command that any of the lives handed
+/// over, where the texts of its node can be expanded and hold no word of the whole run.
+pub fn lives()
+    ensures spans { (plan : Plan) (lives : List ManagerLife) → AreManagerLives plan lives →
+        AreLives plan (map (λ life. life.span) lives) }
+    ensures fates { (plan : Plan) (table : Table) (last : ManagerLife) (before : List ManagerLife) →
+        AreManagerLives plan (last ∷ before) → IsRunBy plan table last.span.held →
+        AreFates plan table (shown plan last.span.held) }
+    ensures marks { (plan : Plan) (last : ManagerLife) (node : ℕ) →
+        is_done plan last.span.held node
+        ≡ is_done_state (shown plan last.span.held node).state }
+    ensures commands { (plan : Plan) (table : Table) (last : ManagerLife)
+        (before : List ManagerLife) →
+        AreManagerLives plan (last ∷ before) → IsRunBy plan table last.span.held →
+        (life : ManagerLife) → Contains (last ∷ before) life →
+        (key : Key) (command : CommandOrFault) → Contains life.handed (key, command) →
+        is_sound (node_at plan key.node) ≡ true → uses_whole_run (node_at plan key.node) ≡ false →
+        command ≡ command_by plan table key.node key.attempt key.phase }
+{}
+
+/// What the calls of a manager ensure makes a life of the run, of the bytes that it found: it began
+/// on a place that reads as Fresh, or it recovered, and then its calls added records of its own.
+pub fn one_life<D: Disk + Drop>()
+    ensures begun { (disk : D) (manager now : Managed D) (own : List Record)
+        (handed : List Command) (left : List ℕ) → replay_of (D.seen disk) ≡ Ok None →
+        past_of manager ≡ Life ∷ [] → past_of now ≡ own ++ past_of manager →
+        IsTrue (is_lawful (plan_of now) (past_of now)) →
+        HandsOver (plan_of now) (span [] (past_of now)) handed →
+        Leaves (plan_of now) (past_of now) left →
+        IsLifeOf (plan_of now) (life_of (D.seen disk) (span [] (past_of now)) handed left) }
+    ensures recovered { (disk : D) (manager now : Managed D) (own : List Record)
+        (handed : List Command) (left : List ℕ) → IsRecovered D.seen D.may_leave disk manager →
+        plan_of now ≡ plan_of manager → past_of now ≡ own ++ past_of manager →
+        IsTrue (is_lawful (plan_of now) (past_of now)) →
+        HandsOver (plan_of now) (span (past_of manager) (past_of now)) handed →
+        Leaves (plan_of now) (past_of now) left →
+        (past : List Record) × (past_of manager ≡ Life ∷ past)
+        × IsLifeOf (plan_of now) (life_of (D.seen disk) (span past (past_of now)) handed left) }
+{}
+
+/// Whatever image a manager's call leaves when it is cut short, it is one that a life of the run
+/// leaves: with `begin`, which is called where nothing is but what reads as Fresh; with `recover`;
+/// with a call that adds a record.
+pub fn stops()
+    ensures in_begin { (plan : Plan) (used next : ℕ) (image : List ℕ) →
+        IsMomentOfBegin (λ c. replay_of c ≡ Ok None) (header_of used next plan.digest) image →
+        Leaves plan [] image }
+    ensures in_recover { (plan : Plan) (header : Header) (past : List Record) (image : List ℕ) →
+        header.digest ≡ plan.digest → WithOrWithout (read_of header past) Life image →
+        Leaves plan past image }
+    ensures in_a_call { (plan : Plan) (header : Header) (past : List Record) (entry : Record)
+        (image : List ℕ) → header.digest ≡ plan.digest →
+        ReadsBeforeOrAfter header past entry image → Leaves plan past image }
+{}
+
+/// Two runs over such lives, whose plans and tables agree on a node and all above it, agree on that
+/// node: on its attempts, its value and its state, and where they agree on commands too, on the
+/// command of each of its phases.
+pub fn two_runs()
+    ensures fates { (plan plan' : Plan) (table table' : Table) (rank rank' : ℕ → ℕ) →
+        IsRankedBy rank plan → IsRankedBy rank' plan' →
+        (last last' : ManagerLife) (before before' : List ManagerLife) →
+        AreManagerLives plan (last ∷ before) → AreManagerLives plan' (last' ∷ before') →
+        IsRunBy plan table last.span.held → IsRunBy plan' table' last'.span.held →
+        (node node' : ℕ) → node < count_of plan → node' < count_of plan' →
+        AgreeOnFates plan table plan' table' node node' →
+        shown plan last.span.held node ≡ shown plan' last'.span.held node' }
+    ensures marks { (plan plan' : Plan) (table table' : Table) (rank rank' : ℕ → ℕ) →
+        IsRankedBy rank plan → IsRankedBy rank' plan' →
+        (last last' : ManagerLife) (before before' : List ManagerLife) →
+        AreManagerLives plan (last ∷ before) → AreManagerLives plan' (last' ∷ before') →
+        IsRunBy plan table last.span.held → IsRunBy plan' table' last'.span.held →
+        (node node' : ℕ) → node < count_of plan → node' < count_of plan' →
+        AgreeOnFates plan table plan' table' node node' →
+        is_done plan last.span.held node ≡ is_done plan' last'.span.held node' }
+    ensures commands { (plan plan' : Plan) (table table' : Table) (rank rank' : ℕ → ℕ) →
+        IsRankedBy rank plan → IsRankedBy rank' plan' →
+        (last last' : ManagerLife) (before before' : List ManagerLife) →
+        AreManagerLives plan (last ∷ before) → AreManagerLives plan' (last' ∷ before') →
+        IsRunBy plan table last.span.held → IsRunBy plan' table' last'.span.held →
+        (node node' : ℕ) → node < count_of plan → node' < count_of plan' →
+        Agree plan table plan' table' node node' →
+        with_commands plan table node (shown plan last.span.held node).history
+        ≡ with_commands plan' table' node' (shown plan' last'.span.held node').history }
+{}

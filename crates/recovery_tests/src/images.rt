@@ -1,0 +1,97 @@
+// Recoveries of each image that a crash may leave of a last slot.
+use crate::lives::{given, life};
+use crate::plans::{ROOM, SLOTS, job, plan_of};
+use event_journal::{JournalFault, MemDisk};
+use node_machine::{Key, Outcome, Phase};
+use recovery::ManagerFault;
+use run_plan::Plan;
+use sched_core::Record;
+use std::alloc::Global;
+use std::process::Abort;
+use std::test::Fail;
+
+const JOB: Key = Key {
+    node: 0,
+    attempt: 0,
+    phase: Phase::Job,
+};
+
+// The records of a journal, and the Life of who recovers it.
+static WITH_LAST: [Record; 4] = [
+    Record::Life,
+    Record::Launch(JOB, 1),
+    Record::End(JOB, Outcome::Exit(1)),
+    Record::Life,
+];
+
+static WITHOUT: [Record; 3] = [Record::Life, Record::Launch(JOB, 1), Record::Life];
+
+const OPEN: u8 = 0x4F;
+
+// The size of a journal of three records, and the place of the last one's gate.
+const SIZE: usize = 161;
+
+const GATE: usize = 128;
+
+// The bytes of a journal of three records.
+fn written(rt: &impl Abort, alloc: Global, plan: &Plan) -> Result<Vec<u8>, Fail> {
+    let mut manager = given(rt, life(alloc, MemDisk::new(alloc, ROOM), plan, SLOTS));
+    assert_eq!(rt; manager.launch(job(0)), Ok(1));
+    assert_eq!(rt; manager.record_end(job(0), Outcome::Exit(1)), Ok(()));
+    let disk = manager.into_disk();
+    Ok(Vec::from_slice(alloc, disk.bytes())?)
+}
+
+// The front of the journal with this value of the last gate: its records with the last one or
+// without, and Life behind them; or the slot is bad, where its gate is open and it is not whole.
+fn recovered(
+    rt: &impl Abort,
+    alloc: Global,
+    plan: &Plan,
+    front: Vec<u8>,
+    gate: u8,
+) -> Result<(), Fail> {
+    let size = front.len();
+    if size > ROOM {
+        return Ok(());
+    }
+    match life(alloc, MemDisk::of(alloc, front, ROOM), plan, SLOTS) {
+        Ok(manager) => {
+            let records = manager.core().records();
+            assert!(rt; gate != OPEN || size == SIZE);
+            if gate == OPEN {
+                assert_eq!(rt; records, WITH_LAST.as_slice());
+            } else {
+                assert_eq!(rt; records, WITHOUT.as_slice());
+            }
+        }
+        Err((_disk, fault)) => {
+            assert!(rt; gate == OPEN && size < SIZE);
+            assert_eq!(rt; fault, ManagerFault::Journal(JournalFault::BadSlot(2)));
+        }
+    }
+    Ok(())
+}
+
+fn every_prefix(rt: &impl Abort, alloc: Global, plan: &Plan) -> Result<(), Fail> {
+    let bytes = written(rt, alloc, plan)?;
+    assert_eq!(rt; bytes.len(), SIZE);
+    for size in GATE + 1..SIZE + 1 {
+        for gate in 0..256u32 {
+            if size <= bytes.len() {
+                let mut front = Vec::from_slice(alloc, &bytes[..size])?;
+                front[GATE] = gate as u8;
+                recovered(rt, alloc, plan, front, gate as u8)?;
+            }
+        }
+    }
+    Ok(())
+}
+
+#[test]
+fn every_prefix_of_a_journal(rt: HostRuntime) -> Result<(), Fail> {
+    let plan = plan_of(rt.alloc(), "JOB A a.sub\nRETRY A 0\n")?;
+    let answer = every_prefix(&rt, rt.alloc(), &plan);
+    drop(plan);
+    answer
+}

@@ -1,0 +1,138 @@
+// Refusals of a manager.
+ghost use Rattle.std.specs.Prelude.{◌≡◌, length};
+ghost use Rattle.recovery.specs.Managed.{past_of};
+ghost use Rattle.recovery.specs.Seal.{sealed_count};
+
+use crate::lives::{given, life, records_on, refused};
+use crate::plans::{DIAMOND, ROOM, SLOTS, job, plan_of};
+use event_journal::{JournalFault, MemDisk};
+use node_machine::Outcome;
+use recovery::{Manager, ManagerFault, Sealed, replay};
+use run_plan::Plan;
+use sched_core::Record;
+use std::alloc::Global;
+use std::process::Abort;
+use std::test::Fail;
+
+const DISK_FULL: ManagerFault = ManagerFault::Journal(JournalFault::DiskFull);
+
+const SLOTS_FULL: ManagerFault = ManagerFault::Journal(JournalFault::SlotsFull);
+
+const BROKEN: ManagerFault = ManagerFault::Journal(JournalFault::Broken);
+
+fn small_disks(rt: &impl Abort, alloc: Global, plan: &Plan) -> Result<(), Fail> {
+    let disk = refused(
+        rt,
+        life(alloc, MemDisk::new(alloc, 65), plan, SLOTS),
+        DISK_FULL,
+    );
+    assert!(rt; records_on(alloc, plan, disk)?.is_empty());
+    let mut manager = given(rt, life(alloc, MemDisk::new(alloc, 97), plan, SLOTS));
+    assert_eq!(rt; manager.launch(job(0)), Err(DISK_FULL));
+    assert_eq!(rt; manager.launch(job(0)), Err(BROKEN));
+    let _disk = manager.into_disk();
+    let mut manager = given(rt, life(alloc, MemDisk::new(alloc, ROOM), plan, 1));
+    assert_eq!(rt; manager.launch(job(0)), Err(SLOTS_FULL));
+    assert_eq!(rt; manager.into_disk().bytes().len(), 97);
+    Ok(())
+}
+
+#[test]
+fn journal_full(rt: HostRuntime) -> Result<(), Fail> {
+    let plan = plan_of(rt.alloc(), DIAMOND)?;
+    let answer = small_disks(&rt, rt.alloc(), &plan);
+    drop(plan);
+    answer
+}
+
+static RESCUE: &[u8] =
+    b"# Rescue DAG file\n# Total number of Nodes: 2\n# Nodes premarked DONE: 1\n\nDONE B\n";
+
+// How many records a run has.
+fn count_of(manager: &Manager<'_, MemDisk>) -> usize
+    ensures { result ≡ length (past_of manager.now) }
+{
+    manager.core().records().len()
+}
+
+// A fails, and B is good: the journal, the seal of its records, and how many they are.
+fn one_fails(rt: &impl Abort, alloc: Global, plan: &Plan) -> (MemDisk, Sealed<MemDisk>, usize)
+    ensures { sealed_count result.1 ≡ result.2 }
+{
+    let mut manager = given(rt, life(alloc, MemDisk::new(alloc, ROOM), plan, SLOTS));
+    for (node, value) in [(0, 1), (1, 0)] {
+        assert!(rt; manager.launch(job(node)).is_ok());
+        assert!(rt; manager.record_end(job(node), Outcome::Exit(value)).is_ok());
+    }
+    let small = manager.write_rescue(alloc, MemDisk::new(alloc, 10));
+    let _disk = refused(rt, small, DISK_FULL);
+    let seal = given(rt, manager.write_rescue(alloc, MemDisk::new(alloc, ROOM)));
+    let count = count_of(&manager);
+    (manager.into_disk(), seal, count)
+}
+
+// The run is sealed and goes on in another life.
+fn stale_seal(rt: &impl Abort, alloc: Global, plan: &Plan) {
+    let (disk, stale, count) = one_fails(rt, alloc, plan);
+    let mut manager = given(rt, life(alloc, disk, plan, SLOTS));
+    assert!(rt; count_of(&manager) != count);
+    let _stale = refused(rt, manager.finish(stale), ManagerFault::NotLawful);
+    let seal = given(rt, manager.write_rescue(alloc, MemDisk::new(alloc, ROOM)));
+    match given(rt, manager.finish(seal)) {
+        Some(rescue) => assert_eq!(rt; rescue.bytes(), RESCUE),
+        None => panic!(rt; "no rescue disk"),
+    }
+    let over = life(alloc, manager.into_disk(), plan, SLOTS);
+    let _disk = refused(rt, over, ManagerFault::AlreadyFinished);
+}
+
+#[test]
+fn a_stale_seal_is_refused(rt: HostRuntime) -> Result<(), Fail> {
+    let plan = plan_of(rt.alloc(), "JOB A a\nJOB B b\n")?;
+    stale_seal(&rt, rt.alloc(), &plan);
+    drop(plan);
+    Ok(())
+}
+
+// A run that goes on is not sealed, and what may not follow is told.
+fn out_of_place(rt: &impl Abort, alloc: Global, plan: &Plan) {
+    let unlawful = ManagerFault::NotLawful;
+    let mut manager = given(rt, life(alloc, MemDisk::new(alloc, ROOM), plan, SLOTS));
+    assert_eq!(rt; manager.launch(job(1)), Err(unlawful));
+    assert_eq!(rt; manager.record_end(job(0), Outcome::Exit(0)), Err(unlawful));
+    let sealed = manager.write_rescue(alloc, MemDisk::new(alloc, ROOM));
+    let _rescue = refused(rt, sealed, unlawful);
+    let sealed: Result<Sealed<MemDisk>, ManagerFault> = manager.no_rescue();
+    assert!(rt; sealed.is_err());
+    let _disk = manager.into_disk();
+    let records = [
+        Record::Life,
+        Record::Launch(job(0), 1),
+        Record::End(job(1), Outcome::Exit(0)),
+    ];
+    let fault = replay(alloc, plan, &records).err();
+    assert_eq!(rt; fault, Some(ManagerFault::Foreign(2)));
+}
+
+#[test]
+fn out_of_place_is_refused(rt: HostRuntime) -> Result<(), Fail> {
+    let plan = plan_of(rt.alloc(), DIAMOND)?;
+    out_of_place(&rt, rt.alloc(), &plan);
+    drop(plan);
+    Ok(())
+}
+
+#[test]
+fn faults_are_printed(rt: HostRuntime) -> Result<(), Fail> {
+    for (fault, text) in [
+        (ManagerFault::Foreign(2), "M2 Foreign 2"),
+        (ManagerFault::NotLawful, "M3 NotLawful"),
+        (ManagerFault::Memory, "M4 Memory"),
+        (ManagerFault::AlreadyFinished, "M5 AlreadyFinished"),
+        (DISK_FULL, "J2 DiskFull"),
+    ] {
+        let told = format!(in rt.alloc(); "{fault}")?;
+        assert_eq!(&rt; told.as_str(), text);
+    }
+    Ok(())
+}
