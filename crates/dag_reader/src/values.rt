@@ -54,6 +54,7 @@ impl<'a> Values<'a> {
     ghost use Rattle.dag_reader.specs.Blanks.{begun};
     ghost use Rattle.dag_reader.specs.Layouts.{nothing, bracket, put, bracket_of, layout};
     ghost use Rattle.dag_reader.specs.LayoutViews.{values_of, Leaves};
+    ghost use Rattle.dag_reader.specs.declared.layout.LineKind.TheVariants.{Job, Final, Splice};
 
     /// Nothing is said so far.
     pub(crate) fn new(alloc: Global) -> Values<'a>
@@ -167,13 +168,7 @@ impl<'a> Values<'a> {
         ensures { IfOk result (λ c. c ≡ (layout kind).command (values_of self.old)) }
     {
         Ok(match kind {
-            LineKind::Job => Command::Job {
-                name: self.name.to_word(alloc)?,
-                file: self.file.to_word(alloc)?,
-                dir: to_words(alloc, self.dir)?,
-                noop: self.noop,
-                done: self.done,
-            },
+            LineKind::Job => self.job(alloc)?,
             LineKind::Parent => Command::ParentChild {
                 parents: self.parents.take(alloc),
                 children: self.words.take(alloc),
@@ -210,17 +205,41 @@ impl<'a> Values<'a> {
                 value: self.number,
                 status: self.status,
             },
-            LineKind::Final => Command::Final {
-                name: self.name.to_word(alloc)?,
-                file: self.file.to_word(alloc)?,
-                dir: to_words(alloc, self.dir)?,
-                noop: self.noop,
-            },
-            LineKind::Splice => Command::Splice {
-                name: self.name.to_word(alloc)?,
-                file: self.file.to_word(alloc)?,
-                dir: to_words(alloc, self.dir)?,
-            },
+            LineKind::Final => self.final_node(alloc)?,
+            LineKind::Splice => self.splice(alloc)?,
+        })
+    }
+
+    fn job(&self, alloc: Global) -> Result<Command, AllocError>
+        ensures { IfOk result (λ c. c ≡ (layout Job).command (values_of self.now)) }
+    {
+        Ok(Command::Job {
+            name: self.name.to_word(alloc)?,
+            file: self.file.to_word(alloc)?,
+            dir: to_words(alloc, self.dir)?,
+            noop: self.noop,
+            done: self.done,
+        })
+    }
+
+    fn final_node(&self, alloc: Global) -> Result<Command, AllocError>
+        ensures { IfOk result (λ c. c ≡ (layout Final).command (values_of self.now)) }
+    {
+        Ok(Command::Final {
+            name: self.name.to_word(alloc)?,
+            file: self.file.to_word(alloc)?,
+            dir: to_words(alloc, self.dir)?,
+            noop: self.noop,
+        })
+    }
+
+    fn splice(&self, alloc: Global) -> Result<Command, AllocError>
+        ensures { IfOk result (λ c. c ≡ (layout Splice).command (values_of self.now)) }
+    {
+        Ok(Command::Splice {
+            name: self.name.to_word(alloc)?,
+            file: self.file.to_word(alloc)?,
+            dir: to_words(alloc, self.dir)?,
         })
     }
 }
