@@ -17,10 +17,16 @@ use Rattle.dag_reader.specs.declared.fault.ReadFault.TheVariants as faults
 use Rattle.dag_reader.specs.declared.command.Command.{Command}
 use Rattle.dag_reader.specs.Lines.{is_control, text_len}
 use Rattle.dag_reader.specs.Reading.{◌>>=◌, text_of, line_at, lines_at, Fails, Gives}
-use Rattle.dag_reader.specs.Grammar.{IsText, SayAll, IsFirstBad}
+use Rattle.dag_reader.specs.Grammar.{SayAll, IsFirstBad}
 use Rattle.dag_reader.proofs.Parts.{bind_ok, chosen, ok_is}
 
 -- Texts.
+-- not too many bytes, UTF-8, without control characters
+pub record IsText (bytes : List ℕ) : Type 0 where
+  pub fits : length bytes ≤ 65536
+  pub utf8 : IsUtf8 bytes
+  pub clear : All (λ b. is_control b ≡ false) bytes
+
 at_most : (bs : List ℕ) (m : ℕ) → valid_len_up_to bs m ≤ m
 at_most bs zero = omega arith
 at_most bs (suc m) =

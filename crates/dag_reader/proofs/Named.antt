@@ -25,9 +25,9 @@ use Rattle.dag_reader.specs.Numbers.{integer, count}
 use Rattle.dag_reader.specs.Layouts.{Ending, Brackets, Values, State, state, nothing, layout, line_kind, bracket, bracket_of, opened, name_in, submit_file_in, number_in, put, further, step_at, step, may_stop, reading, command_of, node_in}
 use Rattle.dag_reader.specs.MacroReading.{behind, placement_ahead, macros_ahead}
 use Rattle.dag_reader.specs.Reading.{some_macros, vars_of, first_fault, command_in, command_at, said_at, said_of, text_of, line_at, span}
-use Rattle.dag_reader.specs.Grammar.{IsText, SayAll}
+use Rattle.dag_reader.specs.Grammar.{SayAll}
 use Rattle.dag_reader.proofs.Parts.{bind_ok, chosen, guard_ok}
-use Rattle.dag_reader.proofs.LineTexts.{text_ok}
+use Rattle.dag_reader.proofs.LineTexts.{IsText, text_ok}
 
 abbrev given : Values → Result Values LineFault
 given v = Ok v

@@ -1,14 +1,9 @@
 -- Which lines say which commands.
-use Rattle.std.specs.Prelude.{◌≡◌, ℕ, ◌+◌, ◌≤◌, true, false, List, [], ◌∷◌, ◌++◌, length, Option, Ok, Err}
-use Rattle.std.specs.List.{All}
+use Rattle.std.specs.Prelude.{◌≡◌, ℕ, ◌+◌, List, [], ◌∷◌, ◌++◌, length, Option, Ok, Err}
 use Rattle.std.specs.Option.{option_to_list}
-use Rattle.std.specs.Str.{IsUtf8}
 use Rattle.dag_reader.specs.declared.command.Command.{Command}
 use Rattle.dag_reader.specs.declared.fault.ReadFault.{ReadFault}
 use Rattle.dag_reader.specs.declared.fault.ReadFault.TheVariants as faults
-use Rattle.dag_reader.specs.Word.{PlacedText}
-use Rattle.dag_reader.specs.Keywords.{is_keyword, is_comment}
-use Rattle.dag_reader.specs.Lines.{is_control}
 use Rattle.dag_reader.specs.Reading.{line_at}
 
 -- These commands are what lines say, in their order. The first line has this number.
@@ -22,18 +17,3 @@ abbrev pub IsFirstBad : List (List ℕ) → ReadFault → Type 0
 IsFirstBad ls faults.Memory = Unit {0}
 IsFirstBad ls (faults.Line f) = (front : List (List ℕ)) × (line : List ℕ) × (back : List (List ℕ)) × (cs : List Command)
     × (ls ≡ front ++ line ∷ back) × SayAll 1 front cs × (line_at (1 + length front) line ≡ Err f)
-
--- For other readers of lines: a keyword, a line whose bytes are a text, and words that say nothing.
-abbrev pub Is : List ℕ → PlacedText → Type 0
-Is keyword w = is_keyword keyword w ≡ true
-
--- not too many bytes, UTF-8, without control characters
-pub record IsText (bytes : List ℕ) : Type 0 where
-  pub fits : length bytes ≤ 65536
-  pub utf8 : IsUtf8 bytes
-  pub clear : All (λ b. is_control b ≡ false) bytes
-
--- no words, or those of a comment
-abbrev pub AreSilent : List PlacedText → Type 0
-AreSilent [] = Unit {0}
-AreSilent (first ∷ ws) = is_comment first ≡ true

@@ -4,6 +4,5 @@ pub mod Standing
 pub mod Behind
 pub mod Paces
 pub mod TableEntries
-pub mod OutcomeWords
 pub mod OutcomeLines
 pub mod Possible

@@ -2,21 +2,18 @@
 use Rattle.std.proofs.Common.{◌≡◌, ℕ, suc, ◌+◌, ◌⊎◌, false, cond, List, [], ◌∷◌, ◌++◌, length, Option, None, Some, Result, Ok, Err, IfOk, IfErr, MatchResult, refl, sym, ap, subst, ◌∙◌, append_assoc, arith, inl, inr, ⊎_elim}
 use Rattle.std.proofs.lemmas.List.{append-nil}
 use Rattle.std.specs.Option.{option_to_list, option_map}
-use Rattle.dag_reader.specs.declared.fault.LineFault.{LineFault}
 use Rattle.dag_reader.specs.Word.{PlacedText}
 use Rattle.dag_reader.specs.Words.{words}
 use Rattle.dag_reader.specs.Keywords.{is_comment}
 use Rattle.dag_reader.specs.Reading.{text_of}
-use Rattle.dag_reader.proofs.LineTexts.{text_ok, text_again}
 use Rattle.node_machine.specs.declared.outcomes.TableFault.{TableFault}
 use Rattle.node_machine.specs.declared.outcomes.TableFault.TheVariants.{BadLine, Memory}
 use Rattle.node_machine.specs.OutcomeTable.{Entry, is_of, outcome_at, SameOutcomes}
 use Rattle.node_machine.specs.declared.Outcome.{Outcome}
 use Rattle.node_machine.proofs.TableEntries.{outcome_at-push}
 use Rattle.std.specs.Str.Lines.{lines}
-use Rattle.node_machine.specs.OutcomesFile.{WordsSay, Says, SayAll, IsFirstBad}
+use Rattle.node_machine.specs.OutcomesFile.{SayAll, IsFirstBad}
 use Rattle.node_machine.specs.OutcomesReading.{words_say, text_says, line_at, then_lines, lines_at, entry_in, IsFaultOf, IsLineFault}
-use Rattle.node_machine.proofs.OutcomeWords.{words_found, words_again}
 
 -- what a line with words says
 pub line_says : (number : ℕ) (bytes text : List ℕ) (first : PlacedText) (ws : List PlacedText) (o : Option Entry) → text_of number bytes ≡ Ok text → words number 0 text ≡ first ∷ ws → is_comment first ≡ false → o ≡ entry_in first ws
@@ -24,20 +21,6 @@ pub line_says : (number : ℕ) (bytes text : List ℕ) (first : PlacedText) (ws 
 unfolding line_at
 line_says number bytes text first ws o read split no_comment entry =
     ap (text_says number) read ∙ ap words_say split ∙ rw no_comment (ap (option_map (λ x. Some x)) (sym entry))
-
-text_found : (number : ℕ) (bytes : List ℕ) (r : Result (List ℕ) LineFault) (o : Option Entry) → text_of number bytes ≡ r → text_says number r ≡ Some o → Says number bytes o
-text_found number bytes (Err f) o read e = absurd cc
-text_found number bytes (Ok text) o read e =
-    let t = text_ok number bytes text read in
-    (t.1, subst (λ (bs : List ℕ). WordsSay (words number 0 bs) o) (sym t.0) (words_found (words number 0 text) o e))
-
-line_found : (number : ℕ) (bytes : List ℕ) (o : Option Entry) → line_at number bytes ≡ Some o → Says number bytes o
-unfolding line_at
-line_found number bytes o e = text_found number bytes (text_of number bytes) o refl e
-
-line_again : (number : ℕ) (bytes : List ℕ) (o : Option Entry) → Says number bytes o → line_at number bytes ≡ Some o
-unfolding line_at
-line_again number bytes o says = ap (text_says number) (text_again number bytes says.0) ∙ words_again (words number 0 bytes) o says.1
 
 -- Lists of lines.
 abbrev good : List Entry → Result (List Entry) ℕ
@@ -71,18 +54,18 @@ unfolding lines_at
 lines_found number [] entries e = sym (good_is [] entries e)
 lines_found number (line ∷ more) entries e =
     let p = split_good number (line_at number line) (lines_at (number + 1) more) entries e in
-    (p.0, p.1, line_found number line p.0 p.2, lines_found (number + 1) more p.1 p.3, p.4)
+    (p.0, p.1, p.2, lines_found (number + 1) more p.1 p.3, p.4)
 
 pub lines_again : (number : ℕ) (ls : List (List ℕ)) (entries : List Entry) → SayAll number ls entries → lines_at number ls ≡ Ok entries
 unfolding lines_at
 lines_again number [] entries e = ap good (sym e)
 lines_again number (line ∷ more) entries (first, others, says, all, e) =
-    rw (line_again number line first says, lines_again (number + 1) more others all) (ap good (sym e))
+    rw (says, lines_again (number + 1) more others all) (ap good (sym e))
 
 -- The line n of lines, the first of which is the line `number`, is the first bad one.
 abbrev StopsAt : ℕ → List (List ℕ) → ℕ → Type 0
 StopsAt number ls n = (front : List (List ℕ)) × (line : List ℕ) × (back : List (List ℕ)) × (entries : List Entry)
-    × (ls ≡ front ++ line ∷ back) × SayAll number front entries × (n ≡ number + length front) × ((o : Option Entry) → ¬ (Says n line o))
+    × (ls ≡ front ++ line ∷ back) × SayAll number front entries × (n ≡ number + length front) × (line_at n line ≡ None)
 
 stops : (number : ℕ) (ls : List (List ℕ)) (n : ℕ) → lines_at number ls ≡ Err n → StopsAt number ls n
 unfolding lines_at
@@ -98,9 +81,7 @@ stops number (line ∷ more) n e =
       refl,
       refl,
       at,
-      λ o says. let same : number ≡ n = here.1 in
-          let read : line_at number line ≡ Some o = line_again number line o (subst (λ (k : ℕ). Says k line o) (sym same) says) in
-          let none : line_at number line ≡ None = here.0 in absurd cc,
+      subst (λ (k : ℕ). line_at k line ≡ None) here.1 here.0,
     ))
     (λ (later : (first : Option Entry) × (line_at number line ≡ Some first) × (lines_at (number + 1) more ≡ Err n)).
     let s = stops (number + 1) more n later.2 in
@@ -111,26 +92,22 @@ stops number (line ∷ more) n e =
       s.2,
       option_to_list later.0 ++ s.3,
       ap (λ (xs : List (List ℕ)). line ∷ xs) s.4,
-      (later.0, s.3, line_found number line later.0 later.1, s.5, refl),
+      (later.0, s.3, later.1, s.5, refl),
       at,
       s.7,
     ))
     (split_bad number (line_at number line) (lines_at (number + 1) more) n e)
 
-unread : (number : ℕ) (line : List ℕ) (r : Option (Option Entry)) → line_at number line ≡ r → ((o : Option Entry) → ¬ (Says number line o)) → line_at number line ≡ None
-unread number line None e none = e
-unread number line (Some o) e none = absurd (none o (line_found number line o e))
-
 stops_again : (number : ℕ) (front : List (List ℕ)) (line : List ℕ) (back : List (List ℕ)) (entries : List Entry) (n : ℕ) → SayAll number front entries → n ≡ number + length front
-    → ((o : Option Entry) → ¬ (Says n line o)) → lines_at number (front ++ line ∷ back) ≡ Err n
+    → line_at n line ≡ None → lines_at number (front ++ line ∷ back) ≡ Err n
 unfolding lines_at
 stops_again number [] line back entries n says at none =
     let here : n ≡ number = omega arith in
-    let read : line_at number line ≡ None = ap (λ (k : ℕ). line_at k line) (sym here) ∙ unread n line (line_at n line) refl none in
+    let read : line_at number line ≡ None = ap (λ (k : ℕ). line_at k line) (sym here) ∙ none in
     rw read (ap bad (sym here))
 stops_again number (x ∷ front) line back entries n (first, others, says, all, e) at none =
     let below : n ≡ number + 1 + length front = omega arith in
-    rw (line_again number x first says, stops_again (number + 1) front line back others n all below none) refl
+    rw (says, stops_again (number + 1) front line back others n all below none) refl
 
 pub first_bad : (ls : List (List ℕ)) (n : ℕ) → lines_at 1 ls ≡ Err n → IsFirstBad ls n
 first_bad ls n e = stops 1 ls n e

@@ -1,17 +1,26 @@
 -- The outcomes that lines say are possible.
-use Rattle.std.proofs.Common.{◌≡◌, ℕ, ◌+◌, ℤ, pos, negsuc, Bool, true, false, List, [], ◌∷◌, ◌++◌, map, filter, Option, Some, None, unwrap_or, Result, Ok, Err, refl, sym, ap, ◌∙◌, subst, le-leb, if◌then◌else◌}
+use Rattle.std.proofs.Common.{◌≡◌, ℕ, ◌+◌, ℤ, pos, negsuc, Bool, true, false, List, [], ◌∷◌, ◌++◌, map, filter, Option, Some, None, unwrap_or, Result, Ok, Err, ⊎_elim, codes, refl, sym, ap, ◌∙◌, subst, if◌then◌else◌}
 use Rattle.std.specs.Prelude.{IfOk, nat_le}
 use Rattle.std.specs.List.{last_or}
-use Rattle.std.specs.Option.{option_to_list}
+use Rattle.std.specs.Option.{option_to_list, option_map, option_and_then}
 use Rattle.std.proofs.lemmas.Bool.{and_from}
 use Rattle.dag_reader.specs.Word.{PlacedText}
-use Rattle.dag_reader.specs.Numbers.{integer, up_to}
+use Rattle.dag_reader.specs.declared.fault.LineFault.{LineFault}
+use Rattle.dag_reader.specs.Words.{words}
+use Rattle.dag_reader.specs.Keywords.{is_keyword, is_comment}
+use Rattle.dag_reader.specs.Numbers.{integer, up_to, count}
+use Rattle.dag_reader.specs.Reading.{text_of}
+use Rattle.dag_reader.proofs.Parts.{chosen}
 use Rattle.node_machine.specs.declared.Outcome.{Outcome}
 use Rattle.node_machine.specs.declared.Outcome.TheVariants.{Exit, Signal, NoStart, Untold}
 use Rattle.node_machine.specs.declared.outcomes.TableFault.{TableFault}
 use Rattle.node_machine.specs.Story.{is_possible}
 use Rattle.node_machine.specs.OutcomeTable.{Entry, is_of, outcome_at, SameOutcomes, HasPossibleOutcomes}
-use Rattle.node_machine.specs.OutcomesFile.{SpellsOutcome, WordsSay, SayAll}
+use Rattle.node_machine.specs.OutcomesFile.{SayAll}
+use Rattle.node_machine.specs.OutcomesReading.{phase_in, ending_in, signal_of, signal_in, outcome_in, phased_in, entry_in, words_say, text_says, line_at}
+
+abbrev some : {A : Type 0} → A → Option A
+some x = Some x
 
 -- each entry has a possible outcome
 abbrev ArePossible : List Entry → Type 0
@@ -28,23 +37,92 @@ most-of most (Some (pos m)) n e = go (nat_le m most) refl e
     go true h f = let same : m ≡ n = cc in ap (λ k. nat_le k most) (sym same) ∙ h
     go false h f = absurd cc
 
-spelled-possible : (outcome : Outcome) (ws : List PlacedText) → SpellsOutcome outcome ws → is_possible outcome ≡ true
-unfolding integer
-spelled-possible (Exit code) ws (c, is, counted) = most-of 255 (integer c.text) code counted
-spelled-possible (Signal number) ws (k, n, is, keyword, low, counted) =
-    and_from _ _ (le-leb 1 number low) (most-of 127 (integer n.text) number counted)
-spelled-possible NoStart ws says = refl
-spelled-possible Untold ws says = refl
+some_is : {A : Type 0} (x y : A) → some x ≡ some y → x ≡ y
+some_is x y e = cc
 
-said-possible : (ws : List PlacedText) (o : Option Entry) (entries : List Entry) → WordsSay ws o → ArePossible entries → ArePossible (option_to_list o ++ entries)
-said-possible ws None entries says rest = rest
-said-possible ws (Some entry) entries (name, attempt, phase, outcome, e, first, called, at, of_phase, says) rest =
-    (spelled-possible entry.outcome outcome says, rest)
+mapped : {A B : Type 0} (f : A → B) (o : Option A) (y : B) → option_map f o ≡ Some y → (x : A) × (o ≡ Some x) × (f x ≡ y)
+mapped f None y e = absurd cc
+mapped f (Some x) y e = (x, refl, some_is (f x) y e)
+
+chained : {A B : Type 0} (f : A → Option B) (o : Option A) (y : B) → option_and_then f o ≡ Some y → (x : A) × (o ≡ Some x) × (f x ≡ Some y)
+chained f None y e = absurd cc
+chained f (Some x) y e = (x, refl, e)
+
+ending-possible : (w : PlacedText) (o : Outcome) → ending_in w ≡ Some o → is_possible o ≡ true
+unfolding ending_in integer
+ending-possible w o e =
+    ⊎_elim
+    (λ here. ap is_possible (sym (some_is NoStart o here.1)))
+    (λ a. ⊎_elim
+    (λ here. ap is_possible (sym (some_is Untold o here.1)))
+    (λ b. let m = mapped Exit (count 255 w.text) o b.1 in ap is_possible (sym m.2) ∙ most-of 255 (integer w.text) m.0 m.1)
+    (chosen (is_keyword (codes "UNTOLD") w) _ _ (Some o) a.1))
+    (chosen (is_keyword (codes "NOSTART") w) _ _ (Some o) e)
+
+signal-possible : (q : Option ℕ) (n : PlacedText) (o : Outcome) → count 127 n.text ≡ q → signal_of q ≡ Some o → is_possible o ≡ true
+unfolding integer
+signal-possible None n o counted e = absurd cc
+signal-possible (Some number) n o counted e =
+    ⊎_elim
+    (λ here. ap is_possible (sym (some_is (Signal number) o here.1)) ∙ and_from _ _ here.0 (most-of 127 (integer n.text) number counted))
+    (λ other. absurd (let bad = other.1 in cc))
+    (chosen (nat_le 1 number) _ _ (Some o) e)
+
+outcome-possible : (ws : List PlacedText) (o : Outcome) → outcome_in ws ≡ Some o → is_possible o ≡ true
+unfolding outcome_in signal_in
+outcome-possible [] o e = absurd cc
+outcome-possible (w ∷ []) o e = ending-possible w o e
+outcome-possible (k ∷ n ∷ []) o e =
+    ⊎_elim
+    (λ here. signal-possible (count 127 n.text) n o refl here.1)
+    (λ other. absurd (let bad = other.1 in cc))
+    (chosen (is_keyword (codes "SIGNAL") k) _ _ (Some o) e)
+outcome-possible (k ∷ n ∷ w ∷ ws) o e = absurd cc
+
+phased-possible : (name : PlacedText) (attempt : ℕ) (ws : List PlacedText) (entry : Entry) → phased_in name attempt ws ≡ Some entry → is_possible entry.outcome ≡ true
+unfolding phased_in
+phased-possible name attempt [] entry e = absurd cc
+phased-possible name attempt (w ∷ ws) entry e =
+    let p = chained _ (phase_in w) entry e in
+    let o = mapped _ (outcome_in ws) entry p.2 in
+    ap (λ (x : Entry). is_possible x.outcome) (sym o.2) ∙ outcome-possible ws o.0 o.1
+
+entry-possible : (name : PlacedText) (ws : List PlacedText) (entry : Entry) → entry_in name ws ≡ Some entry → is_possible entry.outcome ≡ true
+unfolding entry_in
+entry-possible name [] entry e = absurd cc
+entry-possible name (w ∷ ws) entry e =
+    let a = chained _ (count 1000000 w.text) entry e in
+    phased-possible name a.0 ws entry a.2
+
+-- what a line says, if it says an entry
+abbrev IsPossibleEntry : Option Entry → Type 0
+IsPossibleEntry None = Unit {0}
+IsPossibleEntry (Some entry) = is_possible entry.outcome ≡ true
+
+words-possible : (ws : List PlacedText) (o : Option Entry) → words_say ws ≡ Some o → IsPossibleEntry o
+words-possible [] o e = subst IsPossibleEntry (some_is None o e) tt
+words-possible (first ∷ ws) o e =
+    ⊎_elim
+    (λ comment. subst IsPossibleEntry (some_is None o comment.1) tt)
+    (λ other. let m = mapped some (entry_in first ws) o other.1 in subst IsPossibleEntry m.2 (entry-possible first ws m.0 m.1))
+    (chosen (is_comment first) _ _ (Some o) e)
+
+text-possible : (number : ℕ) (r : Result (List ℕ) LineFault) (o : Option Entry) → text_says number r ≡ Some o → IsPossibleEntry o
+text-possible number (Err f) o e = absurd cc
+text-possible number (Ok text) o e = words-possible (words number 0 text) o e
+
+said-possible : (number : ℕ) (line : List ℕ) (o : Option Entry) (entries : List Entry) → line_at number line ≡ Some o → ArePossible entries → ArePossible (option_to_list o ++ entries)
+unfolding line_at
+said-possible number line o entries e rest = with-rest o (text-possible number (text_of number line) o e)
+  where
+    with-rest : (o : Option Entry) → IsPossibleEntry o → ArePossible (option_to_list o ++ entries)
+    with-rest None p = rest
+    with-rest (Some entry) p = (p, rest)
 
 lines-possible : (number : ℕ) (ls : List (List ℕ)) (entries : List Entry) → SayAll number ls entries → ArePossible entries
 lines-possible number [] entries e = subst ArePossible (sym e) tt
 lines-possible number (line ∷ more) entries (first, others, says, rest, e) =
-    subst ArePossible (sym e) (said-possible _ first others says.1 (lines-possible (number + 1) more others rest))
+    subst ArePossible (sym e) (said-possible number line first others says (lines-possible (number + 1) more others rest))
 
 abbrev IsPossibleIfAny : Option Outcome → Type 0
 IsPossibleIfAny None = Unit {0}

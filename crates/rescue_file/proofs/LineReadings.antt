@@ -5,8 +5,7 @@ use Rattle.std.specs.Str.{str_eq_ignore_ascii_case}
 use Rattle.dag_reader.specs.Word.{PlacedText}
 use Rattle.dag_reader.specs.Words.{words}
 use Rattle.dag_reader.specs.Keywords.{is_keyword, is_comment, begins_with}
-use Rattle.dag_reader.specs.Grammar.{Is, IsText, AreSilent}
-use Rattle.dag_reader.proofs.LineTexts.{text_again}
+use Rattle.dag_reader.proofs.LineTexts.{IsText, text_again}
 use Rattle.dag_reader.proofs.Parts.{chosen}
 use Rattle.splices.specs.Dag.{Dag}
 use Rattle.rescue_file.specs.declared.fault.RescueFault.{RescueFault}
@@ -20,6 +19,14 @@ good x = Ok x
 
 good_is : {A : Type 0} (x y : A) → good x ≡ good y → x ≡ y
 good_is x y e = cc
+
+abbrev Is : List ℕ → PlacedText → Type 0
+Is keyword w = is_keyword keyword w ≡ true
+
+-- no words, or those of a comment
+abbrev pub AreSilent : List PlacedText → Type 0
+AreSilent [] = Unit {0}
+AreSilent (first ∷ ws) = is_comment first ≡ true
 
 -- The keyword begins no comment.
 hash_not_done : (text : List ℕ) → begins_with 35 text ≡ true → str_eq_ignore_ascii_case text (codes "DONE") ≡ false

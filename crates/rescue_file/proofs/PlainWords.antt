@@ -9,7 +9,7 @@ use Rattle.std.specs.List.{All, slice_split, onto_first}
 use Rattle.dag_reader.specs.Lines.{is_control}
 use Rattle.dag_reader.specs.Word.{PlacedText}
 use Rattle.dag_reader.specs.Words.{is_blank, words, words_of_parts}
-use Rattle.dag_reader.specs.Grammar.{IsText}
+use Rattle.dag_reader.proofs.LineTexts.{IsText}
 use Rattle.dag_reader.proofs.Scan.{blank_is_ascii}
 
 -- Text before and behind an ASCII byte.

@@ -12,12 +12,12 @@ use Rattle.dag_reader.specs.Lines.{is_control}
 use Rattle.dag_reader.specs.Words.{is_blank, words}
 use Rattle.dag_reader.specs.Word.{PlacedText}
 use Rattle.dag_reader.specs.Keywords.{is_keyword, is_comment}
-use Rattle.dag_reader.specs.Grammar.{IsText, AreSilent}
+use Rattle.dag_reader.proofs.LineTexts.{IsText}
 use Rattle.dag_reader.proofs.Scan.{from_to, words-nil, words-first, words-last}
 use Rattle.dag_reader.proofs.TextLines.{lines-first}
 use Rattle.splices.specs.Dag.{Dag}
 use Rattle.rescue_file.specs.Written.{done_line, done_lines, head_text}
-use Rattle.rescue_file.proofs.LineReadings.{LineSays, Says}
+use Rattle.rescue_file.proofs.LineReadings.{AreSilent, LineSays, Says}
 use Rattle.rescue_file.specs.Fit.{IsFit}
 
 -- Bytes without control characters.
