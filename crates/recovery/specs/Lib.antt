@@ -1,5 +1,7 @@
 pub mod Chain
+pub mod Example
 pub mod Faults
+pub mod Lives
 pub mod Managed
 pub mod Recovery
 pub mod Replay

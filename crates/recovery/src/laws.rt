@@ -10,23 +10,28 @@ ghost use Rattle.sched_core.specs.Run.{is_done, is_lawful};
 ghost use Rattle.sched_core.specs.Fate.{AreFates, shown, is_done_state};
 ghost use Rattle.sched_core.specs.Agree.{AgreeOnFates, Agree};
 ghost use Rattle.sched_core.specs.Commands.{command_by, with_commands};
-ghost use Rattle.sched_core.specs.Lives.{AreLives, IsRunBy};
+ghost use Rattle.sched_core.specs.Lives.{IsRunBy};
 ghost use Rattle.sched_core.specs.declared.Record.{Record};
 ghost use Rattle.sched_core.specs.declared.Record.TheVariants.{Life};
 ghost use Rattle.event_journal.specs.Image.{Header, header_of, replay_of};
 ghost use Rattle.recovery.specs.Managed.{Managed, plan_of, past_of, read_of, WithOrWithout, ReadsBeforeOrAfter};
 ghost use Rattle.recovery.specs.Recovery.{IsMomentOfBegin, IsRecovered};
+ghost use Rattle.recovery.specs.Lives.{Span, AreLives};
 ghost use Rattle.recovery.specs.Chain.{Command, ManagerLife, IsLifeOf, AreManagerLives, HandsOver, Leaves, span, life_of};
 
 use event_journal::Disk;
 
-/// Over every list of lives, each on what the one before left, whose last finished the run without
-/// abort: each ordinary node's attempts, exit value, state and mark are those of the recursion over
+/// Lives on the bytes of a journal are lives on lists of records, and the last holds what each one
+/// before it held. Over every list of lives, each on what the one before left, whose last finished the
+/// run without abort: each ordinary node's attempts, exit value, state and mark are those of the recursion over
 /// its parents, read from the table of outcomes; and so is each command that any of the lives handed
 /// over, where the texts of its node can be expanded and hold no word of the whole run.
 pub fn lives()
     ensures spans { (plan : Plan) (lives : List ManagerLife) → AreManagerLives plan lives →
         AreLives plan (map (λ life. life.span) lives) }
+    ensures grows { (plan : Plan) (last : Span) (before : List Span) →
+        AreLives plan (last ∷ before) → (earlier : Span) → Contains before earlier →
+        (more : List Record) × (last.held ≡ more ++ earlier.held) }
     ensures fates { (plan : Plan) (table : Table) (last : ManagerLife) (before : List ManagerLife) →
         AreManagerLives plan (last ∷ before) → IsRunBy plan table last.span.held →
         AreFates plan table (shown plan last.span.held) }

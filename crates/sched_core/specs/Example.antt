@@ -1,5 +1,5 @@
 -- Plans and runs of them.
-use Rattle.std.specs.Prelude.{ℕ, Bool, true, false, List, [], ◌∷◌, reverse, drop, pos, Some, None, ◌==◌, ◌&&◌, if◌then◌else◌}
+use Rattle.std.specs.Prelude.{ℕ, Bool, true, false, List, [], ◌∷◌, pos, Some, None, ◌==◌, ◌&&◌, if◌then◌else◌}
 use Rattle.node_machine.specs.declared.Phase.{Phase}
 use Rattle.node_machine.specs.declared.Phase.TheVariants.{Pre, Job, Post}
 use Rattle.node_machine.specs.declared.Outcome.TheVariants.{Exit, Signal}
@@ -11,7 +11,7 @@ use Rattle.sched_core.specs.declared.Record.{Record}
 use Rattle.sched_core.specs.declared.Record.TheVariants.{Life, Launch, End, Finish}
 use Rattle.dag_graph.specs.Graph.{Network}
 use Rattle.run_plan.specs.Plan.{Plan, NodeSpec, no_orders}
-use Rattle.sched_core.specs.Lives.{Span}
+use Rattle.sched_core.specs.Run.{written}
 use Rattle.sched_core.specs.Rounds.{Round}
 
 abbrev pub job_alone : ℕ → Bool → Course
@@ -46,12 +46,6 @@ its_run =
     ∷ Launch (key 0 1 Job) 2
     ∷ End (key 0 0 Job) (Signal 9) ∷ Launch (key 0 0 Job) 1 ∷ Life ∷ []
 
--- the two lives of that run
-abbrev pub its_lives : List Span
-its_lives =
-    record { begun = drop 8 its_run; held = its_run }
-    ∷ record { begun = []; held = drop 8 its_run } ∷ []
-
 -- A above B and C, and these above D
 abbrev pub diamond : Plan
 diamond = record {
@@ -64,14 +58,14 @@ diamond = record {
 
 -- a crash once the launch of B is recorded, and one once the end of B is
 abbrev pub diamond_run : List Record
-diamond_run = reverse (
+diamond_run = written (
     Life ∷ Launch (key 0 0 Job) 1 ∷ End (key 0 0 Job) (Exit 0) ∷ Launch (key 1 0 Job) 2
     ∷ Life ∷ Launch (key 1 0 Job) 3 ∷ Launch (key 2 0 Job) 4 ∷ End (key 1 0 Job) (Exit 0)
     ∷ Life ∷ Launch (key 2 0 Job) 5 ∷ End (key 2 0 Job) (Exit 0) ∷ Launch (key 3 0 Job) 6 ∷ End (key 3 0 Job) (Exit 0) ∷ Finish 0 ∷ [])
 
 -- the same in one life
 abbrev pub diamond_life : List Record
-diamond_life = reverse (
+diamond_life = written (
     Life ∷ Launch (key 0 0 Job) 1 ∷ End (key 0 0 Job) (Exit 0) ∷ Launch (key 1 0 Job) 2 ∷ Launch (key 2 0 Job) 3
     ∷ End (key 1 0 Job) (Exit 0) ∷ End (key 2 0 Job) (Exit 0) ∷ Launch (key 3 0 Job) 4 ∷ End (key 3 0 Job) (Exit 0) ∷ Finish 0 ∷ [])
 
@@ -87,7 +81,7 @@ abort_plan = record {
 }
 
 abbrev pub abort_run : List Record
-abort_run = reverse (
+abort_run = written (
     Life ∷ Launch (key 0 0 Job) 1 ∷ Launch (key 1 0 Job) 2 ∷ End (key 0 0 Job) (Exit 7)
     ∷ Launch (key 2 0 Job) 3 ∷ End (key 2 0 Job) (Exit 0) ∷ Finish 0 ∷ [])
 
@@ -108,7 +102,7 @@ noop_table node attempt Job = if node == 0 && (attempt == 0) then Exit 7 else Ex
 noop_table node attempt Post = if node == 0 && (attempt == 0) then Exit 2 else Exit 0
 
 abbrev pub noop_run : List Record
-noop_run = reverse (
+noop_run = written (
     Life ∷ Launch (key 0 0 Pre) 0 ∷ Launch (key 2 0 Job) 1 ∷ End (key 0 0 Pre) (Exit 0) ∷ Launch (key 0 0 Job) 2
     ∷ End (key 0 0 Job) (Exit 0) ∷ Launch (key 0 0 Post) 0 ∷ End (key 0 0 Post) (Exit 2) ∷ End (key 2 0 Job) (Exit 0) ∷ Finish 1 ∷ [])
 
@@ -136,17 +130,48 @@ first_fails b node attempt Pre = Exit 0
 first_fails b node attempt Job = if node == b && (attempt == 0) then Exit 1 else Exit 0
 first_fails b node attempt Post = Exit 0
 
+-- A, which may be done from the start, above B, which aborts at 7
+abbrev pub stopped_plan : Bool → Plan
+stopped_plan done = record {
+  nodes =
+      node 65 (job_alone 0 false) done []
+      ∷ node 66 (record { pre = false; noop = false; post = false; retries = 0; unless_exit = None; pre_skip = None; abort_on = Some (pos 7) }) false (0 ∷ []) ∷ [];
+  final_node = None;
+  graph = no_graph;
+  digest = [];
+}
+
+-- B ends so
+abbrev pub b_ends : Outcome → Table
+b_ends outcome number attempt phase = if number == 1 then outcome else Exit 0
+
+-- a round that B aborts once A is done, and the next one, in which B is good
+abbrev pub stopped_round : Round
+stopped_round = record {
+  plan = stopped_plan false;
+  table = b_ends (Exit 7);
+  records = written (
+      Life ∷ Launch (key 0 0 Job) 1 ∷ End (key 0 0 Job) (Exit 0)
+      ∷ Launch (key 1 0 Job) 2 ∷ End (key 1 0 Job) (Exit 7) ∷ Finish 7 ∷ []);
+}
+
+abbrev pub next_round : Round
+next_round = record {
+  plan = stopped_plan true;
+  table = b_ends (Exit 0);
+  records = written (Life ∷ Launch (key 1 0 Job) 1 ∷ End (key 1 0 Job) (Exit 0) ∷ Finish 0 ∷ []);
+}
+
 -- a job that fails in one round and is good in the next
 abbrev pub one_job : Plan
 one_job = record { nodes = node 65 (job_alone 0 false) false [] ∷ []; final_node = None; graph = no_graph; digest = [] }
 
 abbrev pub run_to : Outcome → ℕ → List Record
-run_to outcome status = reverse (Life ∷ Launch (key 0 0 Job) 1 ∷ End (key 0 0 Job) outcome ∷ Finish status ∷ [])
+run_to outcome status = written (Life ∷ Launch (key 0 0 Job) 1 ∷ End (key 0 0 Job) outcome ∷ Finish status ∷ [])
 
 abbrev pub round_of : Outcome → ℕ → Round
 round_of outcome status = record {
   plan = one_job;
   table = λ number attempt phase. outcome;
-  last = record { begun = []; held = run_to outcome status };
-  before = [];
+  records = run_to outcome status;
 }

@@ -1,5 +1,5 @@
 -- Runs of a plan: lists of records, the newest first.
-use Rattle.std.specs.Prelude.{ℕ, zero, suc, ◌+◌, ℤ, pos, negsuc, Bool, true, false, not, ◌&&◌, ◌||◌, List, [], ◌∷◌, ◌++◌, Option, Some, None, is_some, nat_lt, nat_le, ◌==◌, if◌then◌else◌}
+use Rattle.std.specs.Prelude.{ℕ, zero, suc, ◌+◌, ℤ, pos, negsuc, Bool, true, false, not, ◌&&◌, ◌||◌, List, [], ◌∷◌, ◌++◌, reverse, Option, Some, None, is_some, nat_lt, nat_le, ◌==◌, if◌then◌else◌}
 use Rattle.std.specs.List.{list_all}
 use Rattle.node_machine.specs.declared.Phase.{Phase}
 use Rattle.node_machine.specs.declared.Key.{Key}
@@ -8,6 +8,11 @@ use Rattle.node_machine.specs.Story.{Table, is_set_to, phase_number, outcome_in,
 use Rattle.sched_core.specs.declared.Record.{Record}
 use Rattle.sched_core.specs.declared.Record.TheVariants.{Life, Launch, End, Finish}
 use Rattle.run_plan.specs.Plan.{Plan, node_at, count_of, all_below}
+
+-- A run's records as a journal writes them and a core lends them: the oldest first. What is written so, turned once more,
+-- is the run's again (law `writing`).
+abbrev pub written : List Record → List Record
+written past = reverse past
 
 -- a node's phases that ended, the oldest first
 abbrev pub history : List Record → ℕ → List Ended

@@ -18,9 +18,9 @@ ghost use Rattle.sched_core.specs.Run.{table_of, history, is_done, is_lawful, is
 ghost use Rattle.sched_core.specs.Fate.{Fate, AreFates, shown, is_done_state};
 ghost use Rattle.sched_core.specs.Bound.{all_phases};
 ghost use Rattle.sched_core.specs.Agree.{Agree};
-ghost use Rattle.sched_core.specs.Lives.{Span, AreLives, HasOutcomesOf, IsRunBy, IsTurnOf};
-ghost use Rattle.sched_core.specs.Rounds.{Round, AreRounds, RoundsAgree, WasMarked, is_marked};
-ghost use Rattle.sched_core.specs.Example.{key, two_nodes, its_run, its_lives, diamond, diamond_run, diamond_life, abort_plan, abort_run, noop_plan, noop_table, noop_run, plan_p, plan_q, first_fails, round_of};
+ghost use Rattle.sched_core.specs.Lives.{HasOutcomesOf, IsRunBy, IsTurnOf};
+ghost use Rattle.sched_core.specs.Rounds.{Round, AreRounds, AreCalm, RoundsAgree, WasMarked, is_marked};
+ghost use Rattle.sched_core.specs.Example.{key, two_nodes, its_run, diamond, diamond_run, diamond_life, abort_plan, abort_run, noop_plan, noop_table, noop_run, plan_p, plan_q, first_fails, round_of, stopped_round, next_round};
 ghost use Rattle.node_machine.specs.declared.Key.{Key};
 
 /// Such plans and runs exist: each list is lawful and finished, and shows these states and values.
@@ -28,7 +28,6 @@ pub fn examples()
     ensures lost_launch { IsTrue (is_finished two_nodes its_run) }
     ensures lost_launch_calm { IsFalse (is_aborted two_nodes its_run) }
     ensures lost_launch_ranked { IsRankedBy (λ node. node) two_nodes }
-    ensures two_lives { AreLives two_nodes its_lives }
     ensures diamond { IsTrue (is_finished diamond diamond_run) }
     ensures diamond_states { map (λ node. (shown diamond diamond_run node).state)
         (0 ∷ 1 ∷ 2 ∷ 3 ∷ []) ≡ Done ∷ Done ∷ Done ∷ Done ∷ [] }
@@ -41,6 +40,11 @@ pub fn examples()
     ensures one_life_bound { length diamond_life ≡ 2 * all_phases diamond + 2 }
     ensures namesakes { Agree plan_p (first_fails 1) plan_q (first_fails 2) 1 2 }
     ensures two_rounds { AreRounds (round_of (Exit 0) 0 ∷ round_of (Exit 1) 1 ∷ []) }
+    ensures two_calm { AreCalm (round_of (Exit 0) 0 ∷ round_of (Exit 1) 1 ∷ []) }
+    // A mark of a round that was aborted: A's.
+    ensures stopped_round { AreRounds (next_round ∷ stopped_round ∷ []) }
+    ensures stopped_mark { IsTrue (is_aborted stopped_round.plan stopped_round.records)
+        × IsTrue (is_marked stopped_round 0) }
     ensures noop { IsTrue (is_finished noop_plan noop_run) }
     ensures noop_outcomes { IsRunBy noop_plan noop_table noop_run }
     ensures noop_sound { is_sound (node_at noop_plan 0) ≡ true }

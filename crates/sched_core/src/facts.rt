@@ -1,8 +1,8 @@
 //! What the records of a run say when a phase is launched.
 
-ghost use Rattle.std.specs.Prelude.{◌≡◌, reverse, ◌==◌, is_none, if◌then◌else◌};
+ghost use Rattle.std.specs.Prelude.{◌≡◌, ◌==◌, is_none, if◌then◌else◌};
 ghost use Rattle.node_machine.specs.Story.{outcome_in};
-ghost use Rattle.sched_core.specs.Run.{history};
+ghost use Rattle.sched_core.specs.Run.{written, history};
 ghost use Rattle.sched_core.specs.Commands.{newest_launch, pre_value_of, ended_by, first_ended};
 
 use crate::Record;
@@ -12,7 +12,7 @@ use run_plan::NodeSpec;
 
 /// The number of the newest launch of a key; 0 where there is none.
 pub fn newest_launch(records: &[Record], key: &Key) -> u64
-    ensures { result ≡ newest_launch (reverse records.now) key.now }
+    ensures { result ≡ newest_launch (written records.now) key.now }
 {
     let mut newest = 0;
     for entry in records {
@@ -53,7 +53,7 @@ fn earlier(before: Option<Outcome>, now: Option<Outcome>) -> Option<Outcome>
 
 /// The outcome that the first record that says one says of a phase.
 fn first_ended(records: &[Record], key: &Key) -> Option<Outcome>
-    ensures { result ≡ first_ended (reverse records.now) key.now }
+    ensures { result ≡ first_ended (written records.now) key.now }
 {
     let mut found = None;
     for entry in records {
@@ -64,7 +64,7 @@ fn first_ended(records: &[Record], key: &Key) -> Option<Outcome>
 
 /// The outcome of a phase; Exit 0 where it did not end.
 pub fn outcome_of(records: &[Record], key: &Key) -> Outcome
-    ensures { result ≡ outcome_in (history (reverse records.now) key.now.node) key.now.attempt key.now.phase }
+    ensures { result ≡ outcome_in (history (written records.now) key.now.node) key.now.attempt key.now.phase }
 {
     match first_ended(records, key) {
         Some(outcome) => outcome,

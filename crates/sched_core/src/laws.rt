@@ -17,13 +17,13 @@ ghost use Rattle.node_machine.specs.declared.Outcome.TheVariants.{Exit};
 ghost use Rattle.node_machine.specs.declared.State.TheVariants.{Done, Error, NotRun};
 ghost use Rattle.run_plan.specs.Plan.{Plan, node_at, count_of, IsRankedBy};
 ghost use Rattle.run_plan.specs.Commands.{command_of, is_sound, uses_whole_run};
-ghost use Rattle.sched_core.specs.Run.{table_of, history, is_done, is_lawful, is_finished, is_aborted, is_launched, is_open, launch_number, may_follow};
+ghost use Rattle.sched_core.specs.Run.{written, table_of, history, is_done, is_lawful, is_finished, is_aborted, is_launched, is_open, launch_number, may_follow};
 ghost use Rattle.sched_core.specs.Fate.{Fate, AreFates, final_fate, shown, is_done_state};
 ghost use Rattle.sched_core.specs.Agree.{AgreeOnFates, Agree};
 ghost use Rattle.sched_core.specs.Commands.{command_by, with_commands, facts_in};
-ghost use Rattle.sched_core.specs.Lives.{Span, AreLives, HasOutcomesOf, IsRunBy, IsTurnOf};
-ghost use Rattle.sched_core.specs.Rounds.{Round, AreRounds, RoundsAgree, WasMarked, is_marked};
-ghost use Rattle.sched_core.specs.Example.{key, two_nodes, its_run, its_lives, diamond, diamond_run, abort_plan, abort_run, noop_plan, noop_table, noop_run, plan_p, plan_q, first_fails, round_of};
+ghost use Rattle.sched_core.specs.Lives.{HasOutcomesOf, IsRunBy, IsTurnOf};
+ghost use Rattle.sched_core.specs.Rounds.{Round, AreRounds, AreCalm, RoundsAgree, WasMarked, is_marked};
+ghost use Rattle.sched_core.specs.Example.{key, two_nodes, its_run, diamond, diamond_run, abort_plan, abort_run, noop_plan, noop_table, noop_run, plan_p, plan_q, first_fails, round_of};
 ghost use Rattle.node_machine.specs.declared.Key.{Key};
 
 /// At every moment each node has the beginning of its story behind it, and only nodes whose parents
@@ -45,11 +45,13 @@ pub fn histories()
 {}
 
 /// A finished run without abort shows of each node the fate that the recursion over its parents
-/// reads from its endings.
+/// reads from its endings, and so from each table that has them, in whatever lives they were.
 pub fn finished_runs()
     ensures fates { (plan : Plan) (records : List Record) →
         IsTrue (is_finished plan records) → IsFalse (is_aborted plan records) →
         AreFates plan (table_of records) (shown plan records) }
+    ensures by_table { (plan : Plan) (table : Table) (records : List Record) →
+        IsRunBy plan table records → AreFates plan table (shown plan records) }
     ensures marks { (plan : Plan) (records : List Record) (node : ℕ) →
         is_done plan records node ≡ is_done_state (shown plan records node).state }
     // With abort or without, FINAL comes to the end of its story.
@@ -67,18 +69,11 @@ pub fn one_solution()
         (node : ℕ) → node < count_of plan → fates node ≡ other node }
 {}
 
-/// Whatever lives a run had, its last list shows the fates by the outcomes of the table; each
-/// launch, in whatever life, comes at its key's turn. Where the texts of its node's job can be
+/// Each launch, in whatever life, comes at its key's turn. Where the texts of its node's job can be
 /// expanded and no word of the node's commands is known in a whole run alone, the launch is
 /// started by the command that is read from the table.
-pub fn lives()
-    ensures fates { (plan : Plan) (table : Table) (last : Span) (before : List Span) →
-        AreLives plan (last ∷ before) → IsRunBy plan table last.held →
-        AreFates plan table (shown plan last.held) }
-    ensures grows { (plan : Plan) (last : Span) (before : List Span) →
-        AreLives plan (last ∷ before) → (earlier : Span) → Contains before earlier →
-        (more : List Record) × (last.held ≡ more ++ earlier.held) }
-    ensures launches { (plan : Plan) (table : Table) (newer past : List Record) (key : Key)
+pub fn launches()
+    ensures turns { (plan : Plan) (table : Table) (newer past : List Record) (key : Key)
         (number : ℕ) → IsTrue (is_lawful plan (newer ++ Launch key number ∷ past)) →
         HasOutcomesOf plan table past → IsTurnOf plan table key (history past key.node) }
     ensures commands { (plan : Plan) (table : Table) (newer past : List Record) (key : Key)
@@ -123,12 +118,13 @@ pub fn two_runs()
         shown plan records node ≡ shown plan' records' node' }
 {}
 
-/// Rounds over plans and tables that agree on a node and all above it mark it alike, and a mark
-/// stays: the node is not launched again.
+/// Rounds without abort, over plans and tables that agree on a node and all above it, mark it alike.
+/// A mark stays, also one of a round that was aborted: the node is not launched again.
 pub fn rounds()
     ensures agree { (round round' : Round) (before before' : List Round) (rank rank' : ℕ → ℕ) →
         IsRankedBy rank round.plan → IsRankedBy rank' round'.plan →
         AreRounds (round ∷ before) → AreRounds (round' ∷ before') →
+        AreCalm (round ∷ before) → AreCalm (round' ∷ before') →
         (node node' : ℕ) → node < count_of round.plan → node' < count_of round'.plan →
         (node_at round.plan node).name ≡ (node_at round'.plan node').name →
         RoundsAgree (round ∷ before) (round' ∷ before') node node' →
@@ -138,7 +134,7 @@ pub fn rounds()
         IsTrue (is_marked round node) }
     ensures not_again { (round : Round) (before : List Round) → AreRounds (round ∷ before) →
         (node : ℕ) → node < count_of round.plan → WasMarked before node →
-        IsFalse (is_launched round.last.held node) }
+        IsFalse (is_launched round.records node) }
 {}
 
 /// A run ends: each launch and each ending that may follow leaves fewer records to come.
@@ -173,6 +169,15 @@ pub fn choices()
         IsTrue (is_finished plan records) → IsTrue (is_finished plan other) →
         GoesByChoice limits plan records → GoesByChoice limits plan other →
         HasOutcomesOf plan table records → HasOutcomesOf plan table other → records ≡ other }
+{}
+
+/// What is written begins with the oldest record, each newer one stands behind it, and read from the
+/// end it is the run's records again.
+pub fn writing()
+    ensures none { written [] ≡ [] }
+    ensures newest { (newest : Record) (past : List Record) →
+        written (newest ∷ past) ≡ written past ++ newest ∷ [] }
+    ensures again { (past : List Record) → written (written past) ≡ past }
 {}
 
 /// In a lawful list the phases of a node that ended are a history: each is the next of the node's

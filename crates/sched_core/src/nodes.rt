@@ -1,12 +1,12 @@
 //! What a core keeps of each node, and what a record makes of it.
 
-ghost use Rattle.std.specs.Prelude.{reverse, None, Some, true, false, IfOk, IfErr, ◌≡◌, ℕ, ◌+◌, ◌^◌, ◌<◌, ◌≤◌, ◌++◌, ◌∷◌, [], ◌==◌, ◌||◌, ◌&&◌, suc, map, length, not, slice_set, vec_len, vec_capacity, is_none, IsTrue, if◌then◌else◌};
+ghost use Rattle.std.specs.Prelude.{None, Some, true, false, IfOk, IfErr, ◌≡◌, ℕ, ◌+◌, ◌^◌, ◌<◌, ◌≤◌, ◌++◌, ◌∷◌, [], ◌==◌, ◌||◌, ◌&&◌, suc, map, length, not, slice_set, vec_len, vec_capacity, is_none, IsTrue, if◌then◌else◌};
 ghost use Rattle.node_machine.specs.Story.{phase_number, is_possible, may_end_with};
 ghost use Rattle.node_machine.specs.Stand.{next_of};
 ghost use Rattle.node_machine.specs.NodeRun.{started, stopped, ended_with};
 ghost use Rattle.run_plan.specs.Plan.{node_at, count_of};
 ghost use Rattle.sched_core.specs.declared.CoreFault.TheVariants.{NotLawful, Finished};
-ghost use Rattle.sched_core.specs.Run.{history, key_at, is_next, is_same, is_met, is_over, is_open, abort_status};
+ghost use Rattle.sched_core.specs.Run.{written, history, key_at, is_next, is_same, is_met, is_over, is_open, abort_status};
 ghost use Rattle.splices.specs.declared.flat.CategoryLimit.{CategoryLimit};
 ghost use Rattle.throttles.specs.Throttled.{all_in};
 ghost use Rattle.sched_core.specs.Limits.{limits_of, throttled_in, throttled_after, IsOfNode, IsCounted};
@@ -116,7 +116,7 @@ pub fn next_at(spec: &NodeSpec, node: u32, run: &NodeRun) -> Option<Key>
 
 /// Whether Finish is the newest record, the last of these.
 pub fn last_is_finish(records: &[Record]) -> bool
-    ensures { result ≡ is_over (reverse records.now) }
+    ensures { result ≡ is_over (written records.now) }
 {
     match records.last() {
         Some(Record::Finish(_)) => true,
@@ -126,7 +126,7 @@ pub fn last_is_finish(records: &[Record]) -> bool
 
 /// Whether there are records and Finish is not the newest.
 pub fn last_is_open(records: &[Record]) -> bool
-    ensures { result ≡ is_open (reverse records.now) }
+    ensures { result ≡ is_open (written records.now) }
 {
     match records.last() {
         None => false,
@@ -331,7 +331,7 @@ pub fn both(first: bool, second: bool) -> bool
 
 /// The phases of a node that ended, the oldest first.
 pub fn history_of(alloc: Global, records: &[Record], node: u32) -> Result<Vec<Ended>, AllocError>
-    ensures { IfOk result (λ phases. phases.items ≡ history (reverse records.now) node) }
+    ensures { IfOk result (λ phases. phases.items ≡ history (written records.now) node) }
 {
     let mut phases = Vec::new(alloc);
     for entry in records {

@@ -1,10 +1,10 @@
 //! The scheduler's core: a run of a plan as a lawful list of records.
 
-ghost use Rattle.std.specs.Prelude.{◌≡◌, ℕ, ◌+◌, ◌^◌, ◌<◌, ◌≤◌, List, ◌∷◌, [], ◌==◌, ◌&&◌, ◌||◌, ◌↔◌, not, suc, length, reverse, IsTrue, IsFalse, IsOk, IfOk, IfErr, IfSome, IfNone, OnOk, OnErr, is_some, is_none, nat_le, nat_lt, if◌then◌else◌};
+ghost use Rattle.std.specs.Prelude.{◌≡◌, ℕ, ◌+◌, ◌^◌, ◌<◌, ◌≤◌, List, ◌∷◌, [], ◌==◌, ◌&&◌, ◌||◌, ◌↔◌, not, suc, length, IsTrue, IsFalse, IsOk, IfOk, IfErr, IfSome, IfNone, OnOk, OnErr, is_some, is_none, nat_le, nat_lt, if◌then◌else◌};
 ghost use Rattle.std.specs.List.{list_all};
 ghost use Rattle.node_machine.specs.Story.{may_end_with, phase_number};
 ghost use Rattle.run_plan.specs.Plan.{node_at, count_of, all_below};
-ghost use Rattle.sched_core.specs.Run.{history, next, is_done, attempts_in, value_in, has_abort_value, is_aborted, outstanding, is_among, is_free, is_nothing, is_ready, is_final_ready, may_launch, job_launches, launch_number, status_of_abort, exit_status, is_over, is_open, may_follow, is_lawful, needs_rescue};
+ghost use Rattle.sched_core.specs.Run.{written, history, next, is_done, attempts_in, value_in, has_abort_value, is_aborted, outstanding, is_among, is_free, is_nothing, is_ready, is_final_ready, may_launch, job_launches, launch_number, status_of_abort, exit_status, is_over, is_open, may_follow, is_lawful, needs_rescue};
 ghost use Rattle.sched_core.specs.Fate.{shown};
 ghost use Rattle.sched_core.specs.Core.{Progress, Shows, Takes, is_running, has_key_of, runs_after, aborted_after, jobs_after, fault_after, launchable, first_launched, startable, better_of, AreMarks, IsBestBelow, IsChoice};
 ghost use Rattle.sched_core.specs.Limits.{lets_in};
@@ -35,16 +35,17 @@ pub struct Core<'a> {
 }
 
 impl<'a> Model for Core<'a> {
-    ghost use Rattle.std.specs.Prelude.{reverse, ◌-◌, vec_len, vec_capacity};
+    ghost use Rattle.std.specs.Prelude.{◌-◌, vec_len, vec_capacity};
+    ghost use Rattle.sched_core.specs.Run.{written};
     ghost use Rattle.sched_core.specs.Core.{Progress, Shows};
     ghost use Rattle.sched_core.specs.Limits.{IsThrottled};
 
     ghost Value = { Progress };
 
-    ghost view = { λ a. record { plan = a.plan.now; limits = a.throttles.limits; past = reverse a.records.items; room = vec_capacity a.records - vec_len a.records } };
+    ghost view = { λ a. record { plan = a.plan.now; limits = a.throttles.limits; past = written a.records.items; room = vec_capacity a.records - vec_len a.records } };
 
-    ghost invariant = { λ a. Shows a.plan.now (reverse a.records.items) a.runs.items a.aborted a.jobs
-        × IsThrottled a.plan.now (reverse a.records.items) a.throttles };
+    ghost invariant = { λ a. Shows a.plan.now (written a.records.items) a.runs.items a.aborted a.jobs
+        × IsThrottled a.plan.now (written a.records.items) a.throttles };
 }
 
 /// What a record makes of the nodes; the answer is the flag for an abort.
@@ -116,7 +117,7 @@ impl<'a> Core<'a> {
 
     /// The records, the oldest first.
     pub fn records(&self) -> &[Record]
-        ensures { reverse result.now ≡ self.now.past }
+        ensures { result.now ≡ written self.now.past }
     {
         &self.records
     }

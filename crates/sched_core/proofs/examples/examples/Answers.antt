@@ -1,6 +1,6 @@
-use Rattle.std.proofs.Common.{[], ◌≡◌, ℕ, zero, suc, ◌<◌, arith, refl, inr, take, drop}
+use Rattle.std.proofs.Common.{◌≡◌, ℕ, zero, suc, ◌<◌, arith, refl, true, false}
 use Rattle.std.proofs.lemmas.Bool.{true≢false}
-use Rattle.sched_core.specs.Example.{its_run, one_job, run_to, round_of}
+use Rattle.sched_core.specs.Example.{one_job, round_of, stopped_plan, stopped_round}
 use Rattle.run_plan.specs.Plan.{node_at}
 use Rattle.sched_core.specs.Rounds.{is_marked}
 use Rattle.node_machine.specs.declared.Outcome.TheVariants.{Exit}
@@ -46,11 +46,6 @@ pub returns-clause-noop_values : goal.returns-clause-noop_values
 unfolding story attempts_after next_after is_good_after value_after is_aborted is_ready is_final_ready may_launch may_follow
 returns-clause-noop_values c = refl
 
-pub returns-clause-two_lives : goal.returns-clause-two_lives
-unfolding story attempts_after next_after is_good_after value_after is_aborted is_ready is_final_ready may_launch may_follow
-returns-clause-two_lives c =
-    (([], refl), inr (take 7 its_run, refl), refl, (refl, inr (take 3 (drop 8 its_run), refl), refl, tt))
-
 pub returns-clause-noop_outcomes : goal.returns-clause-noop_outcomes
 unfolding story attempts_after next_after is_good_after value_after is_aborted is_ready is_final_ready may_launch may_follow
 returns-clause-noop_outcomes c = record { finished = refl; calm = refl; outcomes = (λ h. refl, (λ h. refl, (λ h. absurd (true≢false h), (λ h. refl, tt)))) }
@@ -66,11 +61,49 @@ only_node (suc number) lt = absurd (omega arith)
 pub returns-clause-two_rounds : goal.returns-clause-two_rounds
 unfolding story attempts_after next_after is_good_after value_after is_aborted is_ready is_final_ready may_launch may_follow
 returns-clause-two_rounds c = (
-  ((refl, inr (take 3 (run_to (Exit 0) 0), refl), refl, tt), record { finished = refl; calm = refl; outcomes = (λ h. refl, tt) }),
+  record { finished = refl; outcomes = (λ h. refl, tt) },
   record { count = refl; names = λ n. refl; courses = λ n. refl; parents = λ n. refl; done = only_node },
   refl,
-  ((refl, inr (take 3 (run_to (Exit 1) 1), refl), refl, tt), record { finished = refl; calm = refl; outcomes = (λ h. refl, tt) }),
+  record { finished = refl; outcomes = (λ h. refl, tt) },
 )
+
+pub returns-clause-two_calm : goal.returns-clause-two_calm
+unfolding story attempts_after next_after is_good_after value_after is_aborted is_ready is_final_ready may_launch may_follow
+returns-clause-two_calm c = (refl, (refl, tt))
+
+same_name : (node : ℕ) → (node_at (stopped_plan true) node).name ≡ (node_at (stopped_plan false) node).name
+same_name zero = refl
+same_name (suc zero) = refl
+same_name (suc (suc n)) = refl
+
+same_course : (node : ℕ) → (node_at (stopped_plan true) node).course ≡ (node_at (stopped_plan false) node).course
+same_course zero = refl
+same_course (suc zero) = refl
+same_course (suc (suc n)) = refl
+
+same_parents : (node : ℕ) → (node_at (stopped_plan true) node).parents ≡ (node_at (stopped_plan false) node).parents
+same_parents zero = refl
+same_parents (suc zero) = refl
+same_parents (suc (suc n)) = refl
+
+two_nodes_marked : (node : ℕ) → node < 2 → (node_at (stopped_plan true) node).done ≡ is_marked stopped_round node
+unfolding story attempts_after next_after is_good_after value_after is_aborted is_ready is_final_ready may_launch may_follow
+two_nodes_marked zero lt = refl
+two_nodes_marked (suc zero) lt = refl
+two_nodes_marked (suc (suc n)) lt = absurd (omega arith)
+
+pub returns-clause-stopped_round : goal.returns-clause-stopped_round
+unfolding story attempts_after next_after is_good_after value_after is_aborted is_ready is_final_ready may_launch may_follow
+returns-clause-stopped_round c = (
+  record { finished = refl; outcomes = (λ h. refl, tt) },
+  record { count = refl; names = same_name; courses = same_course; parents = same_parents; done = two_nodes_marked },
+  refl,
+  record { finished = refl; outcomes = (λ h. refl, (λ h. refl, tt)) },
+)
+
+pub returns-clause-stopped_mark : goal.returns-clause-stopped_mark
+unfolding story attempts_after next_after is_good_after value_after is_aborted is_ready is_final_ready may_launch may_follow
+returns-clause-stopped_mark c = (refl, refl)
 
 pub returns-clause-noop_sound : goal.returns-clause-noop_sound
 unfolding is_sound
