@@ -23,4 +23,4 @@ leads edges x (y ∷ ys) end (is, rest) = leads_on edges x y ys end (direct is) 
 
 pub cycle_cyclic : (edges : List Edge) (nodes : List ℕ) → IsCycle edges nodes → ¬ (IsAcyclic edges)
 cycle_cyclic edges [] is = absurd is
-cycle_cyclic edges (x ∷ xs) (round, least) = λ acyclic. acyclic x (leads edges x xs x round)
+cycle_cyclic edges (x ∷ xs) (round, least, apart) = λ acyclic. acyclic x (leads edges x xs x round)

@@ -246,6 +246,7 @@ closes parents c v p is last small was free parent =
       chain = is.chain;
       last = subst (λ (w : ℕ). Contains (up parents w) p) (sym e.1) parent;
       there = is.standing p small was free;
+      apart = is.apart;
     }
 
 pub turn_parent : (parents : List (List ℕ)) (v k : ℕ) → k < length (up parents v) → Contains (up parents v) (slice_index (up parents v) k)

@@ -1,15 +1,15 @@
 -- Lists of parents and children, as the edges say.
 use Rattle.std.proofs.Common.{◌≡◌, ℕ, zero, suc, ◌+◌, ◌*◌, ◌<◌, ◌≤◌, Bool, true, false, cond, ◌&&◌, ◌||◌, ◌==◌, ◌++◌, List, [], ◌∷◌, length, get_or, set, take, map, filter, refl, sym, ap, ◌∙◌, subst, arith, ⊎_elim}
-use Rattle.std.proofs.lemmas.Bool.{cases_Bool, cases_lt, cases_eq, and_right, or_left, eq-eqb, ne_eqb}
+use Rattle.std.proofs.lemmas.Bool.{cases_Bool, cases_lt, cases_eq, and_left, and_right, or_from, or_left, eq-eqb, ne_eqb}
 use Rattle.std.proofs.lemmas.List.{get_or-set_same, get_or-set_other, length_push, get_or_push, get_or_append_left, get_or_default, get_or_read}
 use Rattle.std.proofs.lemmas.List.Folds.{list_any_more, list_any-append, list_any_at}
 use Rattle.std.proofs.lemmas.List.FromFn.{length-range_with_len, get_or-range_with_len, length-map-range_with_len, get_or-map-range_with_len}
-use Rattle.std.proofs.lemmas.List.Elements.{All-filter}
+use Rattle.std.proofs.lemmas.List.Elements.{All-filter, All-head, All-tail}
 use Rattle.std.proofs.lemmas.Grind.{common_steps}
 use Rattle.std.proofs.Math.Bool.{or-false}
 use Rattle.std.specs.List.{range_with_len, list_any, All}
 use Rattle.splices.specs.declared.flat.Edge.{Edge}
-use Rattle.splices.specs.Dag.{Dag}
+use Rattle.splices.specs.Dag.{Dag, IsBelow}
 use Rattle.std.specs.List.{sum_by, count_by}
 use Rattle.std.proofs.lemmas.List.Sums.{sum_by-le, length-filter, count_by-le-length}
 use Rattle.dag_graph.specs.Numbers.{has, AreBelow, holders_of}
@@ -173,3 +173,28 @@ parents_few dag parents is few =
     omega (arith, count, most, all, here, few) in
     let sum : sum_by length parents ≤ length parents * 4096 = sum_by-le length 4096 parents each in
     omega (arith, sum, len, few)
+
+-- what is no number of an ordinary node has neither parents nor children
+no_child : (count : ℕ) (edges : List Edge) (p node : ℕ) → All (IsBelow count) edges → count ≤ node → list_any (is_edge p node) edges ≡ false
+no_child count [] p node within past = refl
+no_child count (e ∷ es) p node within past =
+    let below = (All-head (IsBelow count) e es within).child in
+    let not_here : (e.child == node) ≡ false = ne_eqb e.child node (λ same. absurd (omega (arith, same, below, past))) in
+    or_from _ _ (and_right (e.parent == p) (e.child == node) not_here) (no_child count es p node (All-tail (IsBelow count) e es within) past)
+
+no_parent : (count : ℕ) (edges : List Edge) (node c : ℕ) → All (IsBelow count) edges → count ≤ node → list_any (is_edge node c) edges ≡ false
+no_parent count [] node c within past = refl
+no_parent count (e ∷ es) node c within past =
+    let below = (All-head (IsBelow count) e es within).parent in
+    let not_here : (e.parent == node) ≡ false = ne_eqb e.parent node (λ same. absurd (omega (arith, same, below, past))) in
+    or_from _ _ (and_left (e.parent == node) (e.child == c) not_here) (no_parent count es node c (All-tail (IsBelow count) e es within) past)
+
+none_kept : (p : ℕ → Bool) (xs : List ℕ) → ((x : ℕ) → p x ≡ false) → filter p xs ≡ []
+none_kept p [] none = refl
+none_kept p (x ∷ xs) none = rw (none x) (none_kept p xs none)
+
+pub no_parents : (dag : Dag) (node : ℕ) → All (IsBelow (length dag.nodes)) dag.edges → length dag.nodes ≤ node → parents_of dag node ≡ []
+no_parents dag node within past = none_kept _ (range_with_len 0 (length dag.nodes)) (λ p. no_child (length dag.nodes) dag.edges p node within past)
+
+pub no_children : (dag : Dag) (node : ℕ) → All (IsBelow (length dag.nodes)) dag.edges → length dag.nodes ≤ node → children_of dag node ≡ []
+no_children dag node within past = none_kept _ (range_with_len 0 (length dag.nodes)) (λ c. no_parent (length dag.nodes) dag.edges node c within past)

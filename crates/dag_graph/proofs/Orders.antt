@@ -39,4 +39,5 @@ closed_by count edges parents path parent told is = record {
   chain = λ i lt. told.said (slice_index path (i + 1)) (slice_index path i) (is.chain i lt);
   last = told.said parent (slice_index path (length path - 1)) is.last;
   there = is.there;
+  apart = is.apart;
 }

@@ -1,12 +1,14 @@
 -- Cycles in lists of nodes.
-use Rattle.std.proofs.Common.{◌≡◌, ℕ, zero, suc, ◌+◌, ◌-◌, ◌<◌, ◌≤◌, ◌++◌, List, [], ◌∷◌, length, take, drop, slice_index, sym, ap, ◌∙◌, subst, arith}
+use Rattle.std.proofs.Common.{◌≡◌, ℕ, zero, suc, ◌+◌, ◌-◌, ◌<◌, ◌≤◌, ◌++◌, List, [], ◌∷◌, length, take, drop, slice_index, sym, ap, ◌∙◌, subst, ⊎_elim, arith}
 use Rattle.std.specs.Prelude.{reverse}
+use Rattle.std.proofs.lemmas.Bool.{cases_lt}
+use Rattle.std.proofs.lemmas.Grind.{common_steps}
 use Rattle.std.proofs.lemmas.List.{append-nil, reverse-append, take-append-drop, drop_more, get_or-drop, length-drop, length-reverse, get_or-reverse}
 use Rattle.std.proofs.lemmas.List.Elements.{All-append, All-take, All-drop, All-cons, All-nil, All-contains}
 use Rattle.std.specs.List.{All}
 use Rattle.splices.specs.declared.flat.Edge.{Edge}
 use Rattle.splices.specs.Dag.{IsBelow}
-use Rattle.dag_graph.specs.Graph.{IsParent, Leads, IsCycle, rank_in}
+use Rattle.dag_graph.specs.Graph.{IsParent, Leads, IsCycle, AreApart, rank_in}
 use Rattle.dag_graph.specs.Cycles.{IsRound, IsClosedBy}
 use Rattle.dag_graph.proofs.Ranks.{rank_at}
 
@@ -23,14 +25,45 @@ turn : (edges : List Edge) (front : List ℕ) (y : ℕ) (back : List ℕ) → Is
 turn edges [] y back is = subst (λ (xs : List ℕ). Leads edges y xs y) (sym (append-nil back)) is
 turn edges (x ∷ xs) y back is = let both = split edges x xs y back x is in join edges y back x xs y both.1 both.0
 
-pub begun_at : (edges : List Edge) (r : List ℕ) (m : ℕ) → m < length r → IsRound edges r → All (λ z. slice_index r m ≤ z) r → IsCycle edges (drop m r ++ take m r)
-begun_at edges r m lt is least =
+-- Nodes that are apart stay so from a place on, backwards, and begun at another place.
+dropped_apart : (xs : List ℕ) (n : ℕ) → AreApart xs → AreApart (drop n xs)
+dropped_apart xs n apart = λ i j less below same.
+    let len = length-drop n xs in
+    apart (n + i) (n + j) (omega arith) (omega (arith, len, below)) (sym (get_or-drop n xs i 0) ∙ same ∙ get_or-drop n xs j 0)
+
+reversed_apart : (xs : List ℕ) → AreApart xs → AreApart (reverse xs)
+reversed_apart xs apart = λ i j less below same.
+    let len = length-reverse xs in
+    let low : j < length xs = omega (arith, len, below) in
+    apart (length xs - 1 - j) (length xs - 1 - i) (omega (arith, less, low)) (omega (arith, less, low))
+    (sym (get_or-reverse xs j 0 low) ∙ sym same ∙ get_or-reverse xs i 0 (omega (arith, less, low)))
+
+begun_apart : (r : List ℕ) (m : ℕ) → m < length r → AreApart r → AreApart (drop m r ++ take m r)
+begun_apart r m lt apart = λ i j less below same.
+    let n : ℕ = length r - m in
+    let whole : length (drop m r ++ take m r) ≡ length r = grind (arith, common_steps) in
+    let at_front : (k : ℕ) → k < length r - m → slice_index (drop m r ++ take m r) k ≡ slice_index r (m + k) = λ k low. grind (arith, common_steps) in
+    let at_back : (k : ℕ) → length r - m ≤ k → k < length r → slice_index (drop m r ++ take m r) k ≡ slice_index r (k - (length r - m)) = λ k high low. grind (arith, common_steps) in
+    ⊎_elim
+    (λ (front : j < length r - m). apart (m + i) (m + j) (omega arith) (omega arith)
+    (sym (at_front i (omega arith)) ∙ same ∙ at_front j front))
+    (λ (back : length r - m ≤ j). ⊎_elim
+    (λ (front : i < length r - m). apart (j - (length r - m)) (m + i) (omega (arith, whole, below)) (omega arith)
+    (sym (at_back j back (omega (arith, whole, below))) ∙ sym same ∙ at_front i front))
+    (λ (behind : length r - m ≤ i). apart (i - (length r - m)) (j - (length r - m)) (omega arith) (omega (arith, whole, below))
+    (sym (at_back i behind (omega (arith, whole, below, less))) ∙ same ∙ at_back j back (omega (arith, whole, below))))
+    (cases_lt i (length r - m)))
+    (cases_lt j (length r - m))
+
+pub begun_at : (edges : List Edge) (r : List ℕ) (m : ℕ) → m < length r → IsRound edges r → All (λ z. slice_index r m ≤ z) r → AreApart r → IsCycle edges (drop m r ++ take m r)
+begun_at edges r m lt is least apart =
     let y : ℕ = slice_index r m in
     let back : drop m r ≡ slice_index r m ∷ drop (m + 1) r = drop_more r m 0 lt in
     let whole : r ≡ take m r ++ (slice_index r m ∷ drop (m + 1) r) = sym (take-append-drop m r) ∙ ap (λ (xs : List ℕ). take m r ++ xs) back in
     let round : IsRound edges (slice_index r m ∷ drop (m + 1) r ++ take m r) = turn edges (take m r) (slice_index r m) (drop (m + 1) r) (subst (IsRound edges) whole is) in
     let low : All (λ z. slice_index r m ≤ z) (drop (m + 1) r ++ take m r) = All-append (λ z. slice_index r m ≤ z) (drop (m + 1) r) (take m r) (All-drop (λ z. slice_index r m ≤ z) (m + 1) r least) (All-take (λ z. slice_index r m ≤ z) m r least) in
-    subst (λ (xs : List ℕ). IsCycle edges (xs ++ take m r)) (sym back) (round, low)
+    let once : AreApart (slice_index r m ∷ drop (m + 1) r ++ take m r) = subst (λ (xs : List ℕ). AreApart (xs ++ take m r)) back (begun_apart r m lt apart) in
+    subst (λ (xs : List ℕ). IsCycle edges (xs ++ take m r)) (sym back) (round, low, once)
 
 -- each of the list is a parent of the next, and the last is one of `end`
 abbrev pub LeadsTo : List Edge → List ℕ → ℕ → Type 0
@@ -89,8 +122,9 @@ leads_below count edges x (y ∷ ys) end within (is, rest) =
 
 pub cycle_below : (count : ℕ) (edges : List Edge) (nodes : List ℕ) → All (IsBelow count) edges → IsCycle edges nodes → All (λ v. v < count) nodes
 cycle_below count edges [] within is = absurd is
-cycle_below count edges (x ∷ xs) within (leads, least) = leads_below count edges x xs x within leads
+cycle_below count edges (x ∷ xs) within (leads, least, apart) = leads_below count edges x xs x within leads
 
 pub cycle_begun : (edges : List Edge) (path : List ℕ) (parent place m : ℕ) (r : List ℕ) → place ≡ rank_in path parent → r ≡ reverse (drop place path) → m < length r → All (λ z. slice_index r m ≤ z) r → IsClosedBy edges path parent → IsCycle edges (drop m r ++ take m r)
 cycle_begun edges path parent place m r at is lt least closed =
     begun_at edges r m lt (subst (IsRound edges) (sym (is ∙ ap (λ (k : ℕ). reverse (drop k path)) at)) (round_of edges path parent closed)) least
+    (subst AreApart (sym is) (reversed_apart (drop place path) (dropped_apart path place closed.apart)))

@@ -1,7 +1,7 @@
 -- A climb from nodes to their parents, which puts nodes into an order with parents first.
-use Rattle.std.specs.Prelude.{◌≡◌, ◌≢◌, ℕ, ◌+◌, ◌-◌, ◌<◌, ◌≤◌, Bool, true, false, not, List, [], ◌∷◌, ◌++◌, length, take, slice_set, slice_index, slice_index_or}
+use Rattle.std.specs.Prelude.{◌≡◌, ℕ, ◌+◌, ◌-◌, ◌<◌, ◌≤◌, Bool, true, false, not, List, [], ◌∷◌, ◌++◌, length, take, slice_set, slice_index, slice_index_or}
 use Rattle.std.specs.List.{Contains, count_by, sum_by}
-use Rattle.dag_graph.specs.Graph.{rank_in}
+use Rattle.dag_graph.specs.Graph.{AreApart, rank_in}
 
 -- the nodes that were met, those that have a place in the order, of each node the number of its parents that were
 -- looked at, the order, and the path from a node upward
@@ -47,7 +47,7 @@ pub record IsClimb (parents : List (List ℕ)) (c : Climbing) : Type 0 where
   pub inside : (i : ℕ) → i < length c.path → slice_index c.path i < length parents
   pub met : (i : ℕ) → i < length c.path → is_entered c (slice_index c.path i) ≡ true
   pub open_yet : (i : ℕ) → i < length c.path → is_placed c (slice_index c.path i) ≡ false
-  pub apart : (i j : ℕ) → i < j → j < length c.path → slice_index c.path i ≢ slice_index c.path j
+  pub apart : AreApart c.path
   pub chain : (i : ℕ) → i + 1 < length c.path → Contains (up parents (slice_index c.path i)) (slice_index c.path (i + 1))
   pub standing : (v : ℕ) → v < length parents → is_entered c v ≡ true → is_placed c v ≡ false → rank_in c.path v < length c.path
   pub known : (v : ℕ) → v < length parents → is_placed c v ≡ true → is_entered c v ≡ true
@@ -58,12 +58,14 @@ pub record IsClimb (parents : List (List ℕ)) (c : Climbing) : Type 0 where
   pub absent : (v : ℕ) → v < length parents → is_placed c v ≡ false → rank_in c.order v ≡ length c.order
   pub count : length c.order + count_by (λ b. not b) c.placed ≡ length parents
 
--- a path on which each node is followed by one of its parents comes back: one of the parents of the last stands on it
+-- a path on which each node is followed by one of its parents, and none comes twice, comes back: one of the parents of the
+-- last stands on it
 pub record IsClosed (parents : List (List ℕ)) (path : List ℕ) (parent : ℕ) : Type 0 where
   pub some : 0 < length path
   pub chain : (i : ℕ) → i + 1 < length path → Contains (up parents (slice_index path i)) (slice_index path (i + 1))
   pub last : Contains (up parents (slice_index path (length path - 1))) parent
   pub there : rank_in path parent < length path
+  pub apart : AreApart path
 
 -- a climb goes on
 pub record GoesOn (parents : List (List ℕ)) (before after : Climbing) : Type 0 where

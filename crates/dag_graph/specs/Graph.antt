@@ -1,5 +1,5 @@
 -- The graph of a DAG: parents, ancestors, orders and cycles. Nodes go by their numbers.
-use Rattle.std.specs.Prelude.{◌≡◌, ℕ, ◌<◌, ◌≤◌, Bool, ◌&&◌, ◌==◌, List, [], ◌∷◌, ◌++◌, length, map, filter, slice_index, slice_index_or, Option, Some, None}
+use Rattle.std.specs.Prelude.{◌≡◌, ◌≢◌, ℕ, ◌<◌, ◌≤◌, Bool, ◌&&◌, ◌==◌, List, [], ◌∷◌, ◌++◌, length, map, filter, slice_index, slice_index_or, Option, Some, None}
 use Rattle.std.specs.List.{Contains, All, list_any, position_or_len, range_with_len, sum_by}
 use Rattle.splices.specs.declared.flat.Edge.{Edge}
 use Rattle.splices.specs.declared.flat.FlatNode.{FlatNode}
@@ -23,10 +23,14 @@ abbrev pub Leads : List Edge → ℕ → List ℕ → ℕ → Type 0
 Leads edges x [] end = IsParent edges x end
 Leads edges x (y ∷ ys) end = IsParent edges x y × Leads edges y ys end
 
--- each is a parent of the next, the last is one of the first, and the first is the least of them
+-- no two of these nodes are one
+abbrev pub AreApart : List ℕ → Type 0
+AreApart nodes = (i j : ℕ) → i < j → j < length nodes → slice_index nodes i ≢ slice_index nodes j
+
+-- each is a parent of the next, the last is one of the first, the first is the least of them, and none comes twice
 abbrev pub IsCycle : List Edge → List ℕ → Type 0
 IsCycle edges [] = ⊥
-IsCycle edges (x ∷ xs) = Leads edges x xs x × All (λ y. x ≤ y) xs
+IsCycle edges (x ∷ xs) = Leads edges x xs x × All (λ y. x ≤ y) xs × AreApart (x ∷ xs)
 
 -- the edge from the parent to the child, compared
 abbrev pub is_edge : ℕ → ℕ → Edge → Bool

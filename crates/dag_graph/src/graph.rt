@@ -80,20 +80,28 @@ impl Graph {
         self.order.as_slice()
     }
 
-    /// The parents of an ordinary node, ascending and each once.
+    /// The parents of a node, ascending and each once. The FINAL node has none, and no other number
+    /// has any.
     pub fn parents(&self, node: u32) -> &[u32]
-        requires { node < length self.now.dag.nodes }
         ensures { result.now ≡ parents_of self.now.dag node }
     {
-        self.relatives.parents[node as usize].as_slice()
+        let _ = self.flat.edges();
+        match self.relatives.parents.get(node as usize) {
+            Some(parents) => parents.as_slice(),
+            None => &[],
+        }
     }
 
-    /// The children of an ordinary node, ascending and each once.
+    /// The children of a node, ascending and each once. The FINAL node has none, and no other number
+    /// has any.
     pub fn children(&self, node: u32) -> &[u32]
-        requires { node < length self.now.dag.nodes }
         ensures { result.now ≡ children_of self.now.dag node }
     {
-        self.relatives.children[node as usize].as_slice()
+        let _ = self.flat.edges();
+        match self.relatives.children.get(node as usize) {
+            Some(children) => children.as_slice(),
+            None => &[],
+        }
     }
 
     /// The number of distinct pairs of a parent and a child.

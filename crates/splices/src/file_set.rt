@@ -1,6 +1,6 @@
 //! Files by their names.
 
-ghost use Rattle.std.specs.Prelude.{◌≡◌, ◌≢◌, ℕ, List, None, Some, OnOk};
+ghost use Rattle.std.specs.Prelude.{◌≡◌, ◌≢◌, ℕ, List, None, Some, OnOk, OnErr};
 ghost use Rattle.std.specs.Option.{option_map};
 
 use std::alloc::{AllocError, Global};
@@ -15,6 +15,8 @@ pub struct FileSet {
 
 impl FileSet {
     ghost use Rattle.splices.specs.FileSet.{bytes_of};
+    ghost use Rattle.std.specs.BTreeMap.{IsOrdered};
+    ghost use Rattle.std.specs.Prelude.{string_cmp};
 
     pub fn new(alloc: Global) -> FileSet
         ensures { (name : List ℕ) → bytes_of result name ≡ None }
@@ -24,10 +26,12 @@ impl FileSet {
         }
     }
 
-    /// Puts a file under this name, in place of one that was there.
+    /// Puts a file under this name, in place of one that was there. Where memory runs out, all files
+    /// stay as they were.
     pub fn add(&mut self, alloc: Global, name: &str, bytes: &[u8]) -> Result<(), AllocError>
         ensures added { OnOk result (bytes_of self.new name.now ≡ Some bytes.now) }
         ensures others { OnOk result ((other : List ℕ) → other ≢ name.now → bytes_of self.new other ≡ bytes_of self.old other) }
+        ensures refused { OnErr result ((other : List ℕ) → bytes_of self.new other ≡ bytes_of self.old other) }
     {
         self.files.insert(
             String::from_str(alloc, name)?,
@@ -48,7 +52,8 @@ impl FileSet {
 
     /// The names and the files, in the order of the bytes of the names.
     pub fn iter(&self) -> Iter<'_, String, Vec<u8>>
-        ensures { result ≡ self.now.files.entries }
+        ensures entries { result ≡ self.now.files.entries }
+        ensures in_order { IsOrdered string_cmp self.now.files }
     {
         self.files.iter()
     }
