@@ -5,3 +5,4 @@ pub mod RescueParts
 pub mod PlansOfFiles
 mod Checks
 pub mod CalmReports
+mod StatusFaults

@@ -25,7 +25,9 @@ use Rattle.sched_core.proofs.Sweeps.{all_below-same}
 use Rattle.dag_main.specs.Rehearsal.{table_by}
 use Rattle.run_plan.specs.Submitted.{sources_of}
 use Rattle.run_plan.specs.Digest.{digest_of}
-use Rattle.dag_main.specs.Report.{fate_line, fate_lines, reported, marks_from, marked_text, fates_need_rescue, result_line, fated_report, warning_lines}
+use Rattle.status_report.specs.Text.{fate_line, fate_lines, reported, result_line}
+use Rattle.status_report.proofs.Finished.{same-lines}
+use Rattle.dag_main.specs.Report.{marks_from, marked_text, fates_need_rescue, fated_report, warning_lines}
 use Rattle.dag_main.specs.Rehearsed.{plan_by, HasEntries, status_of, IsRehearsalOf, MeetsNoAbort, IsFatedReport}
 
 abbrev dag_or : Dag → Result Dag DagFault → Dag
@@ -37,13 +39,7 @@ one-list None entries other e e' = e ∙ sym e'
 one-list (Some text) entries other says says' =
     outcome_lines.good_is entries other (sym (outcome_lines.lines_again 1 (lines text) entries says) ∙ outcome_lines.lines_again 1 (lines text) other says')
 
--- the same fates give the same lines
-same-lines : (plan : Plan) (fates other : ℕ → Fate) (n : ℕ) → ((node : ℕ) → node < n → fates node ≡ other node) → fate_lines plan fates n ≡ fate_lines plan other n
-same-lines plan fates other zero same = refl
-same-lines plan fates other (suc n) same =
-    λ j. same-lines plan fates other n (λ node lt. same node (omega arith)) j ++ fate_line (node_at plan n).name (same n (omega arith) j)
-
--- and the same marks
+-- the same fates give the same marks
 same-marks : (fates other : ℕ → Fate) (number n : ℕ) → ((node : ℕ) → node < number + n → fates node ≡ other node)
     → marks_from (λ node. is_done_state (fates node).state) number n ≡ marks_from (λ node. is_done_state (other node).state) number n
 same-marks fates other number zero same = refl

@@ -5,7 +5,8 @@ use Rattle.run_plan.specs.Plan.{Plan, count_of}
 use Rattle.sched_core.specs.declared.Record.{Record}
 use Rattle.sched_core.specs.Core.{AreMarks}
 use Rattle.sched_core.specs.Run.{is_done, needs_rescue}
-use Rattle.dag_main.specs.Report.{marks_from, marked_text, rescue_part, reported, node_lines, result_line, report_of}
+use Rattle.status_report.specs.Text.{status_text_of, result_line, run_text}
+use Rattle.dag_main.specs.Report.{marks_from, marked_text, rescue_part, report_of}
 
 marks-are : (test : ℕ → Bool) (number : ℕ) (marks : List Bool)
     → ((i : ℕ) → i < length marks → unwrap_or (slice_get marks i) false ≡ test (number + i))
@@ -29,8 +30,7 @@ pub not-needed : (plan : Plan) (past : List Record) (text : List ℕ) → needs_
 not-needed plan past text need e = e ∙ (λ j. if sym need j then marked_text plan (is_done plan past) else [])
 
 -- the parts of a report, one behind another
-pub whole-report : (plan : Plan) (past : List Record) (status n : ℕ) → n ≡ reported plan → (nodes result rescue text : List ℕ) → nodes ≡ node_lines plan past n
-    → result ≡ nodes ++ result_line status → rescue ≡ rescue_part plan past → text ≡ result ++ rescue → text ≡ report_of plan past status
-whole-report plan past status n at nodes result rescue text a b c d =
-    d ∙ (λ j. b j ++ c j) ∙ append_assoc nodes (result_line status) (rescue_part plan past)
-    ∙ ap (λ (t : List ℕ). t ++ (result_line status ++ rescue_part plan past)) (a ∙ ap (node_lines plan past) at)
+pub whole-report : (plan : Plan) (past : List Record) (status : ℕ) (run rescue text : List ℕ) → run ≡ run_text plan past status
+    → rescue ≡ rescue_part plan past → text ≡ run ++ rescue → text ≡ report_of plan past status
+whole-report plan past status run rescue text a b c =
+    c ∙ (λ j. a j ++ b j) ∙ append_assoc (status_text_of plan past) (result_line status) (rescue_part plan past)

@@ -11,7 +11,7 @@ use Rattle.run_plan.specs.PlanAnswers.{is_memory}
 use Rattle.run_plan.specs.Submitted.{first_fault, all_nodes}
 use Rattle.run_plan.specs.declared.fault.PlanFault.{PlanFault}
 use Rattle.dag_main.specs.declared.fault.RunFault.{RunFault}
-use Rattle.dag_main.specs.declared.fault.RunFault.TheVariants.{InFiles, Cycle, InPlan, InTable, FileRefused, Memory}
+use Rattle.dag_main.specs.declared.fault.RunFault.TheVariants.{InFiles, Cycle, InPlan, InTable, InRescue, NotThere, InManager, FileRefused, Memory}
 use Rattle.dag_main.specs.Report.{warning_lines}
 
 abbrev pub yes_or_no : Option FlatNode → List ℕ
@@ -42,6 +42,9 @@ IsCheckFault files path (Cycle names) = (dag : Dag) × (dag_at files path ≡ Ok
 IsCheckFault files path (InPlan fault) =
     (dag : Dag) × (dag_at files path ≡ Ok dag) × IsAcyclic dag.edges × (first_fault (Some files) (all_nodes dag) ≡ Err fault)
 IsCheckFault files path (InTable fault) = ⊥
+IsCheckFault files path (InRescue file fault) = ⊥
+IsCheckFault files path (NotThere number) = ⊥
+IsCheckFault files path (InManager fault) = ⊥
 IsCheckFault files path (FileRefused refused) = ⊥
 IsCheckFault files path Memory = Unit {0}
 

@@ -3,3 +3,5 @@ pub mod Report
 pub mod Rehearsed
 pub mod Refusals
 pub mod Checked
+pub mod Planned
+pub mod Statused

@@ -1,15 +1,16 @@
 //! The program's commands over the system's files and streams.
 
+use crate::beside::refused;
 use crate::check::check_text;
 use crate::fault::RunFault;
 use crate::loading::{Reading, files_of};
 use crate::report::rehearse_text;
 use crate::request::{Request, read_words};
+use crate::status_here::status_here;
 use crate::warnings::Answer;
 use std::alloc::Global;
-use std::fs;
-use std::io::ErrorKind;
-use std::rt::Files;
+use std::rt::{Env, Files};
+use std::{env, fs};
 use throttles::Limits;
 
 /// The exit status of whatever is refused.
@@ -21,8 +22,9 @@ const REFUSED: u8 = 125;
 /// What the command prints stands on standard output, its warnings on standard error; a refused
 /// command line is told by clap's text on standard error, a refused input by one line
 /// `dagrun: CODE Name detail`, both with status 125 and nothing on standard output.
-pub fn run<R: Files + Input + Print + Eprint + AllocGlobal>(rt: &R, words: &[&str]) -> u8 {
+pub fn run<R: Files + Env + Input + Print + Eprint + AllocGlobal>(rt: &R, words: &[&str]) -> u8 {
     match read_words(rt.alloc(), words) {
+        Ok(Request::Status { dag }) => finish(rt, status(rt, dag)),
         Ok(Request::Check { dag }) => finish(rt, check(rt, dag)),
         Ok(
             Request::Rehearse {
@@ -59,6 +61,19 @@ fn finish<R: Print + Eprint>(rt: &R, answer: Result<Answer, RunFault>) -> u8 {
     }
 }
 
+/// The folder in which the program was called.
+fn folder_now<R: Env + AllocGlobal>(rt: &R) -> Result<String, RunFault> {
+    match env::current_dir(rt) {
+        Ok(folder) => Ok(String::from_str(rt.alloc(), folder.as_str())?),
+        Err(error) => Err(refused(rt.alloc(), ".", &error)),
+    }
+}
+
+fn status<R: Files + Env + AllocGlobal>(rt: &R, dag: &str) -> Result<Answer, RunFault> {
+    let folder = folder_now(rt)?;
+    status_here(rt, folder.as_str(), dag)
+}
+
 fn check<R: Files + Input + AllocGlobal>(rt: &R, dag: &str) -> Result<Answer, RunFault> {
     let files = files_of(rt, dag, Reading::SubmitFilesToo)?;
     check_text(rt.alloc(), &files, dag)
@@ -84,7 +99,6 @@ fn rehearse<R: Files + Input + AllocGlobal>(
 fn read_outcomes<R: Files + AllocGlobal>(rt: &R, path: &str) -> Result<Vec<u8>, RunFault> {
     match fs::read(rt, path) {
         Ok(bytes) => Ok(bytes),
-        Err(error) if error.kind() == ErrorKind::OutOfMemory => Err(RunFault::Memory),
-        Err(_) => Err(RunFault::FileRefused(String::from_str(rt.alloc(), path)?)),
+        Err(error) => Err(refused(rt.alloc(), path, &error)),
     }
 }

@@ -3,8 +3,10 @@
 ghost use Rattle.std.specs.Prelude.{◌≡◌};
 ghost use Rattle.dag_main.specs.declared.fault.RunFault.TheVariants.{Memory};
 
-use dag_reader::Texts;
+use dag_reader::{Text, Texts};
 use node_machine::TableFault;
+use recovery::ManagerFault;
+use rescue_file::RescueFault;
 use run_plan::PlanFault;
 use splices::DagFault;
 use std::alloc::{AllocError, AllocFailed};
@@ -23,10 +25,26 @@ pub enum RunFault {
     InPlan(PlanFault),
     /// A line of the table of outcomes is not spelled rightly.
     InTable(TableFault),
+    /// A line of the rescue file of this path can't be read, or names no node that may be done.
+    InRescue(Text, RescueFault),
+    /// There is no rescue file of this number: they go from 1 to 999.
+    NotThere(u16),
+    /// The journal or the manager of the run refuses.
+    InManager(ManagerFault),
     /// The system refuses the file of this path.
     FileRefused(String),
     /// Memory was refused.
     Memory,
+}
+
+/// The line of a rescue file that a fault tells of.
+fn line_of(fault: &RescueFault) -> Option<usize> {
+    match fault {
+        RescueFault::BadLine(line)
+        | RescueFault::UnknownNode(line)
+        | RescueFault::FinalDone(line) => Some(*line),
+        RescueFault::NotThere(_) | RescueFault::Memory => None,
+    }
 }
 
 impl fmt::Display for RunFault {
@@ -36,6 +54,12 @@ impl fmt::Display for RunFault {
             RunFault::Cycle(names) => write!(f, "G1 Cycle{names}"),
             RunFault::InPlan(fault) => write!(f, "{fault}"),
             RunFault::InTable(fault) => write!(f, "{fault}"),
+            RunFault::InRescue(path, fault) => match line_of(fault) {
+                Some(line) => write!(f, "{fault} {path}:{line}"),
+                None => write!(f, "{fault}"),
+            },
+            RunFault::NotThere(number) => write!(f, "E4 NotThere {number}"),
+            RunFault::InManager(fault) => write!(f, "{fault}"),
             RunFault::FileRefused(path) => write!(f, "X2 FileRefused {path}"),
             RunFault::Memory => write!(f, "X1 Memory"),
         }

@@ -1,6 +1,7 @@
 //! The commands of dagrun: each as a call over texts, and the command line around them.
 #![tactic(auto)]
 
+mod beside;
 mod check;
 mod commands;
 mod fault;
@@ -10,7 +11,8 @@ mod plans;
 mod rehearsal;
 mod report;
 mod request;
-mod status;
+mod status_here;
+mod statuses;
 mod warnings;
 
 pub use check::check_text;
@@ -19,5 +21,5 @@ pub use fault::RunFault;
 pub use rehearsal::run_table;
 pub use report::rehearse_text;
 pub use request::{Request, read_words};
-pub use status::NodeStatus;
+pub use statuses::status_of;
 pub use warnings::Answer;

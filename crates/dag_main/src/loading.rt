@@ -34,16 +34,39 @@ pub(crate) fn files_of<R: Files + Input + AllocGlobal>(
     top: &str,
     reading: Reading,
 ) -> Result<FileSet, RunFault> {
+    let bytes = read_top(rt, top)?;
+    files_from(rt, "", top, bytes, reading)
+}
+
+/// The files of a run: relative paths are taken from this folder, `-` is a path like others, and the
+/// submit files are read too.
+pub(crate) fn files_in<R: Files + AllocGlobal>(
+    rt: &R,
+    seat: &str,
+    top: &str,
+) -> Result<FileSet, RunFault> {
+    let bytes = read_file(rt, seat, top)?;
+    files_from(rt, seat, top, bytes, Reading::SubmitFilesToo)
+}
+
+/// The DAG file of these bytes, if it could be read, and the files that its lines name.
+fn files_from<R: Files + AllocGlobal>(
+    rt: &R,
+    seat: &str,
+    top: &str,
+    bytes: Option<Vec<u8>>,
+    reading: Reading,
+) -> Result<FileSet, RunFault> {
     let alloc = rt.alloc();
     let mut files = FileSet::new(alloc);
     let mut wanted = Vec::new(alloc);
-    if let Some(bytes) = read_top(rt, top)? {
+    if let Some(bytes) = bytes {
         want_files(alloc, "", bytes.as_slice(), reading, &mut wanted)?;
         files.add(alloc, top, bytes.as_slice())?;
     }
     for _ in 0..MOST_WANTED {
         match wanted.pop() {
-            Some(next) => add_file(rt, &mut files, &next, reading, &mut wanted)?,
+            Some(next) => add_file(rt, seat, &mut files, &next, reading, &mut wanted)?,
             None => break,
         }
     }
@@ -53,6 +76,7 @@ pub(crate) fn files_of<R: Files + Input + AllocGlobal>(
 /// Reads a file that is not there, and wants those that its lines name.
 fn add_file<R: Files + AllocGlobal>(
     rt: &R,
+    seat: &str,
     files: &mut FileSet,
     next: &Wanted,
     reading: Reading,
@@ -65,7 +89,7 @@ fn add_file<R: Files + AllocGlobal>(
     if files.get(path).is_some() {
         return Ok(());
     }
-    let Some(bytes) = read_file(rt, path)? else {
+    let Some(bytes) = read_file(rt, seat, path)? else {
         return Ok(());
     };
     if let Wanted::Splice { folder, .. } = next {
@@ -165,12 +189,17 @@ fn read_top<R: Files + Input + AllocGlobal>(
     if path == "-" {
         return Ok(Some(read_input(rt)?));
     }
-    read_file(rt, path)
+    read_file(rt, "", path)
 }
 
-/// The bytes of a file, unless it can't be read.
-fn read_file<R: Files + AllocGlobal>(rt: &R, path: &str) -> Result<Option<Vec<u8>>, RunFault> {
-    match fs::read(rt, path) {
+/// The bytes of a file as seen from a folder, unless it can't be read.
+fn read_file<R: Files + AllocGlobal>(
+    rt: &R,
+    seat: &str,
+    path: &str,
+) -> Result<Option<Vec<u8>>, RunFault> {
+    let place = path_in(rt.alloc(), seat, path)?;
+    match fs::read(rt, place.as_str()) {
         Ok(bytes) => Ok(Some(bytes)),
         Err(error) if error.kind() == ErrorKind::OutOfMemory => Err(RunFault::Memory),
         Err(_) => Ok(None),

@@ -1,12 +1,14 @@
 //! The graph and the plan of the files of a DAG.
 
 ghost use Rattle.std.specs.Prelude.{◌≡◌, IfOk, IfErr, Ok, Some};
-ghost use Rattle.splices.specs.FileSet.{bytes_of};
+ghost use Rattle.std.specs.Option.{option_map};
+ghost use Rattle.splices.specs.FileSet.{bytes_of, entries_of};
 ghost use Rattle.splices.specs.Opened.{dag_at};
 ghost use Rattle.dag_graph.specs.Graph.{IsAcyclic};
 ghost use Rattle.run_plan.specs.Submitted.{first_fault, all_nodes};
 ghost use Rattle.dag_main.specs.Checked.{IsCheckFault, in_plan};
 ghost use Rattle.dag_main.specs.Rehearsed.{IsGraphFault};
+ghost use Rattle.dag_main.specs.Planned.{IsGraphOf, IsPlanBy, IsPlanByFault, IsPlanWith, IsPlanWithFault};
 ghost use Rattle.dag_main.specs.Refusals.{IsPlanOf, IsPlanFault};
 
 use crate::fault::RunFault;
@@ -65,6 +67,36 @@ pub(crate) fn full_plan_of(alloc: Global, files: &FileSet, path: &str) -> Result
         Ok(plan) => Ok(plan),
         Err((_graph, fault)) => Err(in_plan(fault)),
     }
+}
+
+/// The plan of a graph, of its submit files and of a rescue file, if there is one.
+pub(crate) fn plan_by(
+    alloc: Global,
+    graph: Graph,
+    files: &FileSet,
+    rescue: Option<&[u8]>,
+) -> Result<Plan, RunFault>
+    ensures plan { IfOk result (IsPlanBy (bytes_of files.now) (entries_of files.now) (option_map (λ b. b.now) rescue.entry) graph) }
+    ensures refused { IfErr result (IsPlanByFault (bytes_of files.now) (entries_of files.now) (option_map (λ b. b.now) rescue.entry) graph) }
+{
+    match Plan::build(alloc, graph, files, rescue) {
+        Ok(plan) => Ok(plan),
+        Err((_graph, fault)) => Err(in_plan(fault)),
+    }
+}
+
+/// The plan of the files of this path, with its submit files and a rescue file, if there is one.
+pub(crate) fn plan_with(
+    alloc: Global,
+    files: &FileSet,
+    path: &str,
+    rescue: Option<&[u8]>,
+) -> Result<Plan, RunFault>
+    ensures plan { IfOk result (IsPlanWith (bytes_of files.now) (entries_of files.now) path.now (option_map (λ b. b.now) rescue.entry)) }
+    ensures refused { IfErr result (IsPlanWithFault (bytes_of files.now) (entries_of files.now) path.now (option_map (λ b. b.now) rescue.entry)) }
+{
+    let graph = graph_of(alloc, files, path)?;
+    plan_by(alloc, graph, files, rescue)
 }
 
 /// Why a command is refused whose plan is.

@@ -1,11 +1,10 @@
 //! The report of a rehearsal.
 
-ghost use Rattle.std.specs.Prelude.{◌≡◌, ◌≤◌, ◌+◌, ◌++◌, List, OnOk, IfOk, IfErr, string_bytes};
+ghost use Rattle.std.specs.Prelude.{◌≡◌, List, IfOk, IfErr, string_bytes};
 ghost use Rattle.std.specs.Option.{option_map};
 ghost use Rattle.node_machine.specs.OutcomeTable.{Entry, SameOutcomes, HasPossibleOutcomes};
 ghost use Rattle.splices.specs.FileSet.{bytes_of};
-ghost use Rattle.run_plan.specs.Plan.{count_of};
-ghost use Rattle.dag_main.specs.Report.{status_line, node_line, reported, rescue_part, report_of, warning_lines};
+ghost use Rattle.dag_main.specs.Report.{rescue_part, report_of, warning_lines};
 ghost use Rattle.dag_main.specs.Rehearsed.{HasEntries, IsRehearsalOf, IsOwed};
 ghost use Rattle.dag_main.specs.Refusals.{ReportsRun, IsTableFault};
 ghost use Rattle.dag_main.specs.declared.fault.RunFault.TheVariants.{Memory};
@@ -13,14 +12,14 @@ ghost use Rattle.dag_main.specs.declared.fault.RunFault.TheVariants.{Memory};
 use crate::fault::RunFault;
 use crate::plans::plan_of;
 use crate::rehearsal::run_table;
-use crate::status::{NodeStatus, status_of};
 use crate::warnings::{Answer, warning_text};
 use node_machine::{Table, TableFault, read_table};
 use rescue_file::rescue_text;
 use run_plan::Plan;
 use sched_core::{Core, Verdict};
 use splices::FileSet;
-use std::alloc::{AllocError, Global};
+use status_report::run_text;
+use std::alloc::Global;
 use throttles::Limits;
 
 /// Rehearses the DAG file of this path and those of its splices, which stand in the file set: runs
@@ -98,51 +97,6 @@ fn table_of(alloc: Global, outcomes: Option<&[u8]>) -> Result<Table, RunFault>
     }
 }
 
-/// The line of a node.
-fn push_line(
-    text: &mut String,
-    name: &str,
-    status: NodeStatus,
-    attempts: u64,
-    value: Option<i32>,
-) -> Result<(), AllocError>
-    ensures { OnOk result (string_bytes text.new
-        ≡ string_bytes text.old ++ status_line name.now status attempts value) }
-{
-    let status = status.word();
-    match value {
-        Some(value) => writeln!(text, "{name} {status} attempts={attempts} value={value}"),
-        None => writeln!(text, "{name} {status} attempts={attempts} value=-"),
-    }
-}
-
-/// The line of the node of this number.
-fn push_node(text: &mut String, core: &Core<'_>, node: u32) -> Result<(), AllocError>
-    requires { node ≤ count_of core.now.plan }
-    ensures { OnOk result (string_bytes text.new ≡ string_bytes text.old ++ node_line core.now.plan core.now.past node) }
-{
-    push_line(
-        text,
-        core.plan().spec(node).name(),
-        status_of(core, node),
-        core.attempts_ended(node),
-        core.last_value(node),
-    )
-}
-
-/// How many nodes have a line: the ordinary ones, and FINAL behind them.
-fn reported(core: &Core<'_>) -> u32
-    ensures is { result ≡ reported core.now.plan }
-    ensures few { result ≤ count_of core.now.plan + 1 }
-{
-    let plan = core.plan();
-    if plan.has_final() {
-        plan.count() + 1
-    } else {
-        plan.count()
-    }
-}
-
 /// The text of the rescue file, where one is needed.
 fn rescue_part(alloc: Global, core: &Core<'_>) -> Result<String, RunFault>
     ensures ok { IfOk result (λ text. string_bytes text ≡ rescue_part core.now.plan core.now.past) }
@@ -165,11 +119,7 @@ fn report_of(alloc: Global, core: &Core<'_>, status: Verdict) -> Result<String, 
     ensures ok { IfOk result (λ text. string_bytes text ≡ report_of core.now.plan core.now.past status) }
     ensures err { IfErr result (λ fault. fault ≡ Memory) }
 {
-    let mut text = String::new(alloc);
-    for node in 0..reported(core) {
-        push_node(&mut text, core, node)?;
-    }
-    writeln!(text, "result {status}")?;
+    let mut text = run_text(alloc, core, status)?;
     let rescue = rescue_part(alloc, core)?;
     text.push_str(rescue.as_str())?;
     Ok(text)

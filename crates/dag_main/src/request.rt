@@ -22,6 +22,11 @@ pub enum Request<'a> {
         dag: &'a str,
     },
 
+    /// `status DAG`: the path of the DAG file.
+    Status {
+        dag: &'a str,
+    },
+
     /// `rehearse DAG [OUTCOMES]`, and no words at all, which is `rehearse -`: the path of the DAG
     /// file, `-` for standard input, and that of the table of outcomes.
     Rehearse {
@@ -36,6 +41,19 @@ fn dag_argument<'a>(alloc: Global) -> Arg<'a> {
         .required(true)
         .action(ArgAction::Set)
         .help("The DAG file, - for standard input")
+}
+
+fn file_argument<'a>(alloc: Global) -> Arg<'a> {
+    Arg::new(alloc, "DAG")
+        .required(true)
+        .action(ArgAction::Set)
+        .help("The DAG file")
+}
+
+fn status_command<'a>(alloc: Global) -> Result<Command<'a>, AllocError> {
+    Command::new(alloc, "status")
+        .about("Says where each node of a run stands, by its journal")
+        .arg(file_argument(alloc))
 }
 
 fn check_command<'a>(alloc: Global) -> Result<Command<'a>, AllocError> {
@@ -93,6 +111,7 @@ fn dagrun_command<'a>(alloc: Global) -> Result<Command<'a>, AllocError> {
         .about("A workflow manager for job graphs on one machine")
         .subcommand_required(true)
         .disable_help_subcommand(true)
+        .subcommand(status_command(alloc)?)?
         .subcommand(check_command(alloc)?)?
         .subcommand(rehearse_command(alloc)?)
 }
@@ -112,6 +131,9 @@ pub fn read_words<'a>(alloc: Global, words: &'a [&'a str]) -> Result<Request<'a>
     }
     let matches = dagrun_command(alloc)?.try_get_matches_from(words)?;
     match matches.subcommand() {
+        Some(("status", found)) => Ok(Request::Status {
+            dag: found.get_str("DAG").unwrap_or("-"),
+        }),
         Some(("check", found)) => Ok(Request::Check {
             dag: found.get_str("DAG").unwrap_or("-"),
         }),

@@ -1,0 +1,119 @@
+//! The files beside a DAG file: its journal, its rescue files and its lock.
+
+use crate::fault::RunFault;
+use dag_reader::Text;
+use rescue_file::{RescueFault, pick_number, rescue_name};
+use splices::path_in;
+use std::alloc::{AllocError, Global};
+use std::fs;
+use std::fs::{File, OpenOptions};
+use std::io::{self, ErrorKind};
+use std::rt::Files;
+
+/// A DAG file, and the folder from which its path is taken where it is relative.
+#[derive(Clone, Copy)]
+pub(crate) struct Place<'a> {
+    pub(crate) folder: &'a str,
+    pub(crate) top: &'a str,
+}
+
+/// What is told of the file of this path, which the system refuses.
+pub(crate) fn refused(alloc: Global, path: &str, error: &io::Error) -> RunFault {
+    if error.kind() == ErrorKind::OutOfMemory {
+        return RunFault::Memory;
+    }
+    match String::from_str(alloc, path) {
+        Ok(path) => RunFault::FileRefused(path),
+        Err(_) => RunFault::Memory,
+    }
+}
+
+/// The path of the journal.
+pub(crate) fn journal_path(alloc: Global, top: &str) -> Result<Text, AllocError> {
+    Text::joined(alloc, top, ".journal")
+}
+
+/// The path of the journal of the round before.
+fn old_journal_path(alloc: Global, top: &str) -> Result<Text, AllocError> {
+    Text::joined(alloc, top, ".journal.old")
+}
+
+/// The path of the file that a manager locks.
+fn lock_path(alloc: Global, top: &str) -> Result<Text, AllocError> {
+    Text::joined(alloc, top, ".lock")
+}
+
+/// The path of the rescue file of this number.
+pub(crate) fn rescue_path(alloc: Global, top: &str, number: u16) -> Result<Text, RunFault> {
+    match rescue_name(alloc, top, number) {
+        Ok(name) => Ok(name),
+        Err(RescueFault::NotThere(number)) => Err(RunFault::NotThere(number)),
+        Err(_) => Err(RunFault::Memory),
+    }
+}
+
+/// The last part of a path.
+fn base_of(path: &str) -> &str {
+    match path.rsplit_once('/') {
+        Some((_, base)) => base,
+        None => path,
+    }
+}
+
+/// The folder of a file, `.` where its path has none.
+fn folder_of(path: &str) -> &str {
+    match path.rsplit_once('/') {
+        Some(("", _)) => "/",
+        Some((folder, _)) => folder,
+        None => ".",
+    }
+}
+
+impl<'a> Place<'a> {
+    /// A path as seen from the folder.
+    pub(crate) fn at(&self, alloc: Global, path: &str) -> Result<Text, AllocError> {
+        path_in(alloc, self.folder, path)
+    }
+
+    /// The highest number of a rescue file that is there, 0 for none.
+    pub(crate) fn highest<R: Files + AllocGlobal + Clone + Drop>(
+        &self,
+        rt: &R,
+    ) -> Result<u16, RunFault> {
+        let alloc = rt.alloc();
+        let folder = folder_of(self.top);
+        let place = self.at(alloc, folder)?;
+        match names_in(rt, place.as_str()) {
+            Ok(names) => Ok(pick_number(names.as_slice(), base_of(self.top))),
+            Err(error) => Err(refused(alloc, folder, &error)),
+        }
+    }
+
+    /// The bytes of the file of this path; none where it is missing.
+    pub(crate) fn read<R: Files + AllocGlobal>(
+        &self,
+        rt: &R,
+        path: &str,
+    ) -> Result<Option<Vec<u8>>, RunFault> {
+        let place = self.at(rt.alloc(), path)?;
+        match fs::read(rt, place.as_str()) {
+            Ok(bytes) => Ok(Some(bytes)),
+            Err(error) if error.kind() == ErrorKind::NotFound => Ok(None),
+            Err(error) => Err(refused(rt.alloc(), path, &error)),
+        }
+    }
+}
+
+/// The names in a folder, those apart that are no text.
+fn names_in<R: Files + AllocGlobal + Clone + Drop>(rt: &R, folder: &str) -> io::Result<Vec<Text>> {
+    let alloc = rt.alloc();
+    let mut names = Vec::new(alloc);
+    for entry in fs::read_dir(rt, folder)? {
+        match entry {
+            Ok(entry) => names.push(Text::new(alloc, entry.file_name())?)?,
+            Err(error) if error.kind() == ErrorKind::InvalidFilename => {}
+            Err(error) => return Err(error),
+        }
+    }
+    Ok(names)
+}

@@ -1,0 +1,87 @@
+//! The status of a run, by the files that stand beside its DAG file.
+
+use crate::beside::{Place, journal_path, rescue_path};
+use crate::fault::RunFault;
+use crate::loading::files_in;
+use crate::statuses::{disk_of, status_of};
+use crate::warnings::Answer;
+use dag_reader::Text;
+use event_journal::{Journal, JournalFault};
+use rescue_file::RescueFault;
+use run_plan::PlanFault;
+use std::alloc::Global;
+use std::rt::Files;
+
+/// The number of the rescue file that the run of a journal read: 0 for none, where there is no
+/// journal, and where its bytes are none.
+fn used_in(alloc: Global, journal: Option<&[u8]>) -> Result<u16, RunFault> {
+    let Some(bytes) = journal else {
+        return Ok(0);
+    };
+    let mut disk = disk_of(alloc, bytes)?;
+    match Journal::peek(alloc, &mut disk) {
+        Ok(Some(peek)) => Ok(peek.used),
+        Ok(None) => Ok(0),
+        Err(JournalFault::Memory) => Err(RunFault::Memory),
+        Err(_) => Ok(0),
+    }
+}
+
+pub(crate) fn bytes_of(bytes: &Option<Vec<u8>>) -> Option<&[u8]> {
+    match bytes {
+        Some(bytes) => Some(bytes.as_slice()),
+        None => None,
+    }
+}
+
+/// The path of the rescue file that a run read, if it read one.
+fn used_path(alloc: Global, top: &str, used: u16) -> Result<Option<Text>, RunFault> {
+    if used == 0 {
+        return Ok(None);
+    }
+    Ok(Some(rescue_path(alloc, top, used)?))
+}
+
+/// A fault of a plan, with the path of the rescue file where it is that of a line there.
+pub(crate) fn named(fault: RunFault, rescue: Option<Text>) -> RunFault {
+    match (in_line(&fault), rescue) {
+        (Some(line), Some(path)) => RunFault::InRescue(path, line),
+        (_, _) => fault,
+    }
+}
+
+/// The fault of a line of the rescue file, if it is one.
+fn in_line(fault: &RunFault) -> Option<RescueFault> {
+    match fault {
+        RunFault::InPlan(PlanFault::InRescue(fault)) => Some(*fault),
+        _ => None,
+    }
+}
+
+/// The status of the DAG file of this path, seen from this folder, with its journal and the rescue
+/// file that the journal names.
+///
+/// # Errors
+/// In this order: a journal that the system refuses to read, a number of a rescue file above 999 in
+/// its header, a rescue file that the system refuses to read; and then as `status_of`. Where the
+/// header can't be read, no rescue file is.
+pub(crate) fn status_here<R: Files + AllocGlobal>(
+    rt: &R,
+    folder: &str,
+    top: &str,
+) -> Result<Answer, RunFault> {
+    let alloc = rt.alloc();
+    let place = Place { folder, top };
+    let journal = place.read(rt, journal_path(alloc, top)?.as_str())?;
+    let used = used_in(alloc, bytes_of(&journal))?;
+    let name = used_path(alloc, top, used)?;
+    let rescue = match &name {
+        Some(name) => place.read(rt, name.as_str())?,
+        None => None,
+    };
+    let files = files_in(rt, folder, top)?;
+    match status_of(alloc, &files, top, bytes_of(&rescue), bytes_of(&journal)) {
+        Ok(answer) => Ok(answer),
+        Err(fault) => Err(named(fault, name)),
+    }
+}

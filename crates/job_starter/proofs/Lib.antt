@@ -1,0 +1,6 @@
+pub mod Running
+pub mod Counting
+pub mod Steps
+pub mod Walks
+pub mod Rounds
+pub mod Handing

@@ -1,0 +1,243 @@
+-- Steps of a run, one behind another.
+use Rattle.std.proofs.Common.{◌≡◌, ℕ, Bool, true, false, not, ◌&&◌, ◌||◌, List, [], ◌∷◌, Result, Ok, Err, Some, refl, sym, ap, ◌∙◌, subst, OnOk, OnErr, if◌then◌else◌}
+use Rattle.std.specs.List.{list_all}
+use Rattle.std.proofs.lemmas.Bool.{and_parts, and_from, false≢true}
+use Rattle.node_machine.specs.declared.Key.{Key}
+use Rattle.node_machine.specs.declared.Outcome.{Outcome}
+use Rattle.node_machine.specs.declared.Outcome.TheVariants.{Exit, NoStart}
+use Rattle.throttles.specs.declared.Limits.{Limits}
+use Rattle.run_plan.specs.Plan.{Plan, node_at}
+use Rattle.run_plan.specs.Commands.{starts_child}
+use Rattle.sched_core.specs.declared.Choice.{Choice}
+use Rattle.sched_core.specs.declared.Choice.TheVariants as choices
+use Rattle.sched_core.specs.declared.Record.{Record}
+use Rattle.sched_core.specs.declared.Record.TheVariants.{End}
+use Rattle.sched_core.specs.Run.{is_open, is_lawful, is_among, is_same, is_nothing, outstanding, without, is_aborted}
+use Rattle.sched_core.specs.Core.{IsChoice}
+use Rattle.sched_core.proofs.Keys.{same-self}
+use Rattle.job_starter.specs.declared.Call.{Call}
+use Rattle.job_starter.specs.declared.Call.TheVariants as calls
+use Rattle.job_starter.specs.declared.Started.{Started}
+use Rattle.job_starter.specs.declared.Started.TheVariants.{Running, NotStarted}
+use Rattle.job_starter.specs.declared.driving.DriveFault.{DriveFault}
+use Rattle.job_starter.specs.Calls.{running, TellsNoMore}
+use Rattle.job_starter.specs.Drives.{launch_of, IsHandedOver, AreInStep, IsHeld, IsStep, passes, starts, fails, ends, kills, final_verdict, Drives, no_step, one_more, IsCutOff, clean, launched, failed, ended, Kills, nobody, one_killed, AbortsAtLast}
+use Rattle.job_starter.proofs.Steps.{chosen-free}
+
+module _ (limits : Limits) (plan : Plan) (may : Key → Outcome → Type 0) (past : List Record) (told : List Call) where
+  pub step-ends : (result : Result (Unit {0}) DriveFault) (after : List Record) (heard : List Call) (key : Key) (outcome : Outcome)
+      → AreInStep plan past told → IsHeld limits plan past → is_among key (running told) ≡ true → may key outcome
+      → OnOk result (after ≡ End key outcome ∷ past) → heard ≡ calls.Ended key outcome ∷ told
+      → OnOk result (IsStep limits plan may past told after heard)
+  step-ends (Ok unit) after heard key outcome step held ran may_be is tells =
+      subst (λ records. IsStep limits plan may past told records heard) (sym is)
+      (subst (λ l. IsStep limits plan may past told (End key outcome ∷ past) l) (sym tells) (ends step held ran may_be))
+  step-ends (Err fault) after heard key outcome step held ran may_be is tells = tt
+
+  pub cut-ended : (result : Result (Unit {0}) DriveFault) (after : List Record) (heard : List Call) (key : Key) (outcome : Outcome)
+      → IsHeld limits plan past → is_among key (running told) ≡ true → may key outcome
+      → OnErr result (after ≡ past) → heard ≡ calls.Ended key outcome ∷ told
+      → OnErr result (IsCutOff limits plan may past told after heard)
+  cut-ended (Ok unit) after heard key outcome held ran may_be is tells = tt
+  cut-ended (Err fault) after heard key outcome held ran may_be is tells =
+      subst (λ records. IsCutOff limits plan may past told records heard) (sym is)
+      (subst (λ l. IsCutOff limits plan may past told past l) (sym tells) (ended held ran may_be))
+
+  pub cut-clean : (after : List Record) (heard : List Call) → after ≡ past → heard ≡ told → IsCutOff limits plan may past told after heard
+  cut-clean after heard is same =
+      subst (λ records. IsCutOff limits plan may past told records heard) (sym is)
+      (subst (λ l. IsCutOff limits plan may past told past l) (sym same) clean)
+
+  -- behind the launch of a key
+  module _ (key : Key) (chosen : IsChoice limits plan past (choices.Start key)) (plan' : Plan) (same_plan : plan' ≡ plan)
+      (records : List Record) (is : records ≡ launch_of past key ∷ past) where
+    pub step-passes : (result : Result (Unit {0}) DriveFault) (after : List Record) → AreInStep plan past told
+        → starts_child (node_at plan' key.node) key.phase ≡ false → OnOk result (after ≡ End key (Exit 0) ∷ records)
+        → OnOk result (IsStep limits plan may past told after told)
+    step-passes (Ok unit) after step quiet more =
+        subst (λ r. IsStep limits plan may past told r told) (sym (more ∙ ap (λ r. End key (Exit 0) ∷ r) is))
+        (passes step chosen (subst (λ (p : Plan). starts_child (node_at p key.node) key.phase ≡ false) same_plan quiet))
+    step-passes (Err fault) after step quiet more = tt
+
+    pub cut-launched : (result : Result (Unit {0}) DriveFault) (after : List Record) → OnErr result (after ≡ records)
+        → OnErr result (IsCutOff limits plan may past told after told)
+    cut-launched (Ok unit) after none = tt
+    cut-launched (Err fault) after none = subst (λ r. IsCutOff limits plan may past told r told) (sym (none ∙ is)) (launched chosen)
+
+    pub cut-unhanded : (heard : List Call) → heard ≡ told → IsCutOff limits plan may past told records heard
+    cut-unhanded heard same =
+        subst (λ r. IsCutOff limits plan may past told r heard) (sym is)
+        (subst (λ l. IsCutOff limits plan may past told (launch_of past key ∷ past) l) (sym same) (launched chosen))
+
+    moved : (heard : List Call) (answer : Started) → IsHandedOver plan' records key answer told heard
+        → IsHandedOver plan (launch_of past key ∷ past) key answer told heard
+    moved heard answer handed =
+        subst (λ (p : Plan). IsHandedOver p (launch_of past key ∷ past) key answer told heard) same_plan
+        (subst (λ r. IsHandedOver plan' r key answer told heard) is handed)
+
+    child : starts_child (node_at plan' key.node) key.phase ≡ true → starts_child (node_at plan key.node) key.phase ≡ true
+    child = subst (λ (p : Plan). starts_child (node_at p key.node) key.phase ≡ true) same_plan
+
+    pub step-starts : (heard : List Call) (answer : Started) → answer ≡ Running → AreInStep plan past told
+        → starts_child (node_at plan' key.node) key.phase ≡ true
+        → IsHandedOver plan' records key answer told heard → IsStep limits plan may past told records heard
+    step-starts heard answer runs step starting handed =
+        let h = subst (λ a. IsHandedOver plan (launch_of past key ∷ past) key a told heard) runs (moved heard answer handed) in
+        subst (λ r. IsStep limits plan may past told r heard) (sym is)
+        (subst (λ l. IsStep limits plan may past told (launch_of past key ∷ past) l) (sym h.entry) (starts step chosen (child starting) h.is))
+
+    pub step-fails : (result : Result (Unit {0}) DriveFault) (after : List Record) (heard : List Call) (answer : Started)
+        → answer ≡ NotStarted → AreInStep plan past told → starts_child (node_at plan' key.node) key.phase ≡ true → may key NoStart
+        → IsHandedOver plan' records key answer told heard → OnOk result (after ≡ End key NoStart ∷ records)
+        → OnOk result (IsStep limits plan may past told after heard)
+    step-fails (Ok unit) after heard answer fails_ step starting may_be handed more =
+        let h = subst (λ a. IsHandedOver plan (launch_of past key ∷ past) key a told heard) fails_ (moved heard answer handed) in
+        subst (λ r. IsStep limits plan may past told r heard) (sym (more ∙ ap (λ r. End key NoStart ∷ r) is))
+        (subst (λ l. IsStep limits plan may past told (End key NoStart ∷ launch_of past key ∷ past) l) (sym h.entry) (fails step chosen (child starting) h.is may_be))
+    step-fails (Err fault) after heard answer fails_ step starting may_be handed more = tt
+
+    pub cut-failed : (result : Result (Unit {0}) DriveFault) (after : List Record) (heard : List Call) (answer : Started)
+        → answer ≡ NotStarted → starts_child (node_at plan' key.node) key.phase ≡ true → may key NoStart
+        → IsHandedOver plan' records key answer told heard → OnErr result (after ≡ records)
+        → OnErr result (IsCutOff limits plan may past told after heard)
+    cut-failed (Ok unit) after heard answer fails_ starting may_be handed none = tt
+    cut-failed (Err fault) after heard answer fails_ starting may_be handed none =
+        let h = subst (λ a. IsHandedOver plan (launch_of past key ∷ past) key a told heard) fails_ (moved heard answer handed) in
+        subst (λ r. IsCutOff limits plan may past told r heard) (sym (none ∙ is))
+        (subst (λ l. IsCutOff limits plan may past told (launch_of past key ∷ past) l) (sym h.entry) (failed chosen (child starting) h.is may_be))
+
+-- an abort is no launch
+launch-calm : (plan : Plan) (past : List Record) (key : Key) → is_aborted plan (launch_of past key ∷ past) ≡ is_aborted plan past
+unfolding is_aborted
+launch-calm plan past key = refl
+
+flipped : (a b : Bool) → (not a && b) ≡ false → (b && not a) ≡ false
+flipped true true h = refl
+flipped true false h = refl
+flipped false true h = h
+flipped false false h = refl
+
+-- an ending that did not abort the run takes its phase away, one that did takes all
+end-kept : (plan : Plan) (past : List Record) (key : Key) (outcome : Outcome)
+    → (not (is_aborted plan past) && is_aborted plan (End key outcome ∷ past)) ≡ false
+    → outstanding plan (End key outcome ∷ past) ≡ without key (outstanding plan past)
+end-kept plan past key outcome calm =
+    λ j. if flipped (is_aborted plan past) (is_aborted plan (End key outcome ∷ past)) calm j then [] else without key (outstanding plan past)
+
+end-empty : (plan : Plan) (past : List Record) (key : Key) (outcome : Outcome)
+    → is_aborted plan past ≡ false → is_aborted plan (End key outcome ∷ past) ≡ true
+    → outstanding plan (End key outcome ∷ past) ≡ []
+end-empty plan past key outcome calm aborted =
+    λ j. if aborted j && not (calm j) then [] else without key (outstanding plan past)
+
+without-free : (key : Key) (keys : List Key) → is_among key keys ≡ false → without key keys ≡ keys
+without-free key [] free = refl
+without-free key (other ∷ keys) free = go (is_same key other) free (without-free key keys)
+  where
+    go : (b : Bool) → (b || is_among key keys) ≡ false → (is_among key keys ≡ false → without key keys ≡ keys)
+        → (if b then without key keys else other ∷ without key keys) ≡ other ∷ keys
+    go true free rest = absurd (false≢true (sym free))
+    go false free rest = ap (λ l. other ∷ l) (rest free)
+
+all-without : (f : Key → Bool) (key : Key) (keys : List Key) → list_all f keys ≡ true → list_all f (without key keys) ≡ true
+all-without f key [] all = refl
+all-without f key (other ∷ keys) all = go (is_same key other) (all-without f key keys (and_parts _ _ all).1)
+  where
+    go : (b : Bool) → list_all f (without key keys) ≡ true → list_all f (if b then without key keys else other ∷ without key keys) ≡ true
+    go true rest = rest
+    go false rest = and_from _ _ (and_parts _ _ all).0 rest
+
+-- a launch that ended at once leaves what was outstanding
+passed : (plan : Plan) (past : List Record) (key : Key) (outcome : Outcome) → is_among key (outstanding plan past) ≡ false
+    → (not (is_aborted plan past) && is_aborted plan (End key outcome ∷ launch_of past key ∷ past)) ≡ false
+    → outstanding plan (End key outcome ∷ launch_of past key ∷ past) ≡ outstanding plan past
+passed plan past key outcome free calm =
+    end-kept plan (launch_of past key ∷ past) key outcome
+    ((λ j. not (launch-calm plan past key j) && is_aborted plan (End key outcome ∷ launch_of past key ∷ past)) ∙ calm)
+    ∙ (λ j. if same-self key j then without key (outstanding plan past) else key ∷ without key (outstanding plan past))
+    ∙ without-free key (outstanding plan past) free
+
+-- After a step that did not abort the run, the children that run are the outstanding phases.
+pub step-in-step : (limits : Limits) (plan : Plan) (may : Key → Outcome → Type 0) (past : List Record) (told : List Call) (after : List Record) (heard : List Call)
+    → is_lawful plan past ≡ true → is_open past ≡ true → AreInStep plan past told → IsStep limits plan may past told after heard
+    → (not (is_aborted plan past) && is_aborted plan after) ≡ false → AreInStep plan after heard
+step-in-step limits plan may past told _ _ lawful going step (passes {key = key} s chosen quiet) calm =
+    let p = passed plan past key (Exit 0) (chosen-free limits plan past key lawful going chosen) calm in
+    record { same = step.same ∙ sym p; children = subst (λ keys. list_all (λ (k : Key). starts_child (node_at plan k.node) k.phase) keys ≡ true) (sym p) step.children }
+step-in-step limits plan may past told _ _ lawful going step (starts {key = key} s chosen child command) calm =
+    record { same = ap (λ keys. key ∷ keys) step.same; children = and_from _ _ child step.children }
+step-in-step limits plan may past told _ _ lawful going step (fails {key = key} s chosen child command may_be) calm =
+    let p = passed plan past key NoStart (chosen-free limits plan past key lawful going chosen) calm in
+    record { same = step.same ∙ sym p; children = subst (λ keys. list_all (λ (k : Key). starts_child (node_at plan k.node) k.phase) keys ≡ true) (sym p) step.children }
+step-in-step limits plan may past told _ _ lawful going step (ends {key = key} {outcome = outcome} s held ran may_be) calm =
+    let p = end-kept plan past key outcome calm in
+    record {
+      same = ap (without key) step.same ∙ sym p;
+      children = subst (λ keys. list_all (λ (k : Key). starts_child (node_at plan k.node) k.phase) keys ≡ true) (sym p)
+          (all-without (λ (k : Key). starts_child (node_at plan k.node) k.phase) key (outstanding plan past) step.children);
+    }
+step-in-step limits plan may past told _ _ lawful going step (kills {key = key} ran free) calm =
+    absurd (false≢true (sym free ∙ ap (is_among key) (sym step.same) ∙ ran))
+
+-- a step that aborted the run leaves nothing outstanding
+pub step-empty : (limits : Limits) (plan : Plan) (may : Key → Outcome → Type 0) (past : List Record) (told : List Call) (after : List Record) (heard : List Call)
+    → IsStep limits plan may past told after heard → is_aborted plan past ≡ false → is_aborted plan after ≡ true → outstanding plan after ≡ []
+step-empty limits plan may past told _ _ (passes {key = key} s chosen quiet) calm aborted =
+    end-empty plan (launch_of past key ∷ past) key (Exit 0) (launch-calm plan past key ∙ calm) aborted
+step-empty limits plan may past told _ _ (starts {key = key} s chosen child command) calm aborted =
+    absurd (false≢true (sym (launch-calm plan past key ∙ calm) ∙ aborted))
+step-empty limits plan may past told _ _ (fails {key = key} s chosen child command may_be) calm aborted =
+    end-empty plan (launch_of past key ∷ past) key NoStart (launch-calm plan past key ∙ calm) aborted
+step-empty limits plan may past told _ _ (ends {key = key} {outcome = outcome} s held ran may_be) calm aborted =
+    end-empty plan past key outcome calm aborted
+step-empty limits plan may past told _ _ (kills ran free) calm aborted = absurd (false≢true (sym calm ∙ aborted))
+
+-- kills are steps where nothing is outstanding
+pub drives-kills : (limits : Limits) (plan : Plan) (may : Key → Outcome → Type 0) (past : List Record) (told : List Call) (after : List Record) (heard last : List Call)
+    → Drives limits plan may past told after heard → outstanding plan after ≡ [] → Kills heard last → Drives limits plan may past told after last
+drives-kills limits plan may past told after heard _ drives empty nobody = drives
+drives-kills limits plan may past told after heard _ drives empty (one_killed {key = key} k ran) =
+    one_more (drives-kills limits plan may past told after heard _ drives empty k) (kills ran (ap (is_among key) empty))
+
+step-fewer : (limits : Limits) (plan : Plan) (may may' : Key → Outcome → Type 0) (past : List Record) (told : List Call) (after : List Record) (heard : List Call)
+    → TellsNoMore may may' → IsStep limits plan may' past told after heard → IsStep limits plan may past told after heard
+step-fewer limits plan may may' past told _ _ t (passes s chosen quiet) = passes s chosen quiet
+step-fewer limits plan may may' past told _ _ t (starts s chosen child command) = starts s chosen child command
+step-fewer limits plan may may' past told _ _ t (fails {key = key} s chosen child command may_be) = fails s chosen child command (t key NoStart may_be)
+step-fewer limits plan may may' past told _ _ t (ends {key = key} {outcome = outcome} s held ran may_be) = ends s held ran (t key outcome may_be)
+step-fewer limits plan may may' past told _ _ t (kills ran free) = kills ran free
+
+-- walks behind one another
+pub drives-then : (limits : Limits) (plan : Plan) (may may' : Key → Outcome → Type 0) (past : List Record) (told : List Call) (between : List Record) (heard : List Call) (after : List Record) (last : List Call)
+    → TellsNoMore may may' → Drives limits plan may past told between heard → Drives limits plan may' between heard after last → Drives limits plan may past told after last
+drives-then limits plan may may' past told between heard _ _ t first no_step = first
+drives-then limits plan may may' past told between heard _ _ t first (one_more d s) =
+    one_more (drives-then limits plan may may' past told between heard _ _ t first d) (step-fewer limits plan may may' _ _ _ _ t s)
+
+pub cut-fewer : (limits : Limits) (plan : Plan) (may may' : Key → Outcome → Type 0) (past : List Record) (told : List Call) (after : List Record) (heard : List Call)
+    → TellsNoMore may may' → IsCutOff limits plan may' past told after heard → IsCutOff limits plan may past told after heard
+cut-fewer limits plan may may' past told _ _ t clean = clean
+cut-fewer limits plan may may' past told _ _ t (launched chosen) = launched chosen
+cut-fewer limits plan may may' past told _ _ t (failed {key = key} chosen starting command may_be) = failed chosen starting command (t key NoStart may_be)
+cut-fewer limits plan may may' past told _ _ t (ended {key = key} {outcome = outcome} held ran may_be) = ended held ran (t key outcome may_be)
+
+pub no_child : (keys : List Key) → is_nothing keys ≡ true → keys ≡ []
+no_child [] h = refl
+no_child (key ∷ keys) h = absurd (false≢true h)
+
+pub final-choice : (limits : Limits) (plan : Plan) (past : List Record) (choice : Choice) (verdict : ℕ) → IsChoice limits plan past choice
+    → final_verdict choice ≡ Some verdict → IsChoice limits plan past (choices.Finish verdict)
+final-choice limits plan past (choices.Start key) verdict chosen is = absurd cc
+final-choice limits plan past choices.Wait verdict chosen is = absurd cc
+final-choice limits plan past (choices.Finish status) verdict chosen is =
+    let same : status ≡ verdict = cc in subst (λ v. IsChoice limits plan past (choices.Finish v)) same chosen
+
+-- the record of a step that aborted the run is the newest
+pub step-aborts : (limits : Limits) (plan : Plan) (may : Key → Outcome → Type 0) (past : List Record) (told : List Call) (after : List Record) (heard : List Call)
+    → IsStep limits plan may past told after heard → is_aborted plan past ≡ false → is_aborted plan after ≡ true → AbortsAtLast plan after
+step-aborts limits plan may past told _ _ (passes {key = key} s chosen quiet) calm aborted = (launch-calm plan past key ∙ calm, aborted)
+step-aborts limits plan may past told _ _ (starts {key = key} s chosen child command) calm aborted =
+    absurd (false≢true (sym (launch-calm plan past key ∙ calm) ∙ aborted))
+step-aborts limits plan may past told _ _ (fails {key = key} s chosen child command may_be) calm aborted = (launch-calm plan past key ∙ calm, aborted)
+step-aborts limits plan may past told _ _ (ends s held ran may_be) calm aborted = (calm, aborted)
+step-aborts limits plan may past told _ _ (kills ran free) calm aborted = absurd (false≢true (sym calm ∙ aborted))

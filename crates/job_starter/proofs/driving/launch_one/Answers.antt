@@ -1,0 +1,42 @@
+use Rattle.std.proofs.Common.{rules, ◌≡◌, refl, sym, ◌∙◌, true, false}
+use Rattle.job_starter.proofs.Walks.{cut-clean, step-passes, cut-launched, cut-unhanded, step-starts, step-fails, cut-failed}
+use Rattle.job_starter.proofs.driving.launch_one.Goals as goal
+
+pub returns-in-Err-clause-cut : goal.returns-in-Err-clause-cut
+returns-in-Err-clause-cut g c = cut-clean _ _ _ _ _ _ _ c.in-Err.ensures.past_err refl
+
+pub returns-then-not-starts_child-clause-step : goal.returns-then-not-starts_child-clause-step
+returns-then-not-starts_child-clause-step g c =
+    let quiet : c.starts_child.result ≡ false = search rules in
+    step-passes _ _ _ _ _ c.args.key c.requires.chosen _ c.record_launch.ensures.plan _ c.in_default.ensures.past c.record_end.result _
+    c.requires.in_step (sym c.starts_child.ensures ∙ quiet) c.record_end.ensures.past
+
+pub returns-then-not-starts_child-clause-cut : goal.returns-then-not-starts_child-clause-cut
+returns-then-not-starts_child-clause-cut g c =
+    cut-launched _ _ _ _ _ c.args.key c.requires.chosen _ c.record_launch.ensures.plan _ c.in_default.ensures.past c.record_end.result _
+    c.record_end.ensures.past_err
+
+pub returns-in-Ok-Running-clause-step : goal.returns-in-Ok-Running-clause-step
+returns-in-Ok-Running-clause-step g c =
+    let starts : c.starts_child.result ≡ true = search rules in
+    step-starts _ _ _ _ _ c.args.key c.requires.chosen _ c.record_launch.ensures.plan _ c.in_default.ensures.past _ c.in-Ok-Running.field-0
+    c.in-Ok-Running.field-0-is c.requires.in_step (sym c.starts_child.ensures ∙ starts)
+    c.in-Ok-Running.ensures.handed
+
+pub returns-in-Ok-NotStarted-clause-step : goal.returns-in-Ok-NotStarted-clause-step
+returns-in-Ok-NotStarted-clause-step g c =
+    let starts : c.starts_child.result ≡ true = search rules in
+    step-fails _ _ _ _ _ c.args.key c.requires.chosen _ c.record_launch.ensures.plan _ c.in_default.ensures.past c.record_end-in-Ok-NotStarted.result _ _ c.in-Ok-NotStarted.field-0
+    c.in-Ok-NotStarted.field-0-is c.requires.in_step (sym c.starts_child.ensures ∙ starts) (c.in-Ok-NotStarted.ensures.may_be c.in-Ok-NotStarted.field-0-is)
+    c.in-Ok-NotStarted.ensures.handed c.record_end-in-Ok-NotStarted.ensures.past
+
+pub returns-in-Ok-NotStarted-clause-cut : goal.returns-in-Ok-NotStarted-clause-cut
+returns-in-Ok-NotStarted-clause-cut g c =
+    let starts : c.starts_child.result ≡ true = search rules in
+    cut-failed _ _ _ _ _ c.args.key c.requires.chosen _ c.record_launch.ensures.plan _ c.in_default.ensures.past c.record_end-in-Ok-NotStarted.result _ _ c.in-Ok-NotStarted.field-0
+    c.in-Ok-NotStarted.field-0-is (sym c.starts_child.ensures ∙ starts) (c.in-Ok-NotStarted.ensures.may_be c.in-Ok-NotStarted.field-0-is)
+    c.in-Ok-NotStarted.ensures.handed c.record_end-in-Ok-NotStarted.ensures.past_err
+
+pub returns-in-Err-hand_over-clause-cut : goal.returns-in-Err-hand_over-clause-cut
+returns-in-Err-hand_over-clause-cut g c =
+    cut-unhanded _ _ _ _ _ c.args.key c.requires.chosen _ c.record_launch.ensures.plan _ c.in_default.ensures.past _ c.in-Err-hand_over.ensures.silent

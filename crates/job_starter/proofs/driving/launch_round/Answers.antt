@@ -1,0 +1,67 @@
+use Rattle.std.proofs.Common.{arith, ◌≡◌, ◌&&◌, not, true, refl, sym, ap, ◌∙◌, subst}
+use Rattle.std.proofs.lemmas.Bool.{and_parts, not-true}
+use Rattle.run_plan.specs.Plan.{Plan}
+use Rattle.sched_core.specs.Run.{is_aborted, is_lawful}
+use Rattle.sched_core.specs.Core.{Progress, IsChoice}
+use Rattle.recovery.specs.Managed.{plan_of, past_of}
+use Rattle.std.proofs.Common.{inl, inr}
+use Rattle.throttles.specs.declared.Limits.{Limits}
+use Rattle.job_starter.specs.Drives.{limits_of, AreInStep, AbortsAtLast, IsHeld}
+use Rattle.job_starter.proofs.Steps.{fault-before}
+use Rattle.job_starter.proofs.Walks.{step-in-step, step-aborts}
+use Rattle.job_starter.proofs.Rounds.{held-unless-start, first-walk, one-step, drives-on, walk-on, halted-at}
+use Rattle.job_starter.proofs.driving.launch_round.Goals as goal
+
+pub loop-key-init : goal.loop-key-init
+loop-key-init g c = (refl, first-walk _ _ _ _ _ c.requires.in_step c.goes_on.ensures, omega arith, λ key outcome may. may, refl)
+
+pub returns-in-Err-clause-stopped : goal.returns-in-Err-clause-stopped
+returns-in-Err-clause-stopped g c =
+    let i = c.loop-key.invariant in
+    halted-at _ _ i.4 _ _ i.0 (g.S.Starter.may_tell c.args.starter.now) (g.S.Starter.may_tell c.loop-key.starter) i.3 _ _ _ _ i.1 _ _ c.in-Err.ensures.cut
+
+pub returns-then-is_new-clause-steps : goal.returns-then-is_new-clause-steps
+returns-then-is_new-clause-steps g c =
+    let i = c.loop-key.invariant in
+    drives-on _ _ i.4 _ _ i.0 (g.S.Starter.may_tell c.args.starter.now) (g.S.Starter.may_tell c.loop-key.starter) i.3 _ _ _ _ i.1 _ _
+    (one-step _ _ _ _ _ _ _ c.in_default-launch_one.ensures.step)
+
+pub returns-then-is_new-clause-done : goal.returns-then-is_new-clause-done
+returns-then-is_new-clause-done g c =
+    let i = c.loop-key.invariant in
+    let before = c.aborted-before.ensures ∙ ap (λ (p : Progress). is_aborted p.plan p.past) c.core-in-loop-key.ensures.lends in
+    let now = c.aborted.ensures ∙ ap (λ (p : Progress). is_aborted p.plan p.past) c.core-in-loop-key-3.ensures.lends ∙ ap (λ (p : Plan). is_aborted p (past_of c.launch_one.new.manager)) c.launch_one.ensures.plan in
+    let flag = (λ j. not (sym before j) && sym now j) ∙ sym c.is_new.ensures ∙ c.if-is_new.true in
+    let parts = and_parts _ _ flag in
+    let aborts = step-aborts _ _ _ _ _ _ _ c.in_default-launch_one.ensures.step (not-true _ parts.0) parts.1 in
+    inr (subst (λ (p : Plan). AbortsAtLast p (past_of c.launch_one.new.manager)) i.0 aborts)
+
+pub loop-key-preserved : goal.loop-key-preserved
+loop-key-preserved g c =
+    let i = c.loop-key.invariant in
+    let e = c.in_default-launch_one.ensures in
+    let before = c.aborted-before.ensures ∙ ap (λ (p : Progress). is_aborted p.plan p.past) c.core-in-loop-key.ensures.lends in
+    let now = c.aborted.ensures ∙ ap (λ (p : Progress). is_aborted p.plan p.past) c.core-in-loop-key-3.ensures.lends ∙ ap (λ (p : Plan). is_aborted p (past_of c.launch_one.new.manager)) c.launch_one.ensures.plan in
+    let flag = (λ j. not (sym before j) && sym now j) ∙ sym c.is_new.ensures ∙ c.if-is_new.false in
+    let here = subst (λ (p : Plan). AreInStep p (past_of c.loop-key.manager) (g.S.Starter.told c.loop-key.starter)) (sym i.0) i.1.in_step in
+    let lawful = subst (λ (p : Progress). is_lawful p.plan p.past ≡ true) c.core.ensures.lends c.keeps_the_law.ensures in
+    let low = i.2 in let high = e.later in (
+      e.plan ∙ i.0,
+      walk-on _ _ i.4 _ _ i.0 (g.S.Starter.may_tell c.args.starter.now) (g.S.Starter.may_tell c.loop-key.starter) i.3 _ _ _ _ i.1 _ _
+          (step-in-step _ _ _ _ _ _ _ lawful i.1.going here e.step flag) (one-step _ _ _ _ _ _ _ e.step) e.fewer,
+      omega arith,
+      λ key outcome may. i.3 key outcome (e.may key outcome may),
+      e.limits ∙ i.4,
+    )
+
+pub returns-in_default-clause-done : goal.returns-in_default-clause-done
+returns-in_default-clause-done g c =
+    let i = c.loop-key.invariant in
+    let chosen = subst (λ (p : Progress). IsChoice p.limits p.plan p.past c.choose.result) c.core-in-loop-key-2.ensures.lends c.choose.ensures in
+    let held = held-unless-start _ _ _ c.choose.result chosen c.in_default.not-Start in
+    inl (subst (λ (l : Limits). IsHeld l (plan_of c.args.manager.now) (past_of c.loop-key.manager)) i.4
+    (subst (λ (p : Plan). IsHeld (limits_of c.loop-key.manager) p (past_of c.loop-key.manager)) i.0 held))
+
+pub returns-in-Err-clause-refused : goal.returns-in-Err-clause-refused
+returns-in-Err-clause-refused g c =
+    fault-before _ _ _ _ _ _ c.in-Err.fault c.loop-key.invariant.2 c.in-Err.ensures.refused

@@ -1,0 +1,32 @@
+use Rattle.std.proofs.Common.{rules}
+use Rattle.sched_core.proofs.Best.{chosen-follows}
+use Rattle.job_starter.specs.Causes.{record_refused}
+use Rattle.job_starter.proofs.Steps.{refused-record, nearer-launch, chosen-within, chosen-allowed, chosen-free}
+use Rattle.job_starter.proofs.driving.record_launch.Goals as goal
+
+pub returns-in-Ok-clause-fewer : goal.returns-in-Ok-clause-fewer
+returns-in-Ok-clause-fewer g c =
+    nearer-launch _ _ _ c.args.key (search rules) (chosen-follows _ _ _ c.args.key c.requires.open c.requires.chosen) (search rules)
+
+pub returns-in-Err-clause-refused : goal.returns-in-Err-clause-refused
+returns-in-Err-clause-refused g c = λ before now.
+    record_refused (refused-record g.D.Disk.faults g.D.Disk.capacity c.args.manager.now c.launch.new.self _ c.in-Err.fault c.launch.ensures.plan c.in-Err.ensures.past_err
+    (chosen-follows _ _ _ c.args.key c.requires.open c.requires.chosen) c.in-Err.ensures.refused)
+
+pub returns-in-Ok-clause-within : goal.returns-in-Ok-clause-within
+returns-in-Ok-clause-within g c = chosen-within _ _ _ c.args.key c.requires.open c.requires.chosen
+
+pub returns-in-Err-clause-within : goal.returns-in-Err-clause-within
+returns-in-Err-clause-within g c = chosen-within _ _ _ c.args.key c.requires.open c.requires.chosen
+
+pub returns-in-Ok-clause-allowed : goal.returns-in-Ok-clause-allowed
+returns-in-Ok-clause-allowed g c = chosen-allowed _ _ _ c.args.key (search rules) c.requires.open c.requires.chosen
+
+pub returns-in-Err-clause-allowed : goal.returns-in-Err-clause-allowed
+returns-in-Err-clause-allowed g c = chosen-allowed _ _ _ c.args.key (search rules) c.requires.open c.requires.chosen
+
+pub returns-in-Ok-clause-free : goal.returns-in-Ok-clause-free
+returns-in-Ok-clause-free g c = chosen-free _ _ _ c.args.key (search rules) c.requires.open c.requires.chosen
+
+pub returns-in-Err-clause-free : goal.returns-in-Err-clause-free
+returns-in-Err-clause-free g c = chosen-free _ _ _ c.args.key (search rules) c.requires.open c.requires.chosen

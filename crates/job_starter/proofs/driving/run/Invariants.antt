@@ -1,0 +1,19 @@
+use Rattle.std.proofs.Common.{◌≡◌, ◌≤◌}
+use Rattle.sched_core.specs.Bound.{records_left}
+use Rattle.recovery.specs.Managed.{plan_of, past_of}
+use Rattle.job_starter.specs.Calls.{TellsNoMore}
+use Rattle.job_starter.specs.Drives.{limits_of}
+use Rattle.job_starter.proofs.Rounds.{Walk}
+use Rattle.job_starter.proofs.driving.run.Given as goal
+
+abbrev pub invariant-loop-verdict : goal.invariant-loop-verdict
+invariant-loop-verdict g l =
+    (plan_of l.manager ≡ plan_of l.initial.manager)
+    × Walk (limits_of l.initial.manager) (plan_of l.initial.manager) (g.S.Starter.may_tell l.initial.starter) (past_of l.initial.manager) (g.S.Starter.told l.initial.starter)
+    (past_of l.manager) (g.S.Starter.told l.starter)
+    × (g.S.Starter.faults l.initial.starter ≤ g.S.Starter.faults l.starter)
+    × TellsNoMore (g.S.Starter.may_tell l.initial.starter) (g.S.Starter.may_tell l.starter)
+    × (limits_of l.manager ≡ limits_of l.initial.manager)
+
+abbrev pub decreases-loop-verdict : goal.decreases-loop-verdict
+decreases-loop-verdict g l = records_left (plan_of l.initial.manager) (past_of l.manager)

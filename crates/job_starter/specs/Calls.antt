@@ -1,0 +1,34 @@
+-- The calls of a starter that were answered, the newest first, and the children that run.
+use Rattle.std.specs.Prelude.{◌<◌, ◌≤◌, ◌-◌, ◌^◌, ◌⊎◌, ℕ, List, [], ◌∷◌}
+use Rattle.std.specs.declared.snapshot.Snapshot.{Snapshot}
+use Rattle.node_machine.specs.declared.Key.{Key}
+use Rattle.node_machine.specs.declared.Outcome.{Outcome}
+use Rattle.sched_core.specs.Run.{without}
+use Rattle.job_starter.specs.declared.Call.{Call}
+use Rattle.job_starter.specs.declared.Call.TheVariants as calls
+use Rattle.job_starter.specs.declared.Started.{Started}
+use Rattle.job_starter.specs.declared.Started.TheVariants.{Running, NotStarted}
+
+-- a value as clauses see it, of which nothing is kept at run time
+abbrev pub snapshot_of : {A : Type 0} → A → Snapshot A
+snapshot_of x = record { marker = record {}; value = x }
+
+-- the keys with that of a child that was started
+abbrev pub with_started : Key → Started → List Key → List Key
+with_started key Running keys = key ∷ keys
+with_started key NotStarted keys = keys
+
+-- The children that run, the newest first: from the start to the ending that is told, or to the kill.
+abbrev pub running : List Call → List Key
+running [] = []
+running (calls.Started key command answer ∷ told) = with_started key answer (running told)
+running (calls.Ended key outcome ∷ told) = without key (running told)
+running (calls.Killed key ∷ told) = without key (running told)
+
+-- a count rose, or stands at its end
+abbrev pub Rises : ℕ → ℕ → Type 0
+Rises before now = (before < now) ⊎ (2 ^ 64 - 1 ≤ now)
+
+-- What may be told now might have been told before.
+abbrev pub TellsNoMore : (Key → Outcome → Type 0) → (Key → Outcome → Type 0) → Type 0
+TellsNoMore old new = (key : Key) (outcome : Outcome) → new key outcome → old key outcome

@@ -1,0 +1,21 @@
+-- The commands that a run handed over.
+use Rattle.std.specs.Prelude.{◌≡◌, List, [], ◌∷◌, ◌++◌, Ok}
+use Rattle.run_plan.specs.Plan.{Plan}
+use Rattle.sched_core.specs.declared.Record.{Record}
+use Rattle.recovery.specs.Chain.{Command, HandsOver, span}
+use Rattle.job_starter.specs.declared.Call.{Call}
+use Rattle.job_starter.specs.declared.Call.TheVariants as calls
+
+-- the commands of the children that were to be started, the oldest first
+abbrev pub handed : List Call → List Command
+handed [] = []
+handed (calls.Started key command answer ∷ told) = handed told ++ (key, Ok command.value) ∷ []
+handed (calls.Ended key outcome ∷ told) = handed told
+handed (calls.Killed key ∷ told) = handed told
+
+-- from these records and calls on, the commands of the own launches were handed over, in their order; the last of them
+-- perhaps not
+pub record HandsOwn (plan : Plan) (begun held : List Record) (told heard : List Call) : Type 0 where
+  pub own : List Command
+  pub are : handed heard ≡ handed told ++ own
+  pub hands_over : HandsOver plan (span begun held) own

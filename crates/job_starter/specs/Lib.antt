@@ -1,0 +1,6 @@
+pub mod Calls
+pub mod Told
+pub mod Scripts
+pub mod Drives
+pub mod Causes
+pub mod Handed

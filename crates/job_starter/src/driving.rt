@@ -1,0 +1,430 @@
+//! A run: each launch is handed over to a starter, and each ending recorded as it was told.
+ghost use Rattle.std.specs.Prelude.{◌≡◌, ℕ, [], ◌∷◌, ◌≤◌, ◌<◌, not, ◌&&◌, None, IsTrue, IsFalse, IfOk, IfErr, IfSome, IfNone, OnOk, OnErr};
+ghost use Rattle.node_machine.specs.Story.{is_possible, may_end_with};
+ghost use Rattle.node_machine.specs.declared.Outcome.TheVariants.{NoStart};
+ghost use Rattle.run_plan.specs.Plan.{node_at, count_of};
+ghost use Rattle.run_plan.specs.Commands.{starts_child};
+ghost use Rattle.sched_core.specs.Run.{is_among, is_aborted, is_over, is_open, is_nothing, outstanding};
+ghost use Rattle.sched_core.specs.Core.{IsChoice};
+ghost use Rattle.recovery.specs.Managed.{plan_of, past_of};
+ghost use Rattle.job_starter.specs.Calls.{running, TellsNoMore};
+ghost use Rattle.job_starter.specs.Drives.{limits_of, launch_of, AreInStep, IsNearerEnd, IsHandedOver, IsHeld, IsStep, final_verdict, Drives, IsCutOff, Kills, IsLaunched, IsHalted, IsStopped};
+ghost use Rattle.job_starter.specs.Causes.{IsDriveFault};
+
+use crate::log::key_at;
+use crate::{Started, Starter};
+use event_journal::Disk;
+use node_machine::{Key, Outcome, Phase};
+use recovery::{Manager, ManagerFault};
+use run_plan::Plan;
+use sched_core::{Choice, Record, Verdict};
+use std::alloc::Global;
+use thiserror::Error;
+
+/// Why a run stopped before its end.
+#[derive(Clone, Copy, Debug, PartialEq, Eq, Error)]
+pub enum DriveFault {
+    /// The starter was refused memory for a child, whose phase is outstanding.
+    #[error("A1 StartMemory")]
+    StartMemory,
+    /// The system refused the question or the wait.
+    #[error("A2 WaitFault")]
+    WaitFault,
+    /// The manager refused.
+    #[error("{0}")]
+    Manager(ManagerFault),
+    /// Memory was refused for a command.
+    #[error("A5 Memory")]
+    Memory,
+}
+
+/// How a run ended: nothing is outstanding and nothing can be launched.
+#[derive(Clone, Copy, Debug, PartialEq, Eq)]
+pub struct RunEnd {
+    /// The exit status.
+    pub verdict: Verdict,
+    /// Whether an abort ended it.
+    pub aborted: bool,
+}
+
+/// Whether a phase starts a child: the job of a NOOP does not.
+fn starts_child<D: Disk + Drop>(manager: &Manager<'_, D>, key: &Key) -> bool
+    requires { key.now.node ≤ count_of (plan_of manager.now) }
+    ensures { result ≡ starts_child (node_at (plan_of manager.now) key.now.node) key.now.phase }
+{
+    let course = manager.core().plan().spec(key.node).course();
+    match key.phase {
+        Phase::Pre => course.pre,
+        Phase::Job => !course.noop,
+        Phase::Post => course.post,
+    }
+}
+
+/// Kills each running child, the oldest first.
+#[tactic(auto, using(crate::proofs::Running::fewer_left))]
+fn kill_all<S: Starter>(starter: &mut S)
+    ensures none_left { running (S.told starter.new) ≡ [] }
+    ensures kills { Kills (S.told starter.old) (S.told starter.new) }
+    ensures later { S.faults starter.old ≤ S.faults starter.new }
+    ensures may { TellsNoMore (S.may_tell starter.old) (S.may_tell starter.new) }
+{
+    while !starter.running().is_empty() {
+        let oldest = key_at(starter.running(), 0);
+        let _ = starter.kill(oldest);
+    }
+}
+
+/// A run that is not over goes on, since it has begun.
+fn goes_on<D: Disk + Drop>(manager: &Manager<'_, D>)
+    requires { IsFalse (is_over (past_of manager.now)) }
+    ensures { IsTrue (is_open (past_of manager.now)) }
+{
+    let _core = manager.core();
+}
+
+/// Records a launch that is chosen.
+fn record_launch<D: Disk + Drop>(manager: &mut Manager<'_, D>, key: Key) -> Result<(), DriveFault>
+    requires chosen { IsChoice (limits_of manager.old) (plan_of manager.old) (past_of manager.old) (Choice.Start key) }
+    requires open { IsTrue (is_open (past_of manager.old)) }
+    ensures plan { plan_of manager.new ≡ plan_of manager.old }
+    ensures limits { limits_of manager.new ≡ limits_of manager.old }
+    ensures past { OnOk result
+        (past_of manager.new ≡ launch_of (past_of manager.old) key ∷ past_of manager.old) }
+    ensures past_err { OnErr result (past_of manager.new ≡ past_of manager.old) }
+    ensures refused { (before now : ℕ)
+        → IfErr result (IsDriveFault D.faults D.capacity before now manager.new) }
+    ensures fewer { OnOk result (IsNearerEnd (plan_of manager.old) (past_of manager.old) (past_of manager.new)) }
+    ensures within { key.node ≤ count_of (plan_of manager.old) }
+    ensures allowed { key.attempt ≤ (node_at (plan_of manager.old) key.node).course.retries }
+    ensures free { IsFalse (is_among key (outstanding (plan_of manager.old) (past_of manager.old))) }
+{
+    manager.core().keeps_the_law();
+    match manager.launch(key) {
+        Ok(_) => Ok(()),
+        Err(fault) => Err(DriveFault::Manager(fault)),
+    }
+}
+
+/// Records how an outstanding phase ended.
+fn record_end<D: Disk + Drop>(
+    manager: &mut Manager<'_, D>,
+    key: Key,
+    outcome: Outcome,
+) -> Result<(), DriveFault>
+    requires outstanding { IsTrue (is_among key (outstanding (plan_of manager.old) (past_of manager.old))) }
+    requires possible { IsTrue (is_possible outcome) }
+    requires fits { IsTrue (may_end_with (node_at (plan_of manager.old) key.node).course key.phase outcome) }
+    requires open { IsTrue (is_open (past_of manager.old)) }
+    ensures plan { plan_of manager.new ≡ plan_of manager.old }
+    ensures limits { limits_of manager.new ≡ limits_of manager.old }
+    ensures past { OnOk result
+        (past_of manager.new ≡ Record.End key outcome ∷ past_of manager.old) }
+    ensures past_err { OnErr result (past_of manager.new ≡ past_of manager.old) }
+    ensures refused { (before now : ℕ)
+        → IfErr result (IsDriveFault D.faults D.capacity before now manager.new) }
+    ensures fewer { OnOk result (IsNearerEnd (plan_of manager.old) (past_of manager.old) (past_of manager.new)) }
+{
+    manager.core().keeps_the_law();
+    match manager.record_end(key, outcome) {
+        Ok(()) => Ok(()),
+        Err(fault) => Err(DriveFault::Manager(fault)),
+    }
+}
+
+/// Hands a phase that was launched to the starter.
+fn hand_over<D: Disk + Drop, S: Starter>(
+    alloc: Global,
+    manager: &Manager<'_, D>,
+    starter: &mut S,
+    key: Key,
+) -> Result<Started, DriveFault>
+    requires within { key.node ≤ count_of (plan_of manager.now) }
+    requires allowed { key.attempt ≤ (node_at (plan_of manager.now) key.node).course.retries }
+    requires child { IsTrue (starts_child (node_at (plan_of manager.now) key.node) key.phase) }
+    requires outstanding { IsTrue (is_among key (outstanding (plan_of manager.now) (past_of manager.now))) }
+    requires free { IsFalse (is_among key (running (S.told starter.old))) }
+    ensures handed { IfOk result (λ answer. IsHandedOver (plan_of manager.now) (past_of manager.now)
+        key answer (S.told starter.old) (S.told starter.new)) }
+    ensures silent { OnErr result (S.told starter.new ≡ S.told starter.old) }
+    ensures may_be { IfOk result (λ answer.
+        answer ≡ Started.NotStarted → S.may_tell starter.old key NoStart) }
+    ensures later { S.faults starter.old ≤ S.faults starter.new }
+    ensures refused { IfErr result (IsDriveFault D.faults D.capacity
+        (S.faults starter.old) (S.faults starter.new) manager.now) }
+    ensures may { TellsNoMore (S.may_tell starter.old) (S.may_tell starter.new) }
+{
+    let core = manager.core();
+    let facts = core.facts(&key);
+    let Ok(command) = core.plan().command(alloc, &key, &facts) else {
+        return Err(DriveFault::Memory);
+    };
+    match starter.start(key, &command) {
+        Ok(answer) => Ok(answer),
+        Err(_) => Err(DriveFault::StartMemory),
+    }
+}
+
+/// Launches what is chosen: its record, and then its child, if it starts one. What does not run is
+/// recorded as ended at once.
+fn launch_one<D: Disk + Drop, S: Starter>(
+    alloc: Global,
+    manager: &mut Manager<'_, D>,
+    starter: &mut S,
+    key: Key,
+) -> Result<(), DriveFault>
+    requires in_step { AreInStep (plan_of manager.old) (past_of manager.old) (S.told starter.old) }
+    requires chosen { IsChoice (limits_of manager.old) (plan_of manager.old) (past_of manager.old) (Choice.Start key) }
+    requires open { IsTrue (is_open (past_of manager.old)) }
+    ensures plan { plan_of manager.new ≡ plan_of manager.old }
+    ensures limits { limits_of manager.new ≡ limits_of manager.old }
+    ensures step { OnOk result (IsStep (limits_of manager.old) (plan_of manager.old) (S.may_tell starter.old)
+        (past_of manager.old) (S.told starter.old) (past_of manager.new) (S.told starter.new)) }
+    ensures cut { OnErr result (IsCutOff (limits_of manager.old) (plan_of manager.old) (S.may_tell starter.old)
+        (past_of manager.old) (S.told starter.old) (past_of manager.new) (S.told starter.new)) }
+    ensures later { S.faults starter.old ≤ S.faults starter.new }
+    ensures refused { IfErr result (IsDriveFault D.faults D.capacity
+        (S.faults starter.old) (S.faults starter.new) manager.new) }
+    ensures may { TellsNoMore (S.may_tell starter.old) (S.may_tell starter.new) }
+    ensures fewer { OnOk result (IsNearerEnd (plan_of manager.old) (past_of manager.old) (past_of manager.new)) }
+{
+    if let Err(fault) = record_launch(manager, key) {
+        return Err(fault);
+    }
+    if !starts_child(manager, &key) {
+        return record_end(manager, key, Outcome::Exit(0));
+    }
+    match hand_over(alloc, manager, starter, key) {
+        Ok(Started::Running) => Ok(()),
+        Ok(Started::NotStarted) => record_end(manager, key, Outcome::NoStart),
+        Err(fault) => Err(fault),
+    }
+}
+
+/// Waits until a child ends, and records it.
+fn end_one<D: Disk + Drop, S: Starter>(
+    manager: &mut Manager<'_, D>,
+    starter: &mut S,
+) -> Result<(), DriveFault>
+    requires in_step { AreInStep (plan_of manager.old) (past_of manager.old) (S.told starter.old) }
+    requires held { IsHeld (limits_of manager.old) (plan_of manager.old) (past_of manager.old) }
+    requires some { IsFalse (is_nothing (outstanding (plan_of manager.old) (past_of manager.old))) }
+    requires open { IsTrue (is_open (past_of manager.old)) }
+    ensures plan { plan_of manager.new ≡ plan_of manager.old }
+    ensures limits { limits_of manager.new ≡ limits_of manager.old }
+    ensures step { OnOk result (IsStep (limits_of manager.old) (plan_of manager.old) (S.may_tell starter.old)
+        (past_of manager.old) (S.told starter.old) (past_of manager.new) (S.told starter.new)) }
+    ensures cut { OnErr result (IsCutOff (limits_of manager.old) (plan_of manager.old) (S.may_tell starter.old)
+        (past_of manager.old) (S.told starter.old) (past_of manager.new) (S.told starter.new)) }
+    ensures later { S.faults starter.old ≤ S.faults starter.new }
+    ensures refused { IfErr result (IsDriveFault D.faults D.capacity
+        (S.faults starter.old) (S.faults starter.new) manager.new) }
+    ensures may { TellsNoMore (S.may_tell starter.old) (S.may_tell starter.new) }
+    ensures fewer { OnOk result (IsNearerEnd (plan_of manager.old) (past_of manager.old) (past_of manager.new)) }
+{
+    match starter.wait_any() {
+        Ok((key, outcome)) => record_end(manager, key, outcome),
+        Err(_) => Err(DriveFault::WaitFault),
+    }
+}
+
+/// Launches until nothing more is to be launched, or an ending that was recorded aborts the run.
+/// It waits for no child.
+pub fn launch_round<D: Disk + Drop, S: Starter>(
+    alloc: Global,
+    manager: &mut Manager<'_, D>,
+    plan: &Plan,
+    starter: &mut S,
+) -> Result<(), DriveFault>
+    requires own { plan.now ≡ plan_of manager.old }
+    requires in_step { AreInStep (plan_of manager.old) (past_of manager.old) (S.told starter.old) }
+    requires unfinished { IsFalse (is_over (past_of manager.old)) }
+    ensures plan { plan_of manager.new ≡ plan_of manager.old }
+    ensures limits { limits_of manager.new ≡ limits_of manager.old }
+    ensures steps { OnOk result (Drives (limits_of manager.old) (plan_of manager.old) (S.may_tell starter.old)
+        (past_of manager.old) (S.told starter.old) (past_of manager.new) (S.told starter.new)) }
+    ensures done { OnOk result (IsLaunched (limits_of manager.old) (plan_of manager.old) (past_of manager.new)) }
+    ensures stopped { OnErr result (IsHalted (limits_of manager.old) (plan_of manager.old) (S.may_tell starter.old)
+        (past_of manager.old) (S.told starter.old) (past_of manager.new) (S.told starter.new)) }
+    ensures later { S.faults starter.old ≤ S.faults starter.new }
+    ensures refused { IfErr result (IsDriveFault D.faults D.capacity
+        (S.faults starter.old) (S.faults starter.new) manager.new) }
+{
+    let _plan = plan;
+    goes_on(manager);
+    loop {
+        manager.core().keeps_the_law();
+        let before = manager.core().aborted();
+        let Choice::Start(key) = manager.core().choose() else {
+            return Ok(());
+        };
+        if let Err(fault) = launch_one(alloc, manager, starter, key) {
+            return Err(fault);
+        }
+        if is_new(before, manager.core().aborted()) {
+            return Ok(());
+        }
+    }
+}
+
+/// The verdict of a choice to finish.
+fn verdict_of(choice: Choice) -> Option<Verdict>
+    ensures { result ≡ final_verdict choice }
+{
+    match choice {
+        Choice::Finish(verdict) => Some(verdict),
+        _ => None,
+    }
+}
+
+fn is_new(before: bool, now: bool) -> bool
+    ensures { result ≡ (not before && now) }
+{
+    !before && now
+}
+
+/// Does what is chosen: a launch, or a wait.
+fn act<D: Disk + Drop, S: Starter>(
+    alloc: Global,
+    manager: &mut Manager<'_, D>,
+    starter: &mut S,
+    choice: Choice,
+) -> Result<(), DriveFault>
+    requires in_step { AreInStep (plan_of manager.old) (past_of manager.old) (S.told starter.old) }
+    requires chosen { IsChoice (limits_of manager.old) (plan_of manager.old) (past_of manager.old) choice }
+    requires going { final_verdict choice ≡ None }
+    requires open { IsTrue (is_open (past_of manager.old)) }
+    ensures plan { plan_of manager.new ≡ plan_of manager.old }
+    ensures limits { limits_of manager.new ≡ limits_of manager.old }
+    ensures step { OnOk result (IsStep (limits_of manager.old) (plan_of manager.old) (S.may_tell starter.old)
+        (past_of manager.old) (S.told starter.old) (past_of manager.new) (S.told starter.new)) }
+    ensures cut { OnErr result (IsCutOff (limits_of manager.old) (plan_of manager.old) (S.may_tell starter.old)
+        (past_of manager.old) (S.told starter.old) (past_of manager.new) (S.told starter.new)) }
+    ensures later { S.faults starter.old ≤ S.faults starter.new }
+    ensures refused { IfErr result (IsDriveFault D.faults D.capacity
+        (S.faults starter.old) (S.faults starter.new) manager.new) }
+    ensures may { TellsNoMore (S.may_tell starter.old) (S.may_tell starter.new) }
+    ensures fewer { OnOk result
+        (IsNearerEnd (plan_of manager.old) (past_of manager.old) (past_of manager.new)) }
+{
+    match choice {
+        Choice::Start(key) => launch_one(alloc, manager, starter, key),
+        Choice::Wait => end_one(manager, starter),
+        Choice::Finish(_) => unreachable!(),
+    }
+}
+
+/// Takes one step: launches what is chosen, or waits where nothing can be launched; where that ended
+/// the run by an abort, each running child is killed. At the end of the run it answers the verdict.
+fn turn<D: Disk + Drop, S: Starter>(
+    alloc: Global,
+    manager: &mut Manager<'_, D>,
+    starter: &mut S,
+) -> Result<Option<Verdict>, DriveFault>
+    requires in_step { AreInStep (plan_of manager.old) (past_of manager.old) (S.told starter.old) }
+    requires open { IsTrue (is_open (past_of manager.old)) }
+    ensures plan { plan_of manager.new ≡ plan_of manager.old }
+    ensures limits { limits_of manager.new ≡ limits_of manager.old }
+    ensures in_step { OnOk result
+        (AreInStep (plan_of manager.old) (past_of manager.new) (S.told starter.new)) }
+    ensures steps { OnOk result (Drives (limits_of manager.old) (plan_of manager.old) (S.may_tell starter.old)
+        (past_of manager.old) (S.told starter.old) (past_of manager.new) (S.told starter.new)) }
+    ensures over { IfOk result (λ end. IfSome end (λ verdict.
+        IsChoice (limits_of manager.old) (plan_of manager.old) (past_of manager.new) (Choice.Finish verdict))) }
+    ensures fewer { IfOk result (λ end. IfNone end (
+        IsNearerEnd (plan_of manager.old) (past_of manager.old) (past_of manager.new))) }
+    ensures cut { OnErr result (IsCutOff (limits_of manager.old) (plan_of manager.old) (S.may_tell starter.old)
+        (past_of manager.old) (S.told starter.old) (past_of manager.new) (S.told starter.new)) }
+    ensures later { S.faults starter.old ≤ S.faults starter.new }
+    ensures refused { IfErr result (IsDriveFault D.faults D.capacity
+        (S.faults starter.old) (S.faults starter.new) manager.new) }
+    ensures may { TellsNoMore (S.may_tell starter.old) (S.may_tell starter.new) }
+{
+    manager.core().keeps_the_law();
+    let before = manager.core().aborted();
+    let choice = manager.core().choose();
+    if let Some(verdict) = verdict_of(choice) {
+        return Ok(Some(verdict));
+    }
+    if let Err(fault) = act(alloc, manager, starter, choice) {
+        return Err(fault);
+    }
+    if is_new(before, manager.core().aborted()) {
+        kill_all(starter);
+    }
+    Ok(None)
+}
+
+/// Takes steps until the run ends.
+fn run<D: Disk + Drop, S: Starter>(
+    alloc: Global,
+    manager: &mut Manager<'_, D>,
+    starter: &mut S,
+) -> Result<Verdict, DriveFault>
+    requires in_step { AreInStep (plan_of manager.old) (past_of manager.old) (S.told starter.old) }
+    requires open { IsTrue (is_open (past_of manager.old)) }
+    ensures plan { plan_of manager.new ≡ plan_of manager.old }
+    ensures limits { limits_of manager.new ≡ limits_of manager.old }
+    ensures steps { OnOk result (Drives (limits_of manager.old) (plan_of manager.old) (S.may_tell starter.old)
+        (past_of manager.old) (S.told starter.old) (past_of manager.new) (S.told starter.new)) }
+    ensures none_left { OnOk result (running (S.told starter.new) ≡ []) }
+    ensures over { IfOk result (λ verdict.
+        IsChoice (limits_of manager.old) (plan_of manager.old) (past_of manager.new) (Choice.Finish verdict)) }
+    ensures stopped { OnErr result (IsHalted (limits_of manager.old) (plan_of manager.old) (S.may_tell starter.old)
+        (past_of manager.old) (S.told starter.old) (past_of manager.new) (S.told starter.new)) }
+    ensures later { S.faults starter.old ≤ S.faults starter.new }
+    ensures refused { IfErr result (IsDriveFault D.faults D.capacity
+        (S.faults starter.old) (S.faults starter.new) manager.new) }
+{
+    loop {
+        match turn(alloc, manager, starter) {
+            Ok(Some(verdict)) => return Ok(verdict),
+            Ok(None) => {}
+            Err(fault) => return Err(fault),
+        }
+    }
+}
+
+/// Runs a plan to its end: launches what may be launched, waits where nothing can be, and records
+/// each ending as it was told. At an abort and behind a fault each running child is killed, so that
+/// none runs when the call returns.
+///
+/// # Errors
+/// What was recorded stays. Behind `StartMemory` and `Memory` the last launch may be outstanding
+/// though no child was started.
+pub fn drive<D: Disk + Drop, S: Starter>(
+    alloc: Global,
+    manager: &mut Manager<'_, D>,
+    plan: &Plan,
+    starter: &mut S,
+) -> Result<RunEnd, DriveFault>
+    requires own { plan.now ≡ plan_of manager.old }
+    requires in_step { AreInStep (plan_of manager.old) (past_of manager.old) (S.told starter.old) }
+    requires unfinished { IsFalse (is_over (past_of manager.old)) }
+    ensures plan { plan_of manager.new ≡ plan_of manager.old }
+    ensures limits { limits_of manager.new ≡ limits_of manager.old }
+    ensures steps { OnOk result (Drives (limits_of manager.old) (plan_of manager.old) (S.may_tell starter.old)
+        (past_of manager.old) (S.told starter.old) (past_of manager.new) (S.told starter.new)) }
+    ensures over { IfOk result (λ end.
+        IsChoice (limits_of manager.old) (plan_of manager.old) (past_of manager.new) (Choice.Finish end.verdict)) }
+    ensures aborted { IfOk result (λ end.
+        end.aborted ≡ is_aborted (plan_of manager.old) (past_of manager.new)) }
+    ensures stopped { OnErr result (IsStopped (limits_of manager.old) (plan_of manager.old) (S.may_tell starter.old)
+        (past_of manager.old) (S.told starter.old) (past_of manager.new) (S.told starter.new)) }
+    ensures none_left { running (S.told starter.new) ≡ [] }
+    ensures later { S.faults starter.old ≤ S.faults starter.new }
+    ensures refused { IfErr result (IsDriveFault D.faults D.capacity
+        (S.faults starter.old) (S.faults starter.new) manager.new) }
+{
+    let _plan = plan;
+    goes_on(manager);
+    match run(alloc, manager, starter) {
+        Ok(verdict) => Ok(RunEnd {
+            verdict,
+            aborted: manager.core().aborted(),
+        }),
+        Err(fault) => {
+            kill_all(starter);
+            Err(fault)
+        }
+    }
+}
