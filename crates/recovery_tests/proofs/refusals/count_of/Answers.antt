@@ -1,8 +1,9 @@
 use Rattle.std.proofs.Common.{◌∙◌, ap}
 use Rattle.sched_core.specs.Core.{Progress}
+use Rattle.sched_core.specs.Run.{written}
 use Rattle.recovery.specs.Managed.{past_of}
 use Rattle.recovery.proofs.Sealing.{counted}
 use Rattle.recovery_tests.proofs.refusals.count_of.Goals as goal
 
 pub returns : goal.returns
-returns c = counted c.records.result.now (past_of c.args.manager.now) (c.records.ensures ∙ ap (λ (p : Progress). p.past) c.core.ensures.lends)
+returns c = counted c.records.result.now (past_of c.args.manager.now) (c.records.ensures ∙ ap (λ (p : Progress). written p.past) c.core.ensures.lends)
