@@ -2,9 +2,10 @@
 
 ghost use Rattle.std.specs.Prelude.{◌≡◌, ◌+◌, ◌<◌, ◌≤◌, ◌∷◌, ℕ, length, IfOk, IsTrue};
 ghost use Rattle.std.specs.Str.Lines.{lines};
-ghost use Rattle.submit_file.specs.Lines.{is_comment, is_continued, statements};
+ghost use Rattle.submit_file.specs.Lines.{is_continued, statements};
+ghost use Rattle.submit_file.specs.Fronts.{BeginsWithBlanks, HasBlanks};
 
-use crate::line::{begins_with, trim_start};
+use crate::line::{begins_with, is_blank};
 use dag_reader::split_line;
 use std::alloc::{AllocError, Global};
 
@@ -29,14 +30,17 @@ pub(crate) fn first_statement(alloc: Global, text: &[u8]) -> Result<Joined<'_>, 
     let mut joined = Vec::from_slice(alloc, line)?;
     let mut rest = after;
     let mut lines = 1usize;
-    while is_continued(joined.as_slice()) && !rest.is_empty() {
+    // Blanks at the front stay there, whatever is joined: they are gone over once.
+    let mut blanks = blanks_end(joined.as_slice(), 0);
+    while is_continued(joined.as_slice(), blanks) && !rest.is_empty() {
         let (below, after) = split_line(rest);
         joined.pop();
         joined.extend_from_slice(below)?;
+        blanks = blanks_end(joined.as_slice(), blanks);
         rest = after;
         lines += 1;
     }
-    if is_continued(joined.as_slice()) {
+    if is_continued(joined.as_slice(), blanks) {
         joined.pop();
     }
     Ok(Joined {
@@ -46,19 +50,26 @@ pub(crate) fn first_statement(alloc: Global, text: &[u8]) -> Result<Joined<'_>, 
     })
 }
 
-#[tactic(auto, unfolding(crate::specs::Lines::is_continued))]
-fn is_continued(text: &[u8]) -> bool
-    ensures value { result ≡ is_continued text.now }
+/// How many blanks stand at the front of a text whose first `from` bytes are blanks.
+fn blanks_end(text: &[u8], from: usize) -> usize
+    requires { BeginsWithBlanks from text.now }
+    ensures { HasBlanks result text.now }
 {
-    match text.last() {
-        Some(last) => *last == b'\\' && !is_comment(text),
-        None => false,
+    let mut end = from;
+    while end < text.len() && is_blank(text[end]) {
+        end += 1;
     }
+    end
 }
 
-#[tactic(auto, unfolding(crate::specs::Lines::is_comment))]
-fn is_comment(text: &[u8]) -> bool
-    ensures { result ≡ is_comment text.now }
+/// Whether a line with so many blanks at its front is continued.
+#[tactic(auto, unfolding(crate::specs::Lines::is_continued, crate::specs::Lines::is_comment))]
+fn is_continued(text: &[u8], blanks: usize) -> bool
+    requires { HasBlanks blanks text.now }
+    ensures { result ≡ is_continued text.now }
 {
-    begins_with(b'#', trim_start(text))
+    match text.last() {
+        Some(last) => *last == b'\\' && !begins_with(b'#', &text[blanks..]),
+        None => false,
+    }
 }
