@@ -150,3 +150,18 @@ drives-adds limits plan may past told _ _ (one_more {between = between} {after =
     let before = drives-adds limits plan may past told between heard steps in
     let more = step-adds limits plan may between heard after last step in
     (more.0 ++ before.0, more.1 ∙ ap (λ l. more.0 ++ l) before.1 ∙ sym (append_assoc more.0 before.0 past))
+
+cut-adds : (limits : Limits) (plan : Plan) (may : Key → Outcome → Type 0) (past : List Record) (told : List Call) (after : List Record) (last : List Call)
+    → IsCutOff limits plan may past told after last → (own : List Record) × (after ≡ own ++ past)
+cut-adds limits plan may past told _ _ clean = ([], refl)
+cut-adds limits plan may past told _ _ (launched {key = key} chosen) = (launch_of past key ∷ [], refl)
+cut-adds limits plan may past told _ _ (failed {key = key} chosen starting is may_be) = (launch_of past key ∷ [], refl)
+cut-adds limits plan may past told _ _ (ended held ran may_be) = ([], refl)
+
+-- so do those that were cut off
+pub halted-adds : (limits : Limits) (plan : Plan) (may : Key → Outcome → Type 0) (past : List Record) (told : List Call) (after : List Record) (last : List Call)
+    → IsHalted limits plan may past told after last → (own : List Record) × (after ≡ own ++ past)
+halted-adds limits plan may past told after last h =
+    let first = drives-adds limits plan may past told h.between h.heard h.steps in
+    let more = cut-adds limits plan may h.between h.heard after last h.cut in
+    (more.0 ++ first.0, more.1 ∙ ap (λ l. more.0 ++ l) first.1 ∙ sym (append_assoc more.0 first.0 past))

@@ -43,6 +43,11 @@ module _ (limits : Limits) (plan : Plan) (may : Key → Outcome → Type 0) (pas
       subst (λ records. IsCutOff limits plan may past told records heard) (sym is)
       (subst (λ l. IsCutOff limits plan may past told past l) (sym tells) (ended held ran may_be))
 
+  pub cut-told_end : (heard : List Call) (key : Key) (outcome : Outcome) → IsHeld limits plan past → is_among key (running told) ≡ true → may key outcome
+      → heard ≡ calls.Ended key outcome ∷ told → IsCutOff limits plan may past told past heard
+  cut-told_end heard key outcome held ran may_be tells =
+      subst (λ l. IsCutOff limits plan may past told past l) (sym tells) (ended held ran may_be)
+
   pub cut-clean : (after : List Record) (heard : List Call) → after ≡ past → heard ≡ told → IsCutOff limits plan may past told after heard
   cut-clean after heard is same =
       subst (λ records. IsCutOff limits plan may past told records heard) (sym is)
@@ -96,15 +101,21 @@ module _ (limits : Limits) (plan : Plan) (may : Key → Outcome → Type 0) (pas
         (subst (λ l. IsStep limits plan may past told (End key NoStart ∷ launch_of past key ∷ past) l) (sym h.entry) (fails step chosen (child starting) h.is may_be))
     step-fails (Err fault) after heard answer fails_ step starting may_be handed more = tt
 
+    pub cut-told : (heard : List Call) (answer : Started)
+        → answer ≡ NotStarted → starts_child (node_at plan' key.node) key.phase ≡ true → may key NoStart
+        → IsHandedOver plan' records key answer told heard → IsCutOff limits plan may past told records heard
+    cut-told heard answer fails_ starting may_be handed =
+        let h = subst (λ a. IsHandedOver plan (launch_of past key ∷ past) key a told heard) fails_ (moved heard answer handed) in
+        subst (λ r. IsCutOff limits plan may past told r heard) (sym is)
+        (subst (λ l. IsCutOff limits plan may past told (launch_of past key ∷ past) l) (sym h.entry) (failed chosen (child starting) h.is may_be))
+
     pub cut-failed : (result : Result (Unit {0}) DriveFault) (after : List Record) (heard : List Call) (answer : Started)
         → answer ≡ NotStarted → starts_child (node_at plan' key.node) key.phase ≡ true → may key NoStart
         → IsHandedOver plan' records key answer told heard → OnErr result (after ≡ records)
         → OnErr result (IsCutOff limits plan may past told after heard)
     cut-failed (Ok unit) after heard answer fails_ starting may_be handed none = tt
     cut-failed (Err fault) after heard answer fails_ starting may_be handed none =
-        let h = subst (λ a. IsHandedOver plan (launch_of past key ∷ past) key a told heard) fails_ (moved heard answer handed) in
-        subst (λ r. IsCutOff limits plan may past told r heard) (sym (none ∙ is))
-        (subst (λ l. IsCutOff limits plan may past told (launch_of past key ∷ past) l) (sym h.entry) (failed chosen (child starting) h.is may_be))
+        subst (λ r. IsCutOff limits plan may past told r heard) (sym none) (cut-told heard answer fails_ starting may_be handed)
 
 -- an abort is no launch
 launch-calm : (plan : Plan) (past : List Record) (key : Key) → is_aborted plan (launch_of past key ∷ past) ≡ is_aborted plan past

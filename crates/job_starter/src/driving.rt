@@ -10,11 +10,15 @@ ghost use Rattle.recovery.specs.Managed.{plan_of, past_of};
 ghost use Rattle.job_starter.specs.Calls.{running, TellsNoMore};
 ghost use Rattle.job_starter.specs.Drives.{limits_of, launch_of, AreInStep, IsNearerEnd, IsHandedOver, IsHeld, IsStep, final_verdict, Drives, IsCutOff, Kills, IsLaunched, IsHalted, IsStopped};
 ghost use Rattle.job_starter.specs.Causes.{IsDriveFault};
+ghost use Rattle.job_starter.specs.Moments.{IsMomentOfRun, AtAnyMoment, StaysAcknowledged, KeepsDisk};
 
 use crate::log::key_at;
+use crate::records::{
+    chosen, goes_on, is_aborted, keeps_the_law, record_end, record_launch, starts_child,
+};
 use crate::{Started, Starter};
 use event_journal::Disk;
-use node_machine::{Key, Outcome, Phase};
+use node_machine::{Key, Outcome};
 use recovery::{Manager, ManagerFault};
 use run_plan::Plan;
 use sched_core::{Choice, Record, Verdict};
@@ -47,19 +51,6 @@ pub struct RunEnd {
     pub aborted: bool,
 }
 
-/// Whether a phase starts a child: the job of a NOOP does not.
-fn starts_child<D: Disk + Drop>(manager: &Manager<'_, D>, key: &Key) -> bool
-    requires { key.now.node ≤ count_of (plan_of manager.now) }
-    ensures { result ≡ starts_child (node_at (plan_of manager.now) key.now.node) key.now.phase }
-{
-    let course = manager.core().plan().spec(key.node).course();
-    match key.phase {
-        Phase::Pre => course.pre,
-        Phase::Job => !course.noop,
-        Phase::Post => course.post,
-    }
-}
-
 /// Kills each running child, the oldest first.
 #[tactic(auto, using(crate::proofs::Running::fewer_left))]
 fn kill_all<S: Starter>(starter: &mut S)
@@ -71,63 +62,6 @@ fn kill_all<S: Starter>(starter: &mut S)
     while !starter.running().is_empty() {
         let oldest = key_at(starter.running(), 0);
         let _ = starter.kill(oldest);
-    }
-}
-
-/// A run that is not over goes on, since it has begun.
-fn goes_on<D: Disk + Drop>(manager: &Manager<'_, D>)
-    requires { IsFalse (is_over (past_of manager.now)) }
-    ensures { IsTrue (is_open (past_of manager.now)) }
-{
-    let _core = manager.core();
-}
-
-/// Records a launch that is chosen.
-fn record_launch<D: Disk + Drop>(manager: &mut Manager<'_, D>, key: Key) -> Result<(), DriveFault>
-    requires chosen { IsChoice (limits_of manager.old) (plan_of manager.old) (past_of manager.old) (Choice.Start key) }
-    requires open { IsTrue (is_open (past_of manager.old)) }
-    ensures plan { plan_of manager.new ≡ plan_of manager.old }
-    ensures limits { limits_of manager.new ≡ limits_of manager.old }
-    ensures past { OnOk result
-        (past_of manager.new ≡ launch_of (past_of manager.old) key ∷ past_of manager.old) }
-    ensures past_err { OnErr result (past_of manager.new ≡ past_of manager.old) }
-    ensures refused { (before now : ℕ)
-        → IfErr result (IsDriveFault D.faults D.capacity before now manager.new) }
-    ensures fewer { OnOk result (IsNearerEnd (plan_of manager.old) (past_of manager.old) (past_of manager.new)) }
-    ensures within { key.node ≤ count_of (plan_of manager.old) }
-    ensures allowed { key.attempt ≤ (node_at (plan_of manager.old) key.node).course.retries }
-    ensures free { IsFalse (is_among key (outstanding (plan_of manager.old) (past_of manager.old))) }
-{
-    manager.core().keeps_the_law();
-    match manager.launch(key) {
-        Ok(_) => Ok(()),
-        Err(fault) => Err(DriveFault::Manager(fault)),
-    }
-}
-
-/// Records how an outstanding phase ended.
-fn record_end<D: Disk + Drop>(
-    manager: &mut Manager<'_, D>,
-    key: Key,
-    outcome: Outcome,
-) -> Result<(), DriveFault>
-    requires outstanding { IsTrue (is_among key (outstanding (plan_of manager.old) (past_of manager.old))) }
-    requires possible { IsTrue (is_possible outcome) }
-    requires fits { IsTrue (may_end_with (node_at (plan_of manager.old) key.node).course key.phase outcome) }
-    requires open { IsTrue (is_open (past_of manager.old)) }
-    ensures plan { plan_of manager.new ≡ plan_of manager.old }
-    ensures limits { limits_of manager.new ≡ limits_of manager.old }
-    ensures past { OnOk result
-        (past_of manager.new ≡ Record.End key outcome ∷ past_of manager.old) }
-    ensures past_err { OnErr result (past_of manager.new ≡ past_of manager.old) }
-    ensures refused { (before now : ℕ)
-        → IfErr result (IsDriveFault D.faults D.capacity before now manager.new) }
-    ensures fewer { OnOk result (IsNearerEnd (plan_of manager.old) (past_of manager.old) (past_of manager.new)) }
-{
-    manager.core().keeps_the_law();
-    match manager.record_end(key, outcome) {
-        Ok(()) => Ok(()),
-        Err(fault) => Err(DriveFault::Manager(fault)),
     }
 }
 
@@ -186,10 +120,18 @@ fn launch_one<D: Disk + Drop, S: Starter>(
         (S.faults starter.old) (S.faults starter.new) manager.new) }
     ensures may { TellsNoMore (S.may_tell starter.old) (S.may_tell starter.new) }
     ensures fewer { OnOk result (IsNearerEnd (plan_of manager.old) (past_of manager.old) (past_of manager.new)) }
+    ensures any_moment { AtAnyMoment D.honest D.seen D.may_leave D.moment D.left_since
+        manager.old manager.new (IsMomentOfRun (limits_of manager.old) (plan_of manager.old)
+        (S.may_tell starter.old) (past_of manager.old) (S.told starter.old)) }
+    ensures acknowledged { OnOk result
+        (StaysAcknowledged D.honest D.seen D.may_leave manager.old manager.new) }
+    ensures disk { KeepsDisk D.honest D.capacity manager.old manager.new }
 {
+    keeps_the_law(manager);
     if let Err(fault) = record_launch(manager, key) {
         return Err(fault);
     }
+    keeps_the_law(manager);
     if !starts_child(manager, &key) {
         return record_end(manager, key, Outcome::Exit(0));
     }
@@ -220,7 +162,14 @@ fn end_one<D: Disk + Drop, S: Starter>(
         (S.faults starter.old) (S.faults starter.new) manager.new) }
     ensures may { TellsNoMore (S.may_tell starter.old) (S.may_tell starter.new) }
     ensures fewer { OnOk result (IsNearerEnd (plan_of manager.old) (past_of manager.old) (past_of manager.new)) }
+    ensures any_moment { AtAnyMoment D.honest D.seen D.may_leave D.moment D.left_since
+        manager.old manager.new (IsMomentOfRun (limits_of manager.old) (plan_of manager.old)
+        (S.may_tell starter.old) (past_of manager.old) (S.told starter.old)) }
+    ensures acknowledged { OnOk result
+        (StaysAcknowledged D.honest D.seen D.may_leave manager.old manager.new) }
+    ensures disk { KeepsDisk D.honest D.capacity manager.old manager.new }
 {
+    keeps_the_law(manager);
     match starter.wait_any() {
         Ok((key, outcome)) => record_end(manager, key, outcome),
         Err(_) => Err(DriveFault::WaitFault),
@@ -248,19 +197,26 @@ pub fn launch_round<D: Disk + Drop, S: Starter>(
     ensures later { S.faults starter.old ≤ S.faults starter.new }
     ensures refused { IfErr result (IsDriveFault D.faults D.capacity
         (S.faults starter.old) (S.faults starter.new) manager.new) }
+    ensures any_moment { AtAnyMoment D.honest D.seen D.may_leave D.moment D.left_since
+        manager.old manager.new (IsMomentOfRun (limits_of manager.old) (plan_of manager.old)
+        (S.may_tell starter.old) (past_of manager.old) (S.told starter.old)) }
+    ensures acknowledged { OnOk result
+        (StaysAcknowledged D.honest D.seen D.may_leave manager.old manager.new) }
+    ensures disk { KeepsDisk D.honest D.capacity manager.old manager.new }
 {
     let _plan = plan;
     goes_on(manager);
+    keeps_the_law(manager);
     loop {
-        manager.core().keeps_the_law();
-        let before = manager.core().aborted();
-        let Choice::Start(key) = manager.core().choose() else {
+        keeps_the_law(manager);
+        let before = is_aborted(manager);
+        let Choice::Start(key) = chosen(manager) else {
             return Ok(());
         };
         if let Err(fault) = launch_one(alloc, manager, starter, key) {
             return Err(fault);
         }
-        if is_new(before, manager.core().aborted()) {
+        if is_new(before, is_aborted(manager)) {
             return Ok(());
         }
     }
@@ -305,6 +261,12 @@ fn act<D: Disk + Drop, S: Starter>(
     ensures may { TellsNoMore (S.may_tell starter.old) (S.may_tell starter.new) }
     ensures fewer { OnOk result
         (IsNearerEnd (plan_of manager.old) (past_of manager.old) (past_of manager.new)) }
+    ensures any_moment { AtAnyMoment D.honest D.seen D.may_leave D.moment D.left_since
+        manager.old manager.new (IsMomentOfRun (limits_of manager.old) (plan_of manager.old)
+        (S.may_tell starter.old) (past_of manager.old) (S.told starter.old)) }
+    ensures acknowledged { OnOk result
+        (StaysAcknowledged D.honest D.seen D.may_leave manager.old manager.new) }
+    ensures disk { KeepsDisk D.honest D.capacity manager.old manager.new }
 {
     match choice {
         Choice::Start(key) => launch_one(alloc, manager, starter, key),
@@ -338,17 +300,23 @@ fn turn<D: Disk + Drop, S: Starter>(
     ensures refused { IfErr result (IsDriveFault D.faults D.capacity
         (S.faults starter.old) (S.faults starter.new) manager.new) }
     ensures may { TellsNoMore (S.may_tell starter.old) (S.may_tell starter.new) }
+    ensures any_moment { AtAnyMoment D.honest D.seen D.may_leave D.moment D.left_since
+        manager.old manager.new (IsMomentOfRun (limits_of manager.old) (plan_of manager.old)
+        (S.may_tell starter.old) (past_of manager.old) (S.told starter.old)) }
+    ensures acknowledged { OnOk result
+        (StaysAcknowledged D.honest D.seen D.may_leave manager.old manager.new) }
+    ensures disk { KeepsDisk D.honest D.capacity manager.old manager.new }
 {
-    manager.core().keeps_the_law();
-    let before = manager.core().aborted();
-    let choice = manager.core().choose();
+    keeps_the_law(manager);
+    let before = is_aborted(manager);
+    let choice = chosen(manager);
     if let Some(verdict) = verdict_of(choice) {
         return Ok(Some(verdict));
     }
     if let Err(fault) = act(alloc, manager, starter, choice) {
         return Err(fault);
     }
-    if is_new(before, manager.core().aborted()) {
+    if is_new(before, is_aborted(manager)) {
         kill_all(starter);
     }
     Ok(None)
@@ -374,7 +342,14 @@ fn run<D: Disk + Drop, S: Starter>(
     ensures later { S.faults starter.old ≤ S.faults starter.new }
     ensures refused { IfErr result (IsDriveFault D.faults D.capacity
         (S.faults starter.old) (S.faults starter.new) manager.new) }
+    ensures any_moment { AtAnyMoment D.honest D.seen D.may_leave D.moment D.left_since
+        manager.old manager.new (IsMomentOfRun (limits_of manager.old) (plan_of manager.old)
+        (S.may_tell starter.old) (past_of manager.old) (S.told starter.old)) }
+    ensures acknowledged { OnOk result
+        (StaysAcknowledged D.honest D.seen D.may_leave manager.old manager.new) }
+    ensures disk { KeepsDisk D.honest D.capacity manager.old manager.new }
 {
+    keeps_the_law(manager);
     loop {
         match turn(alloc, manager, starter) {
             Ok(Some(verdict)) => return Ok(verdict),
@@ -414,13 +389,19 @@ pub fn drive<D: Disk + Drop, S: Starter>(
     ensures later { S.faults starter.old ≤ S.faults starter.new }
     ensures refused { IfErr result (IsDriveFault D.faults D.capacity
         (S.faults starter.old) (S.faults starter.new) manager.new) }
+    ensures any_moment { AtAnyMoment D.honest D.seen D.may_leave D.moment D.left_since
+        manager.old manager.new (IsMomentOfRun (limits_of manager.old) (plan_of manager.old)
+        (S.may_tell starter.old) (past_of manager.old) (S.told starter.old)) }
+    ensures acknowledged { OnOk result
+        (StaysAcknowledged D.honest D.seen D.may_leave manager.old manager.new) }
+    ensures disk { KeepsDisk D.honest D.capacity manager.old manager.new }
 {
     let _plan = plan;
     goes_on(manager);
     match run(alloc, manager, starter) {
         Ok(verdict) => Ok(RunEnd {
             verdict,
-            aborted: manager.core().aborted(),
+            aborted: is_aborted(manager),
         }),
         Err(fault) => {
             kill_all(starter);

@@ -1,12 +1,16 @@
 //! What holds of the definitions alone. No program calls these functions.
 
-ghost use Rattle.std.specs.Prelude.{List};
+ghost use Rattle.std.specs.Prelude.{◌≡◌, ℕ, List, ◌∷◌};
 ghost use Rattle.throttles.specs.declared.Limits.{Limits};
 ghost use Rattle.run_plan.specs.Plan.{Plan};
 ghost use Rattle.sched_core.specs.declared.Record.{Record};
+ghost use Rattle.sched_core.specs.declared.Record.TheVariants.{Life};
+ghost use Rattle.event_journal.specs.Image.{Header};
+ghost use Rattle.recovery.specs.Chain.{ReadsForInputs};
 ghost use Rattle.job_starter.specs.declared.Call.{Call};
 ghost use Rattle.job_starter.specs.Drives.{Drives, IsHalted, IsStopped};
 ghost use Rattle.job_starter.specs.Handed.{HandsOwn};
+ghost use Rattle.job_starter.specs.Moments.{IsMomentOfRun, IsLifeAt};
 
 use crate::Starter;
 
@@ -22,4 +26,15 @@ pub fn hand_over<S: Starter>()
     ensures stopped { (limits : Limits) (plan : Plan) (starter : S) (past : List Record)
         (told : List Call) (after : List Record) (last : List Call) →
         IsStopped limits plan (S.may_tell starter) past told after last → HandsOwn plan past after told last }
+{}
+
+/// A run that a manager began or went on with stopped at some moment of `launch_round` or `drive`,
+/// by a crash: what it recorded, what it handed over and the image that it left make it a life of
+/// the run, of the bytes that the manager found.
+pub fn stops<S: Starter>()
+    ensures { (limits : Limits) (plan : Plan) (starter : S) (past : List Record)
+        (told : List Call) (header : Header) (found image : List ℕ) →
+        header.digest ≡ plan.digest → ReadsForInputs plan past found →
+        (stop : IsMomentOfRun limits plan (S.may_tell starter) (Life ∷ past) told header image) →
+        IsLifeAt past told found image stop }
 {}
