@@ -21,7 +21,7 @@ use Rattle.job_starter.specs.declared.Started.{Started}
 use Rattle.job_starter.specs.declared.Started.TheVariants.{Running, NotStarted}
 use Rattle.job_starter.specs.declared.driving.DriveFault.{DriveFault}
 use Rattle.job_starter.specs.Calls.{running, TellsNoMore}
-use Rattle.job_starter.specs.Drives.{launch_of, IsHandedOver, AreInStep, IsHeld, IsStep, passes, starts, fails, ends, kills, final_verdict, Drives, no_step, one_more, IsCutOff, clean, launched, failed, ended, Kills, nobody, one_killed, AbortsAtLast}
+use Rattle.job_starter.specs.Drives.{launch_of, IsHandedOver, AreInStep, IsHeld, IsStep, passes, starts, fails, ends, kills, final_verdict, Drives, no_step, one_more, IsCutOff, clean, launched, failed, ended, Starts, none_started, one_start, Kills, nobody, one_killed, AbortsAtLast}
 use Rattle.job_starter.proofs.Steps.{chosen-free}
 
 module _ (limits : Limits) (plan : Plan) (may : Key → Outcome → Type 0) (past : List Record) (told : List Call) where
@@ -252,3 +252,14 @@ step-aborts limits plan may past told _ _ (starts {key = key} s chosen child com
 step-aborts limits plan may past told _ _ (fails {key = key} s chosen child command may_be) calm aborted = (launch-calm plan past key ∙ calm, aborted)
 step-aborts limits plan may past told _ _ (ends s held ran may_be) calm aborted = (calm, aborted)
 step-aborts limits plan may past told _ _ (kills ran free) calm aborted = absurd (false≢true (sym calm ∙ aborted))
+
+pub starts-same : (told heard : List Call) → heard ≡ told → Starts told heard
+starts-same told heard same = subst (Starts told) (sym same) none_started
+
+pub starts-handed : (plan : Plan) (records : List Record) (key : Key) (answer : Started) (told heard : List Call)
+    → IsHandedOver plan records key answer told heard → Starts told heard
+starts-handed plan records key answer told heard handed = subst (Starts told) (sym handed.entry) (one_start none_started)
+
+pub starts-then : (told heard last : List Call) → Starts told heard → Starts heard last → Starts told last
+starts-then told heard _ first none_started = first
+starts-then told heard _ first (one_start s) = one_start (starts-then told heard _ first s)

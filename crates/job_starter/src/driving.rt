@@ -4,11 +4,12 @@ ghost use Rattle.node_machine.specs.Story.{is_possible, may_end_with};
 ghost use Rattle.node_machine.specs.declared.Outcome.TheVariants.{NoStart};
 ghost use Rattle.run_plan.specs.Plan.{node_at, count_of};
 ghost use Rattle.run_plan.specs.Commands.{starts_child};
-ghost use Rattle.sched_core.specs.Run.{is_among, is_aborted, is_over, is_open, is_nothing, outstanding};
+ghost use Rattle.sched_core.specs.Run.{is_among, is_aborted, is_over, is_open, is_nothing, outstanding, may_follow, table_of};
+ghost use Rattle.sched_core.specs.Fate.{AreFates, shown};
 ghost use Rattle.sched_core.specs.Core.{IsChoice};
 ghost use Rattle.recovery.specs.Managed.{plan_of, past_of};
 ghost use Rattle.job_starter.specs.Calls.{running, TellsNoMore};
-ghost use Rattle.job_starter.specs.Drives.{limits_of, launch_of, AreInStep, IsNearerEnd, IsHandedOver, IsHeld, IsStep, final_verdict, Drives, IsCutOff, Kills, IsLaunched, IsHalted, IsStopped};
+ghost use Rattle.job_starter.specs.Drives.{limits_of, launch_of, AreInStep, IsNearerEnd, IsHandedOver, IsHeld, IsStep, final_verdict, Drives, IsCutOff, Starts, Kills, IsLaunched, IsHalted, IsStopped};
 ghost use Rattle.job_starter.specs.Causes.{IsDriveFault};
 ghost use Rattle.job_starter.specs.Moments.{IsMomentOfRun, AtAnyMoment, StaysAcknowledged, KeepsDisk};
 
@@ -120,6 +121,7 @@ fn launch_one<D: Disk + Drop, S: Starter>(
         (S.faults starter.old) (S.faults starter.new) manager.new) }
     ensures may { TellsNoMore (S.may_tell starter.old) (S.may_tell starter.new) }
     ensures fewer { OnOk result (IsNearerEnd (plan_of manager.old) (past_of manager.old) (past_of manager.new)) }
+    ensures waits_for_none { Starts (S.told starter.old) (S.told starter.new) }
     ensures any_moment { AtAnyMoment D.honest D.seen D.may_leave D.moment D.left_since
         manager.old manager.new (IsMomentOfRun (limits_of manager.old) (plan_of manager.old)
         (S.may_tell starter.old) (past_of manager.old) (S.told starter.old)) }
@@ -197,6 +199,7 @@ pub fn launch_round<D: Disk + Drop, S: Starter>(
     ensures later { S.faults starter.old ≤ S.faults starter.new }
     ensures refused { IfErr result (IsDriveFault D.faults D.capacity
         (S.faults starter.old) (S.faults starter.new) manager.new) }
+    ensures waits_for_none { Starts (S.told starter.old) (S.told starter.new) }
     ensures any_moment { AtAnyMoment D.honest D.seen D.may_leave D.moment D.left_since
         manager.old manager.new (IsMomentOfRun (limits_of manager.old) (plan_of manager.old)
         (S.may_tell starter.old) (past_of manager.old) (S.told starter.old)) }
@@ -292,6 +295,7 @@ fn turn<D: Disk + Drop, S: Starter>(
         (past_of manager.old) (S.told starter.old) (past_of manager.new) (S.told starter.new)) }
     ensures over { IfOk result (λ end. IfSome end (λ verdict.
         IsChoice (limits_of manager.old) (plan_of manager.old) (past_of manager.new) (Choice.Finish verdict))) }
+    ensures open { IfOk result (λ end. IfSome end (λ verdict. IsTrue (is_open (past_of manager.new)))) }
     ensures fewer { IfOk result (λ end. IfNone end (
         IsNearerEnd (plan_of manager.old) (past_of manager.old) (past_of manager.new))) }
     ensures cut { OnErr result (IsCutOff (limits_of manager.old) (plan_of manager.old) (S.may_tell starter.old)
@@ -337,6 +341,7 @@ fn run<D: Disk + Drop, S: Starter>(
     ensures none_left { OnOk result (running (S.told starter.new) ≡ []) }
     ensures over { IfOk result (λ verdict.
         IsChoice (limits_of manager.old) (plan_of manager.old) (past_of manager.new) (Choice.Finish verdict)) }
+    ensures open { OnOk result (IsTrue (is_open (past_of manager.new))) }
     ensures stopped { OnErr result (IsHalted (limits_of manager.old) (plan_of manager.old) (S.may_tell starter.old)
         (past_of manager.old) (S.told starter.old) (past_of manager.new) (S.told starter.new)) }
     ensures later { S.faults starter.old ≤ S.faults starter.new }
@@ -383,6 +388,12 @@ pub fn drive<D: Disk + Drop, S: Starter>(
         IsChoice (limits_of manager.old) (plan_of manager.old) (past_of manager.new) (Choice.Finish end.verdict)) }
     ensures aborted { IfOk result (λ end.
         end.aborted ≡ is_aborted (plan_of manager.old) (past_of manager.new)) }
+    // The end of the run may be recorded now.
+    ensures ready { IfOk result (λ end. IsTrue (may_follow (plan_of manager.old) (past_of manager.new)
+        (Record.Finish end.verdict))) }
+    // Without abort the run shows the fates that the recursion over parents reads from its endings.
+    ensures fates { IfOk result (λ end. IsFalse end.aborted → AreFates (plan_of manager.old)
+        (table_of (past_of manager.new)) (shown (plan_of manager.old) (past_of manager.new))) }
     ensures stopped { OnErr result (IsStopped (limits_of manager.old) (plan_of manager.old) (S.may_tell starter.old)
         (past_of manager.old) (S.told starter.old) (past_of manager.new) (S.told starter.new)) }
     ensures none_left { running (S.told starter.new) ≡ [] }
@@ -399,10 +410,13 @@ pub fn drive<D: Disk + Drop, S: Starter>(
     let _plan = plan;
     goes_on(manager);
     match run(alloc, manager, starter) {
-        Ok(verdict) => Ok(RunEnd {
-            verdict,
-            aborted: is_aborted(manager),
-        }),
+        Ok(verdict) => {
+            keeps_the_law(manager);
+            Ok(RunEnd {
+                verdict,
+                aborted: is_aborted(manager),
+            })
+        }
         Err(fault) => {
             kill_all(starter);
             Err(fault)

@@ -9,23 +9,24 @@ ghost use Rattle.event_journal.specs.Image.{Header};
 ghost use Rattle.recovery.specs.Chain.{ReadsForInputs};
 ghost use Rattle.job_starter.specs.declared.Call.{Call};
 ghost use Rattle.job_starter.specs.Drives.{Drives, IsHalted, IsStopped};
-ghost use Rattle.job_starter.specs.Handed.{HandsOwn};
+ghost use Rattle.job_starter.specs.Handed.{HandsAll, HandsAllButOne};
 ghost use Rattle.job_starter.specs.Moments.{IsMomentOfRun, IsLifeAt};
 
 use crate::Starter;
 
 /// What `drive` and `launch_round` ensure of their steps makes them hand over the commands of their
-/// own launches, in their order: all of them, or behind a fault all but perhaps the last.
+/// own launches, once each and in their order: all of them, or behind a fault or a crash all but
+/// perhaps the last.
 pub fn hand_over<S: Starter>()
     ensures driven { (limits : Limits) (plan : Plan) (starter : S) (past : List Record)
         (told : List Call) (after : List Record) (last : List Call) →
-        Drives limits plan (S.may_tell starter) past told after last → HandsOwn plan past after told last }
+        Drives limits plan (S.may_tell starter) past told after last → HandsAll plan past after told last }
     ensures halted { (limits : Limits) (plan : Plan) (starter : S) (past : List Record)
         (told : List Call) (after : List Record) (last : List Call) →
-        IsHalted limits plan (S.may_tell starter) past told after last → HandsOwn plan past after told last }
+        IsHalted limits plan (S.may_tell starter) past told after last → HandsAllButOne plan past after told last }
     ensures stopped { (limits : Limits) (plan : Plan) (starter : S) (past : List Record)
         (told : List Call) (after : List Record) (last : List Call) →
-        IsStopped limits plan (S.may_tell starter) past told after last → HandsOwn plan past after told last }
+        IsStopped limits plan (S.may_tell starter) past told after last → HandsAllButOne plan past after told last }
 {}
 
 /// A run that a manager began or went on with stopped at some moment of `launch_round` or `drive`,

@@ -3,9 +3,9 @@ use Rattle.event_journal.proofs.Moments.{on_ok}
 use Rattle.run_plan.specs.Plan.{Plan}
 use Rattle.sched_core.specs.Run.{is_lawful}
 use Rattle.recovery.specs.Managed.{past_of}
-use Rattle.job_starter.specs.Drives.{clean}
+use Rattle.job_starter.specs.Drives.{clean, none_started}
 use Rattle.job_starter.proofs.Images.{cut_call, then_call}
-use Rattle.job_starter.proofs.Walks.{cut-told, cut-clean, step-passes, cut-launched, cut-unhanded, step-starts, step-fails, cut-failed}
+use Rattle.job_starter.proofs.Walks.{starts-same, starts-handed, cut-told, cut-clean, step-passes, cut-launched, cut-unhanded, step-starts, step-fails, cut-failed}
 use Rattle.job_starter.proofs.driving.launch_one.Goals as goal
 
 pub returns-in-Err-clause-cut : goal.returns-in-Err-clause-cut
@@ -84,3 +84,18 @@ returns-in-Ok-NotStarted-clause-acknowledged g c =
     on_ok c.record_end-in-Ok-NotStarted.result _ _
     (λ second honest header was. second (c.record_launch.ensures.disk.keeps honest) header (c.in_default.ensures.acknowledged honest header was))
     c.record_end-in-Ok-NotStarted.ensures.acknowledged
+
+pub returns-in-Ok-Running-clause-waits_for_none : goal.returns-in-Ok-Running-clause-waits_for_none
+returns-in-Ok-Running-clause-waits_for_none g c = starts-handed _ _ _ _ _ _ c.in-Ok-Running.ensures.handed
+
+pub returns-in-Ok-NotStarted-clause-waits_for_none : goal.returns-in-Ok-NotStarted-clause-waits_for_none
+returns-in-Ok-NotStarted-clause-waits_for_none g c = starts-handed _ _ _ _ _ _ c.in-Ok-NotStarted.ensures.handed
+
+pub returns-in-Err-hand_over-clause-waits_for_none : goal.returns-in-Err-hand_over-clause-waits_for_none
+returns-in-Err-hand_over-clause-waits_for_none g c = starts-same _ _ c.in-Err-hand_over.ensures.silent
+
+pub returns-in-Err-clause-waits_for_none : goal.returns-in-Err-clause-waits_for_none
+returns-in-Err-clause-waits_for_none g c = none_started
+
+pub returns-then-not-starts_child-clause-waits_for_none : goal.returns-then-not-starts_child-clause-waits_for_none
+returns-then-not-starts_child-clause-waits_for_none g c = none_started

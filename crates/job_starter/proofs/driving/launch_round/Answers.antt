@@ -6,9 +6,9 @@ use Rattle.sched_core.specs.Core.{Progress, IsChoice}
 use Rattle.recovery.specs.Managed.{plan_of, past_of}
 use Rattle.std.proofs.Common.{inl, inr}
 use Rattle.throttles.specs.declared.Limits.{Limits}
-use Rattle.job_starter.specs.Drives.{limits_of, AreInStep, AbortsAtLast, IsHeld}
+use Rattle.job_starter.specs.Drives.{none_started, limits_of, AreInStep, AbortsAtLast, IsHeld}
 use Rattle.job_starter.proofs.Steps.{fault-before}
-use Rattle.job_starter.proofs.Walks.{step-in-step, step-aborts}
+use Rattle.job_starter.proofs.Walks.{starts-then, step-in-step, step-aborts}
 use Rattle.job_starter.proofs.Images.{still, at_start, then_steps, keeps_still, keeps_on}
 use Rattle.job_starter.proofs.Rounds.{held-unless-start, first-walk, one-step, drives-on, walk-on, halted-at}
 use Rattle.job_starter.proofs.driving.launch_round.Goals as goal
@@ -23,6 +23,7 @@ loop-key-init g c = (
   λ honest header was. still g.D.Disk.honest g.D.Disk.seen g.D.Disk.may_leave g.D.Disk.moment g.D.Disk.left_since g.met.D.Disk.only_now c.args.manager.now _ header _ refl honest was (at_start _ _ _ _ _ header _ c.keeps_the_law.ensures was.reads),
   λ honest header was. was,
   keeps_still _ _ _,
+  none_started,
 )
 
 pub returns-in-Err-clause-stopped : goal.returns-in-Err-clause-stopped
@@ -66,6 +67,7 @@ loop-key-preserved g c =
           (e.any_moment (i.7.keeps honest) header (i.6 honest header was)),
       λ honest header was. e.acknowledged (i.7.keeps honest) header (i.6 honest header was),
       keeps_on _ _ _ _ _ i.7 e.disk,
+      starts-then _ _ _ i.8 e.waits_for_none,
     )
 
 pub returns-in_default-clause-done : goal.returns-in_default-clause-done
@@ -101,3 +103,9 @@ pub returns-then-is_new-clause-acknowledged : goal.returns-then-is_new-clause-ac
 returns-then-is_new-clause-acknowledged g c = λ honest header was.
     let i = c.loop-key.invariant in
     c.in_default-launch_one.ensures.acknowledged (i.7.keeps honest) header (i.6 honest header was)
+
+pub returns-in-Err-clause-waits_for_none : goal.returns-in-Err-clause-waits_for_none
+returns-in-Err-clause-waits_for_none g c = starts-then _ _ _ c.loop-key.invariant.8 c.launch_one.ensures.waits_for_none
+
+pub returns-then-is_new-clause-waits_for_none : goal.returns-then-is_new-clause-waits_for_none
+returns-then-is_new-clause-waits_for_none g c = starts-then _ _ _ c.loop-key.invariant.8 c.launch_one.ensures.waits_for_none

@@ -15,7 +15,7 @@ returns g c limits plan starter past told header found image digest reads stop =
         reads = reads;
         goes_on = inr adds;
         lawful = stop.lawful;
-        hands_over = hands.hands_over;
+        hands_over = (hands.rest, hands.commands);
         leaves = (stop.added, stop.one, inr (header, stop.reads, digest));
       };
     }
