@@ -6,4 +6,4 @@ mod leading;
 mod rounds;
 
 pub use leading::{Led, lead};
-pub use rounds::{MOST_RECORDS, Start, open_round};
+pub use rounds::{MOST_RECORDS, Start, open_round, run_round};
