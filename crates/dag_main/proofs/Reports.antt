@@ -14,7 +14,7 @@ use Rattle.dag_main.specs.Rehearsed.{HasEntries, IsRehearsalOf, IsOwed}
 use Rattle.sched_core.specs.Lives.{HasOutcomesOf}
 use Rattle.dag_main.specs.Refusals.{ReportsRun, IsPlanOf, IsTableFault}
 use Rattle.dag_main.specs.declared.fault.RunFault.{RunFault}
-use Rattle.dag_main.specs.declared.fault.RunFault.TheVariants.{InFiles, Cycle, InPlan, InTable, InRescue, NotThere, InManager, FileRefused, Memory}
+use Rattle.dag_main.specs.declared.fault.RunFault.TheVariants.{InFiles, Cycle, InPlan, InTable, InRescue, NotThere, InManager, InRun, FileRefused, Memory}
 use Rattle.dag_main.specs.Report.{warning_lines}
 
 same-table : (plan : Plan) (table entries : List Entry) → SameOutcomes table entries → table_by plan table ≡ table_by plan entries
@@ -56,6 +56,7 @@ table-owed files path outcomes p (InTable fault) is (text, said, number, at, fir
 table-owed files path outcomes p (InRescue file fault) is bad = absurd bad
 table-owed files path outcomes p (NotThere number) is bad = absurd bad
 table-owed files path outcomes p (InManager fault) is bad = absurd bad
+table-owed files path outcomes p (InRun fault) is bad = absurd bad
 table-owed files path outcomes p (FileRefused refused) is bad = absurd bad
 table-owed files path outcomes p Memory is bad = tt
 

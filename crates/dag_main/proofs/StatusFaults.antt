@@ -24,7 +24,7 @@ use Rattle.dag_main.specs.Planned.{IsGraphOf, IsPlanBy, IsPlanByFault, has_plan_
 use Rattle.dag_main.specs.Planned as planned
 use Rattle.dag_main.specs.Statused.{records_at, read_fault, IsStatusText, IsRecordsFault, no_journal, foreign_record, reading_had_no_memory}
 use Rattle.dag_main.specs.declared.fault.RunFault.{RunFault}
-use Rattle.dag_main.specs.declared.fault.RunFault.TheVariants.{InFiles, Cycle, InPlan, InTable, InRescue, NotThere, InManager, FileRefused, Memory}
+use Rattle.dag_main.specs.declared.fault.RunFault.TheVariants.{InFiles, Cycle, InPlan, InTable, InRescue, NotThere, InManager, InRun, FileRefused, Memory}
 
 -- a fault that is handed on
 pub handed-on : {A : Type 0} {Q : RunFault → Type 0} (P : RunFault → Type 0) (r : Result A RunFault) → IsErrAnd r Q → ((fault : RunFault) → Q fault → P fault) → IfErr r P
@@ -56,6 +56,7 @@ graph-fault files entries path rescue (InTable fault) is = absurd is
 graph-fault files entries path rescue (InRescue file fault) is = absurd is
 graph-fault files entries path rescue (NotThere number) is = absurd is
 graph-fault files entries path rescue (InManager fault) is = absurd is
+graph-fault files entries path rescue (InRun fault) is = absurd is
 graph-fault files entries path rescue (FileRefused refused) is = absurd is
 graph-fault files entries path rescue Memory is = planned.no_memory
 

@@ -11,7 +11,7 @@ use Rattle.run_plan.specs.PlanAnswers.{is_memory}
 use Rattle.run_plan.specs.Submitted.{first_fault, all_nodes}
 use Rattle.run_plan.specs.declared.fault.PlanFault.{PlanFault}
 use Rattle.dag_main.specs.declared.fault.RunFault.{RunFault}
-use Rattle.dag_main.specs.declared.fault.RunFault.TheVariants.{InFiles, Cycle, InPlan, InTable, InRescue, NotThere, InManager, FileRefused, Memory}
+use Rattle.dag_main.specs.declared.fault.RunFault.TheVariants.{InFiles, Cycle, InPlan, InTable, InRescue, NotThere, InManager, InRun, FileRefused, Memory}
 use Rattle.dag_main.specs.Report.{warning_lines}
 
 abbrev pub yes_or_no : Option FlatNode → List ℕ
@@ -45,6 +45,7 @@ IsCheckFault files path (InTable fault) = ⊥
 IsCheckFault files path (InRescue file fault) = ⊥
 IsCheckFault files path (NotThere number) = ⊥
 IsCheckFault files path (InManager fault) = ⊥
+IsCheckFault files path (InRun fault) = ⊥
 IsCheckFault files path (FileRefused refused) = ⊥
 IsCheckFault files path Memory = Unit {0}
 

@@ -19,7 +19,7 @@ use Rattle.throttles.specs.declared.Limits.{Limits}
 use Rattle.dag_main.specs.Rehearsal.{table_by}
 use Rattle.dag_main.specs.Report.{report_of}
 use Rattle.dag_main.specs.declared.fault.RunFault.{RunFault}
-use Rattle.dag_main.specs.declared.fault.RunFault.TheVariants.{InFiles, Cycle, InPlan, InTable, InRescue, NotThere, InManager, FileRefused, Memory}
+use Rattle.dag_main.specs.declared.fault.RunFault.TheVariants.{InFiles, Cycle, InPlan, InTable, InRescue, NotThere, InManager, InRun, FileRefused, Memory}
 
 -- the report and the exit status of a run of the plan that is finished, by the choices that the limits leave and at the
 -- outcomes of the entries
@@ -44,6 +44,7 @@ IsPlanFault files path (InTable fault) = ⊥
 IsPlanFault files path (InRescue file fault) = ⊥
 IsPlanFault files path (NotThere number) = ⊥
 IsPlanFault files path (InManager fault) = ⊥
+IsPlanFault files path (InRun fault) = ⊥
 IsPlanFault files path (FileRefused refused) = ⊥
 IsPlanFault files path Memory = Unit {0}
 
@@ -58,4 +59,5 @@ IsTableFault outcomes (InPlan fault) = ⊥
 IsTableFault outcomes (InRescue file fault) = ⊥
 IsTableFault outcomes (NotThere number) = ⊥
 IsTableFault outcomes (InManager fault) = ⊥
+IsTableFault outcomes (InRun fault) = ⊥
 IsTableFault outcomes (FileRefused refused) = ⊥

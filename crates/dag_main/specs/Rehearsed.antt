@@ -20,7 +20,7 @@ use Rattle.sched_core.specs.Fate.{Fate, AreFates, final_fate, is_done_state}
 use Rattle.dag_main.specs.Rehearsal.{table_by}
 use Rattle.dag_main.specs.Report.{report_of, fated_report, warning_lines}
 use Rattle.dag_main.specs.declared.fault.RunFault.{RunFault}
-use Rattle.dag_main.specs.declared.fault.RunFault.TheVariants.{InFiles, Cycle, InPlan, InTable, InRescue, NotThere, InManager, FileRefused, Memory}
+use Rattle.dag_main.specs.declared.fault.RunFault.TheVariants.{InFiles, Cycle, InPlan, InTable, InRescue, NotThere, InManager, InRun, FileRefused, Memory}
 
 -- the plan of a DAG, by an order of its nodes, with no submit file read
 abbrev pub plan_by : Dag → List ℕ → Plan
@@ -84,6 +84,7 @@ IsGraphFault files path (InTable fault) = ⊥
 IsGraphFault files path (InRescue file fault) = ⊥
 IsGraphFault files path (NotThere number) = ⊥
 IsGraphFault files path (InManager fault) = ⊥
+IsGraphFault files path (InRun fault) = ⊥
 IsGraphFault files path (FileRefused refused) = ⊥
 IsGraphFault files path Memory = Unit {0}
 
@@ -98,5 +99,6 @@ IsOwed files path outcomes (InTable fault) = (dag : Dag) × (dag_at files path �
 IsOwed files path outcomes (InRescue file fault) = ⊥
 IsOwed files path outcomes (NotThere number) = ⊥
 IsOwed files path outcomes (InManager fault) = ⊥
+IsOwed files path outcomes (InRun fault) = ⊥
 IsOwed files path outcomes (FileRefused refused) = ⊥
 IsOwed files path outcomes Memory = Unit {0}

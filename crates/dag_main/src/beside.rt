@@ -102,6 +102,66 @@ impl<'a> Place<'a> {
             Err(error) => Err(refused(rt.alloc(), path, &error)),
         }
     }
+
+    /// Locks the file beside the DAG file that is named for it, until the handle is let go or the
+    /// process ends; the file is made where it is missing.
+    pub(crate) fn lock<R: Files<File = File> + AllocGlobal>(
+        &self,
+        rt: &R,
+    ) -> Result<File, RunFault> {
+        let alloc = rt.alloc();
+        let path = lock_path(alloc, self.top)?;
+        let place = self.at(alloc, path.as_str())?;
+        let opened = OpenOptions::new()
+            .write(true)
+            .create(true)
+            .open(rt, place.as_str());
+        let file = match opened {
+            Ok(file) => file,
+            Err(error) => return Err(refused(alloc, path.as_str(), &error)),
+        };
+        match file.try_lock() {
+            Ok(()) => Ok(file),
+            Err(_) => Err(self.taken(alloc)),
+        }
+    }
+
+    /// What is told where another manager runs the DAG.
+    pub(crate) fn taken(&self, alloc: Global) -> RunFault {
+        let Ok(path) = lock_path(alloc, self.top) else {
+            return RunFault::Memory;
+        };
+        match String::from_str(alloc, path.as_str()) {
+            Ok(path) => RunFault::FileRefused(path),
+            Err(_) => RunFault::Memory,
+        }
+    }
+
+    /// Gives the journal of a finished round its other name, in place of the one that has it, and
+    /// syncs the folder.
+    pub(crate) fn put_journal_away<R: Files<File = File> + AllocGlobal>(
+        &self,
+        rt: &R,
+    ) -> Result<(), RunFault> {
+        let alloc = rt.alloc();
+        let path = journal_path(alloc, self.top)?;
+        let old = old_journal_path(alloc, self.top)?;
+        let from = self.at(alloc, path.as_str())?;
+        let to = self.at(alloc, old.as_str())?;
+        if let Err(error) = fs::rename(rt, from.as_str(), to.as_str()) {
+            return Err(refused(alloc, path.as_str(), &error));
+        }
+        let folder = self.at(alloc, folder_of(self.top))?;
+        match sync_folder(rt, folder.as_str()) {
+            Ok(()) => Ok(()),
+            Err(error) => Err(refused(alloc, path.as_str(), &error)),
+        }
+    }
+}
+
+/// Brings the names in a folder to the disk.
+fn sync_folder<R: Files<File = File>>(rt: &R, folder: &str) -> io::Result<()> {
+    File::open(rt, folder)?.sync_all()
 }
 
 /// The names in a folder, those apart that are no text.

@@ -6,10 +6,14 @@ use crate::fault::RunFault;
 use crate::loading::{Reading, files_of};
 use crate::report::rehearse_text;
 use crate::request::{Request, read_words};
+use crate::runs::{RunOptions, run_dag};
 use crate::status_here::status_here;
 use crate::warnings::Answer;
 use std::alloc::Global;
+use std::fs::File;
+use std::process::Processes;
 use std::rt::{Env, Files};
+use std::time::Clock;
 use std::{env, fs};
 use throttles::Limits;
 
@@ -22,8 +26,20 @@ const REFUSED: u8 = 125;
 /// What the command prints stands on standard output, its warnings on standard error; a refused
 /// command line is told by clap's text on standard error, a refused input by one line
 /// `dagrun: CODE Name detail`, both with status 125 and nothing on standard output.
-pub fn run<R: Files + Env + Input + Print + Eprint + AllocGlobal>(rt: &R, words: &[&str]) -> u8 {
+pub fn run<
+    R: Files<File = File>
+        + Processes
+        + Clock
+        + Env
+        + Input
+        + Print
+        + Eprint
+        + AllocGlobal
+        + Copy
+        + Drop,
+>(rt: &R, words: &[&str]) -> u8 {
     match read_words(rt.alloc(), words) {
+        Ok(Request::Run { dag, options }) => finish(rt, run_here(rt, dag, &options)),
         Ok(Request::Status { dag }) => finish(rt, status(rt, dag)),
         Ok(Request::Check { dag }) => finish(rt, check(rt, dag)),
         Ok(
@@ -67,6 +83,15 @@ fn folder_now<R: Env + AllocGlobal>(rt: &R) -> Result<String, RunFault> {
         Ok(folder) => Ok(String::from_str(rt.alloc(), folder.as_str())?),
         Err(error) => Err(refused(rt.alloc(), ".", &error)),
     }
+}
+
+fn run_here<R: Files<File = File> + Processes + Clock + Env + AllocGlobal + Copy + Drop>(
+    rt: &R,
+    dag: &str,
+    options: &RunOptions,
+) -> Result<Answer, RunFault> {
+    let folder = folder_now(rt)?;
+    run_dag(*rt, folder.as_str(), dag, options)
 }
 
 fn status<R: Files + Env + AllocGlobal>(rt: &R, dag: &str) -> Result<Answer, RunFault> {

@@ -4,6 +4,7 @@ ghost use Rattle.std.specs.Prelude.{◌≡◌};
 ghost use Rattle.dag_main.specs.declared.fault.RunFault.TheVariants.{Memory};
 
 use dag_reader::{Text, Texts};
+use job_starter::DriveFault;
 use node_machine::TableFault;
 use recovery::ManagerFault;
 use rescue_file::RescueFault;
@@ -31,6 +32,8 @@ pub enum RunFault {
     NotThere(u16),
     /// The journal or the manager of the run refuses.
     InManager(ManagerFault),
+    /// A child can't be started for want of memory, or the system refuses the question how it does.
+    InRun(DriveFault),
     /// The system refuses the file of this path.
     FileRefused(String),
     /// Memory was refused.
@@ -60,6 +63,7 @@ impl fmt::Display for RunFault {
             },
             RunFault::NotThere(number) => write!(f, "E4 NotThere {number}"),
             RunFault::InManager(fault) => write!(f, "{fault}"),
+            RunFault::InRun(fault) => write!(f, "{fault}"),
             RunFault::FileRefused(path) => write!(f, "X2 FileRefused {path}"),
             RunFault::Memory => write!(f, "X1 Memory"),
         }

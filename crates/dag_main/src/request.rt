@@ -2,6 +2,7 @@
 
 ghost use Rattle.std.specs.Prelude.{◌≤◌, length, IsOk};
 
+use crate::runs::RunOptions;
 use clap::{Arg, ArgAction, ArgMatches, Command, Error, value_parser};
 use std::alloc::{AllocError, Global};
 use throttles::Limits;
@@ -20,6 +21,12 @@ pub enum Request<'a> {
     /// `check DAG`: the path of the DAG file, `-` for standard input.
     Check {
         dag: &'a str,
+    },
+
+    /// `run DAG`: the path of the DAG file, and how it is run.
+    Run {
+        dag: &'a str,
+        options: RunOptions,
     },
 
     /// `status DAG`: the path of the DAG file.
@@ -88,6 +95,34 @@ fn limits_of(found: &ArgMatches<'_>) -> Limits {
     }
 }
 
+/// The options of a run.
+fn options_of(found: &ArgMatches<'_>) -> RunOptions {
+    RunOptions {
+        limits: limits_of(found),
+        autorescue: found.get_one::<u8>("autorescue") != Some(0),
+    }
+}
+
+fn run_command<'a>(alloc: Global) -> Result<Command<'a>, AllocError> {
+    Command::new(alloc, "run")
+        .about("Runs a DAG file, or goes on with a run that was cut short")
+        .arg(file_argument(alloc))?
+        .arg(limit_argument(
+            alloc,
+            "maxjobs",
+            "How many jobs may run at once; 0 is no limit",
+        ))?
+        .arg(limit_argument(alloc, "maxpre", "How many PRE scripts may run at once"))?
+        .arg(limit_argument(alloc, "maxpost", "How many POST scripts may run at once"))?
+        .arg(
+            Arg::new(alloc, "autorescue")
+                .long("autorescue")
+                .action(ArgAction::Set)
+                .value_parser(value_parser!(u8).range(0..=1))
+                .help("0: a new round reads no rescue file"),
+        )
+}
+
 fn rehearse_command<'a>(alloc: Global) -> Result<Command<'a>, AllocError> {
     Command::new(alloc, "rehearse")
         .about("Runs a DAG file at the outcomes of a table, and starts no program")
@@ -111,6 +146,7 @@ fn dagrun_command<'a>(alloc: Global) -> Result<Command<'a>, AllocError> {
         .about("A workflow manager for job graphs on one machine")
         .subcommand_required(true)
         .disable_help_subcommand(true)
+        .subcommand(run_command(alloc)?)?
         .subcommand(status_command(alloc)?)?
         .subcommand(check_command(alloc)?)?
         .subcommand(rehearse_command(alloc)?)
@@ -131,6 +167,10 @@ pub fn read_words<'a>(alloc: Global, words: &'a [&'a str]) -> Result<Request<'a>
     }
     let matches = dagrun_command(alloc)?.try_get_matches_from(words)?;
     match matches.subcommand() {
+        Some(("run", found)) => Ok(Request::Run {
+            dag: found.get_str("DAG").unwrap_or("-"),
+            options: options_of(found),
+        }),
         Some(("status", found)) => Ok(Request::Status {
             dag: found.get_str("DAG").unwrap_or("-"),
         }),

@@ -15,14 +15,12 @@ use crate::plans::plan_with;
 use crate::warnings::{Answer, warning_text};
 use event_journal::{Journal, JournalFault, MemDisk, Opened};
 use recovery::{ManagerFault, replay};
+use run_leader::MOST_RECORDS;
 use run_plan::Plan;
 use sched_core::{Core, Record};
 use splices::FileSet;
 use status_report::status_text;
 use std::alloc::{AllocError, Global};
-
-/// How many records a journal holds at most.
-pub(crate) const MOST_RECORDS: u32 = 1 << 24;
 
 /// The status of the run of the DAG file of this path whose journal has these bytes: a line for each
 /// node, in plan order. The DAG file, those of its splices and the submit files of its nodes stand in

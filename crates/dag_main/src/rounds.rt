@@ -1,0 +1,118 @@
+//! Which round of a DAG a run is: what its journal and its rescue files say.
+
+ghost use Rattle.std.specs.Prelude.{◌≡◌, IfOk};
+ghost use Rattle.event_journal.specs.Image.{IsRescueNumber};
+ghost use Rattle.run_leader.specs.Rounds.{IsNumbered};
+
+use crate::beside::{Place, journal_path};
+use crate::fault::RunFault;
+use event_journal::{FileDisk, Journal, JournalFault, Peek};
+use recovery::ManagerFault;
+use run_leader::Start;
+use std::fs::File;
+use std::rt::Files;
+
+/// The greatest number of a rescue file.
+const LAST_NUMBER: u16 = 999;
+
+/// What is done with the journal of a DAG.
+#[derive(Clone, Copy, Debug, PartialEq, Eq)]
+pub(crate) enum Journaled {
+    /// There is none: one is made.
+    Nothing,
+    /// The one that is there is of a finished run: it is put away, and one is made.
+    Finished,
+    /// The run goes on.
+    Unfinished,
+}
+
+/// A round: what is done with the journal, the number of the rescue file that is read, 0 for none,
+/// and of that which is written where one is needed.
+#[derive(Clone, Copy, Debug, PartialEq, Eq)]
+pub(crate) struct Round {
+    pub(crate) journal: Journaled,
+    pub(crate) used: u16,
+    pub(crate) next: u16,
+}
+
+/// The number behind the highest; 999 is written again.
+fn number_after(highest: u16) -> u16
+    ensures { IsRescueNumber result }
+{
+    if highest < LAST_NUMBER {
+        highest + 1
+    } else {
+        LAST_NUMBER
+    }
+}
+
+/// The disk of the file of this path.
+pub(crate) fn disk_at<R: Files<File = File> + AllocGlobal + Copy + Drop>(
+    rt: R,
+    place: &Place<'_>,
+    path: &str,
+) -> Result<FileDisk<R>, RunFault> {
+    let alloc = rt.alloc();
+    let at = place.at(alloc, path)?;
+    Ok(FileDisk::at(rt, String::from_str(alloc, at.as_str())?))
+}
+
+/// The round that the journal and the rescue files that are there make of a run.
+///
+/// # Errors
+/// A journal that can't be read; a number in the header of an unfinished one that no rescue file
+/// has, that of the file read first; a folder that can't be listed.
+pub(crate) fn round_of<R: Files<File = File> + AllocGlobal + Copy + Drop>(
+    rt: R,
+    place: &Place<'_>,
+    autorescue: bool,
+) -> Result<Round, RunFault>
+    ensures { IfOk result (λ round. IsRescueNumber round.next) }
+{
+    let alloc = rt.alloc();
+    let mut disk = disk_at(rt, place, journal_path(alloc, place.top)?.as_str())?;
+    let journal = match Journal::peek(alloc, &mut disk) {
+        Ok(None) => Journaled::Nothing,
+        Ok(Some(peek)) if peek.finished => Journaled::Finished,
+        Ok(Some(peek)) => return unfinished(&peek),
+        Err(JournalFault::Memory) => return Err(RunFault::Memory),
+        Err(fault) => return Err(RunFault::InManager(ManagerFault::Journal(fault))),
+    };
+    let highest = place.highest(&rt)?;
+    Ok(Round {
+        journal,
+        used: if autorescue { highest } else { 0 },
+        next: number_after(highest),
+    })
+}
+
+/// The round of an unfinished journal, whose header has the numbers.
+fn unfinished(peek: &Peek) -> Result<Round, RunFault>
+    ensures { IfOk result (λ round. IsRescueNumber round.next) }
+{
+    if peek.used > LAST_NUMBER {
+        return Err(RunFault::NotThere(peek.used));
+    }
+    if peek.next < 1 || peek.next > LAST_NUMBER {
+        return Err(RunFault::NotThere(peek.next));
+    }
+    Ok(Round {
+        journal: Journaled::Unfinished,
+        used: peek.used,
+        next: peek.next,
+    })
+}
+
+/// How the manager of this round begins.
+pub(crate) fn start_of(round: &Round) -> Start
+    requires { IsRescueNumber round.now.next }
+    ensures { IsNumbered result }
+{
+    match round.journal {
+        Journaled::Nothing | Journaled::Finished => Start::Begin {
+            used: round.used,
+            next: round.next,
+        },
+        Journaled::Unfinished => Start::GoOn,
+    }
+}

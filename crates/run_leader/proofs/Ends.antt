@@ -1,0 +1,92 @@
+-- A run that is led to its end.
+use Rattle.std.proofs.Common.{◌≡◌, ◌&&◌, ℕ, true, false, List, [], ◌∷◌, ◌++◌, refl, sym, ap, ◌∙◌, subst}
+use Rattle.std.proofs.lemmas.Bool.{and_from}
+use Rattle.std.proofs.lemmas.List.{append_assoc}
+use Rattle.throttles.specs.declared.Limits.{Limits}
+use Rattle.node_machine.specs.declared.Key.{Key}
+use Rattle.node_machine.specs.declared.Outcome.{Outcome}
+use Rattle.run_plan.specs.Plan.{Plan}
+use Rattle.sched_core.specs.declared.Record.{Record}
+use Rattle.sched_core.specs.declared.Record.TheVariants.{Finish}
+use Rattle.sched_core.specs.declared.Choice.TheVariants as choices
+use Rattle.sched_core.specs.Run.{is_over, is_lawful, is_aborted, may_follow, exit_status, table_of}
+use Rattle.sched_core.specs.Fate.{AreFates, shown}
+use Rattle.sched_core.specs.Core.{IsChoice}
+use Rattle.status_report.specs.Text.{run_text}
+use Rattle.job_starter.specs.declared.Call.{Call}
+use Rattle.job_starter.specs.Drives.{launch_of, Drives, IsCutOff, clean, launched, failed, ended, IsStopped}
+use Rattle.job_starter.specs.Handed.{HandsOwn}
+use Rattle.job_starter.proofs.Handing.{drives-adds}
+use Rattle.run_leader.specs.Led.{GoOnFrom, IsLed}
+
+aborted-after : (plan : Plan) (past : List Record) (status : ℕ) → is_aborted plan (Finish status ∷ past) ≡ is_aborted plan past
+unfolding is_aborted
+aborted-after plan past status = refl
+
+status-after : (plan : Plan) (past : List Record) (status : ℕ) → exit_status plan (Finish status ∷ past) ≡ exit_status plan past
+unfolding is_aborted
+status-after plan past status = refl
+
+-- the end of a run that went on from these records
+is-led : (plan : Plan) (begun between records own : List Record) (text : List ℕ) (status : ℕ)
+    → between ≡ own ++ begun → records ≡ Finish (exit_status plan between) ∷ between → is_lawful plan between ≡ true
+    → may_follow plan between (Finish (exit_status plan between)) ≡ true
+    → (is_aborted plan between ≡ false → AreFates plan (table_of records) (shown plan records))
+    → text ≡ run_text plan records status → status ≡ exit_status plan between → IsLed plan begun records text status
+is-led plan begun between records own text status more is lawful may fates prints verdict = record {
+  goes_on = (Finish (exit_status plan between) ∷ own, is ∙ ap (λ l. Finish (exit_status plan between) ∷ l) more);
+  finished = subst (λ r. (is_over r && is_lawful plan r) ≡ true) (sym is) (and_from _ _ lawful may);
+  fates = λ calm. fates (sym (aborted-after plan between (exit_status plan between)) ∙ ap (is_aborted plan) (sym is) ∙ calm);
+  text_is = prints;
+  status_is = verdict ∙ sym (status-after plan between (exit_status plan between)) ∙ ap (exit_status plan) (sym is);
+}
+
+-- the same in the plans of the manager at each call
+pub led-by : (limits : Limits) (plan plan0 plan1 plan2 : Plan) → plan ≡ plan0 → plan1 ≡ plan0 → plan2 ≡ plan1
+    → (begun between records : List Record) (text : List ℕ) (status : ℕ) (tells : Key → Outcome → Type 0) (told heard : List Call)
+    → Drives limits plan0 tells begun told between heard → IsChoice limits plan0 between (choices.Finish status)
+    → is_lawful plan1 between ≡ true → may_follow plan1 between (Finish (exit_status plan1 between)) ≡ true
+    → records ≡ Finish (exit_status plan1 between) ∷ between
+    → (is_aborted plan1 between ≡ false → AreFates plan1 (table_of records) (shown plan1 records))
+    → text ≡ run_text plan2 records status → IsLed plan begun records text status
+led-by limits plan plan0 plan1 plan2 own same last begun between records text status tells told heard steps chosen lawful may is fates prints =
+    let here : plan1 ≡ plan = same ∙ sym own in
+    let adds = drives-adds limits plan0 tells begun told between heard steps in
+    is-led plan begun between records adds.0 text status adds.1
+    (subst (λ (p : Plan). records ≡ Finish (exit_status p between) ∷ between) here is)
+    (subst (λ (p : Plan). is_lawful p between ≡ true) here lawful)
+    (subst (λ (p : Plan). may_follow p between (Finish (exit_status p between)) ≡ true) here may)
+    (subst (λ (p : Plan). is_aborted p between ≡ false → AreFates p (table_of records) (shown p records)) here fates)
+    (subst (λ (p : Plan). text ≡ run_text p records status) (last ∙ here) prints)
+    (subst (λ (p : Plan). status ≡ exit_status p between) (sym own) chosen.2)
+
+-- steps that were cut off go on from the records before them
+cut-adds : (limits : Limits) (plan : Plan) (may : Key → Outcome → Type 0) (past : List Record) (told : List Call) (after : List Record) (last : List Call)
+    → IsCutOff limits plan may past told after last → GoOnFrom past after
+cut-adds limits plan may past told _ _ clean = ([], refl)
+cut-adds limits plan may past told _ _ (launched {key = key} chosen) = (launch_of past key ∷ [], refl)
+cut-adds limits plan may past told _ _ (failed {key = key} {command = command} chosen starting is may_be) = (launch_of past key ∷ [], refl)
+cut-adds limits plan may past told _ _ (ended {key = key} {outcome = outcome} held ran may_be) = ([], refl)
+
+then-on : (past between after : List Record) → GoOnFrom past between → GoOnFrom between after → GoOnFrom past after
+then-on past between after first second =
+    (second.0 ++ first.0, second.1 ∙ ap (λ l. second.0 ++ l) first.1 ∙ sym (append_assoc second.0 first.0 past))
+
+pub stopped-adds : (limits : Limits) (plan : Plan) (may : Key → Outcome → Type 0) (past : List Record) (told : List Call) (after : List Record) (last : List Call)
+    → IsStopped limits plan may past told after last → GoOnFrom past after
+stopped-adds limits plan may past told after last s =
+    then-on past s.halted.between after (drives-adds limits plan may past told s.halted.between s.halted.heard s.halted.steps)
+    (cut-adds limits plan may s.halted.between s.halted.heard after s.rest s.halted.cut)
+
+pub driven-adds : (limits : Limits) (plan : Plan) (may : Key → Outcome → Type 0) (past : List Record) (told : List Call) (after : List Record) (last : List Call)
+    → Drives limits plan may past told after last → GoOnFrom past after
+driven-adds = drives-adds
+
+-- the record of the end hands nothing over
+pub finished-adds : (past between after : List Record) (status : ℕ) → GoOnFrom past between → after ≡ Finish status ∷ between → GoOnFrom past after
+finished-adds past between after status on is = (Finish status ∷ on.0, is ∙ ap (λ l. Finish status ∷ l) on.1)
+
+pub finished-hands : (plan : Plan) (past between after : List Record) (status : ℕ) (told heard : List Call)
+    → HandsOwn plan past between told heard → after ≡ Finish status ∷ between → HandsOwn plan past after told heard
+finished-hands plan past between after status told heard h is =
+    subst (λ (l : List Record). HandsOwn plan past l told heard) (sym is) (record { own = h.own; are = h.are; hands_over = h.hands_over })

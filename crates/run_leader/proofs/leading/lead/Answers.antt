@@ -1,0 +1,68 @@
+use Rattle.std.proofs.Common.{◌≡◌, true, List, ap, sym, ◌∙◌, subst}
+use Rattle.sched_core.specs.Core.{Progress}
+use Rattle.sched_core.specs.Run.{is_lawful}
+use Rattle.recovery.specs.Managed.{plan_of, past_of}
+use Rattle.job_starter.specs.Drives.{limits_of}
+use Rattle.status_report.specs.Text.{run_text}
+use Rattle.sched_core.specs.declared.Record.{Record}
+use Rattle.job_starter.specs.Handed.{HandsOwn}
+use Rattle.job_starter.proofs.Handing.{driven, stopped, drives-adds}
+use Rattle.run_leader.specs.Led.{GoOnFrom}
+use Rattle.run_leader.proofs.Ends.{led-by, stopped-adds, finished-adds, finished-hands}
+use Rattle.run_leader.proofs.leading.lead.Goals as goal
+
+pub returns-in-Ok-run_text-clause-led : goal.returns-in-Ok-run_text-clause-led
+returns-in-Ok-run_text-clause-led g c =
+    led-by _ c.args.plan.now (plan_of c.args.manager.now) (plan_of c.drive.new.manager) (plan_of c.finish.new.self)
+    c.requires.own c.in-Ok.ensures.plan c.in-Ok-finish.ensures.plan
+    (past_of c.args.manager.now) (past_of c.drive.new.manager) (past_of c.finish.new.self) _ c.in-Ok.end.verdict
+    (g.S.Starter.may_tell c.args.starter.now) _ _ c.in-Ok.ensures.steps c.in-Ok.ensures.over
+    (subst (λ (p : Progress). is_lawful p.plan p.past ≡ true) c.core.ensures.lends c.keeps_the_law.ensures)
+    c.in-Ok-finish.ensures.lawful c.in-Ok-finish.ensures.past c.in-Ok-finish.ensures.own_fates
+    (c.in-Ok-run_text.ensures ∙ ap (λ (p : Progress). run_text p.plan p.past c.in-Ok.end.verdict) c.core-2.ensures.lends)
+
+pub returns-in-Err-clause-goes_on : goal.returns-in-Err-clause-goes_on
+returns-in-Err-clause-goes_on g c =
+    stopped-adds (limits_of c.args.manager.now) (plan_of c.args.manager.now) (g.S.Starter.may_tell c.args.starter.now) (past_of c.args.manager.now) (g.S.Starter.told c.args.starter.now) (past_of c.drive.new.manager) (g.S.Starter.told c.drive.new.starter) c.in-Err.ensures.stopped
+
+pub returns-in-Err-clause-hands_over : goal.returns-in-Err-clause-hands_over
+returns-in-Err-clause-hands_over g c =
+    stopped (limits_of c.args.manager.now) (plan_of c.args.manager.now) (g.S.Starter.may_tell c.args.starter.now) (past_of c.args.manager.now) (g.S.Starter.told c.args.starter.now) (past_of c.drive.new.manager) (g.S.Starter.told c.drive.new.starter) c.in-Err.ensures.stopped
+
+pub returns-in-Err-sealed-clause-goes_on : goal.returns-in-Err-sealed-clause-goes_on
+returns-in-Err-sealed-clause-goes_on g c =
+    drives-adds (limits_of c.args.manager.now) (plan_of c.args.manager.now) (g.S.Starter.may_tell c.args.starter.now) (past_of c.args.manager.now) (g.S.Starter.told c.args.starter.now) (past_of c.drive.new.manager) (g.S.Starter.told c.drive.new.starter) c.in-Ok.ensures.steps
+
+pub returns-in-Err-sealed-clause-hands_over : goal.returns-in-Err-sealed-clause-hands_over
+returns-in-Err-sealed-clause-hands_over g c =
+    driven (limits_of c.args.manager.now) (plan_of c.args.manager.now) (g.S.Starter.may_tell c.args.starter.now) (past_of c.args.manager.now) (g.S.Starter.told c.args.starter.now) (past_of c.drive.new.manager) (g.S.Starter.told c.drive.new.starter) c.in-Ok.ensures.steps
+
+pub returns-in-Err-finish-clause-goes_on : goal.returns-in-Err-finish-clause-goes_on
+returns-in-Err-finish-clause-goes_on g c =
+    subst (GoOnFrom (past_of c.args.manager.now)) (sym c.in-Err-finish.ensures.past_err)
+    (drives-adds (limits_of c.args.manager.now) (plan_of c.args.manager.now) (g.S.Starter.may_tell c.args.starter.now) (past_of c.args.manager.now) (g.S.Starter.told c.args.starter.now) (past_of c.drive.new.manager) (g.S.Starter.told c.drive.new.starter) c.in-Ok.ensures.steps)
+
+pub returns-in-Err-finish-clause-hands_over : goal.returns-in-Err-finish-clause-hands_over
+returns-in-Err-finish-clause-hands_over g c =
+    subst (λ (l : List Record). HandsOwn (plan_of c.args.manager.now) (past_of c.args.manager.now) l (g.S.Starter.told c.args.starter.now) (g.S.Starter.told c.drive.new.starter)) (sym c.in-Err-finish.ensures.past_err)
+    (driven (limits_of c.args.manager.now) (plan_of c.args.manager.now) (g.S.Starter.may_tell c.args.starter.now) (past_of c.args.manager.now) (g.S.Starter.told c.args.starter.now) (past_of c.drive.new.manager) (g.S.Starter.told c.drive.new.starter) c.in-Ok.ensures.steps)
+
+pub returns-in-Ok-run_text-clause-goes_on : goal.returns-in-Ok-run_text-clause-goes_on
+returns-in-Ok-run_text-clause-goes_on g c =
+    finished-adds (past_of c.args.manager.now) (past_of c.drive.new.manager) (past_of c.finish.new.self) _
+    (drives-adds (limits_of c.args.manager.now) (plan_of c.args.manager.now) (g.S.Starter.may_tell c.args.starter.now) (past_of c.args.manager.now) (g.S.Starter.told c.args.starter.now) (past_of c.drive.new.manager) (g.S.Starter.told c.drive.new.starter) c.in-Ok.ensures.steps) c.in-Ok-finish.ensures.past
+
+pub returns-in-Ok-run_text-clause-hands_over : goal.returns-in-Ok-run_text-clause-hands_over
+returns-in-Ok-run_text-clause-hands_over g c =
+    finished-hands (plan_of c.args.manager.now) (past_of c.args.manager.now) (past_of c.drive.new.manager) (past_of c.finish.new.self) _ (g.S.Starter.told c.args.starter.now) (g.S.Starter.told c.drive.new.starter)
+    (driven (limits_of c.args.manager.now) (plan_of c.args.manager.now) (g.S.Starter.may_tell c.args.starter.now) (past_of c.args.manager.now) (g.S.Starter.told c.args.starter.now) (past_of c.drive.new.manager) (g.S.Starter.told c.drive.new.starter) c.in-Ok.ensures.steps) c.in-Ok-finish.ensures.past
+
+pub returns-in-Err-run_text-clause-goes_on : goal.returns-in-Err-run_text-clause-goes_on
+returns-in-Err-run_text-clause-goes_on g c =
+    finished-adds (past_of c.args.manager.now) (past_of c.drive.new.manager) (past_of c.finish.new.self) _
+    (drives-adds (limits_of c.args.manager.now) (plan_of c.args.manager.now) (g.S.Starter.may_tell c.args.starter.now) (past_of c.args.manager.now) (g.S.Starter.told c.args.starter.now) (past_of c.drive.new.manager) (g.S.Starter.told c.drive.new.starter) c.in-Ok.ensures.steps) c.in-Ok-finish.ensures.past
+
+pub returns-in-Err-run_text-clause-hands_over : goal.returns-in-Err-run_text-clause-hands_over
+returns-in-Err-run_text-clause-hands_over g c =
+    finished-hands (plan_of c.args.manager.now) (past_of c.args.manager.now) (past_of c.drive.new.manager) (past_of c.finish.new.self) _ (g.S.Starter.told c.args.starter.now) (g.S.Starter.told c.drive.new.starter)
+    (driven (limits_of c.args.manager.now) (plan_of c.args.manager.now) (g.S.Starter.may_tell c.args.starter.now) (past_of c.args.manager.now) (g.S.Starter.told c.args.starter.now) (past_of c.drive.new.manager) (g.S.Starter.told c.drive.new.starter) c.in-Ok.ensures.steps) c.in-Ok-finish.ensures.past

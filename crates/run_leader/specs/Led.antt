@@ -1,0 +1,27 @@
+-- A run that is led to its end.
+use Rattle.std.specs.Prelude.{◌≡◌, ℕ, List, ◌++◌, IsTrue, IsFalse}
+use Rattle.run_plan.specs.Plan.{Plan}
+use Rattle.sched_core.specs.declared.Record.{Record}
+use Rattle.sched_core.specs.Run.{is_finished, is_aborted, exit_status, table_of}
+use Rattle.sched_core.specs.Fate.{AreFates, shown}
+use Rattle.status_report.specs.Text.{run_text}
+use Rattle.event_journal.specs.Image.{Header}
+use Rattle.recovery.specs.Managed.{Reads}
+
+-- the records went on from these
+abbrev pub GoOnFrom : List Record → List Record → Type 0
+GoOnFrom begun records = (own : List Record) × (records ≡ own ++ begun)
+
+-- The run went on from the records with which its life began, to its end; and this is printed: the status text of its
+-- records, and its exit status. Without abort each node came to its fate by the endings that were recorded, in whatever
+-- lives they were.
+pub record IsLed (plan : Plan) (begun records : List Record) (text : List ℕ) (status : ℕ) : Type 0 where
+  pub goes_on : GoOnFrom begun records
+  pub finished : IsTrue (is_finished plan records)
+  pub fates : IsFalse (is_aborted plan records) → AreFates plan (table_of records) (shown plan records)
+  pub text_is : text ≡ run_text plan records status
+  pub status_is : status ≡ exit_status plan records
+
+-- an image of a journal whose records went on from these
+abbrev pub ReadsOnFrom : Header → List Record → List ℕ → Type 0
+ReadsOnFrom header begun image = (records : List Record) × GoOnFrom begun records × Reads header records image

@@ -1,0 +1,97 @@
+//! A manager that leads its run to the end.
+
+ghost use Rattle.std.specs.Prelude.{◌≡◌, [], IsFalse, IfOk, string_bytes};
+ghost use Rattle.recovery.specs.Managed.{plan_of, past_of};
+ghost use Rattle.recovery.specs.Seal.{IsSealOf, IsRescued};
+ghost use Rattle.sched_core.specs.Run.{is_over};
+ghost use Rattle.job_starter.specs.Drives.{AreInStep};
+ghost use Rattle.job_starter.specs.Calls.{running};
+ghost use Rattle.job_starter.specs.Handed.{HandsOwn};
+ghost use Rattle.run_leader.specs.Led.{GoOnFrom, IsLed};
+
+use event_journal::Disk;
+use job_starter::{DriveFault, Starter, drive};
+use recovery::{Manager, ManagerFault, Sealed};
+use run_plan::Plan;
+use sched_core::Verdict;
+use status_report::run_text;
+use std::alloc::Global;
+
+/// What a run prints that was led to its end, its exit status, and the disk of the rescue file, where
+/// one was needed.
+#[derive(Drop)]
+pub struct Led<R: Disk + Drop> {
+    pub text: String,
+    pub status: Verdict,
+    pub rescue: Option<R>,
+}
+
+/// Writes the rescue file where one is needed, and seals the run.
+fn sealed<D: Disk + Drop, R: Disk + Drop>(
+    alloc: Global,
+    manager: &Manager<'_, D>,
+    rescue: R,
+) -> Result<Sealed<R>, ManagerFault>
+    ensures { IfOk result (λ seal.
+        IsSealOf R.honest R.may_leave (plan_of manager.now) (past_of manager.now) seal) }
+{
+    if !manager.core().needs_rescue() {
+        return manager.no_rescue();
+    }
+    match manager.write_rescue(alloc, rescue) {
+        Ok(seal) => Ok(seal),
+        Err((_rescue, fault)) => Err(fault),
+    }
+}
+
+/// Leads a run that was begun or recovered to its end: launches and waits until nothing is left, then
+/// writes the rescue file on its disk where one is needed, and records the end.
+///
+/// # Errors
+/// Those of the manager and of the starter. What was recorded stays, and a later manager goes on
+/// from there; no child runs when the call returns.
+pub fn lead<D: Disk + Drop, R: Disk + Drop, S: Starter>(
+    alloc: Global,
+    manager: &mut Manager<'_, D>,
+    plan: &Plan,
+    starter: &mut S,
+    rescue: R,
+) -> Result<Led<R>, DriveFault>
+    requires own { plan.now ≡ plan_of manager.old }
+    requires in_step { AreInStep (plan_of manager.old) (past_of manager.old) (S.told starter.old) }
+    requires unfinished { IsFalse (is_over (past_of manager.old)) }
+    ensures led { IfOk result (λ led.
+        IsLed plan.now (past_of manager.old) (past_of manager.new) (string_bytes led.text) led.status) }
+    // Behind a fault too the records went on, the commands of the own launches were handed over in
+    // their order, but perhaps the last one's, and no child runs.
+    ensures plan { plan_of manager.new ≡ plan_of manager.old }
+    ensures goes_on { GoOnFrom (past_of manager.old) (past_of manager.new) }
+    ensures hands_over { HandsOwn (plan_of manager.old) (past_of manager.old) (past_of manager.new)
+        (S.told starter.old) (S.told starter.new) }
+    ensures none_left { running (S.told starter.new) ≡ [] }
+    // The rescue file that the run owes is on its disk.
+    ensures rescued { IfOk result (λ led.
+        IsRescued R.honest R.may_leave plan.now (past_of manager.new) led.rescue) }
+{
+    let end = match drive(alloc, manager, plan, starter) {
+        Ok(end) => end,
+        Err(fault) => return Err(fault),
+    };
+    let seal = match sealed(alloc, manager, rescue) {
+        Ok(seal) => seal,
+        Err(fault) => return Err(DriveFault::Manager(fault)),
+    };
+    manager.core().keeps_the_law();
+    let rescue = match manager.finish(seal) {
+        Ok(rescue) => rescue,
+        Err((_seal, fault)) => return Err(DriveFault::Manager(fault)),
+    };
+    match run_text(alloc, manager.core(), end.verdict) {
+        Ok(text) => Ok(Led {
+            text,
+            status: end.verdict,
+            rescue,
+        }),
+        Err(_) => Err(DriveFault::Memory),
+    }
+}

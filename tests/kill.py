@@ -1,0 +1,168 @@
+"""Kills `run` by SIGKILL at random moments until it finishes, in rounds (tests/kill.sh says how it is called).
+
+The graph has 200 short jobs, 20 rows of 10, each row above the next; each job appends a line to a file of its own, and one of
+them fails. After each kill the children that the manager left are waited for, and the journal is read: its records are those
+that were there before, and perhaps more; no phase has two ends or is launched behind its end; a job whose end was recorded has
+not run since. In the end the report, the exit status and the rescue file are those of a run that is not killed."""
+import os
+import random
+import shutil
+import signal
+import struct
+import subprocess
+import sys
+import tempfile
+import time
+
+WIDTH = 10
+ROWS = 20
+NAMES = [f"n{i}" for i in range(WIDTH * ROWS)]
+FAILING = "n157"
+LAUNCH, END, FINISH = 2, 3, 4
+
+
+def write(folder, name, text):
+    with open(os.path.join(folder, name), "w") as file:
+        file.write(text)
+
+
+def make_graph(folder):
+    lines = [f"JOB {name} job.sub" for name in NAMES]
+    lines += [f'VARS {name} me="{name}"' for name in NAMES]
+    for row in range(1, ROWS):
+        parents, children = (NAMES[r * WIDTH : (r + 1) * WIDTH] for r in (row - 1, row))
+        lines.append(f"PARENT {' '.join(parents)} CHILD {' '.join(children)}")
+    write(folder, "x.dag", "\n".join(lines) + "\n")
+    write(folder, "job.sub", "executable = /bin/sh\narguments = job.sh $(me)\nqueue\n")
+    write(folder, "job.sh", f"echo ran >> runs/$1\nsleep 0.01\n[ $1 != {FAILING} ] || exit 4\n")
+    os.mkdir(os.path.join(folder, "runs"))
+
+
+def records_in(folder):
+    """The records of the journal: kind, key (node, attempt, phase), value."""
+    path = os.path.join(folder, "x.dag.journal")
+    if not os.path.exists(path):
+        return []
+    with open(path, "rb") as file:
+        journal = file.read()
+    found = []
+    for at in range(64, len(journal), 32):
+        if journal[at] != 0x4F:
+            break
+        kind, phase = journal[at + 1], journal[at + 2]
+        node, attempt, value = struct.unpack(">IIi", journal[at + 4 : at + 16])
+        found.append((kind, (node, attempt, phase), value))
+    return found
+
+
+def runs_in(folder):
+    """How often each job ran."""
+    counts = {}
+    for name in os.listdir(os.path.join(folder, "runs")):
+        with open(os.path.join(folder, "runs", name)) as file:
+            counts[name] = len(file.readlines())
+    return counts
+
+
+def rescue_in(folder):
+    path = os.path.join(folder, "x.dag.rescue001")
+    if not os.path.exists(path):
+        return None
+    with open(path) as file:
+        return file.read()
+
+
+def ended_in(records):
+    return [key for kind, key, _ in records if kind == END]
+
+
+def wait_for_group(group):
+    """Waits until no process of the group is left: the children of a manager that was killed."""
+    for _ in range(600):
+        try:
+            os.killpg(group, 0)
+        except ProcessLookupError:
+            return
+        time.sleep(0.01)
+    sys.exit("children of a killed manager are still there after six seconds")
+
+
+def check_records(records, before):
+    if records[: len(before)] != before:
+        sys.exit("records were lost or changed")
+    ended = set()
+    for kind, key, _ in records:
+        if kind in (LAUNCH, END) and key in ended:
+            sys.exit(f"{key} is launched or ended behind its end")
+        if kind == END:
+            ended.add(key)
+
+
+def one_round(program, folder, longest):
+    """Kills runs until one finishes; answers its report, and how many were killed."""
+    before, kills, settled = [], 0, {}
+    while True:
+        manager = subprocess.Popen(
+            [program, "run", "x.dag"], cwd=folder, stdout=subprocess.PIPE, stderr=subprocess.PIPE, start_new_session=True, text=True
+        )
+        try:
+            text, faults = manager.communicate(timeout=random.uniform(0.005, longest))
+            if faults:
+                sys.exit(f"run is refused: {faults}")
+            status = manager.returncode
+        except subprocess.TimeoutExpired:
+            kills += 1
+            manager.kill()
+            # An orphan holds the ends of the pipes: so they are not read to their end before it is gone.
+            manager.wait()
+            wait_for_group(manager.pid)
+            manager.communicate()
+            status = None
+        records = records_in(folder)
+        check_records(records, before)
+        counts = runs_in(folder)
+        for name, count in settled.items():
+            if counts[name] != count:
+                sys.exit(f"{name} ran again though its end was recorded")
+        settled = {NAMES[key[0]]: counts[NAMES[key[0]]] for key in ended_in(records)}
+        before = records
+        if status is None and records and records[-1][0] == FINISH:
+            # It was killed behind its last record: the report is what `status` tells, and the verdict.
+            text = subprocess.run([program, "status", "x.dag"], cwd=folder, capture_output=True, text=True).stdout
+            status = records[-1][2]
+            text += f"result {status}\n"
+        if status is not None:
+            if len(set(ended_in(records))) != len(ended_in(records)):
+                sys.exit("an end is recorded twice")
+            return (text, status, rescue_in(folder)), kills
+
+
+def main():
+    program = sys.argv[1]
+    rounds = int(sys.argv[2]) if len(sys.argv) > 2 else 20
+    random.seed(int(sys.argv[3]) if len(sys.argv) > 3 else None)
+    kills = 0
+    with tempfile.TemporaryDirectory() as work:
+        calm = os.path.join(work, "calm")
+        os.mkdir(calm)
+        make_graph(calm)
+        start = time.time()
+        run = subprocess.run([program, "run", "x.dag"], cwd=calm, capture_output=True, text=True)
+        took = time.time() - start
+        wanted = (run.stdout, run.returncode, rescue_in(calm))
+        if run.returncode != 1 or run.stderr or wanted[2] is None:
+            sys.exit(f"the run that is not killed ends with {run.returncode}: {run.stderr}")
+        for number in range(rounds):
+            folder = os.path.join(work, f"round{number}")
+            os.mkdir(folder)
+            make_graph(folder)
+            found, killed = one_round(program, folder, max(0.05, took / 8))
+            if found != wanted:
+                sys.exit(f"round {number}: another report, status or rescue file:\n{found}\n{wanted}")
+            kills += killed
+            shutil.rmtree(folder)
+    print(f"{rounds} rounds, {kills} kills: nothing was lost and nothing that had ended ran again")
+
+
+if __name__ == "__main__":
+    main()

@@ -1,0 +1,420 @@
+#!/usr/bin/env python3
+"""Runs workflows with real children, each in a folder of its own, and compares what is printed, the exit status and the files.
+
+    tests/runs.py PROGRAM [WORD]     WORD: only the rows whose name holds it
+
+Values are worked out by hand from the rules in docs/MANUAL.md. The last line is 'N passed, M failed'."""
+import contextlib
+import os
+import re
+import shutil
+import signal
+import subprocess
+import sys
+import tempfile
+import time
+
+DIAMOND = "JOB A a.sub\nJOB B b.sub\nJOB C c.sub\nJOB D d.sub\nPARENT A CHILD B C\nPARENT B C CHILD D\n"
+ALL_DONE = "".join(f"{name} DONE attempts=1 value=0\n" for name in "ABCD") + "result 0\n"
+# The header of a journal, and the slots behind it.
+HEADER, SLOT = 64, 32
+
+
+class Folder:
+    """A folder with files, in which the program is called."""
+
+    def __init__(self, program, path):
+        self.program = program
+        self.path = path
+
+    def at(self, name):
+        return os.path.join(self.path, name)
+
+    def write(self, name, text):
+        with open(self.at(name), "wb") as file:
+            file.write(text if isinstance(text, bytes) else text.encode())
+
+    def read(self, name):
+        with open(self.at(name), "rb") as file:
+            return file.read()
+
+    def there(self, name):
+        return os.path.exists(self.at(name))
+
+    def shell(self, name, script):
+        """A submit file whose job is a shell script."""
+        self.write(name + ".sh", script)
+        self.write(name + ".sub", f"executable = /bin/sh\narguments = {name}.sh\nqueue\n")
+
+    def echo(self, *names):
+        """Submit files whose jobs write a line each."""
+        for name in names:
+            self.write(name + ".sub", f"executable = /bin/echo\narguments = {name}\noutput = {name}.out\nqueue\n")
+
+    def start(self, *words):
+        return subprocess.Popen([self.program, *words], cwd=self.path, stdout=subprocess.PIPE, stderr=subprocess.PIPE)
+
+    def call(self, *words):
+        """What the program prints, what it tells, and its exit status."""
+        done = subprocess.run([self.program, *words], cwd=self.path, capture_output=True, timeout=60)
+        return done.stdout.decode(), done.stderr.decode(), done.returncode
+
+    def cut_journal(self, records):
+        """Leaves so many records of the journal."""
+        self.write("x.dag.journal", self.read("x.dag.journal")[: HEADER + SLOT * records] + b"\0")
+
+    def wait_for(self, name):
+        for _ in range(1000):
+            if self.there(name):
+                return
+            time.sleep(0.01)
+        raise AssertionError(f"{name} is not there after ten seconds")
+
+    def wait_for_launch(self, count):
+        """Waits until the journal has so many records."""
+        for _ in range(1000):
+            if self.there("x.dag.journal") and len(self.read("x.dag.journal")) > HEADER + SLOT * count:
+                return
+            time.sleep(0.01)
+        raise AssertionError(f"there are no {count} records after ten seconds")
+
+
+def same(found, wanted):
+    if found != wanted:
+        raise AssertionError(f"found\n{found}\nwanted\n{wanted}")
+
+
+def refused(folder, words, line):
+    same(folder.call(*words), ("", f"dagrun: {line}\n", 125))
+
+
+def diamond(folder):
+    folder.write("x.dag", DIAMOND)
+    folder.echo(*"abcd")
+    same(folder.call("run", "x.dag"), (ALL_DONE, "", 0))
+    # Life, four launches, four endings, Finish, and the closed gate.
+    same(len(folder.read("x.dag.journal")), HEADER + SLOT * 10 + 1)
+    same(folder.there("x.dag.rescue001"), False)
+    same(folder.read("d.out"), b"d\n")
+    same(folder.call("status", "x.dag"), (ALL_DONE.replace("result 0\n", ""), "", 0))
+
+
+def status_without_a_journal(folder):
+    folder.write("x.dag", DIAMOND)
+    folder.echo(*"abcd")
+    waits = "".join(f"{name} NOT_READY attempts=0 value=-\n" for name in "BCD")
+    same(folder.call("status", "x.dag"), ("A READY attempts=0 value=-\n" + waits, "", 0))
+    same(sorted(os.listdir(folder.path)), ["a.sub", "b.sub", "c.sub", "d.sub", "x.dag"])
+
+
+def one_fails_and_passes(folder):
+    folder.write("x.dag", DIAMOND)
+    folder.echo(*"abd")
+    folder.shell("c", "[ -e ok ] || exit 3\n")
+    report = "A DONE attempts=1 value=0\nB DONE attempts=1 value=0\nC ERROR attempts=1 value=3\nD NOT_READY attempts=0 value=-\n"
+    same(folder.call("run", "x.dag"), (report + "result 1\n", "", 1))
+    rescue = "# Rescue DAG file\n# Total number of Nodes: 4\n# Nodes premarked DONE: 2\n\nDONE A\nDONE B\n"
+    same(folder.read("x.dag.rescue001").decode(), rescue)
+    for name in ("a.out", "b.out"):
+        os.remove(folder.at(name))
+    folder.write("ok", "")
+    report = "A DONE attempts=0 value=-\nB DONE attempts=0 value=-\nC DONE attempts=1 value=0\nD DONE attempts=1 value=0\n"
+    same(folder.call("run", "x.dag"), (report + "result 0\n", "", 0))
+    same([folder.there(name) for name in ("a.out", "b.out", "d.out", "x.dag.journal.old", "x.dag.rescue002")], [False, False, True, True, False])
+    # The header names the rescue file that was read, and the one that would have been written.
+    same(folder.read("x.dag.journal")[4:8], b"\0\1\0\2")
+
+
+def without_the_rescue_file(folder):
+    folder.write("x.dag", DIAMOND)
+    folder.echo(*"abd")
+    folder.shell("c", "exit 3\n")
+    folder.call("run", "x.dag")
+    os.remove(folder.at("a.out"))
+    report = "A DONE attempts=1 value=0\nB DONE attempts=1 value=0\nC ERROR attempts=1 value=3\nD NOT_READY attempts=0 value=-\n"
+    same(folder.call("run", "--autorescue", "0", "x.dag"), (report + "result 1\n", "", 1))
+    same([folder.there("a.out"), folder.there("x.dag.rescue002")], [True, True])
+
+
+def a_program_that_is_not_there(folder):
+    folder.write("x.dag", "JOB A a.sub\nRETRY A 1\nJOB B b.sub\n")
+    folder.write("a.sub", "executable = /no/such\nqueue\n")
+    folder.echo("b")
+    same(folder.call("run", "x.dag"), ("A ERROR attempts=2 value=-1001\nB DONE attempts=1 value=0\nresult 1\n", "", 1))
+    rescue = "# Rescue DAG file\n# Total number of Nodes: 2\n# Nodes premarked DONE: 1\n\nDONE B\n"
+    same(folder.read("x.dag.rescue001").decode(), rescue)
+    os.remove(folder.at("b.out"))
+    same(folder.call("run", "x.dag"), ("A ERROR attempts=2 value=-1001\nB DONE attempts=0 value=-\nresult 1\n", "", 1))
+    same([folder.there(name) for name in ("b.out", "x.dag.journal.old")], [False, True])
+    same(folder.read("x.dag.rescue002").decode(), rescue)
+
+
+def endings(folder):
+    folder.write("x.dag", "JOB A a.sub\nJOB B b.sub\nJOB C c.sub\n")
+    folder.shell("a", "exit 255\n")
+    folder.shell("b", "kill -9 $$\n")
+    folder.shell("c", "exit 125\n")
+    report = "A ERROR attempts=1 value=255\nB ERROR attempts=1 value=-9\nC ERROR attempts=1 value=125\nresult 1\n"
+    same(folder.call("run", "x.dag"), (report, "", 1))
+
+
+def two_wait_for_each_other(folder):
+    gate = ': > "$1"; i=0; while [ ! -e "$2" ]; do i=$((i+1)); if [ $i -gt 40 ]; then rm -f "$1"; exit 9; fi; sleep 0.05; done; exit 0\n'
+    folder.write("gate.sh", gate)
+    folder.write("x.dag", "JOB A a.sub\nJOB B b.sub\n")
+    for one, other in ("ab", "ba"):
+        folder.write(f"{one}.sub", f"executable = /bin/sh\narguments = gate.sh {one} {other}\nqueue\n")
+    same(folder.call("run", "x.dag"), ("A DONE attempts=1 value=0\nB DONE attempts=1 value=0\nresult 0\n", "", 0))
+    for name in ("a", "b", "x.dag.journal"):
+        os.remove(folder.at(name))
+    both_fail = "A ERROR attempts=1 value=9\nB ERROR attempts=1 value=9\nresult 1\n"
+    same(folder.call("run", "x.dag", "--maxjobs", "1"), (both_fail, "", 1))
+
+
+def an_abort_and_final(folder):
+    folder.write("x.dag", "JOB B b.sub\nJOB A a.sub\nRETRY B 3\nABORT-DAG-ON B 7 RETURN 42\nFINAL F f.sub\nSCRIPT PRE F pre.sh $DAG_STATUS $FAILED_COUNT\n")
+    folder.shell("b", "while [ ! -e begun ]; do sleep 0.02; done\nexit 7\n")
+    folder.shell("a", ": > begun\nsleep 30\n: > late\n")
+    folder.echo("f")
+    folder.write("pre.sh", '#!/bin/sh\necho "$@" > told\n')
+    os.chmod(folder.at("pre.sh"), 0o755)
+    begun = time.time()
+    report = "B ERROR attempts=1 value=7\nA READY attempts=0 value=-\nF DONE attempts=1 value=0\nresult 0\n"
+    same(folder.call("run", "x.dag"), (report, "", 0))
+    same(time.time() - begun < 20, True)
+    # An abort is told to FINAL as 3, with one node that failed.
+    same(folder.read("told"), b"3 1\n")
+    same(folder.read("x.dag.rescue001").decode(), "# Rescue DAG file\n# Total number of Nodes: 2\n# Nodes premarked DONE: 0\n\n")
+
+
+def a_first_life_of_four_records(folder):
+    folder.write("x.dag", DIAMOND)
+    folder.echo(*"abcd")
+    folder.call("run", "x.dag")
+    # Life, the launch and the end of A, the launch of B.
+    folder.cut_journal(4)
+    for name in "abcd":
+        os.remove(folder.at(f"{name}.out"))
+    report = "A DONE attempts=1 value=0\nB SUBMITTED attempts=0 value=-\nC READY attempts=0 value=-\nD NOT_READY attempts=0 value=-\n"
+    same(folder.call("status", "x.dag"), (report, "", 0))
+    same(folder.call("run", "x.dag"), (ALL_DONE, "", 0))
+    same([folder.there(f"{name}.out") for name in "abcd"], [False, True, True, True])
+    # The four records, Life, launches and ends of B, C and D, Finish.
+    same(len(folder.read("x.dag.journal")), HEADER + SLOT * 12 + 1)
+
+
+def a_folder_for_a_rescue_file(folder):
+    folder.write("x.dag", DIAMOND)
+    folder.echo(*"abcd")
+    os.mkdir(folder.at("x.dag.rescue001"))
+    before = sorted(os.listdir(folder.path))
+    refused(folder, ("run", "x.dag"), "X2 FileRefused x.dag.rescue001")
+    same(sorted(os.listdir(folder.path)), before)
+
+
+def a_folder_for_the_journal(folder):
+    folder.write("x.dag", DIAMOND)
+    folder.echo(*"abcd")
+    os.mkdir(folder.at("x.dag.journal"))
+    refused(folder, ("run", "x.dag"), "J1 Device")
+    refused(folder, ("status", "x.dag"), "X2 FileRefused x.dag.journal")
+
+
+def a_journal_that_stays(folder):
+    folder.write("x.dag", DIAMOND)
+    folder.echo(*"abcd")
+    folder.call("run", "x.dag")
+    before = folder.read("x.dag.journal")
+    os.mkdir(folder.at("x.dag.journal.old"))
+    refused(folder, ("run", "x.dag"), "X2 FileRefused x.dag.journal")
+    same(folder.read("x.dag.journal"), before)
+
+
+def other_inputs(folder):
+    folder.write("x.dag", DIAMOND)
+    folder.echo(*"abcd")
+    folder.call("run", "x.dag")
+    folder.cut_journal(4)
+    folder.write("x.dag", DIAMOND + "# a comment more\n")
+    before = folder.read("x.dag.journal")
+    refused(folder, ("run", "x.dag"), "J5 OtherInputs")
+    refused(folder, ("status", "x.dag"), "J5 OtherInputs")
+    same(folder.read("x.dag.journal"), before)
+
+
+def no_journal(folder):
+    folder.write("x.dag", DIAMOND)
+    folder.echo(*"abcd")
+    folder.write("x.dag.journal", b"a" * 66)
+    refused(folder, ("run", "x.dag"), "J3 NotAJournal")
+    folder.write("x.dag.journal", b"a" * 65)
+    same(folder.call("run", "x.dag"), (ALL_DONE, "", 0))
+
+
+def numbers_that_no_file_has(folder):
+    folder.write("x.dag", DIAMOND)
+    folder.echo(*"abcd")
+    folder.call("run", "x.dag")
+    folder.cut_journal(4)
+    journal = folder.read("x.dag.journal")
+    folder.write("x.dag.journal", journal[:4] + b"\x03\xe8\0\0" + journal[8:])
+    refused(folder, ("run", "x.dag"), "E4 NotThere 1000")
+    refused(folder, ("status", "x.dag"), "E4 NotThere 1000")
+    folder.write("x.dag.journal", journal[:6] + b"\0\0" + journal[8:])
+    refused(folder, ("run", "x.dag"), "E4 NotThere 0")
+    # The DAG is opened first, and for `status` last.
+    folder.write("x.dag.journal", journal[:4] + b"\x03\xe8\0\0" + journal[8:])
+    os.remove(folder.at("x.dag"))
+    refused(folder, ("run", "x.dag"), "S1 MissingFile x.dag")
+    refused(folder, ("status", "x.dag"), "E4 NotThere 1000")
+
+
+def lines_of_a_rescue_file(folder):
+    folder.write("x.dag", DIAMOND)
+    folder.echo(*"abcd")
+    folder.write("x.dag.rescue002", "DONE A\nDONE Q\n")
+    refused(folder, ("run", "x.dag"), "E2 UnknownNode x.dag.rescue002:2")
+    folder.write("x.dag.rescue010", "RETRY A 1\n")
+    refused(folder, ("run", "x.dag"), "E1 BadLine x.dag.rescue010:1")
+    # A fault of a submit file is told before that of the rescue file.
+    os.remove(folder.at("d.sub"))
+    refused(folder, ("run", "x.dag"), "P1 MissingFile d.sub")
+    same(folder.there("x.dag.journal"), False)
+
+
+def a_foreign_record(folder):
+    folder.write("x.dag", DIAMOND)
+    folder.echo(*"abcd")
+    folder.call("run", "x.dag")
+    journal = folder.read("x.dag.journal")
+    # Life, the launch of A, and then the launch of B in place of the end of A.
+    folder.write("x.dag.journal", journal[: HEADER + SLOT * 2] + journal[HEADER + SLOT * 3 : HEADER + SLOT * 4] + b"\0")
+    refused(folder, ("run", "x.dag"), "M2 Foreign 2")
+    refused(folder, ("status", "x.dag"), "M2 Foreign 2")
+
+
+def a_second_manager(folder):
+    folder.write("x.dag", "JOB A a.sub\n")
+    folder.shell("a", ": > begun\nwhile [ ! -e go ]; do sleep 0.02; done\n")
+    first = folder.start("run", "x.dag")
+    folder.wait_for("begun")
+    before = folder.read("x.dag.journal")
+    refused(folder, ("run", "x.dag"), "X2 FileRefused x.dag.lock")
+    same(folder.read("x.dag.journal"), before)
+    same(folder.call("status", "x.dag"), ("A SUBMITTED attempts=0 value=-\n", "", 0))
+    folder.write("go", "")
+    same(first.communicate(timeout=30), (b"A DONE attempts=1 value=0\nresult 0\n", b""))
+
+
+def stopped(folder, number):
+    """A manager that is stopped by a signal leaves its child alone; `run` goes on, and starts the child's phase again."""
+    folder.write("x.dag", "JOB A a.sub\nJOB B b.sub\nPARENT A CHILD B\n")
+    folder.shell("a", "echo ran >> a.ran\n")
+    folder.shell("b", "echo begun >> b.begun\nwhile [ ! -e go ]; do sleep 0.02; done\necho ended >> b.ended\n")
+    first = folder.start("run", "x.dag")
+    folder.wait_for("b.begun")
+    first.send_signal(number)
+    same(first.wait(timeout=30), -number)
+    same(folder.call("status", "x.dag"), ("A DONE attempts=1 value=0\nB SUBMITTED attempts=0 value=-\n", "", 0))
+    folder.write("go", "")
+    folder.wait_for("b.ended")
+    first.communicate(timeout=30)
+    same(folder.call("run", "x.dag"), ("A DONE attempts=1 value=0\nB DONE attempts=1 value=0\nresult 0\n", "", 0))
+    same([folder.read(name) for name in ("a.ran", "b.begun", "b.ended")], [b"ran\n", b"begun\n" * 2, b"ended\n" * 2])
+
+
+def stopped_by_sigterm(folder):
+    stopped(folder, signal.SIGTERM)
+
+
+def stopped_by_sigint(folder):
+    stopped(folder, signal.SIGINT)
+
+
+def in_another_folder(folder):
+    """The files beside a DAG file stand in its folder, submit files and jobs in the folder of the call."""
+    os.mkdir(folder.at("dags"))
+    folder.write("dags/x.dag", "JOB A a.sub\n")
+    folder.echo("a")
+    same(folder.call("run", "dags/x.dag"), ("A DONE attempts=1 value=0\nresult 0\n", "", 0))
+    same(sorted(os.listdir(folder.path)), ["a.out", "a.sub", "dags"])
+    same(sorted(os.listdir(folder.at("dags"))), ["x.dag", "x.dag.journal", "x.dag.lock"])
+
+
+def the_order_of_the_disk(folder):
+    """A launch is synced before its child starts, an end before a child of its node starts, a rescue file before Finish."""
+    folder.write("x.dag", "JOB A a.sub\nJOB B b.sub\nPARENT A CHILD B\n")
+    folder.write("a.sub", "executable = /bin/true\nqueue\n")
+    folder.write("b.sub", "executable = /bin/false\nqueue\n")
+    names = "openat,pwrite64,fsync,fdatasync,execve,ftruncate"
+    subprocess.run(["strace", "-f", "-y", "-e", f"trace={names}", "-e", "signal=none", "-o", "calls", folder.program, "run", "x.dag"], cwd=folder.path, capture_output=True, timeout=60)
+    seen = []
+    for line in folder.read("calls").decode(errors="replace").splitlines():
+        if "resumed>" in line and "execve" not in line:
+            continue
+        if match := re.search(r"pwrite64\(\d+<[^>]*x\.dag\.journal>, \"O\", 1, (\d+)\)", line):
+            seen.append(f"gate {(int(match[1]) - HEADER) // SLOT}")
+        elif re.search(r"(fsync|fdatasync)\(\d+<[^>]*x\.dag\.journal>", line):
+            seen.append("journal")
+        elif re.search(r"(fsync|fdatasync)\(\d+<[^>]*x\.dag\.rescue001>", line):
+            seen.append("rescue")
+        elif re.search(rf"(fsync|fdatasync)\(\d+<{re.escape(os.path.realpath(folder.path))}>", line):
+            seen.append("folder")
+        elif match := re.search(r'execve\("/bin/(true|false)"', line):
+            seen.append(match[1])
+    order = [what for at, what in enumerate(seen) if what.split()[0] in ("gate", "true", "false", "rescue") or (what == "journal" and seen[at - 1].startswith("gate")) or (what == "folder" and "rescue" in seen[:at])]
+    wanted = []
+    # Life, the launch of A, A's child, its end, the launch of B, B's child, its end, the rescue file, Finish.
+    for what in ("gate 0", "gate 1", "true", "gate 2", "gate 3", "false", "gate 4", "rescue", "folder", "gate 5"):
+        wanted += [what, "journal"] if what.startswith("gate") else [what]
+    same(order, wanted)
+
+
+ROWS = [
+    diamond,
+    status_without_a_journal,
+    one_fails_and_passes,
+    without_the_rescue_file,
+    a_program_that_is_not_there,
+    endings,
+    two_wait_for_each_other,
+    an_abort_and_final,
+    a_first_life_of_four_records,
+    a_folder_for_a_rescue_file,
+    a_folder_for_the_journal,
+    a_journal_that_stays,
+    other_inputs,
+    no_journal,
+    numbers_that_no_file_has,
+    lines_of_a_rescue_file,
+    a_foreign_record,
+    a_second_manager,
+    stopped_by_sigterm,
+    stopped_by_sigint,
+    in_another_folder,
+]
+
+
+def main():
+    program = os.path.realpath(sys.argv[1])
+    rows = list(ROWS)
+    if shutil.which("strace"):
+        rows.append(the_order_of_the_disk)
+    else:
+        print("strace is not installed: the order in which the disk is written is not looked at")
+    if len(sys.argv) > 2:
+        rows = [row for row in rows if sys.argv[2] in row.__name__]
+    failed = 0
+    for row in rows:
+        with tempfile.TemporaryDirectory() as path, contextlib.ExitStack():
+            try:
+                row(Folder(program, path))
+            except (AssertionError, OSError, subprocess.SubprocessError) as fault:
+                failed += 1
+                print(f"FAILED {row.__name__}: {fault}")
+    print(f"{len(rows) - failed} passed, {failed} failed")
+    sys.exit(1 if failed else 0)
+
+
+if __name__ == "__main__":
+    main()
