@@ -20,3 +20,5 @@ pub mod Aborts
 mod FactsLemmas
 pub mod Alone
 mod OneRun
+mod Noted
+mod Taking

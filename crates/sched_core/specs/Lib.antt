@@ -5,6 +5,7 @@ pub mod Lives
 pub mod Example
 pub mod Rounds
 pub mod Limits
+pub mod Notes
 pub mod Core
 pub mod Bound
 pub mod Commands

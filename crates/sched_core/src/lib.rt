@@ -11,6 +11,7 @@ pub mod examples;
 mod facts;
 pub mod laws;
 mod nodes;
+mod notes;
 mod scheduler;
 
 use node_machine::{Key, Outcome};
