@@ -22,3 +22,5 @@ pub mod Alone
 mod OneRun
 mod Noted
 mod Taking
+mod Members
+mod Queues

@@ -77,7 +77,7 @@ fresh-shown plan runs f = record {
 }
 
 -- a node that may be launched has a next phase
-free-next : (plan : Plan) (past : List Record) (o : Option Key) → is_free plan past o ≡ true → (key : Key) × (o ≡ Some key)
+pub free-next : (plan : Plan) (past : List Record) (o : Option Key) → is_free plan past o ≡ true → (key : Key) × (o ≡ Some key)
 free-next plan past None h = absurd (false≢true h)
 free-next plan past (Some key) h = (key, refl)
 

@@ -1,5 +1,5 @@
 -- What a core notes of attempts, record after record.
-use Rattle.std.proofs.Common.{◌≡◌, ℕ, ℤ, pos, zero, suc, ◌<◌, ◌≤◌, Bool, true, false, not, ◌&&◌, ◌||◌, List, [], ◌∷◌, ◌++◌, length, replicate, ◌==◌, Option, Some, None, is_none, slice_set, refl, sym, ap, ◌∙◌, subst, arith, eq-eqb, eqb-true, length-set, if◌then◌else◌}
+use Rattle.std.proofs.Common.{◌≡◌, ℕ, ℤ, pos, zero, suc, ◌<◌, ◌≤◌, Bool, true, false, not, ◌&&◌, ◌||◌, List, [], ◌∷◌, ◌++◌, length, ◌==◌, Option, Some, None, is_none, slice_set, refl, sym, ap, ◌∙◌, subst, arith, eq-eqb, eqb-true, length-set, if◌then◌else◌}
 use Rattle.std.specs.Ordering.{int_eq}
 use Rattle.std.proofs.lemmas.Bool.{and_parts, eqb-false, false_from_ne_true}
 use Rattle.node_machine.specs.declared.Phase.{Phase}
@@ -389,9 +389,3 @@ module _ (plan : Plan) (past : List Record) (lawful : is_lawful plan past ≡ tr
       set-notes (End key outcome) key.node _ within
       (ap (λ (n : AttemptNotes). with_end n key.phase outcome) (are.each key.node within) ∙ end-own plan past lawful key outcome may)
       (end-other plan past lawful key outcome may)
-
--- and before any record
-none-noted : (n : ℕ) (node : ℕ) → notes_at (replicate n (no_notes 0)) node ≡ no_notes 0
-none-noted zero node = refl
-none-noted (suc n) zero = refl
-none-noted (suc n) (suc node) = none-noted n node

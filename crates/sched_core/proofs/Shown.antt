@@ -67,7 +67,7 @@ aborted-is plan past lawful runs stands =
     ap not (all_below-same (λ node. not (is_met (node_at plan node).course.abort_on (run_at runs node).stand.value)) (λ node. not (has_abort_value plan past node)) (count_of plan)
     (λ node lt. λ j. not (is_met (node_at plan node).course.abort_on ((ap (λ (s : Stand). s.value) (stands node (omega arith)) ∙ stand-value plan past lawful node) j))))
 
-silent-life : (plan : Plan) (past : List Record) → is_aborted plan past ≡ is_aborted plan (Life ∷ past)
+pub silent-life : (plan : Plan) (past : List Record) → is_aborted plan past ≡ is_aborted plan (Life ∷ past)
 unfolding is_aborted
 silent-life plan past = refl
 
@@ -75,7 +75,7 @@ pub silent-launch : (plan : Plan) (past : List Record) (key : Key) (number : ℕ
 unfolding is_aborted
 silent-launch plan past key number = refl
 
-silent-finish : (plan : Plan) (past : List Record) (status : ℕ) → is_aborted plan past ≡ is_aborted plan (Finish status ∷ past)
+pub silent-finish : (plan : Plan) (past : List Record) (status : ℕ) → is_aborted plan past ≡ is_aborted plan (Finish status ∷ past)
 unfolding is_aborted
 silent-finish plan past status = refl
 

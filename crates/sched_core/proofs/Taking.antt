@@ -1,16 +1,18 @@
 -- What a record does to the nodes at hand: no look at the others is needed.
 use Rattle.std.proofs.Common.{◌≡◌, ℕ, zero, suc, ◌+◌, ◌<◌, ◌≤◌, Bool, true, false, not, ◌&&◌, ◌||◌, List, [], ◌∷◌, ◌++◌, ◌==◌, Option, Some, None, is_none, unwrap_or, slice_set, refl, sym, ap, ◌∙◌, subst, arith, eqb-true, lt-ltb, length, length-set, if◌then◌else◌}
 use Rattle.std.specs.Prelude.{nat_lt}
-use Rattle.std.proofs.lemmas.Bool.{eqb-false, ltb-true, ltb-false, false_from_ne_true}
+use Rattle.std.proofs.lemmas.Bool.{eqb-false, ltb-true, ltb-false, false_from_ne_true, false≢true}
 use Rattle.node_machine.specs.declared.Phase.{Phase}
 use Rattle.node_machine.specs.declared.Phase.TheVariants.{Pre, Job}
 use Rattle.node_machine.specs.declared.Outcome.TheVariants.{Exit}
+use Rattle.node_machine.specs.declared.Outcome.{Outcome}
 use Rattle.node_machine.specs.declared.Key.{Key}
 use Rattle.node_machine.specs.declared.Stand.{Stand}
 use Rattle.node_machine.specs.declared.Ended.{Ended}
 use Rattle.node_machine.proofs.Trees.{got}
 use Rattle.node_machine.specs.NodeProgress.{NodeProgress}
 use Rattle.node_machine.specs.Story.{next_after, is_good_after, value_of}
+use Rattle.node_machine.specs.NodeRun.{ended_with}
 use Rattle.node_machine.specs.Stand.{next_of, stand_after}
 use Rattle.node_machine.proofs.Standing.{steps-next}
 use Rattle.run_plan.specs.Plan.{Plan, node_at, count_of, all_below}
@@ -26,7 +28,7 @@ use Rattle.sched_core.specs.Notes.{first_ended, phase_key, noted_facts, notes_of
 use Rattle.sched_core.proofs.Keys.{each_among}
 use Rattle.sched_core.proofs.Sound.{Held, sound, end-among, next-parts, launch-held}
 use Rattle.sched_core.proofs.Held.{histories-are, end-within, launched-within, launched-idle, ended-runs}
-use Rattle.sched_core.proofs.Shown.{stand-next, stand-done, stand-value, aborted-is}
+use Rattle.sched_core.proofs.Shown.{stand-next, stand-done, stand-value, aborted-is, shows-after}
 use Rattle.sched_core.proofs.Sweeps.{all_below-same, run_at-other}
 use Rattle.sched_core.proofs.Aborts.{over-at}
 use Rattle.sched_core.proofs.FactsLemmas.{first-outcome, among-within}
@@ -164,10 +166,6 @@ stuck-error plan past runs aborted jobs s node lt =
 
     stand_is : (run_at runs node).stand ≡ stand
     stand_is = ap (λ (r : NodeProgress). r.stand) (s.runs_are node lt)
-
-    and-assoc : (a b c : Bool) → (a && b && c) ≡ (a && (b && c))
-    and-assoc true b c = refl
-    and-assoc false b c = refl
 
     -- done, no phase, good
     both : (d n g : Bool) → (not d && (n && not g)) ≡ (not (d || (n && g)) && (if d then true else n))
@@ -360,3 +358,16 @@ notes-many notes Life = refl
 notes-many notes (Launch key number) = length-set notes key.node (with_launch (notes_at notes key.node) key number)
 notes-many notes (End key outcome) = length-set notes key.node (with_end (notes_at notes key.node) key.phase outcome)
 notes-many notes (Finish status) = refl
+
+-- a run that is aborted stays so
+pub aborted-stays : (plan : Plan) (past : List Record) (runs : List NodeProgress) (aborted : Bool) (jobs : ℕ) → Shows plan past runs aborted jobs
+    → (key : Key) (outcome : Outcome) → may_follow plan past (End key outcome) ≡ true → is_aborted plan (End key outcome ∷ past) ≡ false → is_aborted plan past ≡ false
+aborted-stays plan past runs aborted jobs s key outcome may calm =
+    let after = shows-after plan past runs aborted jobs s (End key outcome) may in
+    let takes = shows-takes plan past runs aborted jobs s (End key outcome) may in
+    let one = one-abort plan runs key.node (ended_with (run_at runs key.node) outcome) (let w = takes.0 in let m = s.many in omega (arith, w, m)) takes.2 in
+    sym s.aborted_is ∙ flag-shown plan past runs aborted jobs s ∙ left (aborted_in plan runs) _ (sym one ∙ after.aborted_is ∙ calm)
+  where
+    left : (a b : Bool) → (a || b) ≡ false → a ≡ false
+    left true b h = absurd (false≢true (sym h))
+    left false b h = refl

@@ -6,6 +6,7 @@ pub mod Example
 pub mod Rounds
 pub mod Limits
 pub mod Notes
+pub mod Queued
 pub mod Core
 pub mod Bound
 pub mod Commands

@@ -12,6 +12,7 @@ mod facts;
 pub mod laws;
 mod nodes;
 mod notes;
+mod ready;
 mod scheduler;
 
 use node_machine::{Key, Outcome};

@@ -8,6 +8,7 @@ ghost use Rattle.sched_core.specs.Run.{written, history, next, is_done, attempts
 ghost use Rattle.sched_core.specs.Fate.{shown};
 ghost use Rattle.sched_core.specs.Core.{Progress, Shows, Takes, aborted_in, is_running, has_key_of, runs_after, aborted_after, jobs_after, fault_after, launchable, first_launched, startable, better_of, AreMarks, IsBestBelow, IsChoice};
 ghost use Rattle.sched_core.specs.Limits.{lets_in};
+ghost use Rattle.sched_core.specs.Queued.{AreWaiting};
 ghost use Rattle.sched_core.specs.Commands.{facts_in};
 
 use crate::facts::noted_facts;
@@ -18,8 +19,10 @@ use crate::nodes::{
     stop_at_abort, throttle,
 };
 use crate::notes::{AttemptNotes, fresh_notes, note, notes_of};
+use crate::ready::{fresh_queue, requeue};
 use crate::{Choice, CoreFault, Record};
 use node_machine::{Ended, Key, NodeRun, Outcome, State};
+use ready_queue::{Member, ReadyQueue};
 use run_plan::{PhaseFacts, Plan};
 use std::alloc::Global;
 use std::marker::Model;
@@ -36,6 +39,7 @@ pub struct Core<'a> {
     throttles: Throttles,
     notes: Vec<AttemptNotes>,
     failed: u32,
+    queue: ReadyQueue,
 }
 
 impl<'a> Model for Core<'a> {
@@ -44,6 +48,7 @@ impl<'a> Model for Core<'a> {
     ghost use Rattle.sched_core.specs.Core.{Progress, Shows};
     ghost use Rattle.sched_core.specs.Limits.{IsThrottled};
     ghost use Rattle.sched_core.specs.Notes.{IsNoted};
+    ghost use Rattle.sched_core.specs.Queued.{IsQueued};
 
     ghost Value = { Progress };
 
@@ -51,7 +56,8 @@ impl<'a> Model for Core<'a> {
 
     ghost invariant = { λ a. Shows a.plan.now (written a.records.items) a.runs.items a.aborted a.jobs
         × IsThrottled a.plan.now (written a.records.items) a.throttles
-        × IsNoted a.plan.now (written a.records.items) a.notes.items a.failed };
+        × IsNoted a.plan.now (written a.records.items) a.notes.items a.failed
+        × IsQueued a.plan.now (written a.records.items) a.queue };
 }
 
 /// What a record makes of the nodes; the answer is the flag for an abort.
@@ -241,23 +247,19 @@ impl<'a> Core<'a> {
         !self.aborted() && self.parents_done(node) && self.is_free(node)
     }
 
+    /// The nodes that may be ready, best first: each that is stands among them.
+    fn waiting(&self) -> &[Member]
+        ensures { AreWaiting self.now.plan self.now.past result.now }
+    {
+        let _records = &self.records;
+        self.queue.members()
+    }
+
     fn nothing_ready(&self) -> bool
         ensures { result ≡ all_below (λ node. not (is_ready self.now.plan self.now.past node)) (count_of self.now.plan) }
     {
-        for node in 0..self.plan().count() {
-            if self.is_ready(node) {
-                return false;
-            }
-        }
-        true
-    }
-
-    /// Whether nothing of an ordinary node is outstanding.
-    fn no_ordinary_running(&self) -> bool
-        ensures { result ≡ list_all (λ key. nat_le (count_of self.now.plan) key.node) (outstanding self.now.plan self.now.past) }
-    {
-        for node in 0..self.plan().count() {
-            if self.is_running(node) {
+        for member in self.waiting() {
+            if self.is_ready(member.node) {
                 return false;
             }
         }
@@ -269,12 +271,17 @@ impl<'a> Core<'a> {
         ensures { result ≡ is_nothing (outstanding self.now.plan self.now.past) }
     {
         let _records = &self.records;
-        for node in 0..self.plan().count() + 1 {
-            if self.is_running(node) {
-                return false;
-            }
-        }
-        true
+        let _graph = self.plan.graph();
+        self.throttles.is_idle()
+    }
+
+    /// Whether nothing of an ordinary node is outstanding, where nothing of the FINAL node is.
+    fn no_ordinary_running(&self) -> bool
+        requires { IsTrue (is_free self.now.plan self.now.past (next self.now.plan self.now.past (count_of self.now.plan))) }
+        ensures { result ≡ list_all (λ key. nat_le (count_of self.now.plan) key.node) (outstanding self.now.plan self.now.past) }
+    {
+        self.keeps_the_law();
+        self.nothing_running()
     }
 
     /// Whether the next phase of the FINAL node may be launched: it is its turn.
@@ -469,6 +476,7 @@ impl<'a> Core<'a> {
         note(plan, &mut self.notes, entry);
         self.aborted = advance(plan, &mut self.runs, self.aborted, entry);
         self.failed = count_failed(plan, &self.runs, self.failed, entry);
+        requeue(plan, &self.runs, &mut self.queue, entry);
         let stops = both(self.aborted, !was_aborted);
         throttle(plan, &mut self.throttles, entry, stops);
         push_in_room(&mut self.records, entry);
@@ -513,6 +521,7 @@ impl<'a> Core<'a> {
         let runs = fresh_runs(alloc, plan)?;
         let throttles = fresh_throttles(alloc, plan, limits)?;
         let notes = fresh_notes(alloc, plan)?;
+        let queue = fresh_queue(alloc, plan, &runs)?;
         Ok(Core {
             plan,
             records: Vec::new(alloc),
@@ -522,6 +531,7 @@ impl<'a> Core<'a> {
             throttles,
             notes,
             failed: 0,
+            queue,
         })
     }
 
@@ -553,15 +563,25 @@ impl<'a> Core<'a> {
         }
     }
 
+    /// Of the ordinary nodes the best whose phase may be launched and is let in.
+    fn best_ordinary(&self) -> Option<Key>
+        ensures { IsBestBelow self.now.limits self.now.plan self.now.past (count_of self.now.plan) result }
+    {
+        for member in self.waiting() {
+            match self.startable(member.node) {
+                Some(key) => return Some(key),
+                None => {}
+            }
+        }
+        None
+    }
+
     /// The best phase that may be launched and is let in.
     fn best(&self) -> Option<Key>
         ensures { IsBestBelow self.now.limits self.now.plan self.now.past (suc (count_of self.now.plan)) result }
     {
-        let mut best: Option<Key> = None;
-        for node in 0..self.plan().count() + 1 {
-            best = better_of(self.plan(), best, self.startable(node));
-        }
-        best
+        let count = self.plan().count();
+        better_of(self.plan(), self.best_ordinary(), self.startable(count))
     }
 
     /// What is to be done next: of the phases that may be launched and that no limit holds, the

@@ -6,6 +6,8 @@ use Rattle.sched_core.specs.Run.{may_follow}
 use Rattle.sched_core.specs.Core.{Progress, Takes, Shows, aborted_in, failed_after}
 use Rattle.sched_core.proofs.Taking.{shows-takes, flag-shown, failed-room, noted-added, notes-many}
 use Rattle.sched_core.specs.Notes.{notes_after}
+use Rattle.sched_core.specs.Queued.{IsQueued, IsRequeued}
+use Rattle.sched_core.proofs.Queues.{queue-next}
 use Rattle.sched_core.specs.declared.notes.AttemptNotes.{AttemptNotes}
 use Rattle.sched_core.proofs.Moves.{jobs-few, written, add-shown}
 use Rattle.sched_core.proofs.Throttling.{entry-of_node, same-categories, entry-counted, few-running, throttled-added}
@@ -60,6 +62,14 @@ invariant_of-self c =
           c.self.inside.notes.items _ c.self.invariant.2 c.self.invariant.0 may past shown
           (written c.note.new.notes c.self.inside.notes.items c.self.inside.notes.len (ap (λ (l : List AttemptNotes). length l) noted ∙ notes-many c.self.inside.notes.items c.args.entry ∙ sym same_notes ∙ c.deref_mut.ensures.len) ∙ noted)
           (c.count_failed-self-inside.ensures ∙ ap (λ (l : List NodeProgress). failed_after c.self.inside.plan.now l c.self.inside.failed c.args.entry) c.deref-2.ensures.value),
+      subst (λ (l : List Record). IsQueued c.self.inside.plan.now l c.requeue.new.queue) (sym past)
+          (queue-next c.self.inside.plan.now (reverse c.self.inside.records.items) c.self.inside.runs.items
+          (take c.self.inside.runs.len (c.advance-self-inside.new.runs ++ drop (length c.advance-self-inside.new.runs) c.self.inside.runs.items))
+          c.self.inside.aborted c.advance-self-inside.result c.self.inside.jobs c.count_jobs-self-inside.result c.self.invariant.0 c.graph-graph.ensures.made c.args.entry may
+          (subst (λ (l : List Record). Shows c.self.inside.plan.now l (take c.self.inside.runs.len (c.advance-self-inside.new.runs ++ drop (length c.advance-self-inside.new.runs) c.self.inside.runs.items))
+          c.advance-self-inside.result c.count_jobs-self-inside.result) past shown)
+          c.self.inside.queue c.requeue.new.queue c.self.invariant.3 c.requeue.ensures.are
+          (subst (λ (l : List NodeProgress). IsRequeued c.self.inside.plan.now l c.args.entry c.self.inside.queue.members c.requeue.new.queue.members) c.deref-3.ensures.value c.requeue.ensures.requeued)),
     )
 
 pub note-requires-clause-node : goal.note-requires-clause-node
@@ -93,3 +103,9 @@ count_failed-self-inside-requires c =
       node = entry-of_node plan c.graph-graph.ensures.made (reverse records) c.self.inside.throttles c.self.invariant.1 c.args.entry c.self.invariant.0.lawful may;
       few = subst (λ (l : List NodeProgress). failed_after plan l c.self.inside.failed c.args.entry < 4294967296) (sym c.deref-2.ensures.value) (omega (arith, room, few, same));
     }
+
+pub requeue-requires-clause-node : goal.requeue-requires-clause-node
+requeue-requires-clause-node c =
+    let may : may_follow c.self.inside.plan.now (reverse c.self.inside.records.items) c.args.entry ≡ true =
+    subst (λ (v : Progress). may_follow v.plan v.past c.args.entry ≡ true) (sym c.self.view_is) c.requires.lawful in
+    entry-of_node c.self.inside.plan.now c.graph-graph.ensures.made (reverse c.self.inside.records.items) c.self.inside.throttles c.self.invariant.1 c.args.entry c.self.invariant.0.lawful may
