@@ -140,6 +140,14 @@ impl ReadyQueue {
         &self.members
     }
 
+    /// Whether this is a member.
+    pub fn contains(&self, member: Member) -> bool
+        ensures { IsTrue result ↔ Contains self.now.members member }
+    {
+        let place = place_of(&self.members, member);
+        is_there(&self.members, member, place)
+    }
+
     /// Adds a member, at its place. It takes no memory.
     pub fn add(&mut self, member: Member) -> Result<(), QueueFault>
         requires { 0 < self.old.room }
@@ -165,6 +173,7 @@ impl ReadyQueue {
             × (slice_index_or self.old.members place member ≡ member)
             × (self.new.members ≡ remove self.old.members place)) }
         ensures room { self.old.room ≤ self.new.room }
+        ensures freed { OnOk result (self.old.room + 1 ≤ self.new.room) }
         ensures unchanged { OnErr result (self.new ≡ self.old) }
         ensures err { IfErr result (λ fault. fault ≡ Absent) }
     {

@@ -180,3 +180,12 @@ made-ranked graph sources digest order = λ node small parent among.
 
 pub ranked : (plan : Plan) → IsPlanned plan → IsOrderOf plan.graph.dag plan.graph.order → IsRankedBy (rank_in plan.graph.order) plan
 ranked plan is order = subst (IsRankedBy (rank_in plan.graph.order)) (sym is.made) (made-ranked plan.graph is.sources plan.digest order)
+
+-- the parents of an ordinary node are those of the graph
+pub parents-are : (plan : Plan) → IsPlanned plan → (node : ℕ) → node < count_of plan → (node_at plan node).parents ≡ parents_of plan.graph.dag node
+parents-are plan is node small =
+    let made = plan_of plan.graph is.sources plan.digest in
+    let n : count_of plan ≡ length plan.graph.dag.nodes = planned-count plan is in
+    ap (λ (p : Plan). (node_at p node).parents) is.made
+    ∙ spec-parents plan.graph.dag is.sources 0 plan.graph.dag.nodes node (unwrap_or made.final_node no_node) (omega (arith, small, n))
+    ∙ ap (parents_of plan.graph.dag) (let e : 0 + node ≡ node = omega arith in e)

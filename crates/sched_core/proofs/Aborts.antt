@@ -23,7 +23,7 @@ use Rattle.sched_core.proofs.LivesLemmas.{told-by, table-fates}
 use Rattle.sched_core.proofs.Bounds.{Quiet, quiet-after, not-false}
 
 -- no phase follows an attempt that has the abort value
-over-at : (plan : Plan) (past : List Record) → is_lawful plan past ≡ true → (node : ℕ) → has_abort_value plan past node ≡ true
+pub over-at : (plan : Plan) (past : List Record) → is_lawful plan past ≡ true → (node : ℕ) → has_abort_value plan past node ≡ true
     → next_after (node_at plan node).course (history past node) ≡ None
 unfolding Quiet
 over-at plan past lawful node met =

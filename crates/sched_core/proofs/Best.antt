@@ -1,6 +1,6 @@
 -- The best of the phases that may be started.
-use Rattle.std.proofs.Common.{nat_lt, lt-ltb, not, ◌||◌, zero, ◌≡◌, ℕ, suc, ◌<◌, ◌≤◌, inl, inr, Bool, true, false, List, [], ◌∷◌, length, Option, Some, None, ◌==◌, refl, sym, ap, ◌∙◌, subst, arith, eqb-true, if◌then◌else◌}
-use Rattle.std.specs.Prelude.{ℤ, ◌<ℤ◌, ◌≤ℤ◌, int_lt, IfSome, replicate, slice_index}
+use Rattle.std.proofs.Common.{nat_lt, lt-ltb, not, ◌||◌, zero, ◌≡◌, ℕ, suc, ◌<◌, inl, inr, Bool, true, false, List, [], ◌∷◌, length, Option, Some, None, ◌==◌, refl, sym, ap, ◌∙◌, subst, arith, eqb-true, if◌then◌else◌}
+use Rattle.std.specs.Prelude.{ℤ, ◌<ℤ◌, ◌≤ℤ◌, int_lt, replicate, slice_index}
 use Rattle.std.proofs.lemmas.Bool.{eqb-false, ltb-true, ltb-false, and_from, false≢true}
 use Rattle.std.proofs.lemmas.Int.{ints, by_lt_z}
 use Rattle.node_machine.specs.declared.Key.{Key}
@@ -233,17 +233,3 @@ choice-one limits plan past (choices.Finish status) choices.Wait c d = absurd (f
 choice-one limits plan past (choices.Finish status) (choices.Finish other) c d = ap choices.Finish (c.2 ∙ sym d.2)
 choice-one limits plan past (choices.Finish status) (choices.Start key) c d = absurd (start-finish limits plan past key d.0 c.0)
 choice-one limits plan past (choices.Start key) (choices.Finish status) c d = absurd (start-finish limits plan past key c.0 d.0)
-
--- what is best, and what may be started, is of a node of the plan
-pub best-few : (limits : Limits) (plan : Plan) (past : List Record) (n : ℕ) (best : Option Key) → IsBestBelow limits plan past n best → n ≤ suc (count_of plan)
-    → IfSome best (λ key. key.node ≤ count_of plan)
-best-few limits plan past n None b few = tt
-best-few limits plan past n (Some key) b few = let lt = b.1 in omega arith
-
-pub startable-few : (limits : Limits) (plan : Plan) (past : List Record) (node : ℕ) (o : Option Key) → o ≡ startable limits plan past node
-    → IfSome o (λ key. key.node ≤ count_of plan)
-startable-few limits plan past node None e = tt
-startable-few limits plan past node (Some key) e =
-    let n = startable-node limits plan past node key (sym e) in
-    let w = startable-within limits plan past node key (sym e) in
-    omega arith

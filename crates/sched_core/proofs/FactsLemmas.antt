@@ -11,7 +11,7 @@ use Rattle.run_plan.specs.Plan.{Plan, count_of}
 use Rattle.sched_core.specs.declared.Record.{Record}
 use Rattle.sched_core.specs.declared.Record.TheVariants.{Life, Launch, End, Finish}
 use Rattle.sched_core.specs.Run.{history, outstanding, is_among, is_lawful}
-use Rattle.sched_core.specs.Commands.{first_ended}
+use Rattle.sched_core.specs.Notes.{first_ended}
 use Rattle.sched_core.proofs.Keys.{each_among}
 use Rattle.sched_core.proofs.Held.{Within, outstanding-within}
 
@@ -45,7 +45,7 @@ found-push (e' ∷ es) e i phase = go (is_phase e' i phase) (found-push es e i p
     go true h = refl
     go false h = h
 
-keep : (o : Option Outcome) → o ≡ (if is_none o then None else o)
+pub keep : (o : Option Outcome) → o ≡ (if is_none o then None else o)
 keep None = refl
 keep (Some x) = refl
 

@@ -1,23 +1,18 @@
 -- What a core's fields answer.
-use Rattle.std.proofs.Common.{◌≡◌, ℕ, zero, suc, ◌<◌, Bool, true, false, not, ◌&&◌, ◌||◌, List, [], ◌∷◌, ◌==◌, Option, Some, None, is_none, refl, sym, ap, ◌∙◌, subst, arith, eq-eqb, ne_eqb, if◌then◌else◌}
-use Rattle.std.specs.Prelude.{nat_le}
-use Rattle.std.proofs.lemmas.Bool.{leb-true, leb-false}
-use Rattle.std.specs.List.{list_all}
+use Rattle.std.proofs.Common.{◌≡◌, ℕ, suc, ◌<◌, Bool, true, false, not, ◌&&◌, ◌||◌, List, Option, Some, None, is_none, refl, sym, ap, ◌∙◌, subst, if◌then◌else◌}
 use Rattle.node_machine.specs.declared.Key.{Key}
 use Rattle.node_machine.specs.declared.Stand.{Stand}
 use Rattle.node_machine.specs.declared.Phase.{Phase}
 use Rattle.node_machine.specs.Story.{next_after}
 use Rattle.node_machine.specs.Stand.{next_of, ended_by}
-use Rattle.run_plan.specs.Plan.{Plan, NodeSpec, node_at, count_of, all_below}
+use Rattle.run_plan.specs.Plan.{Plan, NodeSpec, node_at, count_of}
 use Rattle.node_machine.specs.NodeProgress.{NodeProgress}
 use Rattle.sched_core.specs.declared.Record.{Record}
-use Rattle.sched_core.specs.Run.{history, key_at, next, is_done, attempts_in, value_in, is_nothing, is_lawful, is_free}
-use Rattle.sched_core.specs.Core.{Progress, Shows, run_of, run_at, is_running, has_key_of}
-use Rattle.sched_core.proofs.Keys.{Each}
+use Rattle.sched_core.specs.Run.{history, key_at, next, is_done, attempts_in, value_in, is_lawful, is_free}
+use Rattle.sched_core.specs.Core.{Progress, Shows, run_of, run_at, is_running}
 use Rattle.sched_core.proofs.Sound.{sound}
 use Rattle.sched_core.proofs.Shown.{stand-next, stand-done, stand-value, stand-attempts}
-use Rattle.sched_core.proofs.Held.{Within, free-is}
-use Rattle.sched_core.proofs.Sweeps.{all_below-not, all_below-from, all_below-same}
+use Rattle.sched_core.proofs.Held.{free-is}
 
 module _ (plan : Plan) (past : List Record) (runs : List NodeProgress) (aborted : Bool) (jobs : ℕ) (s : Shows plan past runs aborted jobs)
     (node : ℕ) (lt : node < suc (count_of plan)) (run : NodeProgress) (r : run ≡ run_at runs node) where
@@ -60,42 +55,3 @@ free-shown plan past lawful node key e =
 -- what holds of a core's records holds of what contracts see
 pub lawful-seen : (inside : Progress) (seen : Progress) → inside ≡ seen → is_lawful inside.plan inside.past ≡ true → is_lawful seen.plan seen.past ≡ true
 lawful-seen inside seen e h = subst (λ (v : Progress). is_lawful v.plan v.past ≡ true) e h
-
-all_below-and : (f g : ℕ → Bool) (n : ℕ) → all_below (λ k. f k && g k) n ≡ (all_below f n && all_below g n)
-all_below-and f g zero = refl
-all_below-and f g (suc n) = (λ j. (f n && g n) && all_below-and f g n j) ∙ swap (f n) (g n) (all_below f n) (all_below g n)
-  where
-    swap : (a b c d : Bool) → ((a && b) && (c && d)) ≡ ((a && c) && (b && d))
-    swap true true true d = refl
-    swap true true false d = refl
-    swap true false true d = refl
-    swap true false false d = refl
-    swap false b c d = refl
-
--- one key's node is below no count up to it
-below-one : (count node : ℕ) → all_below (λ k. not (node == k)) count ≡ nat_le count node
-below-one count node = go (nat_le count node) refl
-  where
-    go : (b : Bool) → nat_le count node ≡ b → all_below (λ k. not (node == k)) count ≡ b
-    go true h = all_below-from (λ k. not (node == k)) count (λ k lt. let le = leb-true count node h in ap not (ne_eqb node k (λ e. omega arith)))
-    go false h = all_below-not (λ k. not (node == k)) count node (let lt = leb-false count node h in omega arith) (ap not (eq-eqb node node refl))
-
--- no key is of a node below the count
-pub ordinary-keys : (count : ℕ) (keys : List Key) → all_below (λ node. not (has_key_of node keys)) count ≡ list_all (λ (key : Key). nat_le count key.node) keys
-ordinary-keys count [] = all_below-from (λ node. true) count (λ k lt. refl)
-ordinary-keys count (key ∷ keys) =
-    all_below-same (λ node. not ((key.node == node) || has_key_of node keys)) (λ node. not (key.node == node) && not (has_key_of node keys)) count
-    (λ k lt. not-or (key.node == k) (has_key_of k keys))
-    ∙ all_below-and (λ node. not (key.node == node)) (λ node. not (has_key_of node keys)) count
-    ∙ (λ j. below-one count key.node j && ordinary-keys count keys j)
-  where
-    not-or : (a b : Bool) → not (a || b) ≡ (not a && not b)
-    not-or true b = refl
-    not-or false b = refl
-
--- there is no key where no node of the plan has one
-pub nothing-keys : (plan : Plan) (keys : List Key) → Each (Within plan) keys → all_below (λ node. not (has_key_of node keys)) (suc (count_of plan)) ≡ is_nothing keys
-nothing-keys plan [] e = all_below-from (λ node. true) (suc (count_of plan)) (λ k lt. refl)
-nothing-keys plan (key ∷ keys) e =
-    all_below-not (λ node. not (has_key_of node (key ∷ keys))) (suc (count_of plan)) key.node e.0
-    (λ j. not (eq-eqb key.node key.node refl j || has_key_of key.node keys))

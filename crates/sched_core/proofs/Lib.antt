@@ -20,3 +20,7 @@ pub mod Aborts
 mod FactsLemmas
 pub mod Alone
 mod OneRun
+mod Noted
+mod Taking
+mod Members
+mod Queues

@@ -34,7 +34,7 @@ jobs-few (Launch key number ∷ past) = go (phase_number key.phase == 1) (jobs-f
     go false h = omega arith
 
 -- a written part of a list that is the whole
-written : {A : Type 0} (new old : List A) (len : ℕ) → length new ≡ len → take len (new ++ drop (length new) old) ≡ new
+pub written : {A : Type 0} (new old : List A) (len : ℕ) → length new ≡ len → take len (new ++ drop (length new) old) ≡ new
 written new old len n = ap (λ m. take m (new ++ drop (length new) old)) (sym n) ∙ take-append_seam new (drop (length new) old)
 
 pub add-shown : (plan : Plan) (records records' : List Record) (entry : Record) (old slice new : List NodeProgress) (len : ℕ) (aborted flag : Bool) (jobs jobs' : ℕ)
@@ -77,7 +77,7 @@ fresh-shown plan runs f = record {
 }
 
 -- a node that may be launched has a next phase
-free-next : (plan : Plan) (past : List Record) (o : Option Key) → is_free plan past o ≡ true → (key : Key) × (o ≡ Some key)
+pub free-next : (plan : Plan) (past : List Record) (o : Option Key) → is_free plan past o ≡ true → (key : Key) × (o ≡ Some key)
 free-next plan past None h = absurd (false≢true h)
 free-next plan past (Some key) h = (key, refl)
 

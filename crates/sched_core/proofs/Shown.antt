@@ -18,10 +18,10 @@ use Rattle.node_machine.specs.NodeProgress.{NodeProgress}
 use Rattle.sched_core.specs.declared.Record.{Record}
 use Rattle.sched_core.specs.declared.Record.TheVariants.{Life, Launch, End, Finish}
 use Rattle.sched_core.specs.Run.{history, key_at, next, is_done, attempts_in, value_in, is_met, has_abort_value, is_aborted, outstanding, without, may_follow, is_lawful}
-use Rattle.sched_core.specs.Core.{Shows, Takes, run_of, run_at, is_running, has_key_of, aborted_in, runs_after, aborted_after, jobs_after}
+use Rattle.sched_core.specs.Core.{Shows, run_of, run_at, is_running, has_key_of, aborted_in, runs_after, aborted_after, jobs_after}
 use Rattle.sched_core.proofs.Keys.{each_among}
-use Rattle.sched_core.proofs.Sound.{Held, sound, end-among, next-parts, launch-held}
-use Rattle.sched_core.proofs.Held.{histories-are, without-own, without-other, end-within, launched-within, launched-idle, ended-runs}
+use Rattle.sched_core.proofs.Sound.{Held, sound, end-among, next-parts}
+use Rattle.sched_core.proofs.Held.{histories-are, without-own, without-other, end-within, launched-within}
 use Rattle.sched_core.proofs.Sweeps.{all_below-same, run_at-same, run_at-other, run_at-stopped}
 
 -- the phase of what comes next
@@ -67,7 +67,7 @@ aborted-is plan past lawful runs stands =
     ap not (all_below-same (λ node. not (is_met (node_at plan node).course.abort_on (run_at runs node).stand.value)) (λ node. not (has_abort_value plan past node)) (count_of plan)
     (λ node lt. λ j. not (is_met (node_at plan node).course.abort_on ((ap (λ (s : Stand). s.value) (stands node (omega arith)) ∙ stand-value plan past lawful node) j))))
 
-silent-life : (plan : Plan) (past : List Record) → is_aborted plan past ≡ is_aborted plan (Life ∷ past)
+pub silent-life : (plan : Plan) (past : List Record) → is_aborted plan past ≡ is_aborted plan (Life ∷ past)
 unfolding is_aborted
 silent-life plan past = refl
 
@@ -75,7 +75,7 @@ pub silent-launch : (plan : Plan) (past : List Record) (key : Key) (number : ℕ
 unfolding is_aborted
 silent-launch plan past key number = refl
 
-silent-finish : (plan : Plan) (past : List Record) (status : ℕ) → is_aborted plan past ≡ is_aborted plan (Finish status ∷ past)
+pub silent-finish : (plan : Plan) (past : List Record) (status : ℕ) → is_aborted plan past ≡ is_aborted plan (Finish status ∷ past)
 unfolding is_aborted
 silent-finish plan past status = refl
 
@@ -218,20 +218,3 @@ module _ (plan : Plan) (past : List Record) (runs : List NodeProgress) (aborted 
   shows-after (Launch key number) h = shows-launch key number h
   shows-after (End key outcome) h = shows-end key outcome h
   shows-after (Finish status) h = shows-finish status h
-
-pub shows-takes : (plan : Plan) (past : List Record) (runs : List NodeProgress) (aborted : Bool) (jobs : ℕ) → Shows plan past runs aborted jobs
-    → (entry : Record) → may_follow plan past entry ≡ true → Takes plan runs entry
-shows-takes plan past runs aborted jobs s Life h = tt
-shows-takes plan past runs aborted jobs s (Launch key number) h =
-    let w = launched-within plan past key number h in
-    let r = s.runs_are key.node w in (
-      w,
-      ap (λ (t : NodeProgress). t.running) r ∙ launched-idle plan past key number s.lawful h,
-      ap (λ (t : NodeProgress). next_of t.stand t.stand.phase) r
-          ∙ sym (steps-next (node_at plan key.node).course (history past key.node) (histories-are plan past s.lawful key.node))
-          ∙ (next-parts plan past key.node key (launch-held plan past key number h).is_next).1,
-    )
-shows-takes plan past runs aborted jobs s (End key outcome) h =
-    let w = end-within plan past key outcome s.lawful h in
-    (w, ap (λ (t : NodeProgress). t.running) (s.runs_are key.node w) ∙ ended-runs plan past key outcome s.lawful h)
-shows-takes plan past runs aborted jobs s (Finish status) h = tt

@@ -1,5 +1,5 @@
 -- Sweeps over all numbers below a bound, and one node's change in a list.
-use Rattle.std.proofs.Common.{get_or, ◌≡◌, ℕ, zero, suc, ◌+◌, ◌<◌, Bool, true, false, ◌&&◌, List, [], ◌∷◌, length, map, ◌==◌, slice_set, refl, sym, ap, ◌∙◌, arith, eqb-true}
+use Rattle.std.proofs.Common.{get_or, ◌≡◌, ℕ, zero, suc, ◌<◌, Bool, true, false, ◌&&◌, List, [], ◌∷◌, length, map, ◌==◌, slice_set, refl, sym, ap, ◌∙◌, arith, eqb-true}
 use Rattle.std.proofs.lemmas.Bool.{and_from, eqb-false}
 use Rattle.run_plan.specs.Plan.{all_below}
 use Rattle.node_machine.specs.NodeProgress.{NodeProgress}
@@ -19,12 +19,6 @@ all_below-not test (suc n) k lt e = go (k == n) refl (λ below. all_below-not te
     go false ne rest =
         let other = eqb-false k n ne in
         (λ j. test n && rest (omega arith) j) ∙ (elim (test n) as (λ b. (b && false) ≡ false) [ true ↦ refl | false ↦ refl ])
-
--- one number more
-pub all_below-more : (test : ℕ → Bool) (n : ℕ) → all_below test n ≡ true → test n ≡ true → all_below test (n + 1) ≡ true
-all_below-more test n h t =
-    let one : n + 1 ≡ suc n = omega arith in
-    ap (all_below test) one ∙ and_from (test n) (all_below test n) t h
 
 pub all_below-same : (test other : ℕ → Bool) (n : ℕ) → ((k : ℕ) → k < n → test k ≡ other k) → all_below test n ≡ all_below other n
 all_below-same test other zero h = refl

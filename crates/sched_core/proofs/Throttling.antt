@@ -1,7 +1,7 @@
 -- What throttles count is what is outstanding.
-use Rattle.std.proofs.Common.{◌≡◌, ℕ, suc, ◌+◌, ◌<◌, ◌≤◌, Bool, true, false, not, ◌&&◌, ◌||◌, ◌==◌, List, [], ◌∷◌, length, reverse, refl, sym, ap, ◌∙◌, subst, arith, eq-eqb, if◌then◌else◌}
+use Rattle.std.proofs.Common.{◌≡◌, ℕ, suc, ◌+◌, ◌<◌, ◌≤◌, Bool, true, false, not, ◌&&◌, ◌||◌, ◌==◌, List, [], ◌∷◌, length, reverse, refl, sym, ap, ◌∙◌, subst, arith, eq-eqb, eqb-true, if◌then◌else◌}
 use Rattle.std.specs.Prelude.{IfSome}
-use Rattle.std.proofs.lemmas.Bool.{and_parts, false≢true}
+use Rattle.std.proofs.lemmas.Bool.{and_parts, false≢true, false_from_ne_true}
 use Rattle.std.proofs.lemmas.List.{length-map}
 use Rattle.node_machine.specs.declared.Key.{Key}
 use Rattle.splices.specs.declared.flat.CategoryLimit.{CategoryLimit}
@@ -13,7 +13,7 @@ use Rattle.run_plan.specs.Planned.{IsPlanned}
 use Rattle.run_plan.proofs.PlanFacts.{category-placed}
 use Rattle.sched_core.specs.declared.Record.{Record}
 use Rattle.sched_core.specs.declared.Record.TheVariants.{Life, Launch, End, Finish}
-use Rattle.sched_core.specs.Run.{outstanding, without, is_same, is_among, is_aborted, is_lawful, may_follow}
+use Rattle.sched_core.specs.Run.{outstanding, is_nothing, without, is_same, is_among, is_aborted, is_lawful, may_follow}
 use Rattle.sched_core.specs.Core.{has_key_of}
 use Rattle.sched_core.specs.Limits.{limits_of, running_in, throttled_in, throttled_after, IsThrottled, IsOfNode, IsCounted}
 use Rattle.sched_core.proofs.Keys.{same-eq}
@@ -149,6 +149,14 @@ module _ (plan : Plan) (planned : IsPlanned plan) where
 
     pub same-categories : throttled.categories ≡ limits_of plan
     same-categories = categories-are
+
+    -- nothing runs where nothing is outstanding
+    pub idle-is : (all_in throttled.running == 0) ≡ is_nothing (outstanding plan past)
+    idle-is = ap (λ (n : ℕ). n == 0) (ap all_in running-is ∙ running-all (outstanding plan past)) ∙ empty (outstanding plan past)
+      where
+        empty : (keys : List Key) → (length keys == 0) ≡ is_nothing keys
+        empty [] = refl
+        empty (key ∷ keys) = false_from_ne_true _ (λ t. let e = eqb-true (suc (length keys)) 0 t in omega (arith, e))
 
     pub few-running : (n : ℕ) → length past + 1 < n → all_in throttled.running + 1 < n
     few-running n lt =

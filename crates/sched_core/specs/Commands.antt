@@ -1,5 +1,5 @@
 -- The command of each phase of a run: by the outcomes of a table, and by the records.
-use Rattle.std.specs.Prelude.{ℕ, ℤ, negsuc, Bool, not, ◌&&◌, ◌==◌, List, [], ◌∷◌, map, Option, Some, None, is_none, if◌then◌else◌}
+use Rattle.std.specs.Prelude.{ℕ, ℤ, negsuc, Bool, not, ◌&&◌, ◌==◌, List, [], ◌∷◌, map, is_none, if◌then◌else◌}
 use Rattle.node_machine.specs.declared.Phase.{Phase}
 use Rattle.node_machine.specs.declared.Phase.TheVariants.{Pre, Job}
 use Rattle.node_machine.specs.declared.Outcome.{Outcome}
@@ -63,17 +63,6 @@ newest_launch (Launch other number ∷ past) key = if is_same other key then num
 newest_launch (Life ∷ past) key = newest_launch past key
 newest_launch (End other outcome ∷ past) key = newest_launch past key
 newest_launch (Finish status ∷ past) key = newest_launch past key
-
--- the outcome that a record says of a phase, and the one that the oldest record that says one does
-abbrev pub ended_by : Record → Key → Option Outcome
-ended_by Life key = None
-ended_by (Launch other number) key = None
-ended_by (End other outcome) key = if is_same other key then Some outcome else None
-ended_by (Finish status) key = None
-
-abbrev pub first_ended : List Record → Key → Option Outcome
-first_ended [] key = None
-first_ended (newest ∷ past) key = if is_none (first_ended past key) then ended_by newest key else first_ended past key
 
 -- What the records say when a key is launched, its launch among them. A job that did not end has the value 0.
 abbrev pub facts_in : Plan → List Record → Key → PhaseFacts

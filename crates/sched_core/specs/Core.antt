@@ -1,5 +1,5 @@
 -- A core as contracts see it, and what it keeps beside its records.
-use Rattle.std.specs.Prelude.{◌≡◌, ℕ, suc, ◌+◌, ◌<◌, Bool, true, false, not, ◌&&◌, ◌||◌, List, [], ◌∷◌, length, map, Option, Some, None, is_some, unwrap_or, slice_get, slice_set, IsTrue, IsFalse, int_lt, ◌==◌, if◌then◌else◌}
+use Rattle.std.specs.Prelude.{◌≡◌, ℕ, suc, ◌+◌, ◌<◌, Bool, true, false, not, ◌&&◌, ◌||◌, List, [], ◌∷◌, length, map, Option, Some, None, is_none, is_some, nat_lt, unwrap_or, slice_get, slice_set, IsTrue, IsFalse, int_lt, ◌==◌, if◌then◌else◌}
 use Rattle.node_machine.specs.declared.Key.{Key}
 use Rattle.node_machine.specs.Story.{phase_number}
 use Rattle.node_machine.specs.Stand.{stand_after, stand_before, next_of}
@@ -52,6 +52,17 @@ aborted_in plan runs =
     not (all_below (λ node. not (is_met (node_at plan node).course.abort_on (run_at runs node).stand.value))
     (count_of plan))
 
+-- an ordinary node's abort value stands there
+abbrev pub has_abort_at : Plan → List NodeProgress → ℕ → Bool
+has_abort_at plan runs node =
+    nat_lt node (count_of plan) && is_met (node_at plan node).course.abort_on (run_at runs node).stand.value
+
+-- an ordinary node is in error there
+abbrev pub is_stuck_at : Plan → List NodeProgress → ℕ → Bool
+is_stuck_at plan runs node =
+    nat_lt node (count_of plan)
+    && (not (node_at plan node).done && (is_none (run_at runs node).stand.phase && not (run_at runs node).stand.good))
+
 -- what a record makes of the nodes, of the flag for an abort, and of the number of job launches
 abbrev pub runs_ended : Plan → List NodeProgress → Record → List NodeProgress
 runs_ended plan runs Life = runs
@@ -79,13 +90,23 @@ jobs_after jobs (Launch key number) = (if phase_number key.phase == 1 then 1 els
 jobs_after jobs (End key outcome) = jobs
 jobs_after jobs (Finish status) = jobs
 
--- a launch is of a node of the plan and of its next phase, while none runs; an ending is of one that runs
+-- the ordinary nodes in error, once a record made these of the nodes
+abbrev pub failed_after : Plan → List NodeProgress → ℕ → Record → ℕ
+failed_after plan runs failed Life = failed
+failed_after plan runs failed (Launch key number) = failed
+failed_after plan runs failed (End key outcome) = if is_stuck_at plan runs key.node then suc failed else failed
+failed_after plan runs failed (Finish status) = failed
+
+-- a launch is of a node of the plan and of its next phase, while none runs; an ending is of one that runs,
+-- whose abort value doesn't stand there
 abbrev pub Takes : Plan → List NodeProgress → Record → Type 0
 Takes plan runs Life = Unit {0}
 Takes plan runs (Launch key number) =
     (key.node < suc (count_of plan)) × ((run_at runs key.node).running ≡ false)
     × (next_of (run_at runs key.node).stand (run_at runs key.node).stand.phase ≡ Some (key.attempt, key.phase))
-Takes plan runs (End key outcome) = (key.node < suc (count_of plan)) × ((run_at runs key.node).running ≡ true)
+Takes plan runs (End key outcome) =
+    (key.node < suc (count_of plan)) × ((run_at runs key.node).running ≡ true)
+    × (has_abort_at plan runs key.node ≡ false)
 Takes plan runs (Finish status) = Unit {0}
 
 -- what a core keeps is what its records say, and these are lawful

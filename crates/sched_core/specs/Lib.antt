@@ -5,6 +5,8 @@ pub mod Lives
 pub mod Example
 pub mod Rounds
 pub mod Limits
+pub mod Notes
+pub mod Queued
 pub mod Core
 pub mod Bound
 pub mod Commands

@@ -1,79 +1,26 @@
-//! What the records of a run say when a phase is launched.
+//! What a phase's command is made of at its launch.
 
-ghost use Rattle.std.specs.Prelude.{◌≡◌, ◌==◌, is_none, if◌then◌else◌};
-ghost use Rattle.node_machine.specs.Story.{outcome_in};
-ghost use Rattle.sched_core.specs.Run.{written, history};
-ghost use Rattle.sched_core.specs.Commands.{newest_launch, pre_value_of, ended_by, first_ended};
+ghost use Rattle.std.specs.Prelude.{◌≡◌, ◌==◌, unwrap_or, if◌then◌else◌};
+ghost use Rattle.node_machine.specs.declared.Outcome.TheVariants.{Exit};
+ghost use Rattle.sched_core.specs.Commands.{pre_value_of};
+ghost use Rattle.sched_core.specs.Notes.{noted_facts};
 
-use crate::Record;
-use crate::nodes::{are_same, is_same_phase};
-use node_machine::{Key, Outcome, Phase, value_of};
-use run_plan::NodeSpec;
-
-/// The number of the newest launch of a key; 0 where there is none.
-pub fn newest_launch(records: &[Record], key: &Key) -> u64
-    ensures { result ≡ newest_launch (written records.now) key.now }
-{
-    let mut newest = 0;
-    for entry in records {
-        if let Record::Launch(other, number) = entry {
-            if are_same(other, key) {
-                newest = *number;
-            }
-        }
-    }
-    newest
-}
-
-/// The outcome that a record says of a phase, if it does.
-fn ended_by(entry: &Record, key: &Key) -> Option<Outcome>
-    ensures { result ≡ ended_by entry.now key.now }
-{
-    match entry {
-        Record::End(other, outcome) => {
-            if are_same(other, key) {
-                Some(*outcome)
-            } else {
-                None
-            }
-        }
-        _ => None,
-    }
-}
-
-/// What was found before, or else what is found now.
-fn earlier(before: Option<Outcome>, now: Option<Outcome>) -> Option<Outcome>
-    ensures { result ≡ (if is_none before then now else before) }
-{
-    match before {
-        Some(outcome) => Some(outcome),
-        None => now,
-    }
-}
-
-/// The outcome that the first record that says one says of a phase.
-fn first_ended(records: &[Record], key: &Key) -> Option<Outcome>
-    ensures { result ≡ first_ended (written records.now) key.now }
-{
-    let mut found = None;
-    for entry in records {
-        found = earlier(found, ended_by(entry, key));
-    }
-    found
-}
+use crate::notes::AttemptNotes;
+use node_machine::{Outcome, value_of};
+use run_plan::{NodeSpec, PhaseFacts};
 
 /// The outcome of a phase; Exit 0 where it did not end.
-pub fn outcome_of(records: &[Record], key: &Key) -> Outcome
-    ensures { result ≡ outcome_in (history (written records.now) key.now.node) key.now.attempt key.now.phase }
+fn outcome_of(ended: Option<Outcome>) -> Outcome
+    ensures { result ≡ unwrap_or ended (Exit 0) }
 {
-    match first_ended(records, key) {
+    match ended {
         Some(outcome) => outcome,
         None => Outcome::Exit(0),
     }
 }
 
 /// The value of PRE, which has this outcome; -1 where the node has no PRE.
-pub fn pre_value(spec: &NodeSpec, outcome: Outcome) -> i32
+fn pre_value(spec: &NodeSpec, outcome: Outcome) -> i32
     ensures { result ≡ pre_value_of spec.now.course outcome }
 {
     if spec.course().pre {
@@ -84,7 +31,7 @@ pub fn pre_value(spec: &NodeSpec, outcome: Outcome) -> i32
 }
 
 /// The state of the DAG: 3 where it was aborted, else 2 where nodes are in error, else 0.
-pub fn dag_status(aborted: bool, failed: u32) -> u8
+fn dag_status(aborted: bool, failed: u32) -> u8
     ensures { result ≡ (if aborted then 3 else if failed == 0 then 0 else 2) }
 {
     if aborted {
@@ -93,5 +40,19 @@ pub fn dag_status(aborted: bool, failed: u32) -> u8
         0
     } else {
         2
+    }
+}
+
+/// The facts of a launch, by what is noted of its attempt.
+pub fn noted_facts(spec: &NodeSpec, notes: AttemptNotes, aborted: bool, failed: u32) -> PhaseFacts
+    ensures { result ≡ noted_facts spec.now.course notes aborted failed }
+{
+    PhaseFacts {
+        launch: notes.launch,
+        job_launch: notes.job_launch,
+        job_value: value_of(outcome_of(notes.job)),
+        pre_value: pre_value(spec, outcome_of(notes.pre)),
+        dag_status: dag_status(aborted, failed),
+        failed,
     }
 }

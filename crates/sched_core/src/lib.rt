@@ -11,6 +11,8 @@ pub mod examples;
 mod facts;
 pub mod laws;
 mod nodes;
+mod notes;
+mod ready;
 mod scheduler;
 
 use node_machine::{Key, Outcome};

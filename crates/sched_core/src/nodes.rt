@@ -10,7 +10,7 @@ ghost use Rattle.sched_core.specs.Run.{written, history, key_at, is_next, is_sam
 ghost use Rattle.splices.specs.declared.flat.CategoryLimit.{CategoryLimit};
 ghost use Rattle.throttles.specs.Throttled.{all_in};
 ghost use Rattle.sched_core.specs.Limits.{limits_of, throttled_in, throttled_after, IsOfNode, IsCounted};
-ghost use Rattle.sched_core.specs.Core.{AreFresh, run_at, aborted_in, runs_ended, runs_after, aborted_after, jobs_after};
+ghost use Rattle.sched_core.specs.Core.{AreFresh, run_at, aborted_in, has_abort_at, is_stuck_at, failed_after, runs_ended, runs_after, aborted_after, jobs_after};
 
 use crate::{CoreFault, Record};
 use node_machine::{Ended, Key, NodeRun, Outcome, Phase, State};
@@ -181,18 +181,47 @@ pub fn is_met_by(setting: Option<i32>, value: Option<i32>) -> bool
     }
 }
 
-/// Whether the abort value of an ordinary node stands there.
-pub fn has_abort(plan: &Plan, runs: &[NodeRun]) -> bool
-    requires { length runs.now ≡ suc (count_of plan.now) }
-    ensures { result ≡ aborted_in plan.now runs.now }
+/// Whether this is an ordinary node, and its abort value stands there.
+fn has_abort_at(plan: &Plan, runs: &[NodeRun], node: u32) -> bool
+    requires many { length runs.now ≡ suc (count_of plan.now) }
+    requires node { node < suc (count_of plan.now) }
+    ensures { result ≡ has_abort_at plan.now runs.now node }
 {
-    for node in 0..plan.count() {
-        let spec = plan.spec(node);
-        if is_met_by(spec.course().abort_on, run_of(runs, node).last_value()) {
-            return true;
+    node < plan.count()
+        && is_met_by(
+            plan.spec(node).course().abort_on,
+            run_of(runs, node).last_value(),
+        )
+}
+
+/// Whether an ordinary node is in error.
+fn is_stuck_at(plan: &Plan, runs: &[NodeRun], node: u32) -> bool
+    requires many { length runs.now ≡ suc (count_of plan.now) }
+    requires node { node < suc (count_of plan.now) }
+    ensures { result ≡ is_stuck_at plan.now runs.now node }
+{
+    node < plan.count()
+        && !plan.spec(node).is_done()
+        && matches!(run_of(runs, node).state(), State::Error)
+}
+
+/// The ordinary nodes in error after one more record, which made these of the nodes.
+pub fn count_failed(plan: &Plan, runs: &[NodeRun], failed: u32, entry: Record) -> u32
+    requires many { length runs.now ≡ suc (count_of plan.now) }
+    requires node { IsOfNode plan.now entry }
+    requires few { failed_after plan.now runs.now failed entry < 2 ^ 32 }
+    ensures { result ≡ failed_after plan.now runs.now failed entry }
+{
+    match entry {
+        Record::End(key, _) => {
+            if is_stuck_at(plan, runs, key.node) {
+                failed + 1
+            } else {
+                failed
+            }
         }
+        _ => failed,
     }
-    false
 }
 
 /// A node's next phase is launched.
@@ -219,13 +248,15 @@ pub fn end_phase(runs: &mut [NodeRun], node: u32, outcome: Outcome)
     set_run(runs, node, run);
 }
 
-/// An abort that was not there before stops all.
-pub fn stop_at_abort(plan: &Plan, runs: &mut [NodeRun], aborted: bool) -> bool
-    requires { length runs.old ≡ suc (count_of plan.now) }
+/// An abort that was not there before this node's phase ended stops all.
+pub fn stop_at_abort(plan: &Plan, runs: &mut [NodeRun], aborted: bool, node: u32) -> bool
+    requires many { length runs.old ≡ suc (count_of plan.now) }
+    requires node { node < suc (count_of plan.now) }
+    requires others { aborted_in plan.now runs.old ≡ (aborted || has_abort_at plan.now runs.old node) }
     ensures flag { result ≡ aborted_in plan.now runs.old }
     ensures runs { runs.new ≡ (if result && (not aborted) then map stopped runs.old else runs.old) }
 {
-    let now = has_abort(plan, runs);
+    let now = aborted || has_abort_at(plan, runs, node);
     if now && !aborted {
         stop_all(runs);
     }

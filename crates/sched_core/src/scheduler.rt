@@ -6,18 +6,23 @@ ghost use Rattle.node_machine.specs.Story.{may_end_with, phase_number};
 ghost use Rattle.run_plan.specs.Plan.{node_at, count_of, all_below};
 ghost use Rattle.sched_core.specs.Run.{written, history, next, is_done, attempts_in, value_in, has_abort_value, is_aborted, outstanding, is_among, is_free, is_nothing, is_ready, is_final_ready, may_launch, job_launches, launch_number, status_of_abort, exit_status, is_over, is_open, may_follow, is_lawful, needs_rescue};
 ghost use Rattle.sched_core.specs.Fate.{shown};
-ghost use Rattle.sched_core.specs.Core.{Progress, Shows, Takes, is_running, has_key_of, runs_after, aborted_after, jobs_after, fault_after, launchable, first_launched, startable, better_of, AreMarks, IsBestBelow, IsChoice};
+ghost use Rattle.sched_core.specs.Core.{Progress, Shows, Takes, aborted_in, is_running, has_key_of, runs_after, aborted_after, jobs_after, fault_after, launchable, first_launched, startable, better_of, AreMarks, IsBestBelow, IsChoice};
 ghost use Rattle.sched_core.specs.Limits.{lets_in};
-ghost use Rattle.sched_core.specs.Commands.{is_in_error, failed_in, facts_in};
+ghost use Rattle.sched_core.specs.Queued.{AreWaiting};
+ghost use Rattle.sched_core.specs.Commands.{facts_in};
 
-use crate::facts::{dag_status, newest_launch, outcome_of, pre_value};
+use crate::facts::noted_facts;
 use crate::nodes::{
-    both, count_and_one, count_jobs, end_phase, fault_by, fresh_runs, fresh_throttles, history_of,
-    is_done_at, is_job, is_key, is_met_by, last_is_finish, last_is_open, launch_phase, may_end,
-    next_at, push_in_room, run_of, status_by, stop_all, stop_at_abort, throttle,
+    both, count_and_one, count_failed, count_jobs, end_phase, fault_by, fresh_runs,
+    fresh_throttles, history_of, is_done_at, is_job, is_key, is_met_by, last_is_finish,
+    last_is_open, launch_phase, may_end, next_at, push_in_room, run_of, status_by, stop_all,
+    stop_at_abort, throttle,
 };
+use crate::notes::{AttemptNotes, fresh_notes, note, notes_of};
+use crate::ready::{fresh_queue, requeue};
 use crate::{Choice, CoreFault, Record};
-use node_machine::{Ended, Key, NodeRun, Outcome, Phase, State, value_of};
+use node_machine::{Ended, Key, NodeRun, Outcome, State};
+use ready_queue::{Member, ReadyQueue};
 use run_plan::{PhaseFacts, Plan};
 use std::alloc::Global;
 use std::marker::Model;
@@ -32,6 +37,9 @@ pub struct Core<'a> {
     aborted: bool,
     jobs: u64,
     throttles: Throttles,
+    notes: Vec<AttemptNotes>,
+    failed: u32,
+    queue: ReadyQueue,
 }
 
 impl<'a> Model for Core<'a> {
@@ -39,19 +47,24 @@ impl<'a> Model for Core<'a> {
     ghost use Rattle.sched_core.specs.Run.{written};
     ghost use Rattle.sched_core.specs.Core.{Progress, Shows};
     ghost use Rattle.sched_core.specs.Limits.{IsThrottled};
+    ghost use Rattle.sched_core.specs.Notes.{IsNoted};
+    ghost use Rattle.sched_core.specs.Queued.{IsQueued};
 
     ghost Value = { Progress };
 
     ghost view = { λ a. record { plan = a.plan.now; limits = a.throttles.limits; past = written a.records.items; room = vec_capacity a.records - vec_len a.records } };
 
     ghost invariant = { λ a. Shows a.plan.now (written a.records.items) a.runs.items a.aborted a.jobs
-        × IsThrottled a.plan.now (written a.records.items) a.throttles };
+        × IsThrottled a.plan.now (written a.records.items) a.throttles
+        × IsNoted a.plan.now (written a.records.items) a.notes.items a.failed
+        × IsQueued a.plan.now (written a.records.items) a.queue };
 }
 
 /// What a record makes of the nodes; the answer is the flag for an abort.
 fn advance(plan: &Plan, runs: &mut [NodeRun], aborted: bool, entry: Record) -> bool
     requires many { length runs.old ≡ suc (count_of plan.now) }
     requires takes { Takes plan.now runs.old entry }
+    requires flag { aborted ≡ aborted_in plan.now runs.old }
     ensures runs { runs.new ≡ runs_after plan.now runs.old aborted entry }
     ensures flag { result ≡ aborted_after plan.now runs.old aborted entry }
 {
@@ -66,7 +79,7 @@ fn advance(plan: &Plan, runs: &mut [NodeRun], aborted: bool, entry: Record) -> b
         }
         Record::End(key, outcome) => {
             end_phase(runs, key.node, outcome);
-            stop_at_abort(plan, runs, aborted)
+            stop_at_abort(plan, runs, aborted, key.node)
         }
         Record::Finish(_) => aborted,
     }
@@ -234,23 +247,19 @@ impl<'a> Core<'a> {
         !self.aborted() && self.parents_done(node) && self.is_free(node)
     }
 
+    /// The nodes that may be ready, best first: each that is stands among them.
+    fn waiting(&self) -> &[Member]
+        ensures { AreWaiting self.now.plan self.now.past result.now }
+    {
+        let _records = &self.records;
+        self.queue.members()
+    }
+
     fn nothing_ready(&self) -> bool
         ensures { result ≡ all_below (λ node. not (is_ready self.now.plan self.now.past node)) (count_of self.now.plan) }
     {
-        for node in 0..self.plan().count() {
-            if self.is_ready(node) {
-                return false;
-            }
-        }
-        true
-    }
-
-    /// Whether nothing of an ordinary node is outstanding.
-    fn no_ordinary_running(&self) -> bool
-        ensures { result ≡ list_all (λ key. nat_le (count_of self.now.plan) key.node) (outstanding self.now.plan self.now.past) }
-    {
-        for node in 0..self.plan().count() {
-            if self.is_running(node) {
+        for member in self.waiting() {
+            if self.is_ready(member.node) {
                 return false;
             }
         }
@@ -262,12 +271,17 @@ impl<'a> Core<'a> {
         ensures { result ≡ is_nothing (outstanding self.now.plan self.now.past) }
     {
         let _records = &self.records;
-        for node in 0..self.plan().count() + 1 {
-            if self.is_running(node) {
-                return false;
-            }
-        }
-        true
+        let _graph = self.plan.graph();
+        self.throttles.is_idle()
+    }
+
+    /// Whether nothing of an ordinary node is outstanding, where nothing of the FINAL node is.
+    fn no_ordinary_running(&self) -> bool
+        requires { IsTrue (is_free self.now.plan self.now.past (next self.now.plan self.now.past (count_of self.now.plan))) }
+        ensures { result ≡ list_all (λ key. nat_le (count_of self.now.plan) key.node) (outstanding self.now.plan self.now.past) }
+    {
+        self.keeps_the_law();
+        self.nothing_running()
     }
 
     /// Whether the next phase of the FINAL node may be launched: it is its turn.
@@ -456,9 +470,13 @@ impl<'a> Core<'a> {
         let plan = self.plan;
         let _more = count_and_one(&self.records);
         let _graph = plan.graph();
+        let _nodes = plan.count();
         let was_aborted = self.aborted;
         self.jobs = count_jobs(self.jobs, entry);
+        note(plan, &mut self.notes, entry);
         self.aborted = advance(plan, &mut self.runs, self.aborted, entry);
+        self.failed = count_failed(plan, &self.runs, self.failed, entry);
+        requeue(plan, &self.runs, &mut self.queue, entry);
         let stops = both(self.aborted, !was_aborted);
         throttle(plan, &mut self.throttles, entry, stops);
         push_in_room(&mut self.records, entry);
@@ -502,6 +520,8 @@ impl<'a> Core<'a> {
     {
         let runs = fresh_runs(alloc, plan)?;
         let throttles = fresh_throttles(alloc, plan, limits)?;
+        let notes = fresh_notes(alloc, plan)?;
+        let queue = fresh_queue(alloc, plan, &runs)?;
         Ok(Core {
             plan,
             records: Vec::new(alloc),
@@ -509,6 +529,9 @@ impl<'a> Core<'a> {
             aborted: false,
             jobs: 0,
             throttles,
+            notes,
+            failed: 0,
+            queue,
         })
     }
 
@@ -540,15 +563,25 @@ impl<'a> Core<'a> {
         }
     }
 
+    /// Of the ordinary nodes the best whose phase may be launched and is let in.
+    fn best_ordinary(&self) -> Option<Key>
+        ensures { IsBestBelow self.now.limits self.now.plan self.now.past (count_of self.now.plan) result }
+    {
+        for member in self.waiting() {
+            match self.startable(member.node) {
+                Some(key) => return Some(key),
+                None => {}
+            }
+        }
+        None
+    }
+
     /// The best phase that may be launched and is let in.
     fn best(&self) -> Option<Key>
         ensures { IsBestBelow self.now.limits self.now.plan self.now.past (suc (count_of self.now.plan)) result }
     {
-        let mut best: Option<Key> = None;
-        for node in 0..self.plan().count() + 1 {
-            best = better_of(self.plan(), best, self.startable(node));
-        }
-        best
+        let count = self.plan().count();
+        better_of(self.plan(), self.best_ordinary(), self.startable(count))
     }
 
     /// What is to be done next: of the phases that may be launched and that no limit holds, the
@@ -576,52 +609,15 @@ impl<'a> Core<'a> {
         Ok(history_of(alloc, &self.records, node)?)
     }
 
-    /// Whether a node is not done, and no phase of it is to come.
-    fn is_in_error(&self, node: u32) -> bool
-        requires { node ≤ count_of self.now.plan }
-        ensures { result ≡ is_in_error self.now.plan self.now.past node }
-    {
-        !self.is_done(node) && self.next(node).is_none()
-    }
-
-    /// How many ordinary nodes are in error.
-    fn failed(&self) -> u32
-        ensures { result ≡ failed_in self.now.plan self.now.past }
-    {
-        let mut failed = 0;
-        for node in 0..self.plan().count() {
-            if self.is_in_error(node) {
-                failed += 1;
-            }
-        }
-        failed
-    }
-
     /// What the records say of an outstanding phase at its launch: the facts that its command is
-    /// made of. It takes no memory, and goes over the records and the nodes.
+    /// made of. It takes no memory, and goes over nothing.
     pub fn facts(&self, key: &Key) -> PhaseFacts
         requires { IsTrue (is_among key.now (outstanding self.now.plan self.now.past)) }
         ensures { result ≡ facts_in self.now.plan self.now.past key.now }
     {
         self.keeps_the_law();
-        let records = self.records();
-        let job = Key {
-            phase: Phase::Job,
-            ..*key
-        };
-        let pre = Key {
-            phase: Phase::Pre,
-            ..*key
-        };
-        let failed = self.failed();
-        PhaseFacts {
-            launch: newest_launch(records, key),
-            job_launch: newest_launch(records, &job),
-            job_value: value_of(outcome_of(records, &job)),
-            pre_value: pre_value(self.plan().spec(key.node), outcome_of(records, &pre)),
-            dag_status: dag_status(self.aborted(), failed),
-            failed,
-        }
+        let notes = notes_of(&self.notes, key.node);
+        noted_facts(self.plan().spec(key.node), notes, self.aborted, self.failed)
     }
 
     /// What a node has come to.

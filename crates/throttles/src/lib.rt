@@ -5,7 +5,7 @@
 //! `condor_submit_dag`, as docs/MANUAL.md states them.
 #![tactic(auto)]
 
-ghost use Rattle.std.specs.Prelude.{◌≡◌, ◌<◌, ◌^◌, ◌+◌, ◌↔◌, length, IsTrue, IsOk, IfOk, IfErr, OnOk, OnErr, IfSome};
+ghost use Rattle.std.specs.Prelude.{◌≡◌, ◌==◌, ◌<◌, ◌^◌, ◌+◌, ◌↔◌, length, IsTrue, IsOk, IfOk, IfErr, OnOk, OnErr, IfSome};
 ghost use Rattle.throttles.specs.Throttled.{Throttled, is_below, limit_of, of_kind, all_in, such_in, lets_category, lets_phase, may_start, none_running, with_one, without_one, IsPlace};
 ghost use Rattle.throttles.specs.declared.ThrottleFault.TheVariants.{Full, NoneRunning, Memory};
 
@@ -134,6 +134,13 @@ impl Throttles {
         ensures { result ≡ self.now.limits }
     {
         self.limits
+    }
+
+    /// Whether nothing runs.
+    pub fn is_idle(&self) -> bool
+        ensures { result ≡ (all_in self.now.running == 0) }
+    {
+        self.pre + self.jobs + self.post == 0
     }
 
     /// Whether no limit that counts this phase is reached.
