@@ -1,5 +1,5 @@
 -- What is handed over: the commands of the launches that start a child, in their order.
-use Rattle.std.proofs.Common.{◌≡◌, Bool, true, false, List, [], ◌∷◌, ◌++◌, Ok, refl, sym, ap, ◌∙◌, if◌then◌else◌}
+use Rattle.std.proofs.Common.{arith, ◌≡◌, Bool, true, false, List, [], ◌∷◌, ◌++◌, Ok, refl, sym, ap, ◌∙◌, if◌then◌else◌}
 use Rattle.std.proofs.lemmas.List.{append-nil, append_assoc}
 use Rattle.node_machine.specs.declared.Key.{Key}
 use Rattle.node_machine.specs.declared.Outcome.{Outcome}
@@ -17,13 +17,10 @@ use Rattle.job_starter.specs.declared.Call.TheVariants as calls
 use Rattle.job_starter.specs.declared.Started.TheVariants.{NotStarted}
 use Rattle.job_starter.specs.Calls.{snapshot_of}
 use Rattle.job_starter.specs.Drives.{launch_of, IsCommandAt, IsStep, passes, starts, fails, ends, kills, Drives, no_step, one_more, IsCutOff, clean, launched, failed, ended, Kills, nobody, one_killed, IsHalted, IsStopped}
-use Rattle.job_starter.specs.Handed.{handed, HandsOwn}
+use Rattle.job_starter.specs.Handed.{handed, HandsAll, HandsAllButOne}
 
--- each of the commands was handed over
-record Exactly (plan : Plan) (past : List Record) (told : List Call) (after : List Record) (heard : List Call) : Type 0 where
-  own : List Command
-  are : handed heard ≡ handed told ++ own
-  commands : commands_in plan after ≡ commands_in plan past ++ own
+abbrev Exactly : Plan → List Record → List Call → List Record → List Call → Type 0
+Exactly plan past told after heard = HandsAll plan past after told heard
 
 nothing : (plan : Plan) (past : List Record) (told : List Call) (after : List Record) (heard : List Call)
     → handed heard ≡ handed told → commands_in plan after ≡ commands_in plan past → Exactly plan past told after heard
@@ -71,27 +68,28 @@ drives-exact limits plan may past told _ _ (one_more {between = between} {after 
     then-exact plan past told between heard after last (drives-exact limits plan may past told between heard steps) (step-exact limits plan may between heard after last step)
 
 exactly : (plan : Plan) (past : List Record) (told : List Call) (after : List Record) (heard : List Call)
-    → Exactly plan past told after heard → HandsOwn plan past after told heard
+    → Exactly plan past told after heard → HandsAllButOne plan past after told heard
 exactly plan past told after heard e = record {
   own = e.own;
   are = e.are;
-  hands_over = ([], e.commands ∙ ap (λ l. commands_in plan past ++ l) (sym (append-nil e.own)));
+  rest = [];
+  few = omega arith;
+  commands = e.commands ∙ ap (λ l. commands_in plan past ++ l) (sym (append-nil e.own));
 }
 
 cut-hands : (limits : Limits) (plan : Plan) (may : Key → Outcome → Type 0) (past : List Record) (told : List Call) (after : List Record) (last : List Call)
-    → IsCutOff limits plan may past told after last → HandsOwn plan past after told last
+    → IsCutOff limits plan may past told after last → HandsAllButOne plan past after told last
 cut-hands limits plan may past told _ _ clean = exactly plan past told past told (nothing plan past told past told refl refl)
 cut-hands limits plan may past told _ _ (launched {key = key} chosen) = go (starts_child (node_at plan key.node) key.phase) refl
   where
-    go : (b : Bool) → starts_child (node_at plan key.node) key.phase ≡ b → HandsOwn plan past (launch_of past key ∷ past) told told
+    go : (b : Bool) → starts_child (node_at plan key.node) key.phase ≡ b → HandsAllButOne plan past (launch_of past key ∷ past) told told
     go false is = exactly plan past told (launch_of past key ∷ past) told (nothing plan past told (launch_of past key ∷ past) told refl (quiet plan past key is))
     go true is = record {
       own = [];
       are = sym (append-nil (handed told));
-      hands_over = (
-        (key, command_at plan past key) ∷ [],
-        λ j. if is j then (commands_in plan past ++ (key, command_at plan past key) ∷ []) else commands_in plan past,
-      );
+      rest = (key, command_at plan past key) ∷ [];
+      few = omega arith;
+      commands = λ j. if is j then (commands_in plan past ++ (key, command_at plan past key) ∷ []) else commands_in plan past;
     }
 cut-hands limits plan may past told _ _ (failed {key = key} {command = command} chosen starting is may_be) =
     exactly plan past told (launch_of past key ∷ past) (calls.Started key (snapshot_of command) NotStarted ∷ told)
@@ -100,16 +98,15 @@ cut-hands limits plan may past told _ _ (ended {key = key} {outcome = outcome} h
     exactly plan past told past (calls.Ended key outcome ∷ told) (nothing plan past told past (calls.Ended key outcome ∷ told) refl refl)
 
 then-hands : (plan : Plan) (past : List Record) (told : List Call) (between : List Record) (heard : List Call) (after : List Record) (last : List Call)
-    → Exactly plan past told between heard → HandsOwn plan between after heard last → HandsOwn plan past after told last
+    → Exactly plan past told between heard → HandsAllButOne plan between after heard last → HandsAllButOne plan past after told last
 then-hands plan past told between heard after last first second = record {
   own = first.own ++ second.own;
   are = second.are ∙ ap (λ l. l ++ second.own) first.are ∙ append_assoc (handed told) first.own second.own;
-  hands_over = (
-    second.hands_over.0,
-    second.hands_over.1 ∙ ap (λ l. l ++ (second.own ++ second.hands_over.0)) first.commands
-        ∙ append_assoc (commands_in plan past) first.own (second.own ++ second.hands_over.0)
-        ∙ ap (λ l. commands_in plan past ++ l) (sym (append_assoc first.own second.own second.hands_over.0)),
-  );
+  rest = second.rest;
+  few = second.few;
+  commands = second.commands ∙ ap (λ l. l ++ (second.own ++ second.rest)) first.commands
+      ∙ append_assoc (commands_in plan past) first.own (second.own ++ second.rest)
+      ∙ ap (λ l. commands_in plan past ++ l) (sym (append_assoc first.own second.own second.rest));
 }
 
 kills-same : (told last : List Call) → Kills told last → handed last ≡ handed told
@@ -118,21 +115,21 @@ kills-same told _ (one_killed {heard = heard} {key = key} before ran) = kills-sa
 
 -- steps that were driven hand over the commands of their launches
 pub driven : (limits : Limits) (plan : Plan) (may : Key → Outcome → Type 0) (past : List Record) (told : List Call) (after : List Record) (last : List Call)
-    → Drives limits plan may past told after last → HandsOwn plan past after told last
-driven limits plan may past told after last steps = exactly plan past told after last (drives-exact limits plan may past told after last steps)
+    → Drives limits plan may past told after last → HandsAll plan past after told last
+driven limits plan may past told after last steps = drives-exact limits plan may past told after last steps
 
 pub halted-hands : (limits : Limits) (plan : Plan) (may : Key → Outcome → Type 0) (past : List Record) (told : List Call) (after : List Record) (last : List Call)
-    → IsHalted limits plan may past told after last → HandsOwn plan past after told last
+    → IsHalted limits plan may past told after last → HandsAllButOne plan past after told last
 halted-hands limits plan may past told after last h =
     then-hands plan past told h.between h.heard after last (drives-exact limits plan may past told h.between h.heard h.steps)
     (cut-hands limits plan may h.between h.heard after last h.cut)
 
 -- so do those that were stopped
 pub stopped : (limits : Limits) (plan : Plan) (may : Key → Outcome → Type 0) (past : List Record) (told : List Call) (after : List Record) (last : List Call)
-    → IsStopped limits plan may past told after last → HandsOwn plan past after told last
+    → IsStopped limits plan may past told after last → HandsAllButOne plan past after told last
 stopped limits plan may past told after last s =
     let h = halted-hands limits plan may past told after s.rest s.halted in
-    record { own = h.own; are = kills-same s.rest last s.kills ∙ h.are; hands_over = h.hands_over }
+    record { own = h.own; are = kills-same s.rest last s.kills ∙ h.are; rest = h.rest; few = h.few; commands = h.commands }
 
 step-adds : (limits : Limits) (plan : Plan) (may : Key → Outcome → Type 0) (past : List Record) (told : List Call) (after : List Record) (last : List Call)
     → IsStep limits plan may past told after last → (own : List Record) × (after ≡ own ++ past)
@@ -150,3 +147,18 @@ drives-adds limits plan may past told _ _ (one_more {between = between} {after =
     let before = drives-adds limits plan may past told between heard steps in
     let more = step-adds limits plan may between heard after last step in
     (more.0 ++ before.0, more.1 ∙ ap (λ l. more.0 ++ l) before.1 ∙ sym (append_assoc more.0 before.0 past))
+
+cut-adds : (limits : Limits) (plan : Plan) (may : Key → Outcome → Type 0) (past : List Record) (told : List Call) (after : List Record) (last : List Call)
+    → IsCutOff limits plan may past told after last → (own : List Record) × (after ≡ own ++ past)
+cut-adds limits plan may past told _ _ clean = ([], refl)
+cut-adds limits plan may past told _ _ (launched {key = key} chosen) = (launch_of past key ∷ [], refl)
+cut-adds limits plan may past told _ _ (failed {key = key} chosen starting is may_be) = (launch_of past key ∷ [], refl)
+cut-adds limits plan may past told _ _ (ended held ran may_be) = ([], refl)
+
+-- so do those that were cut off
+pub halted-adds : (limits : Limits) (plan : Plan) (may : Key → Outcome → Type 0) (past : List Record) (told : List Call) (after : List Record) (last : List Call)
+    → IsHalted limits plan may past told after last → (own : List Record) × (after ≡ own ++ past)
+halted-adds limits plan may past told after last h =
+    let first = drives-adds limits plan may past told h.between h.heard h.steps in
+    let more = cut-adds limits plan may h.between h.heard after last h.cut in
+    (more.0 ++ first.0, more.1 ∙ ap (λ l. more.0 ++ l) first.1 ∙ sym (append_assoc more.0 first.0 past))

@@ -4,3 +4,4 @@ pub mod Steps
 pub mod Walks
 pub mod Rounds
 pub mod Handing
+pub mod Images

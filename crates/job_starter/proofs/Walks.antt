@@ -21,7 +21,7 @@ use Rattle.job_starter.specs.declared.Started.{Started}
 use Rattle.job_starter.specs.declared.Started.TheVariants.{Running, NotStarted}
 use Rattle.job_starter.specs.declared.driving.DriveFault.{DriveFault}
 use Rattle.job_starter.specs.Calls.{running, TellsNoMore}
-use Rattle.job_starter.specs.Drives.{launch_of, IsHandedOver, AreInStep, IsHeld, IsStep, passes, starts, fails, ends, kills, final_verdict, Drives, no_step, one_more, IsCutOff, clean, launched, failed, ended, Kills, nobody, one_killed, AbortsAtLast}
+use Rattle.job_starter.specs.Drives.{launch_of, IsHandedOver, AreInStep, IsHeld, IsStep, passes, starts, fails, ends, kills, final_verdict, Drives, no_step, one_more, IsCutOff, clean, launched, failed, ended, Starts, none_started, one_start, Kills, nobody, one_killed, AbortsAtLast}
 use Rattle.job_starter.proofs.Steps.{chosen-free}
 
 module _ (limits : Limits) (plan : Plan) (may : Key → Outcome → Type 0) (past : List Record) (told : List Call) where
@@ -42,6 +42,11 @@ module _ (limits : Limits) (plan : Plan) (may : Key → Outcome → Type 0) (pas
   cut-ended (Err fault) after heard key outcome held ran may_be is tells =
       subst (λ records. IsCutOff limits plan may past told records heard) (sym is)
       (subst (λ l. IsCutOff limits plan may past told past l) (sym tells) (ended held ran may_be))
+
+  pub cut-told_end : (heard : List Call) (key : Key) (outcome : Outcome) → IsHeld limits plan past → is_among key (running told) ≡ true → may key outcome
+      → heard ≡ calls.Ended key outcome ∷ told → IsCutOff limits plan may past told past heard
+  cut-told_end heard key outcome held ran may_be tells =
+      subst (λ l. IsCutOff limits plan may past told past l) (sym tells) (ended held ran may_be)
 
   pub cut-clean : (after : List Record) (heard : List Call) → after ≡ past → heard ≡ told → IsCutOff limits plan may past told after heard
   cut-clean after heard is same =
@@ -96,15 +101,21 @@ module _ (limits : Limits) (plan : Plan) (may : Key → Outcome → Type 0) (pas
         (subst (λ l. IsStep limits plan may past told (End key NoStart ∷ launch_of past key ∷ past) l) (sym h.entry) (fails step chosen (child starting) h.is may_be))
     step-fails (Err fault) after heard answer fails_ step starting may_be handed more = tt
 
+    pub cut-told : (heard : List Call) (answer : Started)
+        → answer ≡ NotStarted → starts_child (node_at plan' key.node) key.phase ≡ true → may key NoStart
+        → IsHandedOver plan' records key answer told heard → IsCutOff limits plan may past told records heard
+    cut-told heard answer fails_ starting may_be handed =
+        let h = subst (λ a. IsHandedOver plan (launch_of past key ∷ past) key a told heard) fails_ (moved heard answer handed) in
+        subst (λ r. IsCutOff limits plan may past told r heard) (sym is)
+        (subst (λ l. IsCutOff limits plan may past told (launch_of past key ∷ past) l) (sym h.entry) (failed chosen (child starting) h.is may_be))
+
     pub cut-failed : (result : Result (Unit {0}) DriveFault) (after : List Record) (heard : List Call) (answer : Started)
         → answer ≡ NotStarted → starts_child (node_at plan' key.node) key.phase ≡ true → may key NoStart
         → IsHandedOver plan' records key answer told heard → OnErr result (after ≡ records)
         → OnErr result (IsCutOff limits plan may past told after heard)
     cut-failed (Ok unit) after heard answer fails_ starting may_be handed none = tt
     cut-failed (Err fault) after heard answer fails_ starting may_be handed none =
-        let h = subst (λ a. IsHandedOver plan (launch_of past key ∷ past) key a told heard) fails_ (moved heard answer handed) in
-        subst (λ r. IsCutOff limits plan may past told r heard) (sym (none ∙ is))
-        (subst (λ l. IsCutOff limits plan may past told (launch_of past key ∷ past) l) (sym h.entry) (failed chosen (child starting) h.is may_be))
+        subst (λ r. IsCutOff limits plan may past told r heard) (sym none) (cut-told heard answer fails_ starting may_be handed)
 
 -- an abort is no launch
 launch-calm : (plan : Plan) (past : List Record) (key : Key) → is_aborted plan (launch_of past key ∷ past) ≡ is_aborted plan past
@@ -241,3 +252,14 @@ step-aborts limits plan may past told _ _ (starts {key = key} s chosen child com
 step-aborts limits plan may past told _ _ (fails {key = key} s chosen child command may_be) calm aborted = (launch-calm plan past key ∙ calm, aborted)
 step-aborts limits plan may past told _ _ (ends s held ran may_be) calm aborted = (calm, aborted)
 step-aborts limits plan may past told _ _ (kills ran free) calm aborted = absurd (false≢true (sym calm ∙ aborted))
+
+pub starts-same : (told heard : List Call) → heard ≡ told → Starts told heard
+starts-same told heard same = subst (Starts told) (sym same) none_started
+
+pub starts-handed : (plan : Plan) (records : List Record) (key : Key) (answer : Started) (told heard : List Call)
+    → IsHandedOver plan records key answer told heard → Starts told heard
+starts-handed plan records key answer told heard handed = subst (Starts told) (sym handed.entry) (one_start none_started)
+
+pub starts-then : (told heard last : List Call) → Starts told heard → Starts heard last → Starts told last
+starts-then told heard _ first none_started = first
+starts-then told heard _ first (one_start s) = one_start (starts-then told heard _ first s)

@@ -1,6 +1,7 @@
 -- What a run hands over to a starter, and what it records of the answers. Records and calls stand the newest first.
 use Rattle.std.specs.Prelude.{◌≡◌, ◌<◌, ◌⊎◌, ℕ, List, [], ◌∷◌, Option, Some, None, Ok, IsTrue, IsFalse}
 use Rattle.std.specs.List.{list_all}
+use Rattle.std.specs.declared.snapshot.Snapshot.{Snapshot}
 use Rattle.node_machine.specs.declared.Key.{Key}
 use Rattle.node_machine.specs.declared.Outcome.{Outcome}
 use Rattle.node_machine.specs.declared.Outcome.TheVariants.{Exit, NoStart}
@@ -99,6 +100,12 @@ pub data IsCutOff (limits : Limits) (plan : Plan) (may : Key → Outcome → Typ
       → IsCutOff limits plan may past told (launch_of past key ∷ past) (calls.Started key (snapshot_of command) NotStarted ∷ told)
   ended : {key : Key} {outcome : Outcome} → IsHeld limits plan past → IsTrue (is_among key (running told)) → may key outcome
       → IsCutOff limits plan may past told past (calls.Ended key outcome ∷ told)
+
+-- children were to be started; none ended and none was killed
+pub data Starts (told : List Call) : List Call → Type 0 where
+  none_started : Starts told told
+  one_start : {heard : List Call} {key : Key} {command : Snapshot ChildCommand} {answer : Started} → Starts told heard
+      → Starts told (calls.Started key command answer ∷ heard)
 
 -- running children are killed one after another
 pub data Kills (told : List Call) : List Call → Type 0 where

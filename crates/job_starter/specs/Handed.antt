@@ -1,8 +1,8 @@
 -- The commands that a run handed over.
-use Rattle.std.specs.Prelude.{◌≡◌, List, [], ◌∷◌, ◌++◌, Ok}
+use Rattle.std.specs.Prelude.{◌≡◌, ◌≤◌, List, [], ◌∷◌, ◌++◌, length, Ok}
 use Rattle.run_plan.specs.Plan.{Plan}
 use Rattle.sched_core.specs.declared.Record.{Record}
-use Rattle.recovery.specs.Chain.{Command, HandsOver, span}
+use Rattle.recovery.specs.Chain.{Command, commands_in}
 use Rattle.job_starter.specs.declared.Call.{Call}
 use Rattle.job_starter.specs.declared.Call.TheVariants as calls
 
@@ -13,9 +13,16 @@ handed (calls.Started key command answer ∷ told) = handed told ++ (key, Ok com
 handed (calls.Ended key outcome ∷ told) = handed told
 handed (calls.Killed key ∷ told) = handed told
 
--- from these records and calls on, the commands of the own launches were handed over, in their order; the last of them
--- perhaps not
-pub record HandsOwn (plan : Plan) (begun held : List Record) (told heard : List Call) : Type 0 where
+-- from these records and calls on, the commands of the own launches were handed over, once each and in their order
+pub record HandsAll (plan : Plan) (begun held : List Record) (told heard : List Call) : Type 0 where
   pub own : List Command
   pub are : handed heard ≡ handed told ++ own
-  pub hands_over : HandsOver plan (span begun held) own
+  pub commands : commands_in plan held ≡ commands_in plan begun ++ own
+
+-- the same, but perhaps for the last launch
+pub record HandsAllButOne (plan : Plan) (begun held : List Record) (told heard : List Call) : Type 0 where
+  pub own : List Command
+  pub are : handed heard ≡ handed told ++ own
+  pub rest : List Command
+  pub few : length rest ≤ 1
+  pub commands : commands_in plan held ≡ commands_in plan begun ++ (own ++ rest)

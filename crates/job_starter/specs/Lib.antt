@@ -2,5 +2,6 @@ pub mod Calls
 pub mod Told
 pub mod Scripts
 pub mod Drives
+pub mod Moments
 pub mod Causes
 pub mod Handed

@@ -4,17 +4,22 @@ ghost use Rattle.node_machine.specs.Story.{is_possible, may_end_with};
 ghost use Rattle.node_machine.specs.declared.Outcome.TheVariants.{NoStart};
 ghost use Rattle.run_plan.specs.Plan.{node_at, count_of};
 ghost use Rattle.run_plan.specs.Commands.{starts_child};
-ghost use Rattle.sched_core.specs.Run.{is_among, is_aborted, is_over, is_open, is_nothing, outstanding};
+ghost use Rattle.sched_core.specs.Run.{is_among, is_aborted, is_over, is_open, is_nothing, outstanding, may_follow, table_of};
+ghost use Rattle.sched_core.specs.Fate.{AreFates, shown};
 ghost use Rattle.sched_core.specs.Core.{IsChoice};
 ghost use Rattle.recovery.specs.Managed.{plan_of, past_of};
 ghost use Rattle.job_starter.specs.Calls.{running, TellsNoMore};
-ghost use Rattle.job_starter.specs.Drives.{limits_of, launch_of, AreInStep, IsNearerEnd, IsHandedOver, IsHeld, IsStep, final_verdict, Drives, IsCutOff, Kills, IsLaunched, IsHalted, IsStopped};
+ghost use Rattle.job_starter.specs.Drives.{limits_of, launch_of, AreInStep, IsNearerEnd, IsHandedOver, IsHeld, IsStep, final_verdict, Drives, IsCutOff, Starts, Kills, IsLaunched, IsHalted, IsStopped};
 ghost use Rattle.job_starter.specs.Causes.{IsDriveFault};
+ghost use Rattle.job_starter.specs.Moments.{IsMomentOfRun, AtAnyMoment, StaysAcknowledged, KeepsDisk};
 
 use crate::log::key_at;
+use crate::records::{
+    chosen, goes_on, is_aborted, keeps_the_law, record_end, record_launch, starts_child,
+};
 use crate::{Started, Starter};
 use event_journal::Disk;
-use node_machine::{Key, Outcome, Phase};
+use node_machine::{Key, Outcome};
 use recovery::{Manager, ManagerFault};
 use run_plan::Plan;
 use sched_core::{Choice, Record, Verdict};
@@ -47,19 +52,6 @@ pub struct RunEnd {
     pub aborted: bool,
 }
 
-/// Whether a phase starts a child: the job of a NOOP does not.
-fn starts_child<D: Disk + Drop>(manager: &Manager<'_, D>, key: &Key) -> bool
-    requires { key.now.node ≤ count_of (plan_of manager.now) }
-    ensures { result ≡ starts_child (node_at (plan_of manager.now) key.now.node) key.now.phase }
-{
-    let course = manager.core().plan().spec(key.node).course();
-    match key.phase {
-        Phase::Pre => course.pre,
-        Phase::Job => !course.noop,
-        Phase::Post => course.post,
-    }
-}
-
 /// Kills each running child, the oldest first.
 #[tactic(auto, using(crate::proofs::Running::fewer_left))]
 fn kill_all<S: Starter>(starter: &mut S)
@@ -71,63 +63,6 @@ fn kill_all<S: Starter>(starter: &mut S)
     while !starter.running().is_empty() {
         let oldest = key_at(starter.running(), 0);
         let _ = starter.kill(oldest);
-    }
-}
-
-/// A run that is not over goes on, since it has begun.
-fn goes_on<D: Disk + Drop>(manager: &Manager<'_, D>)
-    requires { IsFalse (is_over (past_of manager.now)) }
-    ensures { IsTrue (is_open (past_of manager.now)) }
-{
-    let _core = manager.core();
-}
-
-/// Records a launch that is chosen.
-fn record_launch<D: Disk + Drop>(manager: &mut Manager<'_, D>, key: Key) -> Result<(), DriveFault>
-    requires chosen { IsChoice (limits_of manager.old) (plan_of manager.old) (past_of manager.old) (Choice.Start key) }
-    requires open { IsTrue (is_open (past_of manager.old)) }
-    ensures plan { plan_of manager.new ≡ plan_of manager.old }
-    ensures limits { limits_of manager.new ≡ limits_of manager.old }
-    ensures past { OnOk result
-        (past_of manager.new ≡ launch_of (past_of manager.old) key ∷ past_of manager.old) }
-    ensures past_err { OnErr result (past_of manager.new ≡ past_of manager.old) }
-    ensures refused { (before now : ℕ)
-        → IfErr result (IsDriveFault D.faults D.capacity before now manager.new) }
-    ensures fewer { OnOk result (IsNearerEnd (plan_of manager.old) (past_of manager.old) (past_of manager.new)) }
-    ensures within { key.node ≤ count_of (plan_of manager.old) }
-    ensures allowed { key.attempt ≤ (node_at (plan_of manager.old) key.node).course.retries }
-    ensures free { IsFalse (is_among key (outstanding (plan_of manager.old) (past_of manager.old))) }
-{
-    manager.core().keeps_the_law();
-    match manager.launch(key) {
-        Ok(_) => Ok(()),
-        Err(fault) => Err(DriveFault::Manager(fault)),
-    }
-}
-
-/// Records how an outstanding phase ended.
-fn record_end<D: Disk + Drop>(
-    manager: &mut Manager<'_, D>,
-    key: Key,
-    outcome: Outcome,
-) -> Result<(), DriveFault>
-    requires outstanding { IsTrue (is_among key (outstanding (plan_of manager.old) (past_of manager.old))) }
-    requires possible { IsTrue (is_possible outcome) }
-    requires fits { IsTrue (may_end_with (node_at (plan_of manager.old) key.node).course key.phase outcome) }
-    requires open { IsTrue (is_open (past_of manager.old)) }
-    ensures plan { plan_of manager.new ≡ plan_of manager.old }
-    ensures limits { limits_of manager.new ≡ limits_of manager.old }
-    ensures past { OnOk result
-        (past_of manager.new ≡ Record.End key outcome ∷ past_of manager.old) }
-    ensures past_err { OnErr result (past_of manager.new ≡ past_of manager.old) }
-    ensures refused { (before now : ℕ)
-        → IfErr result (IsDriveFault D.faults D.capacity before now manager.new) }
-    ensures fewer { OnOk result (IsNearerEnd (plan_of manager.old) (past_of manager.old) (past_of manager.new)) }
-{
-    manager.core().keeps_the_law();
-    match manager.record_end(key, outcome) {
-        Ok(()) => Ok(()),
-        Err(fault) => Err(DriveFault::Manager(fault)),
     }
 }
 
@@ -186,10 +121,19 @@ fn launch_one<D: Disk + Drop, S: Starter>(
         (S.faults starter.old) (S.faults starter.new) manager.new) }
     ensures may { TellsNoMore (S.may_tell starter.old) (S.may_tell starter.new) }
     ensures fewer { OnOk result (IsNearerEnd (plan_of manager.old) (past_of manager.old) (past_of manager.new)) }
+    ensures waits_for_none { Starts (S.told starter.old) (S.told starter.new) }
+    ensures any_moment { AtAnyMoment D.honest D.seen D.may_leave D.moment D.left_since
+        manager.old manager.new (IsMomentOfRun (limits_of manager.old) (plan_of manager.old)
+        (S.may_tell starter.old) (past_of manager.old) (S.told starter.old)) }
+    ensures acknowledged { OnOk result
+        (StaysAcknowledged D.honest D.seen D.may_leave manager.old manager.new) }
+    ensures disk { KeepsDisk D.honest D.capacity manager.old manager.new }
 {
+    keeps_the_law(manager);
     if let Err(fault) = record_launch(manager, key) {
         return Err(fault);
     }
+    keeps_the_law(manager);
     if !starts_child(manager, &key) {
         return record_end(manager, key, Outcome::Exit(0));
     }
@@ -220,7 +164,14 @@ fn end_one<D: Disk + Drop, S: Starter>(
         (S.faults starter.old) (S.faults starter.new) manager.new) }
     ensures may { TellsNoMore (S.may_tell starter.old) (S.may_tell starter.new) }
     ensures fewer { OnOk result (IsNearerEnd (plan_of manager.old) (past_of manager.old) (past_of manager.new)) }
+    ensures any_moment { AtAnyMoment D.honest D.seen D.may_leave D.moment D.left_since
+        manager.old manager.new (IsMomentOfRun (limits_of manager.old) (plan_of manager.old)
+        (S.may_tell starter.old) (past_of manager.old) (S.told starter.old)) }
+    ensures acknowledged { OnOk result
+        (StaysAcknowledged D.honest D.seen D.may_leave manager.old manager.new) }
+    ensures disk { KeepsDisk D.honest D.capacity manager.old manager.new }
 {
+    keeps_the_law(manager);
     match starter.wait_any() {
         Ok((key, outcome)) => record_end(manager, key, outcome),
         Err(_) => Err(DriveFault::WaitFault),
@@ -248,19 +199,27 @@ pub fn launch_round<D: Disk + Drop, S: Starter>(
     ensures later { S.faults starter.old ≤ S.faults starter.new }
     ensures refused { IfErr result (IsDriveFault D.faults D.capacity
         (S.faults starter.old) (S.faults starter.new) manager.new) }
+    ensures waits_for_none { Starts (S.told starter.old) (S.told starter.new) }
+    ensures any_moment { AtAnyMoment D.honest D.seen D.may_leave D.moment D.left_since
+        manager.old manager.new (IsMomentOfRun (limits_of manager.old) (plan_of manager.old)
+        (S.may_tell starter.old) (past_of manager.old) (S.told starter.old)) }
+    ensures acknowledged { OnOk result
+        (StaysAcknowledged D.honest D.seen D.may_leave manager.old manager.new) }
+    ensures disk { KeepsDisk D.honest D.capacity manager.old manager.new }
 {
     let _plan = plan;
     goes_on(manager);
+    keeps_the_law(manager);
     loop {
-        manager.core().keeps_the_law();
-        let before = manager.core().aborted();
-        let Choice::Start(key) = manager.core().choose() else {
+        keeps_the_law(manager);
+        let before = is_aborted(manager);
+        let Choice::Start(key) = chosen(manager) else {
             return Ok(());
         };
         if let Err(fault) = launch_one(alloc, manager, starter, key) {
             return Err(fault);
         }
-        if is_new(before, manager.core().aborted()) {
+        if is_new(before, is_aborted(manager)) {
             return Ok(());
         }
     }
@@ -305,6 +264,12 @@ fn act<D: Disk + Drop, S: Starter>(
     ensures may { TellsNoMore (S.may_tell starter.old) (S.may_tell starter.new) }
     ensures fewer { OnOk result
         (IsNearerEnd (plan_of manager.old) (past_of manager.old) (past_of manager.new)) }
+    ensures any_moment { AtAnyMoment D.honest D.seen D.may_leave D.moment D.left_since
+        manager.old manager.new (IsMomentOfRun (limits_of manager.old) (plan_of manager.old)
+        (S.may_tell starter.old) (past_of manager.old) (S.told starter.old)) }
+    ensures acknowledged { OnOk result
+        (StaysAcknowledged D.honest D.seen D.may_leave manager.old manager.new) }
+    ensures disk { KeepsDisk D.honest D.capacity manager.old manager.new }
 {
     match choice {
         Choice::Start(key) => launch_one(alloc, manager, starter, key),
@@ -330,6 +295,7 @@ fn turn<D: Disk + Drop, S: Starter>(
         (past_of manager.old) (S.told starter.old) (past_of manager.new) (S.told starter.new)) }
     ensures over { IfOk result (λ end. IfSome end (λ verdict.
         IsChoice (limits_of manager.old) (plan_of manager.old) (past_of manager.new) (Choice.Finish verdict))) }
+    ensures open { IfOk result (λ end. IfSome end (λ verdict. IsTrue (is_open (past_of manager.new)))) }
     ensures fewer { IfOk result (λ end. IfNone end (
         IsNearerEnd (plan_of manager.old) (past_of manager.old) (past_of manager.new))) }
     ensures cut { OnErr result (IsCutOff (limits_of manager.old) (plan_of manager.old) (S.may_tell starter.old)
@@ -338,17 +304,23 @@ fn turn<D: Disk + Drop, S: Starter>(
     ensures refused { IfErr result (IsDriveFault D.faults D.capacity
         (S.faults starter.old) (S.faults starter.new) manager.new) }
     ensures may { TellsNoMore (S.may_tell starter.old) (S.may_tell starter.new) }
+    ensures any_moment { AtAnyMoment D.honest D.seen D.may_leave D.moment D.left_since
+        manager.old manager.new (IsMomentOfRun (limits_of manager.old) (plan_of manager.old)
+        (S.may_tell starter.old) (past_of manager.old) (S.told starter.old)) }
+    ensures acknowledged { OnOk result
+        (StaysAcknowledged D.honest D.seen D.may_leave manager.old manager.new) }
+    ensures disk { KeepsDisk D.honest D.capacity manager.old manager.new }
 {
-    manager.core().keeps_the_law();
-    let before = manager.core().aborted();
-    let choice = manager.core().choose();
+    keeps_the_law(manager);
+    let before = is_aborted(manager);
+    let choice = chosen(manager);
     if let Some(verdict) = verdict_of(choice) {
         return Ok(Some(verdict));
     }
     if let Err(fault) = act(alloc, manager, starter, choice) {
         return Err(fault);
     }
-    if is_new(before, manager.core().aborted()) {
+    if is_new(before, is_aborted(manager)) {
         kill_all(starter);
     }
     Ok(None)
@@ -369,12 +341,20 @@ fn run<D: Disk + Drop, S: Starter>(
     ensures none_left { OnOk result (running (S.told starter.new) ≡ []) }
     ensures over { IfOk result (λ verdict.
         IsChoice (limits_of manager.old) (plan_of manager.old) (past_of manager.new) (Choice.Finish verdict)) }
+    ensures open { OnOk result (IsTrue (is_open (past_of manager.new))) }
     ensures stopped { OnErr result (IsHalted (limits_of manager.old) (plan_of manager.old) (S.may_tell starter.old)
         (past_of manager.old) (S.told starter.old) (past_of manager.new) (S.told starter.new)) }
     ensures later { S.faults starter.old ≤ S.faults starter.new }
     ensures refused { IfErr result (IsDriveFault D.faults D.capacity
         (S.faults starter.old) (S.faults starter.new) manager.new) }
+    ensures any_moment { AtAnyMoment D.honest D.seen D.may_leave D.moment D.left_since
+        manager.old manager.new (IsMomentOfRun (limits_of manager.old) (plan_of manager.old)
+        (S.may_tell starter.old) (past_of manager.old) (S.told starter.old)) }
+    ensures acknowledged { OnOk result
+        (StaysAcknowledged D.honest D.seen D.may_leave manager.old manager.new) }
+    ensures disk { KeepsDisk D.honest D.capacity manager.old manager.new }
 {
+    keeps_the_law(manager);
     loop {
         match turn(alloc, manager, starter) {
             Ok(Some(verdict)) => return Ok(verdict),
@@ -408,20 +388,35 @@ pub fn drive<D: Disk + Drop, S: Starter>(
         IsChoice (limits_of manager.old) (plan_of manager.old) (past_of manager.new) (Choice.Finish end.verdict)) }
     ensures aborted { IfOk result (λ end.
         end.aborted ≡ is_aborted (plan_of manager.old) (past_of manager.new)) }
+    // The end of the run may be recorded now.
+    ensures ready { IfOk result (λ end. IsTrue (may_follow (plan_of manager.old) (past_of manager.new)
+        (Record.Finish end.verdict))) }
+    // Without abort the run shows the fates that the recursion over parents reads from its endings.
+    ensures fates { IfOk result (λ end. IsFalse end.aborted → AreFates (plan_of manager.old)
+        (table_of (past_of manager.new)) (shown (plan_of manager.old) (past_of manager.new))) }
     ensures stopped { OnErr result (IsStopped (limits_of manager.old) (plan_of manager.old) (S.may_tell starter.old)
         (past_of manager.old) (S.told starter.old) (past_of manager.new) (S.told starter.new)) }
     ensures none_left { running (S.told starter.new) ≡ [] }
     ensures later { S.faults starter.old ≤ S.faults starter.new }
     ensures refused { IfErr result (IsDriveFault D.faults D.capacity
         (S.faults starter.old) (S.faults starter.new) manager.new) }
+    ensures any_moment { AtAnyMoment D.honest D.seen D.may_leave D.moment D.left_since
+        manager.old manager.new (IsMomentOfRun (limits_of manager.old) (plan_of manager.old)
+        (S.may_tell starter.old) (past_of manager.old) (S.told starter.old)) }
+    ensures acknowledged { OnOk result
+        (StaysAcknowledged D.honest D.seen D.may_leave manager.old manager.new) }
+    ensures disk { KeepsDisk D.honest D.capacity manager.old manager.new }
 {
     let _plan = plan;
     goes_on(manager);
     match run(alloc, manager, starter) {
-        Ok(verdict) => Ok(RunEnd {
-            verdict,
-            aborted: manager.core().aborted(),
-        }),
+        Ok(verdict) => {
+            keeps_the_law(manager);
+            Ok(RunEnd {
+                verdict,
+                aborted: is_aborted(manager),
+            })
+        }
         Err(fault) => {
             kill_all(starter);
             Err(fault)

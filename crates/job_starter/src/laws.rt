@@ -1,25 +1,41 @@
 //! What holds of the definitions alone. No program calls these functions.
 
-ghost use Rattle.std.specs.Prelude.{List};
+ghost use Rattle.std.specs.Prelude.{◌≡◌, ℕ, List, ◌∷◌};
 ghost use Rattle.throttles.specs.declared.Limits.{Limits};
 ghost use Rattle.run_plan.specs.Plan.{Plan};
 ghost use Rattle.sched_core.specs.declared.Record.{Record};
+ghost use Rattle.sched_core.specs.declared.Record.TheVariants.{Life};
+ghost use Rattle.event_journal.specs.Image.{Header};
+ghost use Rattle.recovery.specs.Chain.{ReadsForInputs};
 ghost use Rattle.job_starter.specs.declared.Call.{Call};
 ghost use Rattle.job_starter.specs.Drives.{Drives, IsHalted, IsStopped};
-ghost use Rattle.job_starter.specs.Handed.{HandsOwn};
+ghost use Rattle.job_starter.specs.Handed.{HandsAll, HandsAllButOne};
+ghost use Rattle.job_starter.specs.Moments.{IsMomentOfRun, IsLifeAt};
 
 use crate::Starter;
 
 /// What `drive` and `launch_round` ensure of their steps makes them hand over the commands of their
-/// own launches, in their order: all of them, or behind a fault all but perhaps the last.
+/// own launches, once each and in their order: all of them, or behind a fault or a crash all but
+/// perhaps the last.
 pub fn hand_over<S: Starter>()
     ensures driven { (limits : Limits) (plan : Plan) (starter : S) (past : List Record)
         (told : List Call) (after : List Record) (last : List Call) →
-        Drives limits plan (S.may_tell starter) past told after last → HandsOwn plan past after told last }
+        Drives limits plan (S.may_tell starter) past told after last → HandsAll plan past after told last }
     ensures halted { (limits : Limits) (plan : Plan) (starter : S) (past : List Record)
         (told : List Call) (after : List Record) (last : List Call) →
-        IsHalted limits plan (S.may_tell starter) past told after last → HandsOwn plan past after told last }
+        IsHalted limits plan (S.may_tell starter) past told after last → HandsAllButOne plan past after told last }
     ensures stopped { (limits : Limits) (plan : Plan) (starter : S) (past : List Record)
         (told : List Call) (after : List Record) (last : List Call) →
-        IsStopped limits plan (S.may_tell starter) past told after last → HandsOwn plan past after told last }
+        IsStopped limits plan (S.may_tell starter) past told after last → HandsAllButOne plan past after told last }
+{}
+
+/// A run that a manager began or went on with stopped at some moment of `launch_round` or `drive`,
+/// by a crash: what it recorded, what it handed over and the image that it left make it a life of
+/// the run, of the bytes that the manager found.
+pub fn stops<S: Starter>()
+    ensures { (limits : Limits) (plan : Plan) (starter : S) (past : List Record)
+        (told : List Call) (header : Header) (found image : List ℕ) →
+        header.digest ≡ plan.digest → ReadsForInputs plan past found →
+        (stop : IsMomentOfRun limits plan (S.may_tell starter) (Life ∷ past) told header image) →
+        IsLifeAt past told found image stop }
 {}

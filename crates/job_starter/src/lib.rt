@@ -9,6 +9,7 @@ pub mod laws;
 mod local;
 mod log;
 mod polling;
+mod records;
 mod refusals;
 mod scripted;
 mod starter;

@@ -1,5 +1,26 @@
+use Rattle.std.proofs.Common.{◌≡◌, ◌∙◌, ◌∷◌, true, refl, sym, ap, subst}
+use Rattle.run_plan.specs.Plan.{Plan}
+use Rattle.sched_core.specs.declared.Record.TheVariants.{Finish}
+use Rattle.sched_core.specs.Run.{is_lawful, is_aborted}
+use Rattle.sched_core.proofs.Moves.{finish-follows}
+use Rattle.recovery.specs.Managed.{plan_of, past_of}
+use Rattle.recovery.proofs.Sealing.{finished_own}
+use Rattle.job_starter.specs.Drives.{limits_of}
 use Rattle.job_starter.proofs.Steps.{fault-on}
 use Rattle.job_starter.proofs.driving.drive.Goals as goal
 
 pub returns-in-Err-clause-refused : goal.returns-in-Err-clause-refused
 returns-in-Err-clause-refused g c = fault-on _ _ _ _ _ _ c.in-Err.fault c.kill_all.ensures.later c.in-Err.ensures.refused
+
+pub returns-in-Ok-clause-ready : goal.returns-in-Ok-clause-ready
+returns-in-Ok-clause-ready g c =
+    finish-follows (limits_of c.args.manager.now) (plan_of c.args.manager.now) (past_of c.run.new.manager) c.in-Ok.verdict c.in-Ok.ensures.open c.in-Ok.ensures.over
+
+pub returns-in-Ok-clause-fates : goal.returns-in-Ok-clause-fates
+returns-in-Ok-clause-fates g c = λ calm.
+    let plan = plan_of c.args.manager.now in
+    let past = past_of c.run.new.manager in
+    let lawful = subst (λ (p : Plan). is_lawful p past ≡ true) c.run.ensures.plan c.keeps_the_law.ensures in
+    let ready = finish-follows (limits_of c.args.manager.now) plan past c.in-Ok.verdict c.in-Ok.ensures.open c.in-Ok.ensures.over in
+    finished_own plan plan past past (Finish c.in-Ok.verdict ∷ past) c.in-Ok.verdict refl refl refl lawful ready
+    (sym (c.is_aborted.ensures ∙ ap (λ (p : Plan). is_aborted p past) c.run.ensures.plan) ∙ calm)

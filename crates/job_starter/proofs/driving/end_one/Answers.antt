@@ -5,7 +5,8 @@ use Rattle.sched_core.specs.Run.{is_among, outstanding}
 use Rattle.job_starter.proofs.Counting.{wait-rises}
 use Rattle.job_starter.proofs.Steps.{some_child, children-start, child-ends}
 use Rattle.job_starter.specs.Causes.{no_ending_told}
-use Rattle.job_starter.proofs.Walks.{step-ends, cut-ended, cut-clean}
+use Rattle.job_starter.proofs.Images.{still, at_start, cut_call}
+use Rattle.job_starter.proofs.Walks.{cut-told_end, step-ends, cut-ended, cut-clean}
 use Rattle.job_starter.proofs.driving.end_one.Goals as goal
 
 pub record_end-requires-clause-fits : goal.record_end-requires-clause-fits
@@ -30,3 +31,14 @@ pub returns-in-Err-clause-refused : goal.returns-in-Err-clause-refused
 returns-in-Err-clause-refused g c =
     no_ending_told (wait-rises _ _ _ c.in-Err.field-0 (λ none. some_child (outstanding (plan_of c.args.manager.now) (past_of c.args.manager.now)) c.requires.some
     (sym c.requires.in_step.same ∙ none)) c.in-Err.ensures.err)
+
+pub returns-in-Ok-clause-any_moment : goal.returns-in-Ok-clause-any_moment
+returns-in-Ok-clause-any_moment g c = λ honest header was.
+    cut_call g.D.Disk.moment g.D.Disk.left_since _ _ _ _ _ header _ _ _ _ _ c.keeps_the_law.ensures
+    (cut-told_end _ _ _ _ _ _ c.in-Ok.key c.in-Ok.outcome c.requires.held c.in-Ok.ensures.ran c.in-Ok.ensures.may_be c.in-Ok.ensures.told)
+    (c.record_end.ensures.any_moment honest header was)
+
+pub returns-in-Err-clause-any_moment : goal.returns-in-Err-clause-any_moment
+returns-in-Err-clause-any_moment g c = λ honest header was.
+    still g.D.Disk.honest g.D.Disk.seen g.D.Disk.may_leave g.D.Disk.moment g.D.Disk.left_since g.met.D.Disk.only_now c.args.manager.now _ header _ refl honest was
+    (at_start _ _ _ _ _ header _ c.keeps_the_law.ensures was.reads)

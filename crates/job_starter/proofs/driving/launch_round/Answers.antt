@@ -6,14 +6,25 @@ use Rattle.sched_core.specs.Core.{Progress, IsChoice}
 use Rattle.recovery.specs.Managed.{plan_of, past_of}
 use Rattle.std.proofs.Common.{inl, inr}
 use Rattle.throttles.specs.declared.Limits.{Limits}
-use Rattle.job_starter.specs.Drives.{limits_of, AreInStep, AbortsAtLast, IsHeld}
+use Rattle.job_starter.specs.Drives.{none_started, limits_of, AreInStep, AbortsAtLast, IsHeld}
 use Rattle.job_starter.proofs.Steps.{fault-before}
-use Rattle.job_starter.proofs.Walks.{step-in-step, step-aborts}
+use Rattle.job_starter.proofs.Walks.{starts-then, step-in-step, step-aborts}
+use Rattle.job_starter.proofs.Images.{still, at_start, then_steps, keeps_still, keeps_on}
 use Rattle.job_starter.proofs.Rounds.{held-unless-start, first-walk, one-step, drives-on, walk-on, halted-at}
 use Rattle.job_starter.proofs.driving.launch_round.Goals as goal
 
 pub loop-key-init : goal.loop-key-init
-loop-key-init g c = (refl, first-walk _ _ _ _ _ c.requires.in_step c.goes_on.ensures, omega arith, λ key outcome may. may, refl)
+loop-key-init g c = (
+  refl,
+  first-walk _ _ _ _ _ c.requires.in_step c.goes_on.ensures,
+  omega arith,
+  λ key outcome may. may,
+  refl,
+  λ honest header was. still g.D.Disk.honest g.D.Disk.seen g.D.Disk.may_leave g.D.Disk.moment g.D.Disk.left_since g.met.D.Disk.only_now c.args.manager.now _ header _ refl honest was (at_start _ _ _ _ _ header _ c.keeps_the_law.ensures was.reads),
+  λ honest header was. was,
+  keeps_still _ _ _,
+  none_started,
+)
 
 pub returns-in-Err-clause-stopped : goal.returns-in-Err-clause-stopped
 returns-in-Err-clause-stopped g c =
@@ -29,8 +40,8 @@ returns-then-is_new-clause-steps g c =
 pub returns-then-is_new-clause-done : goal.returns-then-is_new-clause-done
 returns-then-is_new-clause-done g c =
     let i = c.loop-key.invariant in
-    let before = c.aborted-before.ensures ∙ ap (λ (p : Progress). is_aborted p.plan p.past) c.core-in-loop-key.ensures.lends in
-    let now = c.aborted.ensures ∙ ap (λ (p : Progress). is_aborted p.plan p.past) c.core-in-loop-key-3.ensures.lends ∙ ap (λ (p : Plan). is_aborted p (past_of c.launch_one.new.manager)) c.launch_one.ensures.plan in
+    let before = c.is_aborted-before.ensures in
+    let now = c.is_aborted.ensures ∙ ap (λ (p : Plan). is_aborted p (past_of c.launch_one.new.manager)) c.launch_one.ensures.plan in
     let flag = (λ j. not (sym before j) && sym now j) ∙ sym c.is_new.ensures ∙ c.if-is_new.true in
     let parts = and_parts _ _ flag in
     let aborts = step-aborts _ _ _ _ _ _ _ c.in_default-launch_one.ensures.step (not-true _ parts.0) parts.1 in
@@ -40,11 +51,11 @@ pub loop-key-preserved : goal.loop-key-preserved
 loop-key-preserved g c =
     let i = c.loop-key.invariant in
     let e = c.in_default-launch_one.ensures in
-    let before = c.aborted-before.ensures ∙ ap (λ (p : Progress). is_aborted p.plan p.past) c.core-in-loop-key.ensures.lends in
-    let now = c.aborted.ensures ∙ ap (λ (p : Progress). is_aborted p.plan p.past) c.core-in-loop-key-3.ensures.lends ∙ ap (λ (p : Plan). is_aborted p (past_of c.launch_one.new.manager)) c.launch_one.ensures.plan in
+    let before = c.is_aborted-before.ensures in
+    let now = c.is_aborted.ensures ∙ ap (λ (p : Plan). is_aborted p (past_of c.launch_one.new.manager)) c.launch_one.ensures.plan in
     let flag = (λ j. not (sym before j) && sym now j) ∙ sym c.is_new.ensures ∙ c.if-is_new.false in
     let here = subst (λ (p : Plan). AreInStep p (past_of c.loop-key.manager) (g.S.Starter.told c.loop-key.starter)) (sym i.0) i.1.in_step in
-    let lawful = subst (λ (p : Progress). is_lawful p.plan p.past ≡ true) c.core.ensures.lends c.keeps_the_law.ensures in
+    let lawful = c.keeps_the_law-in-loop-key.ensures in
     let low = i.2 in let high = e.later in (
       e.plan ∙ i.0,
       walk-on _ _ i.4 _ _ i.0 (g.S.Starter.may_tell c.args.starter.now) (g.S.Starter.may_tell c.loop-key.starter) i.3 _ _ _ _ i.1 _ _
@@ -52,16 +63,49 @@ loop-key-preserved g c =
       omega arith,
       λ key outcome may. i.3 key outcome (e.may key outcome may),
       e.limits ∙ i.4,
+      λ honest header was. then_steps g.D.Disk.moment g.D.Disk.left_since _ _ _ _ _ header _ i.4 _ i.0 _ _ _ _ _ _ i.3 i.1.steps (i.5 honest header was)
+          (e.any_moment (i.7.keeps honest) header (i.6 honest header was)),
+      λ honest header was. e.acknowledged (i.7.keeps honest) header (i.6 honest header was),
+      keeps_on _ _ _ _ _ i.7 e.disk,
+      starts-then _ _ _ i.8 e.waits_for_none,
     )
 
 pub returns-in_default-clause-done : goal.returns-in_default-clause-done
 returns-in_default-clause-done g c =
     let i = c.loop-key.invariant in
-    let chosen = subst (λ (p : Progress). IsChoice p.limits p.plan p.past c.choose.result) c.core-in-loop-key-2.ensures.lends c.choose.ensures in
-    let held = held-unless-start _ _ _ c.choose.result chosen c.in_default.not-Start in
+    let held = held-unless-start _ _ _ c.chosen.result c.chosen.ensures c.in_default.not-Start in
     inl (subst (λ (l : Limits). IsHeld l (plan_of c.args.manager.now) (past_of c.loop-key.manager)) i.4
     (subst (λ (p : Plan). IsHeld (limits_of c.loop-key.manager) p (past_of c.loop-key.manager)) i.0 held))
 
 pub returns-in-Err-clause-refused : goal.returns-in-Err-clause-refused
 returns-in-Err-clause-refused g c =
     fault-before _ _ _ _ _ _ c.in-Err.fault c.loop-key.invariant.2 c.in-Err.ensures.refused
+
+pub returns-in-Err-clause-any_moment : goal.returns-in-Err-clause-any_moment
+returns-in-Err-clause-any_moment g c = λ honest header was.
+    let i = c.loop-key.invariant in
+    then_steps g.D.Disk.moment g.D.Disk.left_since _ _ _ _ _ header _ i.4 _ i.0 _ _ _ _ _ _ i.3 i.1.steps (i.5 honest header was)
+    (c.launch_one.ensures.any_moment (i.7.keeps honest) header (i.6 honest header was))
+
+pub returns-in-Err-clause-disk : goal.returns-in-Err-clause-disk
+returns-in-Err-clause-disk g c = keeps_on _ _ _ _ _ c.loop-key.invariant.7 c.launch_one.ensures.disk
+
+pub returns-then-is_new-clause-any_moment : goal.returns-then-is_new-clause-any_moment
+returns-then-is_new-clause-any_moment g c = λ honest header was.
+    let i = c.loop-key.invariant in
+    then_steps g.D.Disk.moment g.D.Disk.left_since _ _ _ _ _ header _ i.4 _ i.0 _ _ _ _ _ _ i.3 i.1.steps (i.5 honest header was)
+    (c.launch_one.ensures.any_moment (i.7.keeps honest) header (i.6 honest header was))
+
+pub returns-then-is_new-clause-disk : goal.returns-then-is_new-clause-disk
+returns-then-is_new-clause-disk g c = keeps_on _ _ _ _ _ c.loop-key.invariant.7 c.launch_one.ensures.disk
+
+pub returns-then-is_new-clause-acknowledged : goal.returns-then-is_new-clause-acknowledged
+returns-then-is_new-clause-acknowledged g c = λ honest header was.
+    let i = c.loop-key.invariant in
+    c.in_default-launch_one.ensures.acknowledged (i.7.keeps honest) header (i.6 honest header was)
+
+pub returns-in-Err-clause-waits_for_none : goal.returns-in-Err-clause-waits_for_none
+returns-in-Err-clause-waits_for_none g c = starts-then _ _ _ c.loop-key.invariant.8 c.launch_one.ensures.waits_for_none
+
+pub returns-then-is_new-clause-waits_for_none : goal.returns-then-is_new-clause-waits_for_none
+returns-then-is_new-clause-waits_for_none g c = starts-then _ _ _ c.loop-key.invariant.8 c.launch_one.ensures.waits_for_none

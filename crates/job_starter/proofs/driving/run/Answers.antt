@@ -2,11 +2,21 @@ use Rattle.std.proofs.Common.{arith, refl, ◌∙◌, subst, IfNone}
 use Rattle.recovery.specs.Managed.{plan_of, past_of}
 use Rattle.job_starter.specs.Drives.{IsNearerEnd}
 use Rattle.job_starter.proofs.Steps.{fault-before}
+use Rattle.job_starter.proofs.Images.{still, at_start, then_steps, keeps_still, keeps_on}
 use Rattle.job_starter.proofs.Rounds.{first-walk, drives-on, walk-on, halted-at}
 use Rattle.job_starter.proofs.driving.run.Goals as goal
 
 pub loop-verdict-init : goal.loop-verdict-init
-loop-verdict-init g c = (refl, first-walk _ _ _ _ _ c.requires.in_step c.requires.open, omega arith, λ key outcome may. may, refl)
+loop-verdict-init g c = (
+  refl,
+  first-walk _ _ _ _ _ c.requires.in_step c.requires.open,
+  omega arith,
+  λ key outcome may. may,
+  refl,
+  λ honest header was. still g.D.Disk.honest g.D.Disk.seen g.D.Disk.may_leave g.D.Disk.moment g.D.Disk.left_since g.met.D.Disk.only_now c.args.manager.now _ header _ refl honest was (at_start _ _ _ _ _ header _ c.keeps_the_law.ensures was.reads),
+  λ honest header was. was,
+  keeps_still _ _ _,
+)
 
 pub returns-in-Ok-Some-clause-steps : goal.returns-in-Ok-Some-clause-steps
 returns-in-Ok-Some-clause-steps g c =
@@ -24,6 +34,10 @@ loop-verdict-preserved g c =
       omega arith,
       λ key outcome may. i.3 key outcome (e.may key outcome may),
       e.limits ∙ i.4,
+      λ honest header was. then_steps g.D.Disk.moment g.D.Disk.left_since _ _ _ _ _ header _ i.4 _ i.0 _ _ _ _ _ _ i.3 i.1.steps (i.5 honest header was)
+          (e.any_moment (i.7.keeps honest) header (i.6 honest header was)),
+      λ honest header was. e.acknowledged (i.7.keeps honest) header (i.6 honest header was),
+      keeps_on _ _ _ _ _ i.7 e.disk,
     )
 
 pub returns-in-Err-clause-stopped : goal.returns-in-Err-clause-stopped
@@ -34,3 +48,26 @@ returns-in-Err-clause-stopped g c =
 pub returns-in-Err-clause-refused : goal.returns-in-Err-clause-refused
 returns-in-Err-clause-refused g c =
     fault-before _ _ _ _ _ _ c.in-Err.fault c.loop-verdict.invariant.2 c.in-Err.ensures.refused
+
+pub returns-in-Err-clause-any_moment : goal.returns-in-Err-clause-any_moment
+returns-in-Err-clause-any_moment g c = λ honest header was.
+    let i = c.loop-verdict.invariant in
+    then_steps g.D.Disk.moment g.D.Disk.left_since _ _ _ _ _ header _ i.4 _ i.0 _ _ _ _ _ _ i.3 i.1.steps (i.5 honest header was)
+    (c.turn.ensures.any_moment (i.7.keeps honest) header (i.6 honest header was))
+
+pub returns-in-Err-clause-disk : goal.returns-in-Err-clause-disk
+returns-in-Err-clause-disk g c = keeps_on _ _ _ _ _ c.loop-verdict.invariant.7 c.turn.ensures.disk
+
+pub returns-in-Ok-Some-clause-any_moment : goal.returns-in-Ok-Some-clause-any_moment
+returns-in-Ok-Some-clause-any_moment g c = λ honest header was.
+    let i = c.loop-verdict.invariant in
+    then_steps g.D.Disk.moment g.D.Disk.left_since _ _ _ _ _ header _ i.4 _ i.0 _ _ _ _ _ _ i.3 i.1.steps (i.5 honest header was)
+    (c.turn.ensures.any_moment (i.7.keeps honest) header (i.6 honest header was))
+
+pub returns-in-Ok-Some-clause-disk : goal.returns-in-Ok-Some-clause-disk
+returns-in-Ok-Some-clause-disk g c = keeps_on _ _ _ _ _ c.loop-verdict.invariant.7 c.turn.ensures.disk
+
+pub returns-in-Ok-Some-clause-acknowledged : goal.returns-in-Ok-Some-clause-acknowledged
+returns-in-Ok-Some-clause-acknowledged g c = λ honest header was.
+    let i = c.loop-verdict.invariant in
+    c.in-Ok-Some.ensures.acknowledged (i.7.keeps honest) header (i.6 honest header was)

@@ -4,10 +4,10 @@ use Rattle.std.proofs.lemmas.Bool.{and_parts, not-true}
 use Rattle.node_machine.specs.declared.Key.{Key}
 use Rattle.run_plan.specs.Plan.{Plan, node_at}
 use Rattle.run_plan.specs.Commands.{starts_child}
-use Rattle.sched_core.specs.Run.{is_aborted, is_lawful}
-use Rattle.sched_core.specs.Core.{Progress, IsChoice}
+use Rattle.sched_core.specs.Run.{is_aborted}
 use Rattle.recovery.specs.Managed.{plan_of, past_of}
 use Rattle.job_starter.specs.Drives.{no_step}
+use Rattle.job_starter.proofs.Images.{still, at_start}
 use Rattle.job_starter.proofs.Walks.{step-empty, step-in-step, drives-kills}
 use Rattle.job_starter.proofs.Rounds.{one-step}
 use Rattle.job_starter.proofs.driving.turn.Goals as goal
@@ -17,8 +17,8 @@ returns-in-Some-clause-steps g c = no_step
 
 pub returns-then-is_new-clause-in_step : goal.returns-then-is_new-clause-in_step
 returns-then-is_new-clause-in_step g c =
-    let before = c.aborted-before.ensures ∙ ap (λ (p : Progress). is_aborted p.plan p.past) c.core-2.ensures.lends in
-    let now = c.aborted.ensures ∙ ap (λ (p : Progress). is_aborted p.plan p.past) c.core-4.ensures.lends ∙ ap (λ (p : Plan). is_aborted p (past_of c.act.new.manager)) c.act.ensures.plan in
+    let before = c.is_aborted-before.ensures in
+    let now = c.is_aborted.ensures ∙ ap (λ (p : Plan). is_aborted p (past_of c.act.new.manager)) c.act.ensures.plan in
     let flag = (λ j. not (sym before j) && sym now j) ∙ sym c.is_new.ensures ∙ c.if-is_new.true in
     let parts = and_parts _ _ flag in
     let empty = step-empty _ _ _ _ _ _ _ c.in_default-act.ensures.step (not-true _ parts.0) parts.1 in
@@ -29,8 +29,8 @@ returns-then-is_new-clause-in_step g c =
 
 pub returns-then-is_new-clause-steps : goal.returns-then-is_new-clause-steps
 returns-then-is_new-clause-steps g c =
-    let before = c.aborted-before.ensures ∙ ap (λ (p : Progress). is_aborted p.plan p.past) c.core-2.ensures.lends in
-    let now = c.aborted.ensures ∙ ap (λ (p : Progress). is_aborted p.plan p.past) c.core-4.ensures.lends ∙ ap (λ (p : Plan). is_aborted p (past_of c.act.new.manager)) c.act.ensures.plan in
+    let before = c.is_aborted-before.ensures in
+    let now = c.is_aborted.ensures ∙ ap (λ (p : Plan). is_aborted p (past_of c.act.new.manager)) c.act.ensures.plan in
     let flag = (λ j. not (sym before j) && sym now j) ∙ sym c.is_new.ensures ∙ c.if-is_new.true in
     let parts = and_parts _ _ flag in
     let empty = step-empty _ _ _ _ _ _ _ c.in_default-act.ensures.step (not-true _ parts.0) parts.1 in
@@ -38,15 +38,16 @@ returns-then-is_new-clause-steps g c =
 
 pub returns-else-is_new-clause-in_step : goal.returns-else-is_new-clause-in_step
 returns-else-is_new-clause-in_step g c =
-    let before = c.aborted-before.ensures ∙ ap (λ (p : Progress). is_aborted p.plan p.past) c.core-2.ensures.lends in
-    let now = c.aborted.ensures ∙ ap (λ (p : Progress). is_aborted p.plan p.past) c.core-4.ensures.lends ∙ ap (λ (p : Plan). is_aborted p (past_of c.act.new.manager)) c.act.ensures.plan in
+    let before = c.is_aborted-before.ensures in
+    let now = c.is_aborted.ensures ∙ ap (λ (p : Plan). is_aborted p (past_of c.act.new.manager)) c.act.ensures.plan in
     let flag = (λ j. not (sym before j) && sym now j) ∙ sym c.is_new.ensures ∙ c.if-is_new.false in
-    step-in-step _ _ _ _ _ _ _ (subst (λ (p : Progress). is_lawful p.plan p.past ≡ true) c.core.ensures.lends c.keeps_the_law.ensures)
+    step-in-step _ _ _ _ _ _ _ c.keeps_the_law.ensures
     c.requires.open c.requires.in_step c.in_default-act.ensures.step flag
 
 pub returns-else-is_new-clause-steps : goal.returns-else-is_new-clause-steps
 returns-else-is_new-clause-steps g c = one-step _ _ _ _ _ _ _ c.in_default-act.ensures.step
 
-pub act-requires-clause-chosen : goal.act-requires-clause-chosen
-act-requires-clause-chosen g c =
-    subst (λ (p : Progress). IsChoice p.limits p.plan p.past c.choose-choice.result) c.core-3.ensures.lends c.choose-choice.ensures
+pub returns-in-Some-clause-any_moment : goal.returns-in-Some-clause-any_moment
+returns-in-Some-clause-any_moment g c = λ honest header was.
+    still g.D.Disk.honest g.D.Disk.seen g.D.Disk.may_leave g.D.Disk.moment g.D.Disk.left_since g.met.D.Disk.only_now c.args.manager.now _ header _ refl honest was
+    (at_start _ _ _ _ _ header _ c.keeps_the_law.ensures was.reads)

@@ -1,8 +1,9 @@
 use Rattle.std.proofs.Common.{rules}
 use Rattle.sched_core.proofs.Best.{chosen-follows}
 use Rattle.job_starter.specs.Causes.{record_refused}
+use Rattle.job_starter.proofs.Images.{one_call}
 use Rattle.job_starter.proofs.Steps.{refused-record, nearer-launch, chosen-within, chosen-allowed, chosen-free}
-use Rattle.job_starter.proofs.driving.record_launch.Goals as goal
+use Rattle.job_starter.proofs.records.record_launch.Goals as goal
 
 pub returns-in-Ok-clause-fewer : goal.returns-in-Ok-clause-fewer
 returns-in-Ok-clause-fewer g c =
@@ -30,3 +31,22 @@ returns-in-Ok-clause-free g c = chosen-free _ _ _ c.args.key (search rules) c.re
 
 pub returns-in-Err-clause-free : goal.returns-in-Err-clause-free
 returns-in-Err-clause-free g c = chosen-free _ _ _ c.args.key (search rules) c.requires.open c.requires.chosen
+
+pub returns-in-Ok-clause-any_moment : goal.returns-in-Ok-clause-any_moment
+returns-in-Ok-clause-any_moment g c =
+    one_call g.D.Disk.honest g.D.Disk.seen g.D.Disk.may_leave g.D.Disk.moment g.D.Disk.left_since g.met.D.Disk.only_now
+    c.args.manager.now c.launch.new.self _ c.launch.ensures.any_moment c.launch.ensures.broken
+
+pub returns-in-Err-clause-any_moment : goal.returns-in-Err-clause-any_moment
+returns-in-Err-clause-any_moment g c =
+    one_call g.D.Disk.honest g.D.Disk.seen g.D.Disk.may_leave g.D.Disk.moment g.D.Disk.left_since g.met.D.Disk.only_now
+    c.args.manager.now c.launch.new.self _ c.launch.ensures.any_moment c.launch.ensures.broken
+
+pub returns-in-Ok-clause-acknowledged : goal.returns-in-Ok-clause-acknowledged
+returns-in-Ok-clause-acknowledged g c = λ honest header was. c.in-Ok.ensures.acknowledged honest header was.reads
+
+pub returns-in-Ok-clause-disk : goal.returns-in-Ok-clause-disk
+returns-in-Ok-clause-disk g c = record { slots = c.launch.ensures.limit; room = c.launch.ensures.room; keeps = c.launch.ensures.keeps; keeps_back = c.launch.ensures.keeps_back }
+
+pub returns-in-Err-clause-disk : goal.returns-in-Err-clause-disk
+returns-in-Err-clause-disk g c = record { slots = c.launch.ensures.limit; room = c.launch.ensures.room; keeps = c.launch.ensures.keeps; keeps_back = c.launch.ensures.keeps_back }

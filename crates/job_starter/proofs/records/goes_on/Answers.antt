@@ -1,6 +1,6 @@
 use Rattle.std.proofs.Common.{rules}
 use Rattle.job_starter.proofs.Steps.{open-begun}
-use Rattle.job_starter.proofs.driving.goes_on.Goals as goal
+use Rattle.job_starter.proofs.records.goes_on.Goals as goal
 
 pub returns : goal.returns
 returns g c = open-begun _ (search rules) (search rules)
