@@ -1,7 +1,8 @@
 -- A run that is led to its end.
-use Rattle.std.proofs.Common.{◌≡◌, ◌&&◌, ℕ, true, false, List, [], ◌∷◌, ◌++◌, refl, sym, ap, ◌∙◌, subst}
+use Rattle.recovery.specs.Chain.{commands_in}
+use Rattle.std.proofs.Common.{arith, ◌≡◌, ◌&&◌, ℕ, true, false, List, [], ◌∷◌, ◌++◌, refl, sym, ap, ◌∙◌, subst}
 use Rattle.std.proofs.lemmas.Bool.{and_from}
-use Rattle.std.proofs.lemmas.List.{append_assoc}
+use Rattle.std.proofs.lemmas.List.{append-nil}
 use Rattle.throttles.specs.declared.Limits.{Limits}
 use Rattle.node_machine.specs.declared.Key.{Key}
 use Rattle.node_machine.specs.declared.Outcome.{Outcome}
@@ -14,9 +15,15 @@ use Rattle.sched_core.specs.Fate.{AreFates, shown}
 use Rattle.sched_core.specs.Core.{IsChoice}
 use Rattle.status_report.specs.Text.{run_text}
 use Rattle.job_starter.specs.declared.Call.{Call}
-use Rattle.job_starter.specs.Drives.{launch_of, Drives, IsCutOff, clean, launched, failed, ended, IsStopped}
-use Rattle.job_starter.specs.Handed.{HandsOwn}
-use Rattle.job_starter.proofs.Handing.{drives-adds}
+use Rattle.job_starter.specs.Drives.{Drives, clean, IsStopped}
+use Rattle.job_starter.specs.Handed.{HandsAll, HandsAllButOne}
+use Rattle.job_starter.specs.Moments.{IsMomentOfRun}
+use Rattle.job_starter.proofs.Images.{at_moment}
+use Rattle.event_journal.specs.Disk.{LeavesOnly}
+use Rattle.event_journal.specs.Image.{Header}
+use Rattle.event_journal.proofs.Moments as moments
+use Rattle.recovery.specs.Managed.{ReadsBeforeOrAfter}
+use Rattle.job_starter.proofs.Handing.{drives-adds, halted-adds}
 use Rattle.run_leader.specs.Led.{GoOnFrom, IsLed}
 
 aborted-after : (plan : Plan) (past : List Record) (status : ℕ) → is_aborted plan (Finish status ∷ past) ≡ is_aborted plan past
@@ -60,33 +67,34 @@ led-by limits plan plan0 plan1 plan2 own same last begun between records text st
     (subst (λ (p : Plan). text ≡ run_text p records status) (last ∙ here) prints)
     (subst (λ (p : Plan). status ≡ exit_status p between) (sym own) chosen.2)
 
--- steps that were cut off go on from the records before them
-cut-adds : (limits : Limits) (plan : Plan) (may : Key → Outcome → Type 0) (past : List Record) (told : List Call) (after : List Record) (last : List Call)
-    → IsCutOff limits plan may past told after last → GoOnFrom past after
-cut-adds limits plan may past told _ _ clean = ([], refl)
-cut-adds limits plan may past told _ _ (launched {key = key} chosen) = (launch_of past key ∷ [], refl)
-cut-adds limits plan may past told _ _ (failed {key = key} {command = command} chosen starting is may_be) = (launch_of past key ∷ [], refl)
-cut-adds limits plan may past told _ _ (ended {key = key} {outcome = outcome} held ran may_be) = ([], refl)
-
-then-on : (past between after : List Record) → GoOnFrom past between → GoOnFrom between after → GoOnFrom past after
-then-on past between after first second =
-    (second.0 ++ first.0, second.1 ∙ ap (λ l. second.0 ++ l) first.1 ∙ sym (append_assoc second.0 first.0 past))
-
 pub stopped-adds : (limits : Limits) (plan : Plan) (may : Key → Outcome → Type 0) (past : List Record) (told : List Call) (after : List Record) (last : List Call)
     → IsStopped limits plan may past told after last → GoOnFrom past after
-stopped-adds limits plan may past told after last s =
-    then-on past s.halted.between after (drives-adds limits plan may past told s.halted.between s.halted.heard s.halted.steps)
-    (cut-adds limits plan may s.halted.between s.halted.heard after s.rest s.halted.cut)
-
-pub driven-adds : (limits : Limits) (plan : Plan) (may : Key → Outcome → Type 0) (past : List Record) (told : List Call) (after : List Record) (last : List Call)
-    → Drives limits plan may past told after last → GoOnFrom past after
-driven-adds = drives-adds
+stopped-adds limits plan may past told after last s = halted-adds limits plan may past told after s.rest s.halted
 
 -- the record of the end hands nothing over
 pub finished-adds : (past between after : List Record) (status : ℕ) → GoOnFrom past between → after ≡ Finish status ∷ between → GoOnFrom past after
 finished-adds past between after status on is = (Finish status ∷ on.0, is ∙ ap (λ l. Finish status ∷ l) on.1)
 
 pub finished-hands : (plan : Plan) (past between after : List Record) (status : ℕ) (told heard : List Call)
-    → HandsOwn plan past between told heard → after ≡ Finish status ∷ between → HandsOwn plan past after told heard
+    → HandsAll plan past between told heard → after ≡ Finish status ∷ between → HandsAll plan past after told heard
 finished-hands plan past between after status told heard h is =
-    subst (λ (l : List Record). HandsOwn plan past l told heard) (sym is) (record { own = h.own; are = h.are; hands_over = h.hands_over })
+    subst (λ (l : List Record). HandsAll plan past l told heard) (sym is) (record { own = h.own; are = h.are; commands = h.commands })
+
+pub all-but-one : (plan : Plan) (past after : List Record) (told heard : List Call) → HandsAll plan past after told heard → HandsAllButOne plan past after told heard
+all-but-one plan past after told heard h = record {
+  own = h.own;
+  are = h.are;
+  rest = [];
+  few = omega arith;
+  commands = h.commands ∙ ap (λ l. commands_in plan past ++ l) (sym (append-nil h.own));
+}
+
+-- a crash while the end is recorded, behind the steps of the run
+pub then_end : {D : Type 0} (moment : D → ℕ) (left_since : D → ℕ → List ℕ → Type 0) (limits : Limits) (plan : Plan) (may : Key → Outcome → Type 0) (past : List Record) (told : List Call) (header : Header)
+    (old mid new : D) (between : List Record) (heard : List Call) (entry : Record) → is_lawful plan between ≡ true → Drives limits plan may past told between heard
+    → LeavesOnly moment left_since old mid (IsMomentOfRun limits plan may past told header) → LeavesOnly moment left_since mid new (ReadsBeforeOrAfter header between entry)
+    → LeavesOnly moment left_since old new (IsMomentOfRun limits plan may past told header)
+then_end moment left_since limits plan may past told header old mid new between heard entry lawful steps first second =
+    moments.joined moment left_since old mid new (IsMomentOfRun limits plan may past told header) first
+    (moments.weaker moment left_since mid new (ReadsBeforeOrAfter header between entry) (IsMomentOfRun limits plan may past told header)
+    (λ image. at_moment limits plan may past told header between heard entry image lawful (record { between = between; heard = heard; steps = steps; cut = clean })) second)

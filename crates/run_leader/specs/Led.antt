@@ -5,8 +5,6 @@ use Rattle.sched_core.specs.declared.Record.{Record}
 use Rattle.sched_core.specs.Run.{is_finished, is_aborted, exit_status, table_of}
 use Rattle.sched_core.specs.Fate.{AreFates, shown}
 use Rattle.status_report.specs.Text.{run_text}
-use Rattle.event_journal.specs.Image.{Header}
-use Rattle.recovery.specs.Managed.{Reads}
 
 -- the records went on from these
 abbrev pub GoOnFrom : List Record → List Record → Type 0
@@ -21,7 +19,3 @@ pub record IsLed (plan : Plan) (begun records : List Record) (text : List ℕ) (
   pub fates : IsFalse (is_aborted plan records) → AreFates plan (table_of records) (shown plan records)
   pub text_is : text ≡ run_text plan records status
   pub status_is : status ≡ exit_status plan records
-
--- an image of a journal whose records went on from these
-abbrev pub ReadsOnFrom : Header → List Record → List ℕ → Type 0
-ReadsOnFrom header begun image = (records : List Record) × GoOnFrom begun records × Reads header records image

@@ -1,12 +1,13 @@
 //! A manager that leads its run to the end.
 
-ghost use Rattle.std.specs.Prelude.{◌≡◌, [], IsFalse, IfOk, string_bytes};
+ghost use Rattle.std.specs.Prelude.{◌≡◌, [], IsFalse, IfOk, OnOk, OnErr, string_bytes};
 ghost use Rattle.recovery.specs.Managed.{plan_of, past_of};
 ghost use Rattle.recovery.specs.Seal.{IsSealOf, IsRescued};
 ghost use Rattle.sched_core.specs.Run.{is_over};
-ghost use Rattle.job_starter.specs.Drives.{AreInStep};
+ghost use Rattle.job_starter.specs.Drives.{AreInStep, limits_of};
 ghost use Rattle.job_starter.specs.Calls.{running};
-ghost use Rattle.job_starter.specs.Handed.{HandsOwn};
+ghost use Rattle.job_starter.specs.Handed.{HandsAll, HandsAllButOne};
+ghost use Rattle.job_starter.specs.Moments.{AtAnyMoment, IsMomentOfRun, StaysAcknowledged};
 ghost use Rattle.run_leader.specs.Led.{GoOnFrom, IsLed};
 
 use event_journal::Disk;
@@ -62,13 +63,22 @@ pub fn lead<D: Disk + Drop, R: Disk + Drop, S: Starter>(
     requires unfinished { IsFalse (is_over (past_of manager.old)) }
     ensures led { IfOk result (λ led.
         IsLed plan.now (past_of manager.old) (past_of manager.new) (string_bytes led.text) led.status) }
-    // Behind a fault too the records went on, the commands of the own launches were handed over in
-    // their order, but perhaps the last one's, and no child runs.
+    // Behind a fault too the records went on, and no child runs; the commands of the own launches were
+    // handed over once each and in their order, behind a fault perhaps but the last.
     ensures plan { plan_of manager.new ≡ plan_of manager.old }
     ensures goes_on { GoOnFrom (past_of manager.old) (past_of manager.new) }
-    ensures hands_over { HandsOwn (plan_of manager.old) (past_of manager.old) (past_of manager.new)
-        (S.told starter.old) (S.told starter.new) }
+    ensures hands_over { OnOk result (HandsAll (plan_of manager.old) (past_of manager.old)
+        (past_of manager.new) (S.told starter.old) (S.told starter.new)) }
+    ensures hands_over_err { OnErr result (HandsAllButOne (plan_of manager.old) (past_of manager.old)
+        (past_of manager.new) (S.told starter.old) (S.told starter.new)) }
     ensures none_left { running (S.told starter.new) ≡ [] }
+    // A crash at any moment of the call leaves what makes it a life of the run (job_starter's law
+    // `stops`); what was answered Ok is in every later image.
+    ensures any_moment { AtAnyMoment D.honest D.seen D.may_leave D.moment D.left_since
+        manager.old manager.new (IsMomentOfRun (limits_of manager.old) (plan_of manager.old)
+        (S.may_tell starter.old) (past_of manager.old) (S.told starter.old)) }
+    ensures acknowledged { OnOk result
+        (StaysAcknowledged D.honest D.seen D.may_leave manager.old manager.new) }
     // The rescue file that the run owes is on its disk.
     ensures rescued { IfOk result (λ led.
         IsRescued R.honest R.may_leave plan.now (past_of manager.new) led.rescue) }

@@ -1,14 +1,16 @@
+use Rattle.run_plan.specs.Plan.{Plan}
 use Rattle.std.proofs.Common.{◌≡◌, true, List, ap, sym, ◌∙◌, subst}
 use Rattle.sched_core.specs.Core.{Progress}
 use Rattle.sched_core.specs.Run.{is_lawful}
-use Rattle.recovery.specs.Managed.{plan_of, past_of}
+use Rattle.recovery.specs.Managed.{plan_of, past_of, disk_of}
 use Rattle.job_starter.specs.Drives.{limits_of}
 use Rattle.status_report.specs.Text.{run_text}
 use Rattle.sched_core.specs.declared.Record.{Record}
-use Rattle.job_starter.specs.Handed.{HandsOwn}
 use Rattle.job_starter.proofs.Handing.{driven, stopped, drives-adds}
+use Rattle.job_starter.proofs.Images.{one_call}
+use Rattle.job_starter.specs.Handed.{HandsAllButOne}
 use Rattle.run_leader.specs.Led.{GoOnFrom}
-use Rattle.run_leader.proofs.Ends.{led-by, stopped-adds, finished-adds, finished-hands}
+use Rattle.run_leader.proofs.Ends.{led-by, stopped-adds, finished-adds, finished-hands, all-but-one, then_end}
 use Rattle.run_leader.proofs.leading.lead.Goals as goal
 
 pub returns-in-Ok-run_text-clause-led : goal.returns-in-Ok-run_text-clause-led
@@ -25,30 +27,37 @@ pub returns-in-Err-clause-goes_on : goal.returns-in-Err-clause-goes_on
 returns-in-Err-clause-goes_on g c =
     stopped-adds (limits_of c.args.manager.now) (plan_of c.args.manager.now) (g.S.Starter.may_tell c.args.starter.now) (past_of c.args.manager.now) (g.S.Starter.told c.args.starter.now) (past_of c.drive.new.manager) (g.S.Starter.told c.drive.new.starter) c.in-Err.ensures.stopped
 
-pub returns-in-Err-clause-hands_over : goal.returns-in-Err-clause-hands_over
-returns-in-Err-clause-hands_over g c =
+pub returns-in-Err-clause-hands_over_err : goal.returns-in-Err-clause-hands_over_err
+returns-in-Err-clause-hands_over_err g c =
     stopped (limits_of c.args.manager.now) (plan_of c.args.manager.now) (g.S.Starter.may_tell c.args.starter.now) (past_of c.args.manager.now) (g.S.Starter.told c.args.starter.now) (past_of c.drive.new.manager) (g.S.Starter.told c.drive.new.starter) c.in-Err.ensures.stopped
 
 pub returns-in-Err-sealed-clause-goes_on : goal.returns-in-Err-sealed-clause-goes_on
 returns-in-Err-sealed-clause-goes_on g c =
     drives-adds (limits_of c.args.manager.now) (plan_of c.args.manager.now) (g.S.Starter.may_tell c.args.starter.now) (past_of c.args.manager.now) (g.S.Starter.told c.args.starter.now) (past_of c.drive.new.manager) (g.S.Starter.told c.drive.new.starter) c.in-Ok.ensures.steps
 
-pub returns-in-Err-sealed-clause-hands_over : goal.returns-in-Err-sealed-clause-hands_over
-returns-in-Err-sealed-clause-hands_over g c =
-    driven (limits_of c.args.manager.now) (plan_of c.args.manager.now) (g.S.Starter.may_tell c.args.starter.now) (past_of c.args.manager.now) (g.S.Starter.told c.args.starter.now) (past_of c.drive.new.manager) (g.S.Starter.told c.drive.new.starter) c.in-Ok.ensures.steps
+pub returns-in-Err-sealed-clause-hands_over_err : goal.returns-in-Err-sealed-clause-hands_over_err
+returns-in-Err-sealed-clause-hands_over_err g c =
+    all-but-one (plan_of c.args.manager.now) (past_of c.args.manager.now) (past_of c.drive.new.manager) (g.S.Starter.told c.args.starter.now) (g.S.Starter.told c.drive.new.starter)
+    (driven (limits_of c.args.manager.now) (plan_of c.args.manager.now) (g.S.Starter.may_tell c.args.starter.now) (past_of c.args.manager.now) (g.S.Starter.told c.args.starter.now) (past_of c.drive.new.manager) (g.S.Starter.told c.drive.new.starter) c.in-Ok.ensures.steps)
 
 pub returns-in-Err-finish-clause-goes_on : goal.returns-in-Err-finish-clause-goes_on
 returns-in-Err-finish-clause-goes_on g c =
     subst (GoOnFrom (past_of c.args.manager.now)) (sym c.in-Err-finish.ensures.past_err)
     (drives-adds (limits_of c.args.manager.now) (plan_of c.args.manager.now) (g.S.Starter.may_tell c.args.starter.now) (past_of c.args.manager.now) (g.S.Starter.told c.args.starter.now) (past_of c.drive.new.manager) (g.S.Starter.told c.drive.new.starter) c.in-Ok.ensures.steps)
 
-pub returns-in-Err-finish-clause-hands_over : goal.returns-in-Err-finish-clause-hands_over
-returns-in-Err-finish-clause-hands_over g c =
-    subst (λ (l : List Record). HandsOwn (plan_of c.args.manager.now) (past_of c.args.manager.now) l (g.S.Starter.told c.args.starter.now) (g.S.Starter.told c.drive.new.starter)) (sym c.in-Err-finish.ensures.past_err)
-    (driven (limits_of c.args.manager.now) (plan_of c.args.manager.now) (g.S.Starter.may_tell c.args.starter.now) (past_of c.args.manager.now) (g.S.Starter.told c.args.starter.now) (past_of c.drive.new.manager) (g.S.Starter.told c.drive.new.starter) c.in-Ok.ensures.steps)
+pub returns-in-Err-finish-clause-hands_over_err : goal.returns-in-Err-finish-clause-hands_over_err
+returns-in-Err-finish-clause-hands_over_err g c =
+    subst (λ (l : List Record). HandsAllButOne (plan_of c.args.manager.now) (past_of c.args.manager.now) l (g.S.Starter.told c.args.starter.now) (g.S.Starter.told c.drive.new.starter)) (sym c.in-Err-finish.ensures.past_err)
+    (all-but-one (plan_of c.args.manager.now) (past_of c.args.manager.now) (past_of c.drive.new.manager) (g.S.Starter.told c.args.starter.now) (g.S.Starter.told c.drive.new.starter)
+    (driven (limits_of c.args.manager.now) (plan_of c.args.manager.now) (g.S.Starter.may_tell c.args.starter.now) (past_of c.args.manager.now) (g.S.Starter.told c.args.starter.now) (past_of c.drive.new.manager) (g.S.Starter.told c.drive.new.starter) c.in-Ok.ensures.steps))
 
 pub returns-in-Ok-run_text-clause-goes_on : goal.returns-in-Ok-run_text-clause-goes_on
 returns-in-Ok-run_text-clause-goes_on g c =
+    finished-adds (past_of c.args.manager.now) (past_of c.drive.new.manager) (past_of c.finish.new.self) _
+    (drives-adds (limits_of c.args.manager.now) (plan_of c.args.manager.now) (g.S.Starter.may_tell c.args.starter.now) (past_of c.args.manager.now) (g.S.Starter.told c.args.starter.now) (past_of c.drive.new.manager) (g.S.Starter.told c.drive.new.starter) c.in-Ok.ensures.steps) c.in-Ok-finish.ensures.past
+
+pub returns-in-Err-run_text-clause-goes_on : goal.returns-in-Err-run_text-clause-goes_on
+returns-in-Err-run_text-clause-goes_on g c =
     finished-adds (past_of c.args.manager.now) (past_of c.drive.new.manager) (past_of c.finish.new.self) _
     (drives-adds (limits_of c.args.manager.now) (plan_of c.args.manager.now) (g.S.Starter.may_tell c.args.starter.now) (past_of c.args.manager.now) (g.S.Starter.told c.args.starter.now) (past_of c.drive.new.manager) (g.S.Starter.told c.drive.new.starter) c.in-Ok.ensures.steps) c.in-Ok-finish.ensures.past
 
@@ -57,12 +66,38 @@ returns-in-Ok-run_text-clause-hands_over g c =
     finished-hands (plan_of c.args.manager.now) (past_of c.args.manager.now) (past_of c.drive.new.manager) (past_of c.finish.new.self) _ (g.S.Starter.told c.args.starter.now) (g.S.Starter.told c.drive.new.starter)
     (driven (limits_of c.args.manager.now) (plan_of c.args.manager.now) (g.S.Starter.may_tell c.args.starter.now) (past_of c.args.manager.now) (g.S.Starter.told c.args.starter.now) (past_of c.drive.new.manager) (g.S.Starter.told c.drive.new.starter) c.in-Ok.ensures.steps) c.in-Ok-finish.ensures.past
 
-pub returns-in-Err-run_text-clause-goes_on : goal.returns-in-Err-run_text-clause-goes_on
-returns-in-Err-run_text-clause-goes_on g c =
-    finished-adds (past_of c.args.manager.now) (past_of c.drive.new.manager) (past_of c.finish.new.self) _
-    (drives-adds (limits_of c.args.manager.now) (plan_of c.args.manager.now) (g.S.Starter.may_tell c.args.starter.now) (past_of c.args.manager.now) (g.S.Starter.told c.args.starter.now) (past_of c.drive.new.manager) (g.S.Starter.told c.drive.new.starter) c.in-Ok.ensures.steps) c.in-Ok-finish.ensures.past
+pub returns-in-Err-run_text-clause-hands_over_err : goal.returns-in-Err-run_text-clause-hands_over_err
+returns-in-Err-run_text-clause-hands_over_err g c =
+    all-but-one (plan_of c.args.manager.now) (past_of c.args.manager.now) (past_of c.finish.new.self) (g.S.Starter.told c.args.starter.now) (g.S.Starter.told c.drive.new.starter)
+    (finished-hands (plan_of c.args.manager.now) (past_of c.args.manager.now) (past_of c.drive.new.manager) (past_of c.finish.new.self) _ (g.S.Starter.told c.args.starter.now) (g.S.Starter.told c.drive.new.starter)
+    (driven (limits_of c.args.manager.now) (plan_of c.args.manager.now) (g.S.Starter.may_tell c.args.starter.now) (past_of c.args.manager.now) (g.S.Starter.told c.args.starter.now) (past_of c.drive.new.manager) (g.S.Starter.told c.drive.new.starter) c.in-Ok.ensures.steps) c.in-Ok-finish.ensures.past)
 
-pub returns-in-Err-run_text-clause-hands_over : goal.returns-in-Err-run_text-clause-hands_over
-returns-in-Err-run_text-clause-hands_over g c =
-    finished-hands (plan_of c.args.manager.now) (past_of c.args.manager.now) (past_of c.drive.new.manager) (past_of c.finish.new.self) _ (g.S.Starter.told c.args.starter.now) (g.S.Starter.told c.drive.new.starter)
-    (driven (limits_of c.args.manager.now) (plan_of c.args.manager.now) (g.S.Starter.may_tell c.args.starter.now) (past_of c.args.manager.now) (g.S.Starter.told c.args.starter.now) (past_of c.drive.new.manager) (g.S.Starter.told c.drive.new.starter) c.in-Ok.ensures.steps) c.in-Ok-finish.ensures.past
+pub returns-in-Err-finish-clause-any_moment : goal.returns-in-Err-finish-clause-any_moment
+returns-in-Err-finish-clause-any_moment g c = λ honest header was.
+    then_end g.D.Disk.moment g.D.Disk.left_since (limits_of c.args.manager.now) (plan_of c.args.manager.now) (g.S.Starter.may_tell c.args.starter.now) (past_of c.args.manager.now) (g.S.Starter.told c.args.starter.now) header
+    (disk_of c.args.manager.now) (disk_of c.drive.new.manager) (disk_of c.finish.new.self) (past_of c.drive.new.manager) (g.S.Starter.told c.drive.new.starter) _
+    (subst (λ (p : Plan). is_lawful p (past_of c.drive.new.manager) ≡ true) c.in-Ok.ensures.plan (subst (λ (p : Progress). is_lawful p.plan p.past ≡ true) c.core.ensures.lends c.keeps_the_law.ensures))
+    c.in-Ok.ensures.steps (c.in-Ok.ensures.any_moment honest header was)
+    (one_call g.D.Disk.honest g.D.Disk.seen g.D.Disk.may_leave g.D.Disk.moment g.D.Disk.left_since g.met.D.Disk.only_now
+    c.drive.new.manager c.finish.new.self _ c.in-Err-finish.ensures.any_moment c.in-Err-finish.ensures.broken (c.in-Ok.ensures.disk.keeps honest) header
+    (c.in-Ok.ensures.acknowledged honest header was))
+
+pub returns-in-Ok-run_text-clause-any_moment : goal.returns-in-Ok-run_text-clause-any_moment
+returns-in-Ok-run_text-clause-any_moment g c = λ honest header was.
+    then_end g.D.Disk.moment g.D.Disk.left_since (limits_of c.args.manager.now) (plan_of c.args.manager.now) (g.S.Starter.may_tell c.args.starter.now) (past_of c.args.manager.now) (g.S.Starter.told c.args.starter.now) header
+    (disk_of c.args.manager.now) (disk_of c.drive.new.manager) (disk_of c.finish.new.self) (past_of c.drive.new.manager) (g.S.Starter.told c.drive.new.starter) _
+    (subst (λ (p : Plan). is_lawful p (past_of c.drive.new.manager) ≡ true) c.in-Ok.ensures.plan (subst (λ (p : Progress). is_lawful p.plan p.past ≡ true) c.core.ensures.lends c.keeps_the_law.ensures))
+    c.in-Ok.ensures.steps (c.in-Ok.ensures.any_moment honest header was)
+    (one_call g.D.Disk.honest g.D.Disk.seen g.D.Disk.may_leave g.D.Disk.moment g.D.Disk.left_since g.met.D.Disk.only_now
+    c.drive.new.manager c.finish.new.self _ c.in-Ok-finish.ensures.any_moment c.in-Ok-finish.ensures.broken (c.in-Ok.ensures.disk.keeps honest) header
+    (c.in-Ok.ensures.acknowledged honest header was))
+
+pub returns-in-Err-run_text-clause-any_moment : goal.returns-in-Err-run_text-clause-any_moment
+returns-in-Err-run_text-clause-any_moment g c = λ honest header was.
+    then_end g.D.Disk.moment g.D.Disk.left_since (limits_of c.args.manager.now) (plan_of c.args.manager.now) (g.S.Starter.may_tell c.args.starter.now) (past_of c.args.manager.now) (g.S.Starter.told c.args.starter.now) header
+    (disk_of c.args.manager.now) (disk_of c.drive.new.manager) (disk_of c.finish.new.self) (past_of c.drive.new.manager) (g.S.Starter.told c.drive.new.starter) _
+    (subst (λ (p : Plan). is_lawful p (past_of c.drive.new.manager) ≡ true) c.in-Ok.ensures.plan (subst (λ (p : Progress). is_lawful p.plan p.past ≡ true) c.core.ensures.lends c.keeps_the_law.ensures))
+    c.in-Ok.ensures.steps (c.in-Ok.ensures.any_moment honest header was)
+    (one_call g.D.Disk.honest g.D.Disk.seen g.D.Disk.may_leave g.D.Disk.moment g.D.Disk.left_since g.met.D.Disk.only_now
+    c.drive.new.manager c.finish.new.self _ c.in-Ok-finish.ensures.any_moment c.in-Ok-finish.ensures.broken (c.in-Ok.ensures.disk.keeps honest) header
+    (c.in-Ok.ensures.acknowledged honest header was))
