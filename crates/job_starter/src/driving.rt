@@ -82,7 +82,7 @@ fn hand_over<D: Disk + Drop, S: Starter>(
         key answer (S.told starter.old) (S.told starter.new)) }
     ensures silent { OnErr result (S.told starter.new ≡ S.told starter.old) }
     ensures may_be { IfOk result (λ answer.
-        answer ≡ Started.NotStarted → S.may_tell starter.old key NoStart) }
+        answer ≡ Started.NotStarted → S.may_tell starter.old (S.told starter.old) key NoStart) }
     ensures later { S.faults starter.old ≤ S.faults starter.new }
     ensures refused { IfErr result (IsDriveFault D.faults D.capacity
         (S.faults starter.old) (S.faults starter.new) manager.now) }
@@ -179,7 +179,12 @@ fn end_one<D: Disk + Drop, S: Starter>(
 }
 
 /// Launches until nothing more is to be launched, or an ending that was recorded aborts the run.
-/// It waits for no child.
+/// It waits for no child, and kills none.
+///
+/// # Errors
+/// `StartMemory` where the starter is refused memory for a child, `Memory` where it is refused for a
+/// command: that launch is recorded, and no child was started. `Manager` where the manager refuses a
+/// record, for its disk or for memory. What was recorded stays.
 pub fn launch_round<D: Disk + Drop, S: Starter>(
     alloc: Global,
     manager: &mut Manager<'_, D>,
@@ -369,8 +374,9 @@ fn run<D: Disk + Drop, S: Starter>(
 /// none runs when the call returns.
 ///
 /// # Errors
-/// What was recorded stays. Behind `StartMemory` and `Memory` the last launch may be outstanding
-/// though no child was started.
+/// Those of `launch_round`, and `WaitFault` where the system refuses the question or the wait. What was
+/// recorded stays; behind `StartMemory` and `Memory` the last launch is outstanding though no child
+/// was started, and the next life launches it again.
 pub fn drive<D: Disk + Drop, S: Starter>(
     alloc: Global,
     manager: &mut Manager<'_, D>,
