@@ -11,7 +11,7 @@ use Rattle.run_plan.specs.Commands.{CommandOrFault, command_of, starts_child}
 use Rattle.sched_core.specs.declared.Record.{Record}
 use Rattle.sched_core.specs.declared.Record.TheVariants.{End}
 use Rattle.sched_core.specs.Commands.{facts_in}
-use Rattle.recovery.specs.Chain.{Command, commands_in}
+use Rattle.recovery.specs.Chain.{commands_in}
 use Rattle.job_starter.specs.declared.Call.{Call}
 use Rattle.job_starter.specs.declared.Call.TheVariants as calls
 use Rattle.job_starter.specs.declared.Started.TheVariants.{NotStarted}

@@ -1,6 +1,6 @@
 //! What holds of the definitions alone. No program calls these functions.
 
-ghost use Rattle.std.specs.Prelude.{◌≡◌, ℕ, List, ◌∷◌};
+ghost use Rattle.std.specs.Prelude.{◌≡◌, ℕ, List, [], ◌∷◌};
 ghost use Rattle.throttles.specs.declared.Limits.{Limits};
 ghost use Rattle.run_plan.specs.Plan.{Plan};
 ghost use Rattle.sched_core.specs.declared.Record.{Record};
@@ -8,7 +8,8 @@ ghost use Rattle.sched_core.specs.declared.Record.TheVariants.{Life};
 ghost use Rattle.event_journal.specs.Image.{Header};
 ghost use Rattle.recovery.specs.Chain.{ReadsForInputs};
 ghost use Rattle.job_starter.specs.declared.Call.{Call};
-ghost use Rattle.job_starter.specs.Drives.{Drives, IsHalted, IsStopped};
+ghost use Rattle.job_starter.specs.Calls.{running};
+ghost use Rattle.job_starter.specs.Drives.{AreInStep, Drives, IsHalted, IsStopped};
 ghost use Rattle.job_starter.specs.Handed.{HandsAll, HandsAllButOne};
 ghost use Rattle.job_starter.specs.Moments.{IsMomentOfRun, IsLifeAt};
 
@@ -38,4 +39,10 @@ pub fn stops<S: Starter>()
         header.digest ≡ plan.digest → ReadsForInputs plan past found →
         (stop : IsMomentOfRun limits plan (S.may_tell starter) (Life ∷ past) told header image) →
         IsLifeAt past told found image stop }
+{}
+
+/// A manager that began a run or went on with it is in step with a starter of no running child.
+pub fn begins()
+    ensures { (plan : Plan) (past : List Record) (told : List Call) →
+        running told ≡ [] → AreInStep plan (Life ∷ past) told }
 {}

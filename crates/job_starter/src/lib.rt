@@ -16,8 +16,10 @@ mod starter;
 
 pub use driving::{DriveFault, RunEnd, drive, launch_round};
 pub use local::LocalSystem;
+pub use log::CallLog;
 use node_machine::{Key, Outcome};
 pub use polling::ProcessStarter;
+pub use refusals::{no_answer, no_memory};
 use run_plan::ChildCommand;
 pub use scripted::{Script, ScriptedStarter};
 pub use starter::{Starter, System};

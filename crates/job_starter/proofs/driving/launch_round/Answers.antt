@@ -1,8 +1,7 @@
-use Rattle.std.proofs.Common.{arith, ◌≡◌, ◌&&◌, not, true, refl, sym, ap, ◌∙◌, subst}
+use Rattle.std.proofs.Common.{arith, ◌&&◌, not, refl, sym, ap, ◌∙◌, subst}
 use Rattle.std.proofs.lemmas.Bool.{and_parts, not-true}
 use Rattle.run_plan.specs.Plan.{Plan}
-use Rattle.sched_core.specs.Run.{is_aborted, is_lawful}
-use Rattle.sched_core.specs.Core.{Progress, IsChoice}
+use Rattle.sched_core.specs.Run.{is_aborted}
 use Rattle.recovery.specs.Managed.{plan_of, past_of}
 use Rattle.std.proofs.Common.{inl, inr}
 use Rattle.throttles.specs.declared.Limits.{Limits}

@@ -1,0 +1,188 @@
+// Runs by a script: no child is started, and each call can be made to fail.
+ghost use Rattle.node_machine.specs.OutcomeTable.{HasPossibleOutcomes};
+
+use crate::plans::{File, NO_LIMITS, plan_of, run};
+use job_starter::{Call, DriveFault, RunEnd, Script, ScriptedStarter, Started, Starter};
+use node_machine::{Table, read_table};
+use run_plan::Plan;
+use std::alloc::Global;
+use std::process::Abort;
+use std::test::Fail;
+use throttles::Limits;
+
+struct Row {
+    dag: &'static str,
+    // How the phases end that do not exit with 0.
+    table: &'static str,
+    // The order of the endings.
+    places: &'static [usize],
+    failing_start: Option<u64>,
+    failing_wait: Option<u64>,
+    limits: Limits,
+    // How the run ends, the calls of the starter, and what the nodes come to.
+    due: &'static str,
+}
+
+const QUIET: Row = Row {
+    dag: "",
+    table: "",
+    places: &[],
+    failing_start: None,
+    failing_wait: None,
+    limits: NO_LIMITS,
+    due: "",
+};
+
+const ONE_JOB: Limits = Limits {
+    jobs: 1,
+    pre: 0,
+    post: 0,
+    children: 0,
+};
+
+const THREE: &str = "JOB A a.sub\nJOB B a.sub\nJOB C a.sub\n";
+
+static ROWS: [Row; 10] = [
+    Row {
+        due: "result 0\n",
+        ..QUIET
+    },
+    Row {
+        dag: "JOB A a.sub NOOP\nSCRIPT PRE A p.sh\n",
+        due: "result 0\nstart 0 Pre\nend 0 Pre Exit(0)\nA Done 1 0\n",
+        ..QUIET
+    },
+    Row {
+        dag: THREE,
+        places: &[2, 1],
+        due: "result 0\nstart 0 Job\nstart 1 Job\nstart 2 Job\nend 2 Job Exit(0)\n\
+              end 1 Job Exit(0)\nend 0 Job Exit(0)\nA Done 1 0\nB Done 1 0\nC Done 1 0\n",
+        ..QUIET
+    },
+    Row {
+        dag: THREE,
+        limits: ONE_JOB,
+        due: "result 0\nstart 0 Job\nend 0 Job Exit(0)\nstart 1 Job\nend 1 Job Exit(0)\n\
+              start 2 Job\nend 2 Job Exit(0)\nA Done 1 0\nB Done 1 0\nC Done 1 0\n",
+        ..QUIET
+    },
+    Row {
+        dag: "JOB A a.sub\nRETRY A 1\n",
+        table: "A 0 JOB nostart\nA 1 JOB signal 9\n",
+        due: "result 1\nnot started 0 Job\nstart 0 Job\nend 0 Job Signal(9)\nA Error 2 -9\n",
+        ..QUIET
+    },
+    // An abort: what still runs is killed, and only FINAL is started then.
+    Row {
+        dag: "JOB B b.sub\nJOB A a.sub\nRETRY B 3\nABORT-DAG-ON B 7 RETURN 42\n",
+        table: "B 0 JOB 7\n",
+        due: "result 42 aborted\nstart 0 Job\nstart 1 Job\nend 0 Job Exit(7)\nkill 1 Job\n\
+              B Error 1 7\nA NotRun 0 -\n",
+        ..QUIET
+    },
+    Row {
+        dag: "JOB B b.sub\nJOB A a.sub\nRETRY B 3\nABORT-DAG-ON B 7 RETURN 42\nFINAL F f.sub\n",
+        table: "B 0 JOB 7\n",
+        due: "result 0 aborted\nstart 0 Job\nstart 1 Job\nend 0 Job Exit(7)\nkill 1 Job\n\
+              start 2 Job\nend 2 Job Exit(0)\nB Error 1 7\nA NotRun 0 -\nF Done 1 0\n",
+        ..QUIET
+    },
+    // A child that can't be started aborts the run before another one is.
+    Row {
+        dag: "JOB B b.sub\nJOB A a.sub\nABORT-DAG-ON A -1001\nPRIORITY A 1\n",
+        table: "A 0 JOB nostart\n",
+        due: "result 1 aborted\nnot started 1 Job\nB NotRun 0 -\nA Error 1 -1001\n",
+        ..QUIET
+    },
+    // What is refused stops the run, and no child is left.
+    Row {
+        dag: THREE,
+        failing_start: Some(2),
+        due: "A1 StartMemory\nstart 0 Job\nstart 1 Job\nkill 0 Job\nkill 1 Job\n\
+              A NotRun 0 -\nB NotRun 0 -\nC NotRun 0 -\n",
+        ..QUIET
+    },
+    Row {
+        dag: THREE,
+        failing_wait: Some(1),
+        due: "A2 WaitFault\nstart 0 Job\nstart 1 Job\nstart 2 Job\nend 0 Job Exit(0)\n\
+              kill 1 Job\nkill 2 Job\nA Done 1 0\nB NotRun 0 -\nC NotRun 0 -\n",
+        ..QUIET
+    },
+];
+
+static SUBMITS: [File; 3] = [
+    ("a.sub", "executable = /bin/a\nqueue\n"),
+    ("b.sub", "executable = /bin/b\nqueue\n"),
+    ("f.sub", "executable = /bin/f\nqueue\n"),
+];
+
+fn add_end(text: &mut String, end: Result<RunEnd, DriveFault>) -> Result<(), Fail> {
+    match end {
+        Ok(end) => {
+            let aborted = if end.aborted { " aborted" } else { "" };
+            write!(text, "result {}{aborted}\n", end.verdict)?;
+        }
+        Err(fault) => write!(text, "{fault}\n")?,
+    }
+    Ok(())
+}
+
+fn add_calls(text: &mut String, calls: &[Call]) -> Result<(), Fail> {
+    for call in calls {
+        match call {
+            Call::Started(key, _, Started::Running) => {
+                write!(text, "start {} {:?}\n", key.node, key.phase)?;
+            }
+            Call::Started(key, _, Started::NotStarted) => {
+                write!(text, "not started {} {:?}\n", key.node, key.phase)?;
+            }
+            Call::Ended(key, outcome) => {
+                write!(text, "end {} {:?} {outcome:?}\n", key.node, key.phase)?;
+            }
+            Call::Killed(key) => write!(text, "kill {} {:?}\n", key.node, key.phase)?,
+        }
+    }
+    Ok(())
+}
+
+fn shown(alloc: Global, plan: &Plan, table: &Table, row: &Row) -> Result<String, Fail>
+    requires { HasPossibleOutcomes table.now }
+{
+    let mut places = Vec::new(alloc);
+    for place in row.places {
+        places.push(*place)?;
+    }
+    let script = Script {
+        places,
+        failing_start: row.failing_start,
+        failing_wait: row.failing_wait,
+        lets_go: false,
+    };
+    let mut starter = ScriptedStarter::new(alloc, plan, table, script);
+    let (end, nodes) = run(alloc, plan, row.limits, &mut starter)?;
+    let mut text = String::new(alloc);
+    add_end(&mut text, end)?;
+    add_calls(&mut text, starter.calls())?;
+    text.push_str(nodes.as_str())?;
+    Ok(text)
+}
+
+fn shows(rt: &impl Abort, alloc: Global, row: &Row) -> Result<(), Fail> {
+    let Ok(table) = read_table(alloc, row.table.as_bytes()) else {
+        panic!(rt; "no table");
+    };
+    let plan = plan_of(alloc, row.dag, &SUBMITS)?;
+    let text = shown(alloc, &plan, &table, row);
+    drop(plan);
+    assert_eq!(rt; text?.as_str(), row.due);
+    Ok(())
+}
+
+#[test]
+fn scripted_runs(rt: HostRuntime) -> Result<(), Fail> {
+    for row in &ROWS {
+        shows(&rt, rt.alloc(), row)?;
+    }
+    Ok(())
+}
