@@ -70,8 +70,16 @@ launch-command plan table newer past key number h o sound_texts plain =
     (same-ends course es (table key.node) (told-by plan table past p.0 o key.node) key.attempt key.phase before
     (facts_in plan (Launch key number ∷ past) key) refl refl)
 
+-- and in an attempt that is allowed
+pub launch-allowed : (plan : Plan) (newer past : List Record) (key : Key) (number : ℕ) → is_lawful plan (newer ++ Launch key number ∷ past) ≡ true
+    → key.attempt ≤ (node_at plan key.node).course.retries
+launch-allowed plan newer past key number h =
+    let p = and_parts (is_lawful plan past) (may_follow plan past (Launch key number)) (lawful-tail plan newer (Launch key number ∷ past) h) in
+    turn-allowed (node_at plan key.node).course (history past key.node) (histories-are plan past p.0 key.node) (key.attempt, key.phase)
+    (next-parts plan past key.node key (launch-held plan past key number p.1).is_next).1
+
 -- nodes that are alike have the same commands
-same-command : (plan : Plan) (table : Table) (plan' : Plan) (table' : Table) (node node' : ℕ) → IsAlike plan table plan' table' node node' → HaveSameCommands plan plan' node node'
+pub same-command : (plan : Plan) (table : Table) (plan' : Plan) (table' : Table) (node node' : ℕ) → IsAlike plan table plan' table' node node' → HaveSameCommands plan plan' node node'
     → (attempt : ℕ) → attempt ≤ (node_at plan node).course.retries → (phase : Phase) → starts_child (node_at plan node) phase ≡ true
     → command_by plan table node attempt phase ≡ command_by plan' table' node' attempt phase
 same-command plan table plan' table' node node' alike commands attempt allowed phase starts =
