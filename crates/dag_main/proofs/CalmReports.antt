@@ -2,9 +2,9 @@
 use Rattle.std.proofs.Common.{◌≡◌, ℕ, zero, suc, ◌+◌, Bool, true, false, not, ◌&&◌, ◌||◌, List, [], ◌∷◌, ◌++◌, is_some, refl, sym, ap, ◌∙◌, if◌then◌else◌}
 use Rattle.run_plan.specs.Plan.{Plan, count_of, all_below}
 use Rattle.sched_core.specs.declared.Record.{Record}
-use Rattle.sched_core.specs.Run.{is_done, is_aborted, is_finished, status_of_abort, exit_status, needs_rescue}
+use Rattle.sched_core.specs.Run.{is_done, is_in_error, is_aborted, is_finished, status_of_abort, exit_status, needs_rescue}
 use Rattle.sched_core.specs.Fate.{shown, is_done_state}
-use Rattle.sched_core.proofs.Finished.{state-done}
+use Rattle.sched_core.proofs.Finished.{state-done, final-error}
 use Rattle.sched_core.proofs.Sweeps.{all_below-same}
 use Rattle.rescue_file.specs.Written.{ordinary_names, rescue_text_of}
 use Rattle.status_report.proofs.Finished.{all-lines}
@@ -26,7 +26,14 @@ module _ (plan : Plan) (past : List Record) (finished : is_finished plan past �
 
   need-is : needs_rescue plan past ≡ fates_need_rescue plan (shown plan past)
   need-is =
-      λ j. (calm j || not (ordinary-done j)) || (is_some plan.final_node && not (sym (state-done plan past (count_of plan)) j))
+      (λ j. (calm j || not (ordinary-done j)) || final-need (is_some plan.final_node) refl j)
+    where
+      final-need : (b : Bool) → is_some plan.final_node ≡ b
+          → (is_some plan.final_node && is_in_error plan past (count_of plan)) ≡ (is_some plan.final_node && not (is_done_state (shown plan past (count_of plan)).state))
+      final-need true some = λ j. is_some plan.final_node && (final-error plan past finished some ∙ (λ i. not (sym (state-done plan past (count_of plan)) i))) j
+      final-need false none =
+          (λ j. none j && is_in_error plan past (count_of plan))
+          ∙ sym (λ j. none j && not (is_done_state (shown plan past (count_of plan)).state))
 
   same-marks : (number n : ℕ) → marks_from (is_done plan past) number n ≡ marks_from (λ node. is_done_state (shown plan past node).state) number n
   same-marks number zero = refl

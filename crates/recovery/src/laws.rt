@@ -3,6 +3,7 @@
 ghost use Rattle.std.specs.Prelude.{◌≡◌, ℕ, ◌<◌, true, false, List, [], ◌∷◌, ◌++◌, map, Ok, None, IsTrue};
 ghost use Rattle.std.specs.List.{Contains};
 ghost use Rattle.node_machine.specs.declared.Key.{Key};
+ghost use Rattle.node_machine.specs.declared.Phase.{Phase};
 ghost use Rattle.node_machine.specs.Story.{Table};
 ghost use Rattle.run_plan.specs.Plan.{Plan, node_at, count_of, IsRankedBy};
 ghost use Rattle.run_plan.specs.Commands.{CommandOrFault, is_sound, uses_whole_run};
@@ -17,7 +18,7 @@ ghost use Rattle.event_journal.specs.Image.{Header, header_of, replay_of};
 ghost use Rattle.recovery.specs.Managed.{Managed, plan_of, past_of, read_of, WithOrWithout, ReadsBeforeOrAfter};
 ghost use Rattle.recovery.specs.Recovery.{IsMomentOfBegin, IsRecovered};
 ghost use Rattle.recovery.specs.Lives.{Span, AreLives};
-ghost use Rattle.recovery.specs.Chain.{Command, ManagerLife, IsLifeOf, AreManagerLives, HandsOver, Leaves, span, life_of};
+ghost use Rattle.recovery.specs.Chain.{Command, key_of, ManagerLife, IsLifeOf, AreManagerLives, HandsOver, Leaves, span, life_of};
 
 use event_journal::Disk;
 
@@ -83,8 +84,9 @@ pub fn stops()
 {}
 
 /// Two runs over such lives, whose plans and tables agree on a node and all above it, agree on that
-/// node: on its attempts, its value and its state, and where they agree on commands too, on the
-/// command of each of its phases.
+/// node: on its attempts, its value, its state and its mark. Where they agree on its commands too, what
+/// any life of the one handed over for a phase of an attempt is what any life of the other did; and
+/// for each phase that ended and starts a child the recursion reads one command from both tables.
 pub fn two_runs()
     ensures fates { (plan plan' : Plan) (table table' : Table) (rank rank' : ℕ → ℕ) →
         IsRankedBy rank plan → IsRankedBy rank' plan' →
@@ -111,4 +113,14 @@ pub fn two_runs()
         Agree plan table plan' table' node node' →
         with_commands plan table node (shown plan last.span.held node).history
         ≡ with_commands plan' table' node' (shown plan' last'.span.held node').history }
+    ensures handed { (plan plan' : Plan) (table table' : Table) (last last' : ManagerLife)
+        (before before' : List ManagerLife) →
+        AreManagerLives plan (last ∷ before) → AreManagerLives plan' (last' ∷ before') →
+        IsRunBy plan table last.span.held → IsRunBy plan' table' last'.span.held →
+        (node node' : ℕ) → Agree plan table plan' table' node node' →
+        is_sound (node_at plan node) ≡ true → is_sound (node_at plan' node') ≡ true →
+        (life life' : ManagerLife) → Contains (last ∷ before) life → Contains (last' ∷ before') life' →
+        (attempt : ℕ) (phase : Phase) (command command' : CommandOrFault) →
+        Contains life.handed (key_of node attempt phase, command) →
+        Contains life'.handed (key_of node' attempt phase, command') → command ≡ command' }
 {}

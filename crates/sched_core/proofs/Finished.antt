@@ -13,7 +13,7 @@ use Rattle.sched_core.specs.declared.Record.{Record}
 use Rattle.sched_core.specs.declared.Record.TheVariants.{Life, Launch, End, Finish}
 use Rattle.node_machine.specs.declared.State.TheVariants.{Done, Error, NotRun}
 use Rattle.run_plan.specs.Plan.{Plan, node_at, count_of, all_below, IsRankedBy}
-use Rattle.sched_core.specs.Run.{table_of, history, key_at, next, is_done, outstanding, is_aborted, may_follow, is_lawful, is_finished, may_launch, is_ready, is_final_ready, is_free, is_nothing, is_among}
+use Rattle.sched_core.specs.Run.{table_of, history, key_at, next, is_done, is_in_error, outstanding, is_aborted, may_follow, is_lawful, is_finished, may_launch, is_ready, is_final_ready, is_free, is_nothing, is_among}
 use Rattle.sched_core.specs.Fate.{Fate, is_done_state, without_attempts, told_by, fate_by, final_fate, AreFates, shown}
 use Rattle.std.specs.Prelude.{nat_le}
 use Rattle.sched_core.specs.Core.{is_running, has_key_of}
@@ -250,6 +250,16 @@ final-ended plan (Life ∷ past) h some = absurd (false≢true h)
 final-ended plan (Launch key number ∷ past) h some = absurd (false≢true h)
 final-ended plan (End key outcome ∷ past) h some = absurd (false≢true h)
 final-ended plan (Finish status ∷ past) h some = final-over plan past status (and_parts (is_lawful plan past) (may_follow plan past (Finish status)) h).1 some
+
+-- so in a finished run FINAL is done or in error
+pub final-error : (plan : Plan) (records : List Record) → is_finished plan records ≡ true → is_some plan.final_node ≡ true
+    → is_in_error plan records (count_of plan) ≡ not (is_done plan records (count_of plan))
+final-error plan records finished some =
+    (λ j. not (is_done plan records (count_of plan)) && is_none (final-ended plan records finished some j)) ∙ and-true (not (is_done plan records (count_of plan)))
+  where
+    and-true : (b : Bool) → (b && true) ≡ b
+    and-true true = refl
+    and-true false = refl
 
 -- in a finished run without abort a node whose next phase is to come waits for its parents
 pub finished-waits : (plan : Plan) (records : List Record) → is_finished plan records ≡ true → is_aborted plan records ≡ false → (node : ℕ) → node < count_of plan

@@ -112,6 +112,9 @@ all-below f g n goes (x ∷ xs) low h =
     let l = and_parts _ _ low in let p = and_parts _ _ h in
     and_from _ _ (goes x (ltb-true x n l.0) p.0) (all-below f g n goes xs l.1 p.1)
 
+below-next : (a b : ℕ) → a < b → a < suc b
+below-next a b lt = omega (arith, lt)
+
 -- a node that is ready waits, where the nodes stand so
 pub ready-waits : (plan : Plan) (past : List Record) (runs : List NodeProgress) → is_lawful plan past ≡ true → IsPlanned plan
     → ((node : ℕ) → node < suc (count_of plan) → run_at runs node ≡ run_of plan past node)
@@ -126,9 +129,9 @@ ready-waits plan past runs lawful planned are node lt ready =
     let phase = next-phase plan past lawful free.0 is in
     let here = subst (λ n. is_none (stand_after (node_at plan n).course (history past n)).phase ≡ false) own (ap is_none phase) in
     and_from _ _ (ap not undone) (and_from _ _
-    (ap not ((λ j. is_none (are node (omega (arith, lt)) j).stand.phase) ∙ here))
+    (ap not ((λ j. is_none (are node (below-next node (count_of plan) lt) j).stand.phase) ∙ here))
     (all-below (is_done plan past) (done_at plan runs) (count_of plan)
-    (λ p low d. (λ j. (node_at plan p).done || (is_none (are p (omega (arith, low)) j).stand.phase && (are p (omega (arith, low)) j).stand.good)) ∙ stand-done plan past lawful p ∙ d)
+    (λ p low d. (λ j. (node_at plan p).done || (is_none (are p (below-next p (count_of plan) low) j).stand.phase && (are p (below-next p (count_of plan) low) j).stand.good)) ∙ stand-done plan past lawful p ∙ d)
     (node_at plan node).parents (parents-below plan planned node) (and_parts _ _ parts.0).1))
 
 pub fresh-queued : (plan : Plan) (runs : List NodeProgress) (queue : Queue) → IsPlanned plan → AreFresh plan runs → AreMembers plan queue

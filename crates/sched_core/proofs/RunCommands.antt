@@ -1,5 +1,6 @@
 -- The commands of a run are those that are read from the table.
-use Rattle.std.proofs.Common.{◌≡◌, ℕ, ◌<◌, negsuc, Bool, true, false, List, ◌∷◌, ◌++◌, map, refl, ap, ◌∙◌, if◌then◌else◌}
+use Rattle.std.proofs.Common.{◌≡◌, ℕ, zero, suc, ◌+◌, ◌<◌, ◌≤◌, pos, negsuc, Bool, true, false, not, List, [], ◌∷◌, ◌++◌, refl, sym, ap, ◌∙◌, subst, arith, if◌then◌else◌}
+use Rattle.std.specs.List.{list_all}
 use Rattle.std.proofs.lemmas.Bool.{and_parts}
 use Rattle.node_machine.specs.declared.Phase.{Phase}
 use Rattle.node_machine.specs.declared.Phase.TheVariants.{Pre, Job, Post}
@@ -7,17 +8,18 @@ use Rattle.node_machine.specs.declared.Ended.{Ended}
 use Rattle.node_machine.specs.declared.Course.{Course}
 use Rattle.node_machine.specs.declared.Outcome.{Outcome}
 use Rattle.node_machine.specs.declared.Key.{Key}
-use Rattle.node_machine.specs.Story.{Table, value_of, ends_with, outcome_in, has_ended}
+use Rattle.node_machine.specs.Story.{Table, value_of, ends_with, outcome_in, has_ended, ended, decided_by, with_job, with_pre, attempt, skips, is_exit_0, is_last, attempts_from, story, phases_of}
+use Rattle.node_machine.specs.declared.State.TheVariants.{Done, NotRun}
 use Rattle.node_machine.proofs.Trees.{Told}
 use Rattle.node_machine.proofs.Beginnings.{masked, next-some}
 use Rattle.run_plan.specs.declared.command.PhaseFacts.{PhaseFacts}
-use Rattle.run_plan.specs.Plan.{Plan, node_at, count_of, IsRankedBy, at}
-use Rattle.run_plan.specs.Commands.{command_of, is_sound, uses_whole_run, HaveSameEnds}
+use Rattle.run_plan.specs.Plan.{Plan, NodeSpec, node_at, count_of, IsRankedBy, at}
+use Rattle.run_plan.specs.Commands.{command_of, starts_child, is_sound, uses_whole_run, HaveSameEnds}
 use Rattle.run_plan.proofs.PlainCommands.{plain_command_same}
 use Rattle.sched_core.specs.declared.Record.{Record}
 use Rattle.sched_core.specs.declared.Record.TheVariants.{Launch}
 use Rattle.sched_core.specs.Run.{history, is_lawful, may_follow}
-use Rattle.sched_core.specs.Fate.{Fate, AreFates}
+use Rattle.sched_core.specs.Fate.{Fate, is_done_state, without_attempts, told_by, fate_by, AreFates}
 use Rattle.sched_core.specs.Agree.{IsAlike, HaveSameCommands, Agree}
 use Rattle.sched_core.specs.Lives.{HasOutcomesOf}
 use Rattle.sched_core.specs.Commands.{plain_facts, pre_value_of, facts_by, command_by, with_commands, facts_in}
@@ -68,20 +70,112 @@ launch-command plan table newer past key number h o sound_texts plain =
     (same-ends course es (table key.node) (told-by plan table past p.0 o key.node) key.attempt key.phase before
     (facts_in plan (Launch key number ∷ past) key) refl refl)
 
+-- and in an attempt that is allowed
+pub launch-allowed : (plan : Plan) (newer past : List Record) (key : Key) (number : ℕ) → is_lawful plan (newer ++ Launch key number ∷ past) ≡ true
+    → key.attempt ≤ (node_at plan key.node).course.retries
+launch-allowed plan newer past key number h =
+    let p = and_parts (is_lawful plan past) (may_follow plan past (Launch key number)) (lawful-tail plan newer (Launch key number ∷ past) h) in
+    turn-allowed (node_at plan key.node).course (history past key.node) (histories-are plan past p.0 key.node) (key.attempt, key.phase)
+    (next-parts plan past key.node key (launch-held plan past key number p.1).is_next).1
+
 -- nodes that are alike have the same commands
-same-command : (plan : Plan) (table : Table) (plan' : Plan) (table' : Table) (node node' : ℕ) → IsAlike plan table plan' table' node node' → HaveSameCommands plan plan' node node'
-    → (attempt : ℕ) (phase : Phase) → command_by plan table node attempt phase ≡ command_by plan' table' node' attempt phase
-same-command plan table plan' table' node node' alike commands attempt phase =
+pub same-command : (plan : Plan) (table : Table) (plan' : Plan) (table' : Table) (node node' : ℕ) → IsAlike plan table plan' table' node node' → HaveSameCommands plan plan' node node'
+    → (attempt : ℕ) → attempt ≤ (node_at plan node).course.retries → (phase : Phase) → starts_child (node_at plan node) phase ≡ true
+    → command_by plan table node attempt phase ≡ command_by plan' table' node' attempt phase
+same-command plan table plan' table' node node' alike commands attempt allowed phase starts =
     (λ j. command_of (node_at plan node) attempt phase (plain_facts
     (value_of (ends_with (alike.course j) Job (alike.outcomes attempt Job j)))
     (pre_value_of (alike.course j) (alike.outcomes attempt Pre j))))
-    ∙ commands attempt phase _ _
+    ∙ commands.same attempt allowed phase starts _ _
+
+same-starts : (one other : NodeSpec) → one.course ≡ other.course → (phase : Phase) → starts_child one phase ≡ starts_child other phase
+same-starts one other same Pre = ap (λ (c : Course). c.pre) same
+same-starts one other same Job = ap (λ (c : Course). not c.noop) same
+same-starts one other same Post = ap (λ (c : Course). c.post) same
+
+-- a fact of each of these phases
+abbrev EachOf : (Ended → Type 0) → List Ended → Type 0
+EachOf P [] = Unit {0}
+EachOf P (e ∷ es) = P e × EachOf P es
+
+each-append : (P : Ended → Type 0) (es others : List Ended) → EachOf P es → EachOf P others → EachOf P (es ++ others)
+each-append P [] others h k = k
+each-append P (e ∷ es) others h k = (h.0, each-append P es others h.1 k)
+
+-- the phases of an attempt are of its number
+of-attempt : (P : Ended → Type 0) (course : Course) (i : ℕ) (outcomes : Phase → Outcome) → ((phase : Phase) → P (ended i outcomes phase)) → EachOf P (attempt course i outcomes).ended
+of-attempt P course i outcomes own = pre course.pre
+  where
+    job : (before : List Ended) → EachOf P before → EachOf P (with_job course i outcomes before).ended
+    job before h = go course.post
+      where
+        go : (b : Bool) → EachOf P (if b then decided_by (outcomes Post) (before ++ ended i outcomes Job ∷ ended i outcomes Post ∷ []) else decided_by (outcomes Job) (before ++ ended i outcomes Job ∷ [])).ended
+        go true = each-append P before (ended i outcomes Job ∷ ended i outcomes Post ∷ []) h (own Job, (own Post, tt))
+        go false = each-append P before (ended i outcomes Job ∷ []) h (own Job, tt)
+
+    pre : (b : Bool) → EachOf P (if b then with_pre course i outcomes else with_job course i outcomes []).ended
+    pre false = job [] tt
+    pre true = go (skips course (outcomes Pre)) (is_exit_0 (outcomes Pre))
+      where
+        go : (a b : Bool) → EachOf P (if a then record { ended = ended i outcomes Pre ∷ []; value = pos 0; good = true }
+            else if b then with_job course i outcomes (ended i outcomes Pre ∷ []) else record { ended = ended i outcomes Pre ∷ []; value = value_of (outcomes Pre); good = false }).ended
+        go true b = (own Pre, tt)
+        go false true = job (ended i outcomes Pre ∷ []) (own Pre, tt)
+        go false false = (own Pre, tt)
+
+-- no attempt passes the retries
+from-allowed : (course : Course) (outcomes : ℕ → Phase → Outcome) (n i left : ℕ) → i + left ≤ n → EachOf (λ e. e.attempt ≤ n) (phases_of (attempts_from course outcomes i left))
+from-allowed course outcomes n i zero fits =
+    each-append (λ e. e.attempt ≤ n) (attempt course i (outcomes i)).ended [] (of-attempt (λ e. e.attempt ≤ n) course i (outcomes i) (λ phase. omega (arith, fits))) tt
+from-allowed course outcomes n i (suc left) fits = go (is_last course (attempt course i (outcomes i))) (from-allowed course outcomes n (suc i) left (omega (arith, fits)))
+  where
+    own : EachOf (λ e. e.attempt ≤ n) (attempt course i (outcomes i)).ended
+    own = of-attempt (λ e. e.attempt ≤ n) course i (outcomes i) (λ phase. omega (arith, fits))
+
+    go : (b : Bool) → EachOf (λ e. e.attempt ≤ n) (phases_of (attempts_from course outcomes (suc i) left))
+        → EachOf (λ e. e.attempt ≤ n) (phases_of (if b then attempt course i (outcomes i) ∷ [] else attempt course i (outcomes i) ∷ attempts_from course outcomes (suc i) left))
+    go true rest = each-append (λ e. e.attempt ≤ n) (attempt course i (outcomes i)).ended [] own tt
+    go false rest = each-append (λ e. e.attempt ≤ n) (attempt course i (outcomes i)).ended _ own rest
+
+story-allowed : (course : Course) (outcomes : ℕ → Phase → Outcome) → EachOf (λ e. e.attempt ≤ course.retries) (phases_of (story course outcomes))
+unfolding story
+story-allowed course outcomes = from-allowed course (λ i phase. ends_with course phase (outcomes i phase)) course.retries 0 course.retries (omega arith)
+
+fate-allowed : (plan : Plan) (table : Table) (fates : ℕ → Fate) (node : ℕ) → EachOf (λ e. e.attempt ≤ (node_at plan node).course.retries) (fate_by plan table fates node).history
+fate-allowed plan table fates node = go (node_at plan node).done (list_all (λ parent. is_done_state (fates parent).state) (node_at plan node).parents)
+  where
+    go : (a b : Bool) → EachOf (λ e. e.attempt ≤ (node_at plan node).course.retries)
+        (if a then without_attempts Done else if b then told_by (story (node_at plan node).course (table node)) else without_attempts NotRun).history
+    go true b = tt
+    go false true = story-allowed (node_at plan node).course (table node)
+    go false false = tt
+
+-- phases in attempts that are allowed have the same commands
+same-listed : (plan : Plan) (table : Table) (plan' : Plan) (table' : Table) (node node' : ℕ) → IsAlike plan table plan' table' node node' → HaveSameCommands plan plan' node node'
+    → (es : List Ended) → EachOf (λ e. e.attempt ≤ (node_at plan node).course.retries) es → with_commands plan table node es ≡ with_commands plan' table' node' es
+same-listed plan table plan' table' node node' alike commands [] allowed = refl
+same-listed plan table plan' table' node node' alike commands (e ∷ es) allowed =
+    go (starts_child (node_at plan node) e.phase) refl (same-listed plan table plan' table' node node' alike commands es allowed.1)
+  where
+    other : starts_child (node_at plan node) e.phase ≡ starts_child (node_at plan' node') e.phase
+    other = same-starts (node_at plan node) (node_at plan' node') alike.course e.phase
+
+    go : (b : Bool) → starts_child (node_at plan node) e.phase ≡ b → with_commands plan table node es ≡ with_commands plan' table' node' es
+        → with_commands plan table node (e ∷ es) ≡ with_commands plan' table' node' (e ∷ es)
+    go true t rest =
+        (λ j. if t j then (e, command_by plan table node e.attempt e.phase) ∷ with_commands plan table node es else with_commands plan table node es)
+        ∙ (λ j. (e, same-command plan table plan' table' node node' alike commands e.attempt allowed.0 e.phase t j) ∷ rest j)
+        ∙ (λ j. if (sym t ∙ other) j then (e, command_by plan' table' node' e.attempt e.phase) ∷ with_commands plan' table' node' es else with_commands plan' table' node' es)
+    go false t rest =
+        (λ j. if t j then (e, command_by plan table node e.attempt e.phase) ∷ with_commands plan table node es else with_commands plan table node es)
+        ∙ rest
+        ∙ (λ j. if (sym t ∙ other) j then (e, command_by plan' table' node' e.attempt e.phase) ∷ with_commands plan' table' node' es else with_commands plan' table' node' es)
 
 pub same-commands : (plan : Plan) (table : Table) (plan' : Plan) (table' : Table) (rank rank' : ℕ → ℕ)
     → IsRankedBy rank plan → IsRankedBy rank' plan' → (fates fates' : ℕ → Fate) → AreFates plan table fates → AreFates plan' table' fates'
     → (node node' : ℕ) → node < count_of plan → node' < count_of plan' → Agree plan table plan' table' node node'
     → with_commands plan table node (fates node).history ≡ with_commands plan' table' node' (fates' node').history
 same-commands plan table plan' table' rank rank' ranked ranked' fates fates' are are' node node' lt lt' agree =
-    let same = same-command plan table plan' table' node node' (agree.0.0.upward node node' at at agree.0.0.name) (agree.1 node node' at at agree.0.0.name) in
-    let fate = fates-agree plan table plan' table' rank rank' ranked ranked' fates fates' are are' node node' lt lt' agree.0 in
-    λ j. map (λ (e : Ended). (e, same e.attempt e.phase j)) (fate j).history
+    same-listed plan table plan' table' node node' (agree.0.0.upward node node' at at agree.0.0.name) agree.1 (fates node).history
+    (subst (λ (f : Fate). EachOf (λ e. e.attempt ≤ (node_at plan node).course.retries) f.history) (sym (are node lt)) (fate-allowed plan table fates node))
+    ∙ ap (λ (f : Fate). with_commands plan' table' node' f.history) (fates-agree plan table plan' table' rank rank' ranked ranked' fates fates' are are' node node' lt lt' agree.0)

@@ -1,5 +1,5 @@
 -- The command of each phase of a run: by the outcomes of a table, and by the records.
-use Rattle.std.specs.Prelude.{ℕ, ℤ, negsuc, Bool, not, ◌&&◌, ◌==◌, List, [], ◌∷◌, map, is_none, if◌then◌else◌}
+use Rattle.std.specs.Prelude.{ℕ, ℤ, negsuc, ◌==◌, List, [], ◌∷◌, if◌then◌else◌}
 use Rattle.node_machine.specs.declared.Phase.{Phase}
 use Rattle.node_machine.specs.declared.Phase.TheVariants.{Pre, Job}
 use Rattle.node_machine.specs.declared.Outcome.{Outcome}
@@ -9,10 +9,10 @@ use Rattle.node_machine.specs.declared.Course.{Course}
 use Rattle.node_machine.specs.Story.{Table, value_of, ends_with}
 use Rattle.run_plan.specs.declared.command.PhaseFacts.{PhaseFacts}
 use Rattle.run_plan.specs.Plan.{Plan, node_at, count_of}
-use Rattle.run_plan.specs.Commands.{CommandOrFault, command_of}
+use Rattle.run_plan.specs.Commands.{CommandOrFault, command_of, starts_child}
 use Rattle.sched_core.specs.declared.Record.{Record}
 use Rattle.sched_core.specs.declared.Record.TheVariants.{Life, Launch, End, Finish}
-use Rattle.sched_core.specs.Run.{table_of, next, is_done, is_aborted, is_same}
+use Rattle.sched_core.specs.Run.{table_of, is_in_error, is_aborted, is_same}
 use Rattle.sched_core.specs.Bound.{sum_below}
 
 -- what is known of an attempt whose job and PRE have these values, and nothing of the whole run
@@ -40,13 +40,13 @@ abbrev pub command_by : Plan → Table → ℕ → ℕ → Phase → CommandOrFa
 command_by plan table node attempt phase =
     command_of (node_at plan node) attempt phase (facts_by (node_at plan node).course (table node) attempt)
 
--- phases of a node, each with its command
+-- of phases of a node those that start a child, each with its command
 abbrev pub with_commands : Plan → Table → ℕ → List Ended → List (Ended × CommandOrFault)
-with_commands plan table node phases = map (λ (e : Ended). (e, command_by plan table node e.attempt e.phase)) phases
-
--- a node is not done, and no phase of it follows
-abbrev pub is_in_error : Plan → List Record → ℕ → Bool
-is_in_error plan past node = not (is_done plan past node) && is_none (next plan past node)
+with_commands plan table node [] = []
+with_commands plan table node (e ∷ phases) =
+    if starts_child (node_at plan node) e.phase
+    then (e, command_by plan table node e.attempt e.phase) ∷ with_commands plan table node phases
+    else with_commands plan table node phases
 
 -- how many ordinary nodes are in error
 abbrev pub failed_in : Plan → List Record → ℕ

@@ -1,5 +1,5 @@
 -- Plans and runs of them.
-use Rattle.std.specs.Prelude.{ℕ, Bool, true, false, List, [], ◌∷◌, pos, Some, None, ◌==◌, ◌&&◌, if◌then◌else◌}
+use Rattle.std.specs.Prelude.{ℕ, Bool, true, false, List, [], ◌∷◌, pos, codes, Some, None, ◌==◌, ◌&&◌, if◌then◌else◌}
 use Rattle.node_machine.specs.declared.Phase.{Phase}
 use Rattle.node_machine.specs.declared.Phase.TheVariants.{Pre, Job, Post}
 use Rattle.node_machine.specs.declared.Outcome.TheVariants.{Exit, Signal}
@@ -10,7 +10,7 @@ use Rattle.node_machine.specs.Story.{Table}
 use Rattle.sched_core.specs.declared.Record.{Record}
 use Rattle.sched_core.specs.declared.Record.TheVariants.{Life, Launch, End, Finish}
 use Rattle.dag_graph.specs.Graph.{Network}
-use Rattle.run_plan.specs.Plan.{Plan, NodeSpec, no_orders}
+use Rattle.run_plan.specs.Plan.{Plan, NodeSpec, Program, no_orders}
 use Rattle.sched_core.specs.Run.{written}
 use Rattle.sched_core.specs.Rounds.{Round}
 
@@ -124,11 +124,40 @@ plan_q = record {
   digest = [];
 }
 
+-- all goes well
+abbrev pub first_good : Table
+first_good node attempt phase = Exit 0
+
 -- B fails at its first attempt
 abbrev pub first_fails : ℕ → Table
 first_fails b node attempt Pre = Exit 0
 first_fails b node attempt Job = if node == b && (attempt == 0) then Exit 1 else Exit 0
 first_fails b node attempt Post = Exit 0
+
+-- A, whose PRE script has these words
+abbrev pub scripted : List (List ℕ) → Plan
+scripted words = record {
+  nodes = record (node 65 (record { pre = true; noop = false; post = false; retries = 1; unless_exit = None; pre_skip = None; abort_on = None }) false [])
+      { orders = record { folder = codes "work"; pre = Some words; post = None; job = Program (codes "A.sub") } } ∷ [];
+  final_node = None;
+  graph = no_graph;
+  digest = [];
+}
+
+-- its script is told the attempt; how many nodes failed, which is known in the whole run alone; and 0 always
+abbrev pub told_attempt : Plan
+told_attempt = scripted (codes "check.sh" ∷ codes "$JOB" ∷ codes "$RETRY" ∷ [])
+
+abbrev pub told_failed : Plan
+told_failed = scripted (codes "check.sh" ∷ codes "$FAILED_COUNT" ∷ [])
+
+abbrev pub told_0 : Plan
+told_0 = scripted (codes "check.sh" ∷ codes "0" ∷ [])
+
+-- PRE and the job of A end well at once
+abbrev pub told_run : List Record
+told_run = written (
+    Life ∷ Launch (key 0 0 Pre) 0 ∷ End (key 0 0 Pre) (Exit 0) ∷ Launch (key 0 0 Job) 1 ∷ End (key 0 0 Job) (Exit 0) ∷ Finish 0 ∷ [])
 
 -- A, which may be done from the start, above B, which aborts at 7
 abbrev pub stopped_plan : Bool → Plan

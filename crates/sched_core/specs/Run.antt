@@ -1,5 +1,5 @@
 -- Runs of a plan: lists of records, the newest first.
-use Rattle.std.specs.Prelude.{ℕ, zero, suc, ◌+◌, ℤ, pos, negsuc, Bool, true, false, not, ◌&&◌, ◌||◌, List, [], ◌∷◌, ◌++◌, reverse, Option, Some, None, is_some, nat_lt, nat_le, ◌==◌, if◌then◌else◌}
+use Rattle.std.specs.Prelude.{ℕ, zero, suc, ◌+◌, ℤ, pos, negsuc, Bool, true, false, not, ◌&&◌, ◌||◌, List, [], ◌∷◌, ◌++◌, reverse, Option, Some, None, is_none, is_some, nat_lt, nat_le, ◌==◌, if◌then◌else◌}
 use Rattle.std.specs.List.{list_all}
 use Rattle.node_machine.specs.declared.Phase.{Phase}
 use Rattle.node_machine.specs.declared.Key.{Key}
@@ -51,6 +51,10 @@ value_in plan past node = value_after (node_at plan node).course (history past n
 -- how many attempts of a node ended
 abbrev pub attempts_in : Plan → List Record → ℕ → ℕ
 attempts_in plan past node = attempts_ended_after (node_at plan node).course (history past node)
+
+-- a node is in error: it is not done, and no phase of it follows
+abbrev pub is_in_error : Plan → List Record → ℕ → Bool
+is_in_error plan past node = not (is_done plan past node) && is_none (next plan past node)
 
 -- a setting that is there and has this value
 abbrev pub is_met : Option ℤ → Option ℤ → Bool
@@ -200,8 +204,8 @@ is_launched (Life ∷ past) node = is_launched past node
 is_launched (End key outcome ∷ past) node = is_launched past node
 is_launched (Finish status ∷ past) node = is_launched past node
 
--- a rescue file is written: the run was aborted, or a node isn't done
+-- a rescue file is written: the run was aborted, an ordinary node isn't done, or the FINAL node is in error
 abbrev pub needs_rescue : Plan → List Record → Bool
 needs_rescue plan records =
     is_aborted plan records || not (all_below (is_done plan records) (count_of plan))
-    || (is_some plan.final_node && not (is_done plan records (count_of plan)))
+    || (is_some plan.final_node && is_in_error plan records (count_of plan))

@@ -2,25 +2,26 @@
 //! refused.
 //! No program calls these functions.
 
-ghost use Rattle.std.specs.Prelude.{◌≡◌, ◌≢◌, ℕ, ◌<◌, ◌+◌, ◌*◌, length, List, [], ◌∷◌, ◌++◌, map, drop, pos, true, false, IsTrue, IsFalse};
+ghost use Rattle.std.specs.Prelude.{◌≡◌, ◌≢◌, ℕ, ◌<◌, ◌+◌, ◌*◌, length, List, [], ◌∷◌, ◌++◌, map, drop, pos, codes, Ok, true, false, IsTrue, IsFalse};
 ghost use Rattle.std.specs.List.{list_all, Contains};
 ghost use Rattle.node_machine.specs.declared.Phase.{Phase};
 ghost use Rattle.node_machine.specs.declared.Outcome.{Outcome};
 ghost use Rattle.node_machine.specs.Story.{Table, story, phases_of, BeginsWith};
 ghost use Rattle.sched_core.specs.declared.Record.{Record};
 ghost use Rattle.sched_core.specs.declared.Record.TheVariants.{Life, Launch, End, Finish};
-ghost use Rattle.node_machine.specs.declared.Phase.TheVariants.{Job};
+ghost use Rattle.node_machine.specs.declared.Phase.TheVariants.{Pre, Job};
 ghost use Rattle.node_machine.specs.declared.Outcome.TheVariants.{Exit, Signal};
 ghost use Rattle.node_machine.specs.declared.State.TheVariants.{Done, Error, NotRun};
 ghost use Rattle.run_plan.specs.Plan.{Plan, node_at, count_of, IsRankedBy};
-ghost use Rattle.run_plan.specs.Commands.{is_sound, uses_whole_run};
+ghost use Rattle.run_plan.specs.Commands.{bare_command, command_of, is_sound, uses_whole_run};
 ghost use Rattle.sched_core.specs.Run.{table_of, history, is_done, is_lawful, is_finished, is_aborted, is_launched, may_follow};
 ghost use Rattle.sched_core.specs.Fate.{Fate, AreFates, shown, is_done_state};
 ghost use Rattle.sched_core.specs.Bound.{all_phases};
-ghost use Rattle.sched_core.specs.Agree.{Agree};
+ghost use Rattle.sched_core.specs.Commands.{plain_facts, command_by};
+ghost use Rattle.sched_core.specs.Agree.{HaveSameCommands, Agree};
 ghost use Rattle.sched_core.specs.Lives.{HasOutcomesOf, IsRunBy, IsTurnOf};
 ghost use Rattle.sched_core.specs.Rounds.{Round, AreRounds, AreCalm, RoundsAgree, WasMarked, is_marked};
-ghost use Rattle.sched_core.specs.Example.{key, two_nodes, its_run, diamond, diamond_run, diamond_life, abort_plan, abort_run, noop_plan, noop_table, noop_run, plan_p, plan_q, first_fails, round_of, stopped_round, next_round};
+ghost use Rattle.sched_core.specs.Example.{key, two_nodes, its_run, diamond, diamond_run, diamond_life, abort_plan, abort_run, noop_plan, noop_table, noop_run, plan_p, plan_q, first_fails, round_of, stopped_round, next_round, told_attempt, told_failed, told_0, told_run, first_good};
 ghost use Rattle.node_machine.specs.declared.Key.{Key};
 
 /// Such plans and runs exist: each list is lawful and finished, and shows these states and values.
@@ -45,6 +46,11 @@ pub fn examples()
     ensures stopped_round { AreRounds (next_round ∷ stopped_round ∷ []) }
     ensures stopped_mark { IsTrue (is_aborted stopped_round.plan stopped_round.records)
         × IsTrue (is_marked stopped_round 0) }
+    // A script's command, and runs that agree on it.
+    ensures told { IsTrue (is_finished told_attempt told_run) }
+    ensures told_command { command_by told_attempt first_good 0 1 Pre
+        ≡ Ok (bare_command (codes "work") (codes "work/check.sh") (codes "A" ∷ codes "1" ∷ [])) }
+    ensures told_agree { Agree told_attempt first_good told_attempt first_good 0 0 }
     ensures noop { IsTrue (is_finished noop_plan noop_run) }
     ensures noop_outcomes { IsRunBy noop_plan noop_table noop_run }
     ensures noop_sound { is_sound (node_at noop_plan 0) ≡ true }
@@ -55,7 +61,7 @@ pub fn examples()
 
 /// What is no run: a child before its parent, a launch twice, an ending that nothing had, Finish while
 /// a phase may be launched, another attempt after the last, a signal that there is not, a launch
-/// after an abort.
+/// after an abort. And what is no agreement.
 pub fn refusals()
     ensures child_first { IsFalse (may_follow diamond (Life ∷ []) (Launch (key 1 0 Job) 1)) }
     ensures launched_twice { IsFalse (may_follow diamond
@@ -72,4 +78,9 @@ pub fn refusals()
         (End (key 0 0 Job) (Exit 1) ∷ Launch (key 0 0 Job) 1 ∷ Life ∷ []) (Finish 1)) }
     ensures after_abort { IsFalse (may_follow abort_plan
         (drop 3 abort_run) (Launch (key 1 0 Job) 3)) }
+    // Where no launch has a number and no node failed, these two scripts have the same words; but
+    // their nodes agree on no command, since one is told what the whole run knows.
+    ensures same_at_0 { command_of (node_at told_failed 0) 0 Pre (plain_facts (pos 0) (pos 0))
+        ≡ command_of (node_at told_0 0) 0 Pre (plain_facts (pos 0) (pos 0)) }
+    ensures whole_run { HaveSameCommands told_failed told_0 0 0 → ⊥ }
 {}

@@ -4,7 +4,7 @@ ghost use Rattle.std.specs.Prelude.{◌≡◌, ℕ, ◌+◌, ◌^◌, ◌<◌, �
 ghost use Rattle.std.specs.List.{list_all};
 ghost use Rattle.node_machine.specs.Story.{may_end_with, phase_number};
 ghost use Rattle.run_plan.specs.Plan.{node_at, count_of, all_below};
-ghost use Rattle.sched_core.specs.Run.{written, history, next, is_done, attempts_in, value_in, has_abort_value, is_aborted, outstanding, is_among, is_free, is_nothing, is_ready, is_final_ready, may_launch, job_launches, launch_number, status_of_abort, exit_status, is_over, is_open, may_follow, is_lawful, needs_rescue};
+ghost use Rattle.sched_core.specs.Run.{written, history, next, is_done, is_in_error, attempts_in, value_in, has_abort_value, is_aborted, outstanding, is_among, is_free, is_nothing, is_ready, is_final_ready, may_launch, job_launches, launch_number, status_of_abort, exit_status, is_over, is_open, may_follow, is_lawful, needs_rescue};
 ghost use Rattle.sched_core.specs.Fate.{shown};
 ghost use Rattle.sched_core.specs.Core.{Progress, Shows, Takes, aborted_in, is_running, has_key_of, runs_after, aborted_after, jobs_after, fault_after, launchable, first_launched, startable, better_of, AreMarks, IsBestBelow, IsChoice};
 ghost use Rattle.sched_core.specs.Limits.{lets_in};
@@ -396,12 +396,21 @@ impl<'a> Core<'a> {
         }
     }
 
-    /// Whether a rescue file is to be written.
+    /// Whether a node is not done, and no phase of it is to come.
+    fn is_in_error(&self, node: u32) -> bool
+        requires { node ≤ count_of self.now.plan }
+        ensures { result ≡ is_in_error self.now.plan self.now.past node }
+    {
+        !self.is_done(node) && self.next(node).is_none()
+    }
+
+    /// Whether a rescue file is to be written: the run was aborted, an ordinary node is not done, or
+    /// the FINAL node is in error.
     pub fn needs_rescue(&self) -> bool
         ensures { result ≡ needs_rescue self.now.plan self.now.past }
     {
         let plan = self.plan();
-        self.aborted() || !self.all_done() || (plan.has_final() && !self.is_done(plan.count()))
+        self.aborted() || !self.all_done() || (plan.has_final() && self.is_in_error(plan.count()))
     }
 
     #[tactic(auto, unfolding(crate::specs::Run::may_follow))]

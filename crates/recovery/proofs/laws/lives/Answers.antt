@@ -1,7 +1,7 @@
 use Rattle.sched_core.proofs.Finished.{state-done}
 use Rattle.sched_core.proofs.LivesLemmas.{table-fates}
 use Rattle.std.proofs.Common.{sym}
-use Rattle.recovery.proofs.Chains.{spans, lives-grow, handed-command}
+use Rattle.recovery.proofs.Chains.{spans, lives-grow, handed-over}
 use Rattle.recovery.proofs.laws.lives.Goals as goal
 
 pub returns-clause-spans : goal.returns-clause-spans
@@ -18,4 +18,4 @@ returns-clause-marks c plan last node = sym (state-done plan last.span.held node
 
 pub returns-clause-commands : goal.returns-clause-commands
 returns-clause-commands c plan table last before are run life is_there key command has sound plain =
-    handed-command plan table last before are run life is_there key command has sound plain
+    (handed-over plan table last before are run life is_there key command has).read sound plain

@@ -4,6 +4,8 @@ use Rattle.sched_core.proofs.Finished.{state-done}
 use Rattle.sched_core.proofs.LivesLemmas.{table-fates}
 use Rattle.sched_core.proofs.Matching.{fates-agree}
 use Rattle.sched_core.proofs.RunCommands.{same-commands}
+use Rattle.recovery.specs.Chain.{key_of}
+use Rattle.recovery.proofs.Chains.{handed-over, same-handed}
 use Rattle.recovery.proofs.laws.two_runs.Goals as goal
 
 pub returns-clause-fates : goal.returns-clause-fates
@@ -23,3 +25,9 @@ returns-clause-marks c plan plan' table table' rank rank' ranked ranked' last la
     (fates-agree plan table plan' table' rank rank' ranked ranked' (shown plan last.span.held) (shown plan' last'.span.held)
     (table-fates plan table last.span.held run) (table-fates plan' table' last'.span.held run') node node' ordinary ordinary' agree)
     ∙ state-done plan' last'.span.held node'
+
+pub returns-clause-handed : goal.returns-clause-handed
+returns-clause-handed c plan plan' table table' last last' before before' are are' run run' node node' agree sound sound' life life' among among' attempt phase command command' has has' =
+    same-handed plan plan' table table' node node' agree sound sound' attempt phase command command'
+    (handed-over plan table last before are run life among (key_of node attempt phase) command has)
+    (handed-over plan' table' last' before' are' run' life' among' (key_of node' attempt phase) command' has')

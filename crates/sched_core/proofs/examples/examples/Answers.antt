@@ -6,8 +6,10 @@ use Rattle.sched_core.specs.Rounds.{is_marked}
 use Rattle.node_machine.specs.declared.Outcome.TheVariants.{Exit}
 use Rattle.node_machine.specs.Story.{story, attempts_after, next_after, is_good_after, value_after}
 use Rattle.sched_core.specs.Run.{is_aborted, is_ready, is_final_ready, may_launch, may_follow}
-use Rattle.run_plan.specs.Commands.{is_sound, uses_whole_run}
-use Rattle.sched_core.proofs.Namesakes.{b-agrees}
+use Rattle.std.specs.Fmt.{digits}
+use Rattle.vars_macros.specs.Script.{script_word, is_exactly}
+use Rattle.run_plan.specs.Commands.{command_of, is_sound, uses_whole_run}
+use Rattle.sched_core.proofs.Namesakes.{b-agrees, told-agrees}
 use Rattle.sched_core.proofs.examples.examples.Goals as goal
 
 pub returns-clause-lost_launch : goal.returns-clause-lost_launch
@@ -116,3 +118,14 @@ returns-clause-noop_plain c = refl
 pub returns-clause-one_life : goal.returns-clause-one_life
 unfolding story attempts_after next_after is_good_after value_after is_aborted is_ready is_final_ready may_launch may_follow
 returns-clause-one_life c = refl
+
+pub returns-clause-told : goal.returns-clause-told
+unfolding story attempts_after next_after is_good_after value_after is_aborted is_ready is_final_ready may_launch may_follow
+returns-clause-told c = refl
+
+pub returns-clause-told_command : goal.returns-clause-told_command
+unfolding command_of script_word is_exactly digits
+returns-clause-told_command c = refl
+
+pub returns-clause-told_agree : goal.returns-clause-told_agree
+returns-clause-told_agree c = told-agrees

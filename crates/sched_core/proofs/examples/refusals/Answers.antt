@@ -1,4 +1,10 @@
-use Rattle.std.proofs.Common.{refl}
+use Rattle.std.proofs.Common.{◌≡◌, ◌∙◌, true, refl, sym}
+use Rattle.std.proofs.lemmas.Bool.{true≢false}
+use Rattle.run_plan.specs.Plan.{node_at}
+use Rattle.run_plan.specs.Commands.{command_of, uses_whole_run}
+use Rattle.std.specs.Fmt.{digits}
+use Rattle.vars_macros.specs.Script.{script_word, is_whole_run, is_exactly}
+use Rattle.sched_core.specs.Example.{told_failed}
 use Rattle.node_machine.specs.Story.{story, attempts_after, next_after, is_good_after, value_after}
 use Rattle.sched_core.specs.Run.{is_aborted, is_ready, is_final_ready, may_launch, may_follow}
 use Rattle.sched_core.proofs.examples.refusals.Goals as goal
@@ -34,3 +40,14 @@ returns-clause-after_abort c = refl
 pub returns-clause-no_signal : goal.returns-clause-no_signal
 unfolding story attempts_after next_after is_good_after value_after is_aborted is_ready is_final_ready may_launch may_follow
 returns-clause-no_signal c = refl
+
+told-whole : uses_whole_run (node_at told_failed 0) ≡ true
+unfolding uses_whole_run is_whole_run is_exactly
+told-whole = refl
+
+pub returns-clause-same_at_0 : goal.returns-clause-same_at_0
+unfolding command_of script_word is_exactly digits
+returns-clause-same_at_0 c = refl
+
+pub returns-clause-whole_run : goal.returns-clause-whole_run
+returns-clause-whole_run c same = true≢false (sym told-whole ∙ same.plain)
