@@ -3,5 +3,6 @@
 #
 #   tests/kill.sh PROGRAM [ROUNDS [SEED]]     20 rounds where no number is given
 set -euo pipefail
-cd -- "$(dirname -- "${BASH_SOURCE[0]}")"
-exec python3 kill.py "$(realpath "${1:-../dist/dagrun}")" "${@:2}"
+here=$(cd -- "$(dirname -- "${BASH_SOURCE[0]}")" && pwd)
+program=$(realpath -- "${1:-$here/../dist/dagrun}")
+exec python3 "$here/kill.py" "$program" "${@:2}"
