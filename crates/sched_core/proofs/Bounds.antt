@@ -66,17 +66,24 @@ abbrev left : Course → Stand → ℕ
 left course stand = phases_left course stand.attempt stand.phase
 
 some-from : (course : Course) (phase : Phase) → 1 ≤ phases_from course phase
-some-from course Pre = omega arith
+some-from course Pre = go course.pre (if course.post then 1 else 0)
+  where
+    go : (b : Bool) (post : ℕ) → 1 ≤ (if b then 1 else 0) + 1 + post
+    go true post = omega arith
+    go false post = omega arith
 some-from course Job = omega arith
 some-from course Post = omega arith
 
 -- an attempt begins with all its phases to come
 first-from : (course : Course) → phases_from course (if course.pre then Pre else Job) ≡ phases_in course
-first-from course = go course.pre (if course.post then 1 else 0)
+first-from course = go course.pre refl
   where
-    go : (b : Bool) (post : ℕ) → phases_from course (if b then Pre else Job) ≡ (if b then 1 else 0) + 1 + (if course.post then 1 else 0)
-    go true post = omega arith
-    go false post = omega arith
+    nothing : (post : ℕ) → 1 + post ≡ 0 + 1 + post
+    nothing post = omega arith
+
+    go : (b : Bool) → course.pre ≡ b → phases_from course (if b then Pre else Job) ≡ phases_in course
+    go true e = refl
+    go false e = nothing (if course.post then 1 else 0) ∙ (λ j. (if sym e j then 1 else 0) + 1 + (if course.post then 1 else 0))
 
 -- one attempt less
 product-step : (p r i : ℕ) → i < r → p * (r - i) ≡ p + p * (r - suc i)
@@ -108,15 +115,73 @@ closed-left course i value good n le some = go (good || is_set_to course.unless_
         less-by (phases_from course (if course.pre then Pre else Job)) (phases_in course) (phases_in course * (course.retries - suc i)) (phases_in course * (course.retries - i)) n
         (first-from course) (product-step (phases_in course) course.retries i (omega arith)) some
 
+-- PRE comes next only where there is one
+abbrev HasPre : Course → Stand → Type 0
+HasPre course stand = stand.phase ≡ Some Pre → course.pre ≡ true
+
+pre-closed : (course : Course) (i : ℕ) (value : ℤ) (good : Bool) → HasPre course (closed course i value good)
+pre-closed course i value good = go (good || is_set_to course.unless_exit value || is_set_to course.abort_on value) (i == course.retries)
+  where
+    none : None ≡ Some Pre → course.pre ≡ true
+    none bad = absurd cc
+
+    go : (a b : Bool) → HasPre course (if a || b then record { attempt = i; phase = None; value = Some value; good = good } else stand_before course (suc i) (Some value) good)
+    go true b = none
+    go false true = none
+    go false false = first course.pre refl
+      where
+        first : (p : Bool) → course.pre ≡ p → Some (if p then Pre else Job) ≡ Some Pre → course.pre ≡ true
+        first true e is = e
+        first false e bad = absurd cc
+
+pre-first : (course : Course) (i : ℕ) (value : Option ℤ) (good : Bool) → HasPre course (stand_before course i value good)
+pre-first course i value good = first course.pre refl
+  where
+    first : (p : Bool) → course.pre ≡ p → Some (if p then Pre else Job) ≡ Some Pre → course.pre ≡ true
+    first true e is = e
+    first false e bad = absurd cc
+
+pre-step : (course : Course) (stand : Stand) (outcome : Outcome) → HasPre course stand → HasPre course (step course stand outcome)
+pre-step course stand outcome has = go stand.phase refl
+  where
+    job-later : HasPre course (record { attempt = stand.attempt; phase = Some Job; value = stand.value; good = stand.good })
+    job-later bad = absurd cc
+
+    post-later : HasPre course (record { attempt = stand.attempt; phase = Some Post; value = stand.value; good = stand.good })
+    post-later bad = absurd cc
+
+    go : (o : Option Phase) → stand.phase ≡ o → HasPre course (step_at course stand o outcome)
+    go None e = has
+    go (Some Pre) e =
+        pick (HasPre course) (skips course outcome) (closed course stand.attempt (pos 0) true)
+        (if is_exit_0 outcome then record { attempt = stand.attempt; phase = Some Job; value = stand.value; good = stand.good } else closed course stand.attempt (value_of outcome) false)
+        (pre-closed course stand.attempt (pos 0) true)
+        (pick (HasPre course) (is_exit_0 outcome)
+        (record { attempt = stand.attempt; phase = Some Job; value = stand.value; good = stand.good }) (closed course stand.attempt (value_of outcome) false)
+        job-later (pre-closed course stand.attempt (value_of outcome) false))
+    go (Some Job) e =
+        pick (HasPre course) course.post
+        (record { attempt = stand.attempt; phase = Some Post; value = stand.value; good = stand.good })
+        (closed course stand.attempt (value_of outcome) (int_eq (value_of outcome) (pos 0)))
+        post-later (pre-closed course stand.attempt (value_of outcome) (int_eq (value_of outcome) (pos 0)))
+    go (Some Post) e = pre-closed course stand.attempt (value_of outcome) (int_eq (value_of outcome) (pos 0))
+
+pre-steps : (course : Course) (stand : Stand) (es : List Ended) → HasPre course stand → HasPre course (steps course stand es)
+pre-steps course stand [] has = has
+pre-steps course stand (e ∷ es) has = pre-steps course (step course stand e.outcome) es (pre-step course stand e.outcome has)
+
+pre-after : (course : Course) (es : List Ended) → HasPre course (stand_after course es)
+pre-after course es = pre-steps course (stand_before course 0 None false) es (pre-first course 0 None false)
+
 -- one phase less
 next-less : (post x : ℕ) → (1 + post + x < 2 + post + x)
 next-less post x = omega arith
 
 -- an ending leaves fewer phases
-step-left : (course : Course) (stand : Stand) (outcome : Outcome) (phase : Phase) → stand.phase ≡ Some phase → stand.attempt ≤ course.retries
+step-left : (course : Course) (stand : Stand) (outcome : Outcome) (phase : Phase) → HasPre course stand → stand.phase ≡ Some phase → stand.attempt ≤ course.retries
     → left course (step course stand outcome) < left course stand
-step-left course stand outcome phase is le =
-    subst (λ o. left course (step_at course stand o outcome) < phases_left course stand.attempt o) (sym is) (go phase)
+step-left course stand outcome phase has is le =
+    subst (λ o. left course (step_at course stand o outcome) < phases_left course stand.attempt o) (sym is) (go phase is)
   where
     x : ℕ
     x = phases_in course * (course.retries - stand.attempt)
@@ -133,24 +198,31 @@ step-left course stand outcome phase is le =
     job-left true e = next-less 0 (phases_in course * (course.retries - stand.attempt))
     job-left false e = decided 1 (omega arith)
 
-    go : (p : Phase) → left course (step_at course stand (Some p) outcome) < phases_from course p + phases_in course * (course.retries - stand.attempt)
-    go Pre =
+    two : stand.phase ≡ Some Pre → 2 + (if course.post then 1 else 0) ≡ phases_in course
+    two e = from (if course.post then 1 else 0) ∙ (λ j. (if sym (has e) j then 1 else 0) + 1 + (if course.post then 1 else 0))
+      where
+        from : (post : ℕ) → 2 + post ≡ 1 + 1 + post
+        from post = omega arith
+
+    go : (p : Phase) → stand.phase ≡ Some p → left course (step_at course stand (Some p) outcome) < phases_from course p + phases_in course * (course.retries - stand.attempt)
+    go Pre e =
+        subst (λ n. left course (step_at course stand (Some Pre) outcome) < n + phases_in course * (course.retries - stand.attempt)) (two e) (
         pick (λ t. left course t < 2 + (if course.post then 1 else 0) + phases_in course * (course.retries - stand.attempt)) (skips course outcome) (closed course stand.attempt (pos 0) true)
         (if is_exit_0 outcome then record { attempt = stand.attempt; phase = Some Job; value = stand.value; good = stand.good } else closed course stand.attempt (value_of outcome) false)
         (closed-left course stand.attempt (pos 0) true (2 + (if course.post then 1 else 0)) le (some-more (if course.post then 1 else 0)))
         (pick (λ t. left course t < 2 + (if course.post then 1 else 0) + phases_in course * (course.retries - stand.attempt)) (is_exit_0 outcome)
         (record { attempt = stand.attempt; phase = Some Job; value = stand.value; good = stand.good }) (closed course stand.attempt (value_of outcome) false)
         (next-less (if course.post then 1 else 0) (phases_in course * (course.retries - stand.attempt)))
-        (closed-left course stand.attempt (value_of outcome) false (2 + (if course.post then 1 else 0)) le (some-more (if course.post then 1 else 0))))
-    go Job = job-left course.post refl
-    go Post = decided 1 (omega arith)
+        (closed-left course stand.attempt (value_of outcome) false (2 + (if course.post then 1 else 0)) le (some-more (if course.post then 1 else 0)))))
+    go Job e = job-left course.post refl
+    go Post e = decided 1 (omega arith)
 
 -- so a node never has more phases to come than all its attempts have
-steps-left : (course : Course) (stand : Stand) (es : List Ended) → stand.attempt ≤ course.retries → left course (steps course stand es) ≤ left course stand
-steps-left course stand [] le = omega arith
-steps-left course stand (e ∷ es) le =
+steps-left : (course : Course) (stand : Stand) (es : List Ended) → HasPre course stand → stand.attempt ≤ course.retries → left course (steps course stand es) ≤ left course stand
+steps-left course stand [] has le = omega arith
+steps-left course stand (e ∷ es) has le =
     let rest : left course (steps course (step course stand e.outcome) es) ≤ left course (step course stand e.outcome) =
-    steps-left course (step course stand e.outcome) es (step-attempt course stand e.outcome le) in
+    steps-left course (step course stand e.outcome) es (pre-step course stand e.outcome has) (step-attempt course stand e.outcome le) in
     let here : left course (step course stand e.outcome) ≤ left course stand = go stand.phase refl in
     through _ _ _ rest here
   where
@@ -165,7 +237,7 @@ steps-left course stand (e ∷ es) le =
 
     go : (o : Option Phase) → stand.phase ≡ o → left course (step course stand e.outcome) ≤ left course stand
     go None is = same _ _ (ap (left course) (ap (λ o. step_at course stand o e.outcome) is))
-    go (Some phase) is = weaker _ _ (step-left course stand e.outcome phase is le)
+    go (Some phase) is = weaker _ _ (step-left course stand e.outcome phase has is le)
 
 begun-left : (course : Course) → left course (stand_before course 0 None false) ≡ phases_in course * suc course.retries
 begun-left course =
@@ -371,7 +443,7 @@ module _ (plan : Plan) (past : List Record) (lawful : is_lawful plan past ≡ tr
         < records_of (run_of plan past key.node)
     own-less b =
         let less : left (course_of key.node) (step (course_of key.node) (stand_of key.node) outcome) < left (course_of key.node) (stand_of key.node) =
-        step-left (course_of key.node) (stand_of key.node) outcome key.phase (next-phase plan past lawful key held.is_next) (stand-attempt (course_of key.node) (history past key.node)) in
+        step-left (course_of key.node) (stand_of key.node) outcome key.phase (pre-after (course_of key.node) (history past key.node)) (next-phase plan past lawful key held.is_next) (stand-attempt (course_of key.node) (history past key.node)) in
         let e : left (course_of key.node) (stand_after (course_of key.node) (history now key.node)) ≡ left (course_of key.node) (step (course_of key.node) (stand_of key.node) outcome) = ap (left (course_of key.node)) own-stand in
         subst (λ t. 2 * left (course_of key.node) (stand_after (course_of key.node) (history now key.node)) - (if t then 1 else 0) < 2 * left (course_of key.node) (stand_of key.node) - (if is_running plan past key.node then 1 else 0)) (sym (own-stopped b))
         (subst (λ t. 2 * left (course_of key.node) (stand_after (course_of key.node) (history now key.node)) - 0 < 2 * left (course_of key.node) (stand_of key.node) - (if t then 1 else 0)) (sym (ended-runs plan past key outcome lawful h))
@@ -504,7 +576,7 @@ module _ (plan : Plan) (past : List Record) (lawful : is_lawful plan past ≡ tr
 node-most : (plan : Plan) (past : List Record) (node : ℕ) → node_records_left plan past node ≤ 2 * phases_of_node plan node
 node-most plan past node =
     let h : left (node_at plan node).course (stand_after (node_at plan node).course (history past node)) ≤ left (node_at plan node).course (stand_before (node_at plan node).course 0 None false) =
-    steps-left (node_at plan node).course (stand_before (node_at plan node).course 0 None false) (history past node) (omega arith) in
+    steps-left (node_at plan node).course (stand_before (node_at plan node).course 0 None false) (history past node) (pre-first (node_at plan node).course 0 None false) (omega arith) in
     go (may_go_on plan past node) (left (node_at plan node).course (stand_after (node_at plan node).course (history past node))) (left (node_at plan node).course (stand_before (node_at plan node).course 0 None false)) (phases_of_node plan node) (if is_running plan past node then 1 else 0) h (begun-left (node_at plan node).course)
   where
     go : (m : Bool) (a b c r : ℕ) → a ≤ b → b ≡ c → (if m then 2 * a - r else 0) ≤ 2 * c

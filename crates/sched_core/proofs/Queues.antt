@@ -377,3 +377,18 @@ pub step-test : {A : Type 0} (f : ℕ → A) {v : A} (members : List Member) (i 
 step-test f members i z inside before now k d lt =
     by_lt k i (λ less. before k d less)
     (λ ge. let e : k ≡ i = omega (arith, ge, lt) in ap (λ (m : Member). f m.node) (ap (λ j. get_or members j d) e ∙ get_or_default members i d z inside) ∙ now)
+
+-- where the nodes stand as the records say, the parents are done as the records say
+same-below : (f g : ℕ → Bool) (n : ℕ) → ((x : ℕ) → x < n → f x ≡ g x) → (xs : List ℕ) → list_all (λ x. nat_lt x n) xs ≡ true → list_all f xs ≡ list_all g xs
+same-below f g n same [] low = refl
+same-below f g n same (x ∷ xs) low =
+    let l = and_parts _ _ low in
+    λ j. same x (ltb-true x n l.0) j && same-below f g n same xs l.1 j
+
+pub parents-shown : (plan : Plan) (past : List Record) (runs : List NodeProgress) (aborted : Bool) (jobs : ℕ) → Shows plan past runs aborted jobs → IsPlanned plan
+    → (node : ℕ) → list_all (done_at plan runs) (node_at plan node).parents ≡ list_all (is_done plan past) (node_at plan node).parents
+parents-shown plan past runs aborted jobs s planned node =
+    same-below (done_at plan runs) (is_done plan past) (count_of plan)
+    (λ p low. (λ j. (node_at plan p).done || (is_none (s.runs_are p (below-next p (count_of plan) low) j).stand.phase && (s.runs_are p (below-next p (count_of plan) low) j).stand.good))
+    ∙ stand-done plan past s.lawful p)
+    (node_at plan node).parents (parents-below plan planned node)

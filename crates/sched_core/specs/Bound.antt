@@ -39,9 +39,9 @@ has_no_life (Launch key number ∷ past) = has_no_life past
 has_no_life (End key outcome ∷ past) = has_no_life past
 has_no_life (Finish status ∷ past) = has_no_life past
 
--- of an attempt: this phase and those behind it
+-- of an attempt: this phase and those behind it, as far as there are such
 abbrev pub phases_from : Course → Phase → ℕ
-phases_from course Pre = 2 + (if course.post then 1 else 0)
+phases_from course Pre = phases_in course
 phases_from course Job = 1 + (if course.post then 1 else 0)
 phases_from course Post = 1
 

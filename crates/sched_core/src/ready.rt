@@ -52,14 +52,19 @@ fn dequeue(plan: &Plan, queue: &mut ReadyQueue, node: u32)
     let _ = queue.remove(member_of(plan, node));
 }
 
-/// Whether all parents of a node are done.
-fn parents_done_at(plan: &Plan, runs: &[NodeRun], node: u32) -> bool
+/// Whether all parents of a node are done. The last in plan order is asked first, since it tends to
+/// be done last: so most answers take one look.
+pub fn parents_done_at(plan: &Plan, runs: &[NodeRun], node: u32) -> bool
     requires many { length runs.now ≡ suc (count_of plan.now) }
-    requires node { node < count_of plan.now }
+    requires node { node ≤ count_of plan.now }
     ensures { result ≡ list_all (done_at plan.now runs.now) (node_at plan.now node).parents }
 {
-    for parent in plan.spec(node).parents() {
-        if !is_done_at(plan.spec(*parent), &run_of(runs, *parent)) {
+    let parents = plan.spec(node).parents();
+    let mut left = parents.len();
+    while left > 0 {
+        left -= 1;
+        let parent = parents[left];
+        if !is_done_at(plan.spec(parent), &run_of(runs, parent)) {
             return false;
         }
     }

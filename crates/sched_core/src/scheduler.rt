@@ -19,7 +19,7 @@ use crate::nodes::{
     stop_at_abort, throttle,
 };
 use crate::notes::{AttemptNotes, fresh_notes, note, notes_of};
-use crate::ready::{fresh_queue, requeue};
+use crate::ready::{fresh_queue, parents_done_at, requeue};
 use crate::{Choice, CoreFault, Record};
 use node_machine::{Ended, Key, NodeRun, Outcome, State};
 use ready_queue::{Member, ReadyQueue};
@@ -218,13 +218,8 @@ impl<'a> Core<'a> {
         requires { node ≤ count_of self.now.plan }
         ensures { result ≡ list_all (is_done self.now.plan self.now.past) (node_at self.now.plan node).parents }
     {
-        let spec = self.plan().spec(node);
-        for parent in spec.parents() {
-            if !self.is_done(*parent) {
-                return false;
-            }
-        }
-        true
+        let _graph = self.plan.graph();
+        parents_done_at(self.plan, &self.runs, node)
     }
 
     /// Whether a node has a next phase, and it is not outstanding.
