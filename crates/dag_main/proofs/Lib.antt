@@ -7,3 +7,4 @@ mod Checks
 pub mod CalmReports
 mod StatusFaults
 mod RunPlans
+mod RunFaults

@@ -1,5 +1,5 @@
 -- The plan of a run, which a rescue file may mark.
-use Rattle.std.specs.Prelude.{◌≡◌, ℕ, List, Option, Some, Ok, Err}
+use Rattle.std.specs.Prelude.{◌≡◌, ℕ, List, Option, Some, None, Ok, Err}
 use Rattle.splices.specs.Dag.{Dag}
 use Rattle.splices.specs.Opening.{Files}
 use Rattle.splices.specs.Opened.{dag_at}
@@ -10,8 +10,10 @@ use Rattle.run_plan.specs.Plan.{Plan}
 use Rattle.run_plan.specs.Digest.{digest_of}
 use Rattle.run_plan.specs.Submitted.{plan_at}
 use Rattle.run_plan.specs.declared.fault.PlanFault.{PlanFault}
+use Rattle.run_plan.specs.declared.fault.PlanFault.TheVariants as plans
+use Rattle.rescue_file.specs.declared.fault.RescueFault.{RescueFault}
 use Rattle.dag_main.specs.declared.fault.RunFault.{RunFault}
-use Rattle.dag_main.specs.declared.fault.RunFault.TheVariants.{InFiles, Cycle, InPlan, Memory}
+use Rattle.dag_main.specs.declared.fault.RunFault.TheVariants.{InFiles, Cycle, InPlan, InTable, InRescue, NotThere, InManager, InRun, FileRefused, Memory}
 
 -- the plan of a graph whose submit files stand in the set, with a rescue file, if there is one
 abbrev pub IsPlanBy : Files → List (List ℕ × List ℕ) → Option (List ℕ) → Network → Plan → Type 0
@@ -41,3 +43,31 @@ pub data IsPlanWithFault (files : Files) (entries : List (List ℕ × List ℕ))
   not_planned : (graph : Network) (fault : RunFault) → IsGraphOf files path graph → IsPlanByFault files entries rescue graph fault →
       IsPlanWithFault files entries path rescue fault
   no_memory : IsPlanWithFault files entries path rescue Memory
+
+-- the fault of a line of the rescue file
+abbrev pub rescue_line : PlanFault → Option RescueFault
+rescue_line (plans.MissingFile path) = None
+rescue_line (plans.InSubmit path fault) = None
+rescue_line (plans.InMacro node fault) = None
+rescue_line (plans.NoExecutable node) = None
+rescue_line (plans.BadUniverse node) = None
+rescue_line (plans.InRescue fault) = Some fault
+rescue_line plans.Memory = None
+
+abbrev pub in_line : RunFault → Option RescueFault
+in_line (InFiles fault) = None
+in_line (Cycle names) = None
+in_line (InPlan fault) = rescue_line fault
+in_line (InTable fault) = None
+in_line (InRescue file fault) = None
+in_line (NotThere number) = None
+in_line (InManager fault) = None
+in_line (InRun fault) = None
+in_line (FileRefused file) = None
+in_line Memory = None
+
+-- such a fault is told with the path of the rescue file
+abbrev pub named_by : Option RescueFault → Option (List ℕ) → RunFault → RunFault
+named_by None rescue fault = fault
+named_by (Some line) None fault = fault
+named_by (Some line) (Some path) fault = InRescue path line
