@@ -5,10 +5,10 @@ use Rattle.splices.specs.declared.file_set.FileSet.{FileSet}
 use Rattle.dag_graph.specs.Graph.{Network}
 use Rattle.run_plan.specs.declared.fault.PlanFault.TheVariants as plans
 use Rattle.rescue_file.specs.Numbered.{rescue_name_of}
-use Rattle.dag_main.specs.Planned.{IsPlanByFault, has_plan_fault, planning_had_no_memory, in_line, named_by}
+use Rattle.dag_texts.specs.Planned.{IsPlanByFault, has_plan_fault, planning_had_no_memory, in_line, named_by}
 use Rattle.dag_main.specs.Runs.{IsFileFault, IsRoundFault, IsRoundPlanFault, IsStopFault}
-use Rattle.dag_main.specs.declared.fault.RunFault.{RunFault}
-use Rattle.dag_main.specs.declared.fault.RunFault.TheVariants.{InFiles, Cycle, InPlan, InTable, InRescue, NotThere, InManager, InRun, FileRefused, Memory}
+use Rattle.dag_texts.specs.declared.fault.RunFault.{RunFault}
+use Rattle.dag_texts.specs.declared.fault.RunFault.TheVariants.{InFiles, Cycle, InPlan, InTable, InRescue, NotThere, InManager, StartMemory, WaitFault, FileRefused, Memory}
 
 pub file-stops : (fault : RunFault) → IsFileFault fault → IsStopFault fault
 file-stops (InFiles fault) is = absurd is
@@ -18,7 +18,8 @@ file-stops (InTable fault) is = absurd is
 file-stops (InRescue file fault) is = absurd is
 file-stops (NotThere number) is = absurd is
 file-stops (InManager fault) is = absurd is
-file-stops (InRun fault) is = absurd is
+file-stops StartMemory is = absurd is
+file-stops WaitFault is = absurd is
 file-stops (FileRefused file) is = tt
 file-stops Memory is = tt
 
@@ -30,7 +31,8 @@ file-round (InTable fault) is = absurd is
 file-round (InRescue file fault) is = absurd is
 file-round (NotThere number) is = absurd is
 file-round (InManager fault) is = absurd is
-file-round (InRun fault) is = absurd is
+file-round StartMemory is = absurd is
+file-round WaitFault is = absurd is
 file-round (FileRefused file) is = tt
 file-round Memory is = tt
 

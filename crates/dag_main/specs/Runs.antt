@@ -14,11 +14,11 @@ use Rattle.event_journal.specs.Journal.{IsReadFault}
 use Rattle.recovery.specs.declared.fault.ManagerFault.{ManagerFault}
 use Rattle.recovery.specs.declared.fault.ManagerFault.TheVariants as manager
 use Rattle.run_leader.specs.Led.{IsLed}
-use Rattle.dag_main.specs.Planned.{IsGraphOf, IsPlanBy, IsPlanWith}
-use Rattle.dag_main.specs.Rehearsed.{IsGraphFault}
-use Rattle.dag_main.specs.declared.fault.RunFault.{RunFault}
-use Rattle.dag_main.specs.declared.fault.RunFault.TheVariants.{InFiles, Cycle, InPlan, InTable, InRescue, NotThere, InManager, InRun, FileRefused, Memory}
-use Rattle.dag_main.specs.Report.{warning_lines}
+use Rattle.dag_texts.specs.Planned.{IsGraphOf, IsPlanBy, IsPlanWith}
+use Rattle.dag_texts.specs.Rehearsed.{IsGraphFault}
+use Rattle.dag_texts.specs.declared.fault.RunFault.{RunFault}
+use Rattle.dag_texts.specs.declared.fault.RunFault.TheVariants.{InFiles, Cycle, InPlan, InTable, InRescue, NotThere, InManager, StartMemory, WaitFault, FileRefused, Memory}
+use Rattle.dag_texts.specs.Report.{warning_lines}
 
 -- the plan of a graph and of the submit files of a set, with a rescue file or without one
 abbrev pub IsPlannedRun : FileSet → Network → Plan → Type 0
@@ -47,7 +47,8 @@ IsFileFault (InTable fault) = ⊥
 IsFileFault (InRescue file fault) = ⊥
 IsFileFault (NotThere number) = ⊥
 IsFileFault (InManager fault) = ⊥
-IsFileFault (InRun fault) = ⊥
+IsFileFault StartMemory = ⊥
+IsFileFault WaitFault = ⊥
 IsFileFault (FileRefused file) = Unit {0}
 IsFileFault Memory = Unit {0}
 
@@ -69,7 +70,8 @@ IsRoundFault (InTable fault) = ⊥
 IsRoundFault (InRescue file fault) = ⊥
 IsRoundFault (NotThere number) = ¬ (IsNumber number)
 IsRoundFault (InManager fault) = IsJournalRead fault
-IsRoundFault (InRun fault) = ⊥
+IsRoundFault StartMemory = ⊥
+IsRoundFault WaitFault = ⊥
 IsRoundFault (FileRefused file) = Unit {0}
 IsRoundFault Memory = Unit {0}
 
@@ -83,7 +85,8 @@ IsRoundPlanFault files path graph (InTable fault) = ⊥
 IsRoundPlanFault files path graph (InRescue file fault) = (number : ℕ) × (file ≡ rescue_name_of path number) × (rescue : Option (List ℕ)) × (plan_at graph (Some (bytes_of files)) rescue (digest_of graph.dag.top (entries_of files) rescue) ≡ Err (plans.InRescue fault))
 IsRoundPlanFault files path graph (NotThere number) = ⊥
 IsRoundPlanFault files path graph (InManager fault) = ⊥
-IsRoundPlanFault files path graph (InRun fault) = ⊥
+IsRoundPlanFault files path graph StartMemory = ⊥
+IsRoundPlanFault files path graph WaitFault = ⊥
 IsRoundPlanFault files path graph (FileRefused file) = Unit {0}
 IsRoundPlanFault files path graph Memory = Unit {0}
 
@@ -97,7 +100,8 @@ IsStopFault (InTable fault) = ⊥
 IsStopFault (InRescue file fault) = ⊥
 IsStopFault (NotThere number) = ⊥
 IsStopFault (InManager fault) = Unit {0}
-IsStopFault (InRun fault) = Unit {0}
+IsStopFault StartMemory = Unit {0}
+IsStopFault WaitFault = Unit {0}
 IsStopFault (FileRefused file) = Unit {0}
 IsStopFault Memory = Unit {0}
 

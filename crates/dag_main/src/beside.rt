@@ -2,11 +2,11 @@
 
 ghost use Rattle.std.specs.Prelude.{◌≡◌, ◌≤◌, IfOk, IfErr};
 ghost use Rattle.rescue_file.specs.Numbered.{IsNumber, rescue_name_of};
-ghost use Rattle.dag_main.specs.declared.fault.RunFault.TheVariants.{Memory};
+ghost use Rattle.dag_texts.specs.declared.fault.RunFault.TheVariants.{Memory};
 ghost use Rattle.dag_main.specs.Runs.{IsFileFault};
 
-use crate::fault::RunFault;
 use dag_reader::Text;
+use dag_texts::RunFault;
 use rescue_file::{pick_number, rescue_name};
 use splices::path_in;
 use std::alloc::{AllocError, Global};

@@ -1,10 +1,10 @@
 //! The files of a DAG, read from the disk.
 
 ghost use Rattle.std.specs.Prelude.{◌≡◌, IfErr};
-ghost use Rattle.dag_main.specs.declared.fault.RunFault.TheVariants.{Memory};
+ghost use Rattle.dag_texts.specs.declared.fault.RunFault.TheVariants.{Memory};
 
-use crate::fault::RunFault;
 use dag_reader::{Command, ReadFault, Text, Word, read_dag};
+use dag_texts::RunFault;
 use splices::{FileSet, path_in};
 use std::alloc::Global;
 use std::fs;

@@ -3,11 +3,11 @@
 ghost use Rattle.std.specs.Prelude.{◌≡◌, ◌≤◌, IfOk, IfErr};
 ghost use Rattle.event_journal.specs.Image.{IsRescueNumber};
 ghost use Rattle.run_leader.specs.Rounds.{IsNumbered};
-ghost use Rattle.dag_main.specs.declared.fault.RunFault.TheVariants.{Memory};
+ghost use Rattle.dag_texts.specs.declared.fault.RunFault.TheVariants.{Memory};
 ghost use Rattle.dag_main.specs.Runs.{IsRoundFault};
 
 use crate::beside::{LAST_NUMBER, Place, journal_path};
-use crate::fault::RunFault;
+use dag_texts::RunFault;
 use event_journal::{FileDisk, Journal, JournalFault, Peek};
 use recovery::ManagerFault;
 use run_leader::Start;

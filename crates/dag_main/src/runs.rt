@@ -3,17 +3,15 @@
 ghost use Rattle.std.specs.Prelude.{◌≤◌, IfOk, IfErr, string_bytes};
 ghost use Rattle.splices.specs.FileSet.{bytes_of, entries_of};
 ghost use Rattle.event_journal.specs.Image.{IsRescueNumber};
-ghost use Rattle.dag_main.specs.Planned.{IsPlanBy};
+ghost use Rattle.dag_texts.specs.Planned.{IsPlanBy};
 ghost use Rattle.dag_main.specs.Runs.{IsPlannedRun, IsLedRun, IsRunOf, IsRoundPlanFault, IsStopFault, IsRunFault};
 
 use crate::beside::{Place, journal_path, rescue_path};
-use crate::fault::RunFault;
 use crate::loading::files_in;
-use crate::plans::{graph_of, plan_by};
 use crate::rounds::{Journaled, Round, disk_at, round_of, start_of};
 use crate::status_here::{bytes_of, named};
-use crate::warnings::{Answer, warning_text};
 use dag_graph::Graph;
+use dag_texts::{Answer, RunFault, graph_of, plan_by, warning_text};
 use job_starter::{DriveFault, LocalSystem, ProcessStarter};
 use recovery::ManagerFault;
 use run_leader::run_round;
@@ -49,7 +47,8 @@ fn in_run(fault: DriveFault) -> RunFault
     match fault {
         DriveFault::Memory | DriveFault::Manager(ManagerFault::Memory) => RunFault::Memory,
         DriveFault::Manager(fault) => RunFault::InManager(fault),
-        fault => RunFault::InRun(fault),
+        DriveFault::StartMemory => RunFault::StartMemory,
+        DriveFault::WaitFault => RunFault::WaitFault,
     }
 }
 
@@ -129,7 +128,7 @@ fn is_same(round: &Round, found: &Round) -> bool {
 /// (`FileRefused`), the first fault of the submit files and the texts of jobs (`InPlan`) and then of
 /// the rescue file (`InRescue`), another manager that runs the DAG (`FileRefused` with the file that
 /// it has locked), and a journal that can't be renamed (`FileRefused`). Then those of the manager
-/// (`InManager`) and of the children (`InRun`); what was recorded stays. Want of memory may stand
+/// (`InManager`) and of the children (`StartMemory`, `WaitFault`); what was recorded stays. Want of memory may stand
 /// before any.
 pub fn run_dag<R: Processes + Files<File = File> + Clock + AllocGlobal + Copy + Drop>(
     rt: R,

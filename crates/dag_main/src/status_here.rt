@@ -1,14 +1,12 @@
 //! The status of a run, by the files that stand beside its DAG file.
 
 ghost use Rattle.std.specs.Prelude.{◌≡◌};
-ghost use Rattle.dag_main.specs.Planned.{in_line, named_by};
+ghost use Rattle.dag_texts.specs.Planned.{in_line, named_by};
 
 use crate::beside::{LAST_NUMBER, Place, journal_path, rescue_path};
-use crate::fault::RunFault;
 use crate::loading::files_in;
-use crate::statuses::{disk_of, status_of};
-use crate::warnings::Answer;
 use dag_reader::Text;
+use dag_texts::{Answer, RunFault, disk_of, status_of};
 use event_journal::{Journal, JournalFault};
 use rescue_file::RescueFault;
 use run_plan::PlanFault;

@@ -1,5 +1,5 @@
 use Rattle.dag_main.specs.Runs.{IsRoundPlanFault}
-use Rattle.dag_main.proofs.StatusFaults.{weaker}
+use Rattle.dag_texts.proofs.StatusFaults.{weaker}
 use Rattle.dag_main.proofs.RunFaults.{plan-round, plan-named}
 use Rattle.dag_main.proofs.runs.plan_of_round.Goals as goal
 

@@ -1,9 +1,9 @@
 use Rattle.std.proofs.Common.{◌∙◌, ap, sym, subst, string_bytes}
 use Rattle.splices.specs.Dag.{Dag}
 use Rattle.dag_graph.specs.Graph.{Network}
-use Rattle.dag_main.specs.Report.{warning_lines}
+use Rattle.dag_texts.specs.Report.{warning_lines}
 use Rattle.dag_main.specs.Runs.{IsRunFault, no_graph, no_round, no_plan, not_alone, not_led, no_memory}
-use Rattle.dag_main.proofs.StatusFaults.{handed-on}
+use Rattle.dag_texts.proofs.StatusFaults.{handed-on}
 use Rattle.dag_main.proofs.RunFaults.{file-round}
 use Rattle.dag_main.proofs.RunPlans.{run-of}
 use Rattle.dag_main.proofs.runs.run_dag.Goals as goal

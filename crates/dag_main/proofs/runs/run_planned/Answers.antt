@@ -1,6 +1,6 @@
 use Rattle.std.proofs.Common.{subst, sym}
 use Rattle.dag_main.specs.Runs.{IsStopFault}
-use Rattle.dag_main.proofs.StatusFaults.{handed-on}
+use Rattle.dag_texts.proofs.StatusFaults.{handed-on}
 use Rattle.dag_main.proofs.RunFaults.{file-stops}
 use Rattle.dag_main.proofs.runs.run_planned.Goals as goal
 
