@@ -15,6 +15,7 @@ use Rattle.recovery.specs.Chain.{commands_in}
 use Rattle.job_starter.specs.declared.Call.{Call}
 use Rattle.job_starter.specs.declared.Call.TheVariants as calls
 use Rattle.job_starter.specs.declared.Started.TheVariants.{NotStarted}
+use Rattle.job_starter.proofs.Phases.{noop-quiet}
 use Rattle.job_starter.specs.Calls.{snapshot_of}
 use Rattle.job_starter.specs.Drives.{launch_of, IsCommandAt, IsStep, passes, starts, fails, ends, kills, Drives, no_step, one_more, IsCutOff, clean, launched, failed, ended, Kills, nobody, one_killed, IsHalted, IsStopped}
 use Rattle.job_starter.specs.Handed.{handed, HandsAll, HandsAllButOne}
@@ -40,10 +41,10 @@ loud plan past key command starting is =
     (λ j. if starting j then (commands_in plan past ++ (key, command_at plan past key) ∷ []) else commands_in plan past)
     ∙ ap (λ (c : CommandOrFault). commands_in plan past ++ (key, c) ∷ []) is
 
-step-exact : (limits : Limits) (plan : Plan) (may : Key → Outcome → Type 0) (past : List Record) (told : List Call) (after : List Record) (last : List Call)
+step-exact : (limits : Limits) (plan : Plan) (may : List Call → Key → Outcome → Type 0) (past : List Record) (told : List Call) (after : List Record) (last : List Call)
     → IsStep limits plan may past told after last → Exactly plan past told after last
 step-exact limits plan may past told _ _ (passes {key = key} step chosen silent) =
-    nothing plan past told (End key (Exit 0) ∷ launch_of past key ∷ past) told refl (quiet plan past key silent)
+    nothing plan past told (End key (Exit 0) ∷ launch_of past key ∷ past) told refl (quiet plan past key (noop-quiet (node_at plan key.node) key.phase silent))
 step-exact limits plan may past told _ _ (starts {key = key} {command = command} step chosen starting is) =
     record { own = (key, Ok command) ∷ []; are = refl; commands = loud plan past key command starting is }
 step-exact limits plan may past told _ _ (fails {key = key} {command = command} step chosen starting is may_be) =
@@ -61,7 +62,7 @@ then-exact plan past told between heard after last first second = record {
   commands = second.commands ∙ ap (λ l. l ++ second.own) first.commands ∙ append_assoc (commands_in plan past) first.own second.own;
 }
 
-drives-exact : (limits : Limits) (plan : Plan) (may : Key → Outcome → Type 0) (past : List Record) (told : List Call) (after : List Record) (last : List Call)
+drives-exact : (limits : Limits) (plan : Plan) (may : List Call → Key → Outcome → Type 0) (past : List Record) (told : List Call) (after : List Record) (last : List Call)
     → Drives limits plan may past told after last → Exactly plan past told after last
 drives-exact limits plan may past told _ _ no_step = nothing plan past told past told refl refl
 drives-exact limits plan may past told _ _ (one_more {between = between} {after = after} {heard = heard} {last = last} steps step) =
@@ -77,7 +78,7 @@ exactly plan past told after heard e = record {
   commands = e.commands ∙ ap (λ l. commands_in plan past ++ l) (sym (append-nil e.own));
 }
 
-cut-hands : (limits : Limits) (plan : Plan) (may : Key → Outcome → Type 0) (past : List Record) (told : List Call) (after : List Record) (last : List Call)
+cut-hands : (limits : Limits) (plan : Plan) (may : List Call → Key → Outcome → Type 0) (past : List Record) (told : List Call) (after : List Record) (last : List Call)
     → IsCutOff limits plan may past told after last → HandsAllButOne plan past after told last
 cut-hands limits plan may past told _ _ clean = exactly plan past told past told (nothing plan past told past told refl refl)
 cut-hands limits plan may past told _ _ (launched {key = key} chosen) = go (starts_child (node_at plan key.node) key.phase) refl
@@ -114,24 +115,24 @@ kills-same told _ nobody = refl
 kills-same told _ (one_killed {heard = heard} {key = key} before ran) = kills-same told heard before
 
 -- steps that were driven hand over the commands of their launches
-pub driven : (limits : Limits) (plan : Plan) (may : Key → Outcome → Type 0) (past : List Record) (told : List Call) (after : List Record) (last : List Call)
+pub driven : (limits : Limits) (plan : Plan) (may : List Call → Key → Outcome → Type 0) (past : List Record) (told : List Call) (after : List Record) (last : List Call)
     → Drives limits plan may past told after last → HandsAll plan past after told last
 driven limits plan may past told after last steps = drives-exact limits plan may past told after last steps
 
-pub halted-hands : (limits : Limits) (plan : Plan) (may : Key → Outcome → Type 0) (past : List Record) (told : List Call) (after : List Record) (last : List Call)
+pub halted-hands : (limits : Limits) (plan : Plan) (may : List Call → Key → Outcome → Type 0) (past : List Record) (told : List Call) (after : List Record) (last : List Call)
     → IsHalted limits plan may past told after last → HandsAllButOne plan past after told last
 halted-hands limits plan may past told after last h =
     then-hands plan past told h.between h.heard after last (drives-exact limits plan may past told h.between h.heard h.steps)
     (cut-hands limits plan may h.between h.heard after last h.cut)
 
 -- so do those that were stopped
-pub stopped : (limits : Limits) (plan : Plan) (may : Key → Outcome → Type 0) (past : List Record) (told : List Call) (after : List Record) (last : List Call)
+pub stopped : (limits : Limits) (plan : Plan) (may : List Call → Key → Outcome → Type 0) (past : List Record) (told : List Call) (after : List Record) (last : List Call)
     → IsStopped limits plan may past told after last → HandsAllButOne plan past after told last
 stopped limits plan may past told after last s =
     let h = halted-hands limits plan may past told after s.rest s.halted in
     record { own = h.own; are = kills-same s.rest last s.kills ∙ h.are; rest = h.rest; few = h.few; commands = h.commands }
 
-step-adds : (limits : Limits) (plan : Plan) (may : Key → Outcome → Type 0) (past : List Record) (told : List Call) (after : List Record) (last : List Call)
+step-adds : (limits : Limits) (plan : Plan) (may : List Call → Key → Outcome → Type 0) (past : List Record) (told : List Call) (after : List Record) (last : List Call)
     → IsStep limits plan may past told after last → (own : List Record) × (after ≡ own ++ past)
 step-adds limits plan may past told _ _ (passes {key = key} step chosen silent) = (End key (Exit 0) ∷ launch_of past key ∷ [], refl)
 step-adds limits plan may past told _ _ (starts {key = key} {command = command} step chosen starting is) = (launch_of past key ∷ [], refl)
@@ -140,7 +141,7 @@ step-adds limits plan may past told _ _ (ends {key = key} {outcome = outcome} st
 step-adds limits plan may past told _ _ (kills {key = key} ran free) = ([], refl)
 
 -- steps that were driven add records
-pub drives-adds : (limits : Limits) (plan : Plan) (may : Key → Outcome → Type 0) (past : List Record) (told : List Call) (after : List Record) (last : List Call)
+pub drives-adds : (limits : Limits) (plan : Plan) (may : List Call → Key → Outcome → Type 0) (past : List Record) (told : List Call) (after : List Record) (last : List Call)
     → Drives limits plan may past told after last → (own : List Record) × (after ≡ own ++ past)
 drives-adds limits plan may past told _ _ no_step = ([], refl)
 drives-adds limits plan may past told _ _ (one_more {between = between} {after = after} {heard = heard} {last = last} steps step) =
@@ -148,7 +149,7 @@ drives-adds limits plan may past told _ _ (one_more {between = between} {after =
     let more = step-adds limits plan may between heard after last step in
     (more.0 ++ before.0, more.1 ∙ ap (λ l. more.0 ++ l) before.1 ∙ sym (append_assoc more.0 before.0 past))
 
-cut-adds : (limits : Limits) (plan : Plan) (may : Key → Outcome → Type 0) (past : List Record) (told : List Call) (after : List Record) (last : List Call)
+cut-adds : (limits : Limits) (plan : Plan) (may : List Call → Key → Outcome → Type 0) (past : List Record) (told : List Call) (after : List Record) (last : List Call)
     → IsCutOff limits plan may past told after last → (own : List Record) × (after ≡ own ++ past)
 cut-adds limits plan may past told _ _ clean = ([], refl)
 cut-adds limits plan may past told _ _ (launched {key = key} chosen) = (launch_of past key ∷ [], refl)
@@ -156,7 +157,7 @@ cut-adds limits plan may past told _ _ (failed {key = key} chosen starting is ma
 cut-adds limits plan may past told _ _ (ended held ran may_be) = ([], refl)
 
 -- so do those that were cut off
-pub halted-adds : (limits : Limits) (plan : Plan) (may : Key → Outcome → Type 0) (past : List Record) (told : List Call) (after : List Record) (last : List Call)
+pub halted-adds : (limits : Limits) (plan : Plan) (may : List Call → Key → Outcome → Type 0) (past : List Record) (told : List Call) (after : List Record) (last : List Call)
     → IsHalted limits plan may past told after last → (own : List Record) × (after ≡ own ++ past)
 halted-adds limits plan may past told after last h =
     let first = drives-adds limits plan may past told h.between h.heard h.steps in

@@ -16,13 +16,13 @@ use Rattle.job_starter.proofs.Steps.{nothing-startable}
 use Rattle.job_starter.proofs.Walks.{drives-then, cut-fewer, no_child}
 
 -- how far a walk has come
-pub record Walk (limits : Limits) (plan : Plan) (may : Key → Outcome → Type 0) (past : List Record) (told : List Call) (after : List Record) (last : List Call) : Type 0 where
+pub record Walk (limits : Limits) (plan : Plan) (may : List Call → Key → Outcome → Type 0) (past : List Record) (told : List Call) (after : List Record) (last : List Call) : Type 0 where
   pub in_step : AreInStep plan after last
   pub going : IsTrue (is_open after)
   pub steps : Drives limits plan may past told after last
 
 module _ (limits limits' : Limits) (same_limits : limits' ≡ limits) (plan plan' : Plan) (same : plan' ≡ plan)
-    (may may' : Key → Outcome → Type 0) (t : TellsNoMore may may')
+    (may may' : List Call → Key → Outcome → Type 0) (t : TellsNoMore may may')
     (past : List Record) (told : List Call) (between : List Record) (heard : List Call) (walk : Walk limits plan may past told between heard)
     (after : List Record) (last : List Call) where
   -- what is said of the later limits and plan
@@ -49,11 +49,11 @@ module _ (limits limits' : Limits) (same_limits : limits' ≡ limits) (plan plan
     cut = cut-fewer limits plan may may' between heard after last t (here (λ l p. IsCutOff l p may' between heard after last) cut);
   }
 
-pub one-step : (limits : Limits) (plan : Plan) (may : Key → Outcome → Type 0) (past : List Record) (told : List Call) (after : List Record) (last : List Call)
+pub one-step : (limits : Limits) (plan : Plan) (may : List Call → Key → Outcome → Type 0) (past : List Record) (told : List Call) (after : List Record) (last : List Call)
     → IsStep limits plan may past told after last → Drives limits plan may past told after last
 one-step limits plan may past told after last step = one_more no_step step
 
-pub first-walk : (limits : Limits) (plan : Plan) (may : Key → Outcome → Type 0) (past : List Record) (told : List Call)
+pub first-walk : (limits : Limits) (plan : Plan) (may : List Call → Key → Outcome → Type 0) (past : List Record) (told : List Call)
     → AreInStep plan past told → IsTrue (is_open past) → Walk limits plan may past told past told
 first-walk limits plan may past told step going = record { in_step = step; going = going; steps = no_step }
 

@@ -1,11 +1,12 @@
 -- The keys that are left where one is taken away.
-use Rattle.std.proofs.Common.{arith, ◌≡◌, ◌+◌, ℕ, zero, suc, get_or, take, map, ◌<◌, ◌≤◌, Bool, true, false, not, ◌||◌, List, [], ◌∷◌, length, reverse, filter, refl, sym, ap, ◌∙◌, if◌then◌else◌}
+use Rattle.std.proofs.Common.{arith, ◌++◌, Some, ◌≡◌, ◌+◌, ℕ, zero, suc, get_or, take, map, ◌<◌, ◌≤◌, Bool, true, false, not, ◌||◌, List, [], ◌∷◌, length, reverse, filter, refl, sym, ap, ◌∙◌, if◌then◌else◌}
 use mathlib.Core.List.{reverse_aux}
 use Rattle.std.proofs.lemmas.Bool.{false≢true}
 use Rattle.std.proofs.lemmas.List.{reverse-append, take_more, take_all}
 use Rattle.node_machine.specs.declared.Key.{Key}
 use Rattle.sched_core.specs.Run.{is_same, is_among, without}
 use Rattle.sched_core.proofs.Keys.{same-self}
+use Rattle.job_starter.specs.Calls.{oldest}
 
 kept_onto : (x : Key) (kept keys : List Key) (b : Bool)
     → reverse_aux kept (if b then keys else x ∷ keys) ≡ reverse_aux (if not b then x ∷ kept else kept) keys
@@ -95,3 +96,14 @@ among-at xs place d low = at_place xs [] place d low
 pub no_items : {A : Type 0} (xs : List A) → length xs ≡ 0 → xs ≡ []
 no_items [] none = refl
 no_items (x ∷ xs) none = absurd (omega (arith, none))
+
+last-oldest : (xs : List Key) (key : Key) → oldest (xs ++ key ∷ []) ≡ Some key
+last-oldest [] key = refl
+last-oldest (x ∷ []) key = refl
+last-oldest (x ∷ y ∷ xs) key = last-oldest (y ∷ xs) key
+
+-- the first in the order of the starts is the oldest
+pub first-oldest : (keys : List Key) (place : ℕ) (d : Key) → place ≡ 0 → place < length keys → oldest (reverse keys) ≡ Some (get_or keys place d)
+first-oldest [] place d zero_is lt = absurd (omega (arith, lt))
+first-oldest (key ∷ keys) place d zero_is lt =
+    ap oldest (reverse-append (key ∷ []) keys) ∙ last-oldest (reverse keys) key ∙ ap (λ n. Some (get_or (key ∷ keys) n d)) (sym zero_is)

@@ -5,6 +5,7 @@ use Rattle.std.proofs.lemmas.Bool.{and_parts, and_from, false≢true}
 use Rattle.node_machine.specs.declared.Key.{Key}
 use Rattle.node_machine.specs.declared.Outcome.{Outcome}
 use Rattle.node_machine.specs.declared.Outcome.TheVariants.{Exit, NoStart}
+use Rattle.node_machine.specs.Story.{is_noop_job}
 use Rattle.throttles.specs.declared.Limits.{Limits}
 use Rattle.run_plan.specs.Plan.{Plan, node_at}
 use Rattle.run_plan.specs.Commands.{starts_child}
@@ -24,9 +25,9 @@ use Rattle.job_starter.specs.Calls.{running, TellsNoMore}
 use Rattle.job_starter.specs.Drives.{launch_of, IsHandedOver, AreInStep, IsHeld, IsStep, passes, starts, fails, ends, kills, final_verdict, Drives, no_step, one_more, IsCutOff, clean, launched, failed, ended, Starts, none_started, one_start, Kills, nobody, one_killed, AbortsAtLast}
 use Rattle.job_starter.proofs.Steps.{chosen-free}
 
-module _ (limits : Limits) (plan : Plan) (may : Key → Outcome → Type 0) (past : List Record) (told : List Call) where
+module _ (limits : Limits) (plan : Plan) (may : List Call → Key → Outcome → Type 0) (past : List Record) (told : List Call) where
   pub step-ends : (result : Result (Unit {0}) DriveFault) (after : List Record) (heard : List Call) (key : Key) (outcome : Outcome)
-      → AreInStep plan past told → IsHeld limits plan past → is_among key (running told) ≡ true → may key outcome
+      → AreInStep plan past told → IsHeld limits plan past → is_among key (running told) ≡ true → may told key outcome
       → OnOk result (after ≡ End key outcome ∷ past) → heard ≡ calls.Ended key outcome ∷ told
       → OnOk result (IsStep limits plan may past told after heard)
   step-ends (Ok unit) after heard key outcome step held ran may_be is tells =
@@ -35,7 +36,7 @@ module _ (limits : Limits) (plan : Plan) (may : Key → Outcome → Type 0) (pas
   step-ends (Err fault) after heard key outcome step held ran may_be is tells = tt
 
   pub cut-ended : (result : Result (Unit {0}) DriveFault) (after : List Record) (heard : List Call) (key : Key) (outcome : Outcome)
-      → IsHeld limits plan past → is_among key (running told) ≡ true → may key outcome
+      → IsHeld limits plan past → is_among key (running told) ≡ true → may told key outcome
       → OnErr result (after ≡ past) → heard ≡ calls.Ended key outcome ∷ told
       → OnErr result (IsCutOff limits plan may past told after heard)
   cut-ended (Ok unit) after heard key outcome held ran may_be is tells = tt
@@ -43,7 +44,7 @@ module _ (limits : Limits) (plan : Plan) (may : Key → Outcome → Type 0) (pas
       subst (λ records. IsCutOff limits plan may past told records heard) (sym is)
       (subst (λ l. IsCutOff limits plan may past told past l) (sym tells) (ended held ran may_be))
 
-  pub cut-told_end : (heard : List Call) (key : Key) (outcome : Outcome) → IsHeld limits plan past → is_among key (running told) ≡ true → may key outcome
+  pub cut-told_end : (heard : List Call) (key : Key) (outcome : Outcome) → IsHeld limits plan past → is_among key (running told) ≡ true → may told key outcome
       → heard ≡ calls.Ended key outcome ∷ told → IsCutOff limits plan may past told past heard
   cut-told_end heard key outcome held ran may_be tells =
       subst (λ l. IsCutOff limits plan may past told past l) (sym tells) (ended held ran may_be)
@@ -57,11 +58,11 @@ module _ (limits : Limits) (plan : Plan) (may : Key → Outcome → Type 0) (pas
   module _ (key : Key) (chosen : IsChoice limits plan past (choices.Start key)) (plan' : Plan) (same_plan : plan' ≡ plan)
       (records : List Record) (is : records ≡ launch_of past key ∷ past) where
     pub step-passes : (result : Result (Unit {0}) DriveFault) (after : List Record) → AreInStep plan past told
-        → starts_child (node_at plan' key.node) key.phase ≡ false → OnOk result (after ≡ End key (Exit 0) ∷ records)
+        → is_noop_job (node_at plan key.node).course key.phase ≡ true → OnOk result (after ≡ End key (Exit 0) ∷ records)
         → OnOk result (IsStep limits plan may past told after told)
     step-passes (Ok unit) after step quiet more =
         subst (λ r. IsStep limits plan may past told r told) (sym (more ∙ ap (λ r. End key (Exit 0) ∷ r) is))
-        (passes step chosen (subst (λ (p : Plan). starts_child (node_at p key.node) key.phase ≡ false) same_plan quiet))
+        (passes step chosen quiet)
     step-passes (Err fault) after step quiet more = tt
 
     pub cut-launched : (result : Result (Unit {0}) DriveFault) (after : List Record) → OnErr result (after ≡ records)
@@ -92,7 +93,7 @@ module _ (limits : Limits) (plan : Plan) (may : Key → Outcome → Type 0) (pas
         (subst (λ l. IsStep limits plan may past told (launch_of past key ∷ past) l) (sym h.entry) (starts step chosen (child starting) h.is))
 
     pub step-fails : (result : Result (Unit {0}) DriveFault) (after : List Record) (heard : List Call) (answer : Started)
-        → answer ≡ NotStarted → AreInStep plan past told → starts_child (node_at plan' key.node) key.phase ≡ true → may key NoStart
+        → answer ≡ NotStarted → AreInStep plan past told → starts_child (node_at plan' key.node) key.phase ≡ true → may told key NoStart
         → IsHandedOver plan' records key answer told heard → OnOk result (after ≡ End key NoStart ∷ records)
         → OnOk result (IsStep limits plan may past told after heard)
     step-fails (Ok unit) after heard answer fails_ step starting may_be handed more =
@@ -102,7 +103,7 @@ module _ (limits : Limits) (plan : Plan) (may : Key → Outcome → Type 0) (pas
     step-fails (Err fault) after heard answer fails_ step starting may_be handed more = tt
 
     pub cut-told : (heard : List Call) (answer : Started)
-        → answer ≡ NotStarted → starts_child (node_at plan' key.node) key.phase ≡ true → may key NoStart
+        → answer ≡ NotStarted → starts_child (node_at plan' key.node) key.phase ≡ true → may told key NoStart
         → IsHandedOver plan' records key answer told heard → IsCutOff limits plan may past told records heard
     cut-told heard answer fails_ starting may_be handed =
         let h = subst (λ a. IsHandedOver plan (launch_of past key ∷ past) key a told heard) fails_ (moved heard answer handed) in
@@ -110,7 +111,7 @@ module _ (limits : Limits) (plan : Plan) (may : Key → Outcome → Type 0) (pas
         (subst (λ l. IsCutOff limits plan may past told (launch_of past key ∷ past) l) (sym h.entry) (failed chosen (child starting) h.is may_be))
 
     pub cut-failed : (result : Result (Unit {0}) DriveFault) (after : List Record) (heard : List Call) (answer : Started)
-        → answer ≡ NotStarted → starts_child (node_at plan' key.node) key.phase ≡ true → may key NoStart
+        → answer ≡ NotStarted → starts_child (node_at plan' key.node) key.phase ≡ true → may told key NoStart
         → IsHandedOver plan' records key answer told heard → OnErr result (after ≡ records)
         → OnErr result (IsCutOff limits plan may past told after heard)
     cut-failed (Ok unit) after heard answer fails_ starting may_be handed none = tt
@@ -169,7 +170,7 @@ passed plan past key outcome free calm =
     ∙ without-free key (outstanding plan past) free
 
 -- After a step that did not abort the run, the children that run are the outstanding phases.
-pub step-in-step : (limits : Limits) (plan : Plan) (may : Key → Outcome → Type 0) (past : List Record) (told : List Call) (after : List Record) (heard : List Call)
+pub step-in-step : (limits : Limits) (plan : Plan) (may : List Call → Key → Outcome → Type 0) (past : List Record) (told : List Call) (after : List Record) (heard : List Call)
     → is_lawful plan past ≡ true → is_open past ≡ true → AreInStep plan past told → IsStep limits plan may past told after heard
     → (not (is_aborted plan past) && is_aborted plan after) ≡ false → AreInStep plan after heard
 step-in-step limits plan may past told _ _ lawful going step (passes {key = key} s chosen quiet) calm =
@@ -191,7 +192,7 @@ step-in-step limits plan may past told _ _ lawful going step (kills {key = key} 
     absurd (false≢true (sym free ∙ ap (is_among key) (sym step.same) ∙ ran))
 
 -- a step that aborted the run leaves nothing outstanding
-pub step-empty : (limits : Limits) (plan : Plan) (may : Key → Outcome → Type 0) (past : List Record) (told : List Call) (after : List Record) (heard : List Call)
+pub step-empty : (limits : Limits) (plan : Plan) (may : List Call → Key → Outcome → Type 0) (past : List Record) (told : List Call) (after : List Record) (heard : List Call)
     → IsStep limits plan may past told after heard → is_aborted plan past ≡ false → is_aborted plan after ≡ true → outstanding plan after ≡ []
 step-empty limits plan may past told _ _ (passes {key = key} s chosen quiet) calm aborted =
     end-empty plan (launch_of past key ∷ past) key (Exit 0) (launch-calm plan past key ∙ calm) aborted
@@ -204,33 +205,33 @@ step-empty limits plan may past told _ _ (ends {key = key} {outcome = outcome} s
 step-empty limits plan may past told _ _ (kills ran free) calm aborted = absurd (false≢true (sym calm ∙ aborted))
 
 -- kills are steps where nothing is outstanding
-pub drives-kills : (limits : Limits) (plan : Plan) (may : Key → Outcome → Type 0) (past : List Record) (told : List Call) (after : List Record) (heard last : List Call)
+pub drives-kills : (limits : Limits) (plan : Plan) (may : List Call → Key → Outcome → Type 0) (past : List Record) (told : List Call) (after : List Record) (heard last : List Call)
     → Drives limits plan may past told after heard → outstanding plan after ≡ [] → Kills heard last → Drives limits plan may past told after last
 drives-kills limits plan may past told after heard _ drives empty nobody = drives
 drives-kills limits plan may past told after heard _ drives empty (one_killed {key = key} k ran) =
     one_more (drives-kills limits plan may past told after heard _ drives empty k) (kills ran (ap (is_among key) empty))
 
-step-fewer : (limits : Limits) (plan : Plan) (may may' : Key → Outcome → Type 0) (past : List Record) (told : List Call) (after : List Record) (heard : List Call)
+step-fewer : (limits : Limits) (plan : Plan) (may may' : List Call → Key → Outcome → Type 0) (past : List Record) (told : List Call) (after : List Record) (heard : List Call)
     → TellsNoMore may may' → IsStep limits plan may' past told after heard → IsStep limits plan may past told after heard
 step-fewer limits plan may may' past told _ _ t (passes s chosen quiet) = passes s chosen quiet
 step-fewer limits plan may may' past told _ _ t (starts s chosen child command) = starts s chosen child command
-step-fewer limits plan may may' past told _ _ t (fails {key = key} s chosen child command may_be) = fails s chosen child command (t key NoStart may_be)
-step-fewer limits plan may may' past told _ _ t (ends {key = key} {outcome = outcome} s held ran may_be) = ends s held ran (t key outcome may_be)
+step-fewer limits plan may may' past told _ _ t (fails {key = key} s chosen child command may_be) = fails s chosen child command (t _ key NoStart may_be)
+step-fewer limits plan may may' past told _ _ t (ends {key = key} {outcome = outcome} s held ran may_be) = ends s held ran (t _ key outcome may_be)
 step-fewer limits plan may may' past told _ _ t (kills ran free) = kills ran free
 
 -- walks behind one another
-pub drives-then : (limits : Limits) (plan : Plan) (may may' : Key → Outcome → Type 0) (past : List Record) (told : List Call) (between : List Record) (heard : List Call) (after : List Record) (last : List Call)
+pub drives-then : (limits : Limits) (plan : Plan) (may may' : List Call → Key → Outcome → Type 0) (past : List Record) (told : List Call) (between : List Record) (heard : List Call) (after : List Record) (last : List Call)
     → TellsNoMore may may' → Drives limits plan may past told between heard → Drives limits plan may' between heard after last → Drives limits plan may past told after last
 drives-then limits plan may may' past told between heard _ _ t first no_step = first
 drives-then limits plan may may' past told between heard _ _ t first (one_more d s) =
     one_more (drives-then limits plan may may' past told between heard _ _ t first d) (step-fewer limits plan may may' _ _ _ _ t s)
 
-pub cut-fewer : (limits : Limits) (plan : Plan) (may may' : Key → Outcome → Type 0) (past : List Record) (told : List Call) (after : List Record) (heard : List Call)
+pub cut-fewer : (limits : Limits) (plan : Plan) (may may' : List Call → Key → Outcome → Type 0) (past : List Record) (told : List Call) (after : List Record) (heard : List Call)
     → TellsNoMore may may' → IsCutOff limits plan may' past told after heard → IsCutOff limits plan may past told after heard
 cut-fewer limits plan may may' past told _ _ t clean = clean
 cut-fewer limits plan may may' past told _ _ t (launched chosen) = launched chosen
-cut-fewer limits plan may may' past told _ _ t (failed {key = key} chosen starting command may_be) = failed chosen starting command (t key NoStart may_be)
-cut-fewer limits plan may may' past told _ _ t (ended {key = key} {outcome = outcome} held ran may_be) = ended held ran (t key outcome may_be)
+cut-fewer limits plan may may' past told _ _ t (failed {key = key} chosen starting command may_be) = failed chosen starting command (t _ key NoStart may_be)
+cut-fewer limits plan may may' past told _ _ t (ended {key = key} {outcome = outcome} held ran may_be) = ended held ran (t _ key outcome may_be)
 
 pub no_child : (keys : List Key) → is_nothing keys ≡ true → keys ≡ []
 no_child [] h = refl
@@ -244,7 +245,7 @@ final-choice limits plan past (choices.Finish status) verdict chosen is =
     let same : status ≡ verdict = cc in subst (λ v. IsChoice limits plan past (choices.Finish v)) same chosen
 
 -- the record of a step that aborted the run is the newest
-pub step-aborts : (limits : Limits) (plan : Plan) (may : Key → Outcome → Type 0) (past : List Record) (told : List Call) (after : List Record) (heard : List Call)
+pub step-aborts : (limits : Limits) (plan : Plan) (may : List Call → Key → Outcome → Type 0) (past : List Record) (told : List Call) (after : List Record) (heard : List Call)
     → IsStep limits plan may past told after heard → is_aborted plan past ≡ false → is_aborted plan after ≡ true → AbortsAtLast plan after
 step-aborts limits plan may past told _ _ (passes {key = key} s chosen quiet) calm aborted = (launch-calm plan past key ∙ calm, aborted)
 step-aborts limits plan may past told _ _ (starts {key = key} s chosen child command) calm aborted =

@@ -1,5 +1,5 @@
 -- The calls of a starter that were answered, the newest first, and the children that run.
-use Rattle.std.specs.Prelude.{◌<◌, ◌≤◌, ◌-◌, ◌^◌, ◌⊎◌, ℕ, List, [], ◌∷◌}
+use Rattle.std.specs.Prelude.{◌<◌, ◌≤◌, ◌-◌, ◌^◌, ◌⊎◌, ℕ, List, [], ◌∷◌, Option, Some, None}
 use Rattle.std.specs.declared.snapshot.Snapshot.{Snapshot}
 use Rattle.node_machine.specs.declared.Key.{Key}
 use Rattle.node_machine.specs.declared.Outcome.{Outcome}
@@ -30,5 +30,11 @@ abbrev pub Rises : ℕ → ℕ → Type 0
 Rises before now = (before < now) ⊎ (2 ^ 64 - 1 ≤ now)
 
 -- What may be told now might have been told before.
-abbrev pub TellsNoMore : (Key → Outcome → Type 0) → (Key → Outcome → Type 0) → Type 0
-TellsNoMore old new = (key : Key) (outcome : Outcome) → new key outcome → old key outcome
+abbrev pub TellsNoMore : (List Call → Key → Outcome → Type 0) → (List Call → Key → Outcome → Type 0) → Type 0
+TellsNoMore old new = (told : List Call) (key : Key) (outcome : Outcome) → new told key outcome → old told key outcome
+
+-- the key that stands last: of the children that run, the one that was started first
+abbrev pub oldest : List Key → Option Key
+oldest [] = None
+oldest (key ∷ []) = Some key
+oldest (key ∷ other ∷ keys) = oldest (other ∷ keys)

@@ -5,6 +5,7 @@ use Rattle.std.specs.declared.snapshot.Snapshot.{Snapshot}
 use Rattle.node_machine.specs.declared.Key.{Key}
 use Rattle.node_machine.specs.declared.Outcome.{Outcome}
 use Rattle.node_machine.specs.declared.Outcome.TheVariants.{Exit, NoStart}
+use Rattle.node_machine.specs.Story.{is_noop_job}
 use Rattle.throttles.specs.declared.Limits.{Limits}
 use Rattle.run_plan.specs.declared.command.ChildCommand.{ChildCommand}
 use Rattle.run_plan.specs.Plan.{Plan, node_at}
@@ -57,22 +58,22 @@ pub record IsHandedOver (plan : Plan) (records : List Record) (key : Key) (answe
 abbrev pub IsHeld : Limits → Plan → List Record → Type 0
 IsHeld limits plan past = (node : ℕ) → startable limits plan past node ≡ None
 
--- One step of a run: what is chosen is launched, and handed over with its command where it starts a child; where it starts none
--- it ends at once with Exit 0, and where the child did not start, with NoStart. Or nothing more may be launched, and a child is
+-- One step of a run: what is chosen is launched. The job of a NOOP ends at once with Exit 0; all else is handed over with its
+-- command, and ends at once with NoStart where its child did not start. Or nothing more may be launched, and a child is
 -- told to have ended. Each is done while the children that run are the outstanding phases. Or a child is killed whose phase is
 -- not outstanding.
-pub data IsStep (limits : Limits) (plan : Plan) (may : Key → Outcome → Type 0) (past : List Record) (told : List Call) : List Record → List Call → Type 0 where
+pub data IsStep (limits : Limits) (plan : Plan) (may : List Call → Key → Outcome → Type 0) (past : List Record) (told : List Call) : List Record → List Call → Type 0 where
   passes : {key : Key} → AreInStep plan past told → IsChoice limits plan past (choices.Start key)
-      → IsFalse (starts_child (node_at plan key.node) key.phase)
+      → IsTrue (is_noop_job (node_at plan key.node).course key.phase)
       → IsStep limits plan may past told (End key (Exit 0) ∷ launch_of past key ∷ past) told
   starts : {key : Key} {command : ChildCommand} → AreInStep plan past told → IsChoice limits plan past (choices.Start key)
       → IsTrue (starts_child (node_at plan key.node) key.phase) → IsCommandAt plan past key command
       → IsStep limits plan may past told (launch_of past key ∷ past) (calls.Started key (snapshot_of command) Running ∷ told)
   fails : {key : Key} {command : ChildCommand} → AreInStep plan past told → IsChoice limits plan past (choices.Start key)
-      → IsTrue (starts_child (node_at plan key.node) key.phase) → IsCommandAt plan past key command → may key NoStart
+      → IsTrue (starts_child (node_at plan key.node) key.phase) → IsCommandAt plan past key command → may told key NoStart
       → IsStep limits plan may past told (End key NoStart ∷ launch_of past key ∷ past) (calls.Started key (snapshot_of command) NotStarted ∷ told)
   ends : {key : Key} {outcome : Outcome} → AreInStep plan past told → IsHeld limits plan past
-      → IsTrue (is_among key (running told)) → may key outcome
+      → IsTrue (is_among key (running told)) → may told key outcome
       → IsStep limits plan may past told (End key outcome ∷ past) (calls.Ended key outcome ∷ told)
   kills : {key : Key} → IsTrue (is_among key (running told)) → IsFalse (is_among key (outstanding plan past))
       → IsStep limits plan may past told past (calls.Killed key ∷ told)
@@ -84,21 +85,21 @@ final_verdict choices.Wait = None
 final_verdict (choices.Finish verdict) = Some verdict
 
 -- any number of steps
-pub data Drives (limits : Limits) (plan : Plan) (may : Key → Outcome → Type 0) (past : List Record) (told : List Call) : List Record → List Call → Type 0 where
+pub data Drives (limits : Limits) (plan : Plan) (may : List Call → Key → Outcome → Type 0) (past : List Record) (told : List Call) : List Record → List Call → Type 0 where
   no_step : Drives limits plan may past told past told
   one_more : {between after : List Record} {heard last : List Call} → Drives limits plan may past told between heard
       → IsStep limits plan may between heard after last → Drives limits plan may past told after last
 
 -- What is left of a step that a fault or a crash cut off: nothing; a launch that was not handed over, or not recorded as ended; an
 -- answer that is not recorded.
-pub data IsCutOff (limits : Limits) (plan : Plan) (may : Key → Outcome → Type 0) (past : List Record) (told : List Call) : List Record → List Call → Type 0 where
+pub data IsCutOff (limits : Limits) (plan : Plan) (may : List Call → Key → Outcome → Type 0) (past : List Record) (told : List Call) : List Record → List Call → Type 0 where
   clean : IsCutOff limits plan may past told past told
   launched : {key : Key} → IsChoice limits plan past (choices.Start key)
       → IsCutOff limits plan may past told (launch_of past key ∷ past) told
   failed : {key : Key} {command : ChildCommand} → IsChoice limits plan past (choices.Start key)
-      → IsTrue (starts_child (node_at plan key.node) key.phase) → IsCommandAt plan past key command → may key NoStart
+      → IsTrue (starts_child (node_at plan key.node) key.phase) → IsCommandAt plan past key command → may told key NoStart
       → IsCutOff limits plan may past told (launch_of past key ∷ past) (calls.Started key (snapshot_of command) NotStarted ∷ told)
-  ended : {key : Key} {outcome : Outcome} → IsHeld limits plan past → IsTrue (is_among key (running told)) → may key outcome
+  ended : {key : Key} {outcome : Outcome} → IsHeld limits plan past → IsTrue (is_among key (running told)) → may told key outcome
       → IsCutOff limits plan may past told past (calls.Ended key outcome ∷ told)
 
 -- children were to be started; none ended and none was killed
@@ -122,14 +123,14 @@ abbrev pub IsLaunched : Limits → Plan → List Record → Type 0
 IsLaunched limits plan past = IsHeld limits plan past ⊎ AbortsAtLast plan past
 
 -- behind a fault or a crash: any number of steps, and the rest of one that was cut off
-pub record IsHalted (limits : Limits) (plan : Plan) (may : Key → Outcome → Type 0) (past : List Record) (told : List Call) (after : List Record) (last : List Call) : Type 0 where
+pub record IsHalted (limits : Limits) (plan : Plan) (may : List Call → Key → Outcome → Type 0) (past : List Record) (told : List Call) (after : List Record) (last : List Call) : Type 0 where
   pub between : List Record
   pub heard : List Call
   pub steps : Drives limits plan may past told between heard
   pub cut : IsCutOff limits plan may between heard after last
 
 -- behind a fault: the same, and all children that still ran are killed
-pub record IsStopped (limits : Limits) (plan : Plan) (may : Key → Outcome → Type 0) (past : List Record) (told : List Call) (after : List Record) (last : List Call) : Type 0 where
+pub record IsStopped (limits : Limits) (plan : Plan) (may : List Call → Key → Outcome → Type 0) (past : List Record) (told : List Call) (after : List Record) (last : List Call) : Type 0 where
   pub rest : List Call
   pub halted : IsHalted limits plan may past told after rest
   pub kills : Kills rest last

@@ -278,7 +278,7 @@ impl<R: Processes + Files<File = File> + Clock + Drop> System for LocalSystem<R>
     ghost told = { λ s. s.log.calls };
 
     // A child of the operating system may end in any way.
-    ghost may_tell = { λ _ _ _. Unit {0} };
+    ghost may_tell = { λ _ _ _ _. Unit {0} };
 
     ghost faults = { λ s. s.faults };
 

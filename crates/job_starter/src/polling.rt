@@ -35,7 +35,7 @@ impl<S: System + Drop> ProcessStarter<S> {
         ensures ran { IfOk result (λ answer. IfSome answer (λ ended.
             IsTrue (is_among ended.0 (running (S.told self.old.system))))) }
         ensures may_be { IfOk result (λ answer. IfSome answer (λ ended.
-            S.may_tell self.old.system ended.0 ended.1)) }
+            S.may_tell self.old.system (S.told self.old.system) ended.0 ended.1)) }
         ensures possible { IfOk result (λ answer. IfSome answer (λ ended.
             IsTrue (is_possible ended.1))) }
         ensures runs { IfOk result (λ answer. answer ≡ None

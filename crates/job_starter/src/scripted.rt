@@ -6,7 +6,7 @@ ghost use Rattle.run_plan.specs.Plan.{count_of};
 ghost use Rattle.sched_core.specs.Run.{is_among};
 ghost use Rattle.job_starter.specs.Calls.{running, Rises, TellsNoMore};
 ghost use Rattle.job_starter.specs.Causes.{IsStartFault, IsWaitFault};
-ghost use Rattle.job_starter.specs.Scripts.{scripted_outcome};
+ghost use Rattle.job_starter.specs.Scripts.{scripted_outcome, IsScripted};
 
 use crate::log::{CallLog, key_at};
 use crate::refusals::{no_answer, no_memory, raise};
@@ -22,9 +22,9 @@ pub struct Script {
     /// the one that ends; behind the last of them where there are fewer. Behind the end of this list
     /// the oldest ends.
     pub places: Vec<usize>,
-    /// The start that is refused for want of memory.
+    /// The start that is refused for want of memory (A1).
     pub failing_start: Option<u64>,
-    /// The wait that is refused.
+    /// The wait that is refused (A2).
     pub failing_wait: Option<u64>,
     /// Whether kills are refused.
     pub lets_go: bool,
@@ -48,6 +48,9 @@ impl<'a> ScriptedStarter<'a> {
     pub fn new(alloc: Global, plan: &'a Plan, table: &'a Table, script: Script) -> Self
         requires { HasPossibleOutcomes table.now }
         ensures nothing { result.log.calls ≡ [] }
+        ensures plan { result.plan.now ≡ plan.now }
+        ensures table { result.table.now ≡ table.now }
+        ensures places { result.script.places.items ≡ script.places.items }
     {
         ScriptedStarter {
             plan,
@@ -75,7 +78,8 @@ impl<'a> ScriptedStarter<'a> {
     /// The place of the running child that ends next.
     fn next_place(&self, count: usize) -> usize
         requires { 0 < count }
-        ensures { result < count }
+        ensures within { result < count }
+        ensures first { self.now.script.places.items ≡ [] → result ≡ 0 }
     {
         let Ok(wait) = usize::try_from(self.waits) else {
             return 0;
@@ -91,7 +95,7 @@ impl<'a> ScriptedStarter<'a> {
 impl<'a> Starter for ScriptedStarter<'a> {
     ghost told = { λ s. s.log.calls };
 
-    ghost may_tell = { λ s key outcome. outcome ≡ scripted_outcome s.plan.now s.table.now key };
+    ghost may_tell = { λ s. IsScripted s.plan.now s.table.now s.script.places.items };
 
     ghost faults = { λ s. s.faults };
 

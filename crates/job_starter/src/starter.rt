@@ -20,31 +20,39 @@ pub trait Starter {
     /// The calls that were answered, the newest first.
     ghost told: { Self → List Call };
 
-    /// How the child of a key may be told to end.
-    ghost may_tell: { Self → Key → Outcome → Type 0 };
+    /// How the child of a key may be told to end, behind these calls.
+    ghost may_tell: { Self → List Call → Key → Outcome → Type 0 };
 
     /// The count of the system's refusals, which stays at 2 ^ 64 - 1. That no child runs counts as
     /// none.
     ghost faults: { Self → ℕ };
 
     /// Starts a child. Room for its ending is taken here.
+    ///
+    /// # Errors
+    /// `StartMemory` where memory for it is refused: none is started. A child that can't be started
+    /// for another reason is an answer, `NotStarted`.
     fn start(&mut self, key: Key, command: &ChildCommand) -> Result<Started, StartFault>
         requires { IsFalse (is_among key (running (told self.old))) }
         ensures ok { IfOk result
             (λ answer. told self.new ≡ Call.Started key (snapshot_of command.now) answer ∷ told self.old) }
         ensures not_started { IfOk result (λ answer.
-            answer ≡ Started.NotStarted → may_tell self.old key Outcome.NoStart) }
+            answer ≡ Started.NotStarted → may_tell self.old (told self.old) key Outcome.NoStart) }
         ensures refused { OnErr result (told self.new ≡ told self.old) }
         ensures err { IfErr result (IsStartFault (faults self.old) (faults self.new)) }
         ensures later { faults self.old ≤ faults self.new }
         ensures may { TellsNoMore (may_tell self.old) (may_tell self.new) };
 
-    /// Waits until some child ends. It takes no memory.
+    /// Waits until some child ends, and tells how. It takes no memory.
+    ///
+    /// # Errors
+    /// `NoChild` exactly where none runs, and `WaitFault` where the system refuses the question or the
+    /// wait: the children stay as they were.
     fn wait_any(&mut self) -> Result<(Key, Outcome), StartFault>
         ensures told { IfOk result
             (λ ended. told self.new ≡ Call.Ended ended.0 ended.1 ∷ told self.old) }
         ensures ran { IfOk result (λ ended. IsTrue (is_among ended.0 (running (told self.old)))) }
-        ensures may_be { IfOk result (λ ended. may_tell self.old ended.0 ended.1) }
+        ensures may_be { IfOk result (λ ended. may_tell self.old (told self.old) ended.0 ended.1) }
         ensures possible { IfOk result (λ ended. IsTrue (is_possible ended.1)) }
         ensures refused { OnErr result (told self.new ≡ told self.old) }
         ensures err { IfErr result
@@ -79,30 +87,36 @@ pub trait System {
     /// The calls that were answered, the newest first.
     ghost told: { Self → List Call };
 
-    /// How the child of a key may be told to end.
-    ghost may_tell: { Self → Key → Outcome → Type 0 };
+    /// How the child of a key may be told to end, behind these calls.
+    ghost may_tell: { Self → List Call → Key → Outcome → Type 0 };
 
     /// The count of refusals, which stays at 2 ^ 64 - 1.
     ghost faults: { Self → ℕ };
 
     /// Starts a child. Room for its ending is taken here.
+    ///
+    /// # Errors
+    /// `StartMemory` where memory for it is refused: none is started.
     fn spawn(&mut self, key: Key, command: &ChildCommand) -> Result<Started, StartFault>
         requires { IsFalse (is_among key (running (told self.old))) }
         ensures ok { IfOk result
             (λ answer. told self.new ≡ Call.Started key (snapshot_of command.now) answer ∷ told self.old) }
         ensures not_started { IfOk result (λ answer.
-            answer ≡ Started.NotStarted → may_tell self.old key Outcome.NoStart) }
+            answer ≡ Started.NotStarted → may_tell self.old (told self.old) key Outcome.NoStart) }
         ensures refused { OnErr result (told self.new ≡ told self.old) }
         ensures err { IfErr result (IsStartFault (faults self.old) (faults self.new)) }
         ensures later { faults self.old ≤ faults self.new }
         ensures may { TellsNoMore (may_tell self.old) (may_tell self.new) };
 
     /// Whether a child has ended, and how. It does not wait.
+    ///
+    /// # Errors
+    /// `WaitFault` where the question is refused.
     fn ask(&mut self, key: Key) -> Result<Option<Outcome>, StartFault>
         requires { IsTrue (is_among key (running (told self.old))) }
         ensures told { IfOk result (λ answer. IfSome answer
             (λ outcome. told self.new ≡ Call.Ended key outcome ∷ told self.old)) }
-        ensures may_be { IfOk result (λ answer. IfSome answer (may_tell self.old key)) }
+        ensures may_be { IfOk result (λ answer. IfSome answer (may_tell self.old (told self.old) key)) }
         ensures possible { IfOk result
             (λ answer. IfSome answer (λ outcome. IsTrue (is_possible outcome))) }
         ensures runs { IfOk result (λ answer. answer ≡ None → told self.new ≡ told self.old) }
@@ -111,12 +125,15 @@ pub trait System {
         ensures later { faults self.old ≤ faults self.new }
         ensures may { TellsNoMore (may_tell self.old) (may_tell self.new) };
 
-    /// Waits until a child ends.
+    /// Waits until a child ends, and tells how.
+    ///
+    /// # Errors
+    /// `WaitFault` where the wait is refused.
     fn wait(&mut self, key: Key) -> Result<Outcome, StartFault>
         requires { IsTrue (is_among key (running (told self.old))) }
         ensures told { IfOk result
             (λ outcome. told self.new ≡ Call.Ended key outcome ∷ told self.old) }
-        ensures may_be { IfOk result (may_tell self.old key) }
+        ensures may_be { IfOk result (may_tell self.old (told self.old) key) }
         ensures possible { IfOk result (λ outcome. IsTrue (is_possible outcome)) }
         ensures refused { OnErr result (told self.new ≡ told self.old) }
         ensures err { IfErr result (IsAskFault (faults self.old) (faults self.new)) }

@@ -19,7 +19,7 @@ struct MemorySystem {
 impl System for MemorySystem {
     ghost told = { λ s. s.log.calls };
 
-    ghost may_tell = { λ _ _ _. Unit {0} };
+    ghost may_tell = { λ _ _ _ _. Unit {0} };
 
     ghost faults = { λ s. s.faults };
 

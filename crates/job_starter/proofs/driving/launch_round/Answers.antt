@@ -17,7 +17,7 @@ loop-key-init g c = (
   refl,
   first-walk _ _ _ _ _ c.requires.in_step c.goes_on.ensures,
   omega arith,
-  λ key outcome may. may,
+  λ told key outcome may. may,
   refl,
   λ honest header was. still g.D.Disk.honest g.D.Disk.seen g.D.Disk.may_leave g.D.Disk.moment g.D.Disk.left_since g.met.D.Disk.only_now c.args.manager.now _ header _ refl honest was (at_start _ _ _ _ _ header _ c.keeps_the_law.ensures was.reads),
   λ honest header was. was,
@@ -60,7 +60,7 @@ loop-key-preserved g c =
       walk-on _ _ i.4 _ _ i.0 (g.S.Starter.may_tell c.args.starter.now) (g.S.Starter.may_tell c.loop-key.starter) i.3 _ _ _ _ i.1 _ _
           (step-in-step _ _ _ _ _ _ _ lawful i.1.going here e.step flag) (one-step _ _ _ _ _ _ _ e.step) e.fewer,
       omega arith,
-      λ key outcome may. i.3 key outcome (e.may key outcome may),
+      λ told key outcome may. i.3 told key outcome (e.may told key outcome may),
       e.limits ∙ i.4,
       λ honest header was. then_steps g.D.Disk.moment g.D.Disk.left_since _ _ _ _ _ header _ i.4 _ i.0 _ _ _ _ _ _ i.3 i.1.steps (i.5 honest header was)
           (e.any_moment (i.7.keeps honest) header (i.6 honest header was)),
