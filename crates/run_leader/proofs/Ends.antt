@@ -50,7 +50,7 @@ is-led plan begun between records own text status more is lawful may fates print
 
 -- the same in the plans of the manager at each call
 pub led-by : (limits : Limits) (plan plan0 plan1 plan2 : Plan) → plan ≡ plan0 → plan1 ≡ plan0 → plan2 ≡ plan1
-    → (begun between records : List Record) (text : List ℕ) (status : ℕ) (tells : Key → Outcome → Type 0) (told heard : List Call)
+    → (begun between records : List Record) (text : List ℕ) (status : ℕ) (tells : List Call → Key → Outcome → Type 0) (told heard : List Call)
     → Drives limits plan0 tells begun told between heard → IsChoice limits plan0 between (choices.Finish status)
     → is_lawful plan1 between ≡ true → may_follow plan1 between (Finish (exit_status plan1 between)) ≡ true
     → records ≡ Finish (exit_status plan1 between) ∷ between
@@ -67,7 +67,7 @@ led-by limits plan plan0 plan1 plan2 own same last begun between records text st
     (subst (λ (p : Plan). text ≡ run_text p records status) (last ∙ here) prints)
     (subst (λ (p : Plan). status ≡ exit_status p between) (sym own) chosen.2)
 
-pub stopped-adds : (limits : Limits) (plan : Plan) (may : Key → Outcome → Type 0) (past : List Record) (told : List Call) (after : List Record) (last : List Call)
+pub stopped-adds : (limits : Limits) (plan : Plan) (may : List Call → Key → Outcome → Type 0) (past : List Record) (told : List Call) (after : List Record) (last : List Call)
     → IsStopped limits plan may past told after last → GoOnFrom past after
 stopped-adds limits plan may past told after last s = halted-adds limits plan may past told after s.rest s.halted
 
@@ -90,7 +90,7 @@ all-but-one plan past after told heard h = record {
 }
 
 -- a crash while the end is recorded, behind the steps of the run
-pub then_end : {D : Type 0} (moment : D → ℕ) (left_since : D → ℕ → List ℕ → Type 0) (limits : Limits) (plan : Plan) (may : Key → Outcome → Type 0) (past : List Record) (told : List Call) (header : Header)
+pub then_end : {D : Type 0} (moment : D → ℕ) (left_since : D → ℕ → List ℕ → Type 0) (limits : Limits) (plan : Plan) (may : List Call → Key → Outcome → Type 0) (past : List Record) (told : List Call) (header : Header)
     (old mid new : D) (between : List Record) (heard : List Call) (entry : Record) → is_lawful plan between ≡ true → Drives limits plan may past told between heard
     → LeavesOnly moment left_since old mid (IsMomentOfRun limits plan may past told header) → LeavesOnly moment left_since mid new (ReadsBeforeOrAfter header between entry)
     → LeavesOnly moment left_since old new (IsMomentOfRun limits plan may past told header)
