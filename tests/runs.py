@@ -331,6 +331,21 @@ def stopped_by_sigint(folder):
     stopped(folder, signal.SIGINT)
 
 
+def an_orphan_holds_no_lock(folder):
+    folder.write("x.dag", "JOB A a.sub\n")
+    folder.shell("a", "echo begun >> begun\nwhile [ ! -e go ]; do sleep 0.02; done\n")
+    first = folder.start("run", "x.dag")
+    folder.wait_for("begun")
+    first.kill()
+    first.wait(timeout=30)
+    second = folder.start("run", "x.dag")
+    # Life, the launch of A; Life, the launch of A.
+    folder.wait_for_launch(4)
+    folder.write("go", "")
+    same(second.communicate(timeout=30), (b"A DONE attempts=1 value=0\nresult 0\n", b""))
+    first.communicate(timeout=30)
+
+
 def in_another_folder(folder):
     """The files beside a DAG file stand in its folder, submit files and jobs in the folder of the call."""
     os.mkdir(folder.at("dags"))
@@ -339,6 +354,21 @@ def in_another_folder(folder):
     same(folder.call("run", "dags/x.dag"), ("A DONE attempts=1 value=0\nresult 0\n", "", 0))
     same(sorted(os.listdir(folder.path)), ["a.out", "a.sub", "dags"])
     same(sorted(os.listdir(folder.at("dags"))), ["x.dag", "x.dag.journal", "x.dag.lock"])
+
+
+def the_example(folder):
+    """examples/flow as the README and the manual show it."""
+    top = os.path.dirname(os.path.dirname(os.path.abspath(__file__)))
+    ours = [name for name in os.listdir(os.path.join(top, "examples/flow")) if name.endswith((".dag", ".sub", ".sh"))]
+    os.makedirs(folder.at("examples/flow"))
+    for name in ours:
+        shutil.copy(os.path.join(top, "examples/flow", name), folder.at("examples/flow"))
+    same(folder.call("check", "examples/flow/flow.dag"), ("ok nodes=4 edges=4 final=no\n", "", 0))
+    report = "numbers DONE attempts=1 value=0\nsquares DONE attempts=1 value=0\ncubes ERROR attempts=1 value=3\ntable NOT_READY attempts=0 value=-\nresult 1\n"
+    same(folder.call("run", "examples/flow/flow.dag"), (report, "", 1))
+    report = "numbers DONE attempts=0 value=-\nsquares DONE attempts=0 value=-\ncubes DONE attempts=1 value=0\ntable DONE attempts=1 value=0\nresult 0\n"
+    same(folder.call("run", "examples/flow/flow.dag"), (report, "", 0))
+    same(folder.read("examples/flow/table.txt"), b"1\t1\t1\n2\t4\t8\n3\t9\t27\n4\t16\t64\n5\t25\t125\n")
 
 
 def the_order_of_the_disk(folder):
@@ -391,7 +421,9 @@ ROWS = [
     a_second_manager,
     stopped_by_sigterm,
     stopped_by_sigint,
+    an_orphan_holds_no_lock,
     in_another_folder,
+    the_example,
 ]
 
 

@@ -1,9 +1,2 @@
-pub mod Endings
-pub mod Reports
-pub mod OneReport
-pub mod RescueParts
-pub mod PlansOfFiles
-mod Checks
-pub mod CalmReports
-mod StatusFaults
 mod RunPlans
+mod RunFaults

@@ -6,7 +6,7 @@ use Rattle.splices.specs.Opened.{dag_at}
 use Rattle.dag_graph.specs.Graph.{Network, IsAcyclic}
 use Rattle.run_plan.specs.Plan.{Plan}
 use Rattle.dag_main.specs.Runs.{IsPlannedRun, IsLedRun, IsRunOf}
-use Rattle.dag_main.specs.Report.{warning_lines}
+use Rattle.dag_texts.specs.Report.{warning_lines}
 
 pub run-of : (path : List ℕ) (files : FileSet) (graph : Network) (plan : Plan) → dag_at (bytes_of files) path ≡ Ok graph.dag → IsAcyclic graph.dag.edges
     → IsPlannedRun files graph plan → (text warnings : List ℕ) (status : ℕ) → IsLedRun plan text status

@@ -1,14 +1,22 @@
 //! The files beside a DAG file: its journal, its rescue files and its lock.
 
-use crate::fault::RunFault;
+ghost use Rattle.std.specs.Prelude.{◌≡◌, ◌≤◌, IfOk, IfErr};
+ghost use Rattle.rescue_file.specs.Numbered.{IsNumber, rescue_name_of};
+ghost use Rattle.dag_texts.specs.declared.fault.RunFault.TheVariants.{Memory};
+ghost use Rattle.dag_main.specs.Runs.{IsFileFault};
+
 use dag_reader::Text;
-use rescue_file::{RescueFault, pick_number, rescue_name};
+use dag_texts::RunFault;
+use rescue_file::{pick_number, rescue_name};
 use splices::path_in;
 use std::alloc::{AllocError, Global};
 use std::fs;
 use std::fs::{File, OpenOptions};
 use std::io::{self, ErrorKind};
 use std::rt::Files;
+
+/// The greatest number of a rescue file.
+pub(crate) const LAST_NUMBER: u16 = 999;
 
 /// A DAG file, and the folder from which its path is taken where it is relative.
 #[derive(Clone, Copy)]
@@ -18,7 +26,9 @@ pub(crate) struct Place<'a> {
 }
 
 /// What is told of the file of this path, which the system refuses.
-pub(crate) fn refused(alloc: Global, path: &str, error: &io::Error) -> RunFault {
+pub(crate) fn refused(alloc: Global, path: &str, error: &io::Error) -> RunFault
+    ensures { IsFileFault result }
+{
     if error.kind() == ErrorKind::OutOfMemory {
         return RunFault::Memory;
     }
@@ -44,10 +54,13 @@ fn lock_path(alloc: Global, top: &str) -> Result<Text, AllocError> {
 }
 
 /// The path of the rescue file of this number.
-pub(crate) fn rescue_path(alloc: Global, top: &str, number: u16) -> Result<Text, RunFault> {
+pub(crate) fn rescue_path(alloc: Global, top: &str, number: u16) -> Result<Text, RunFault>
+    requires { IsNumber number }
+    ensures name { IfOk result (λ name. name ≡ rescue_name_of top.now number) }
+    ensures err { IfErr result (λ fault. fault ≡ Memory) }
+{
     match rescue_name(alloc, top, number) {
         Ok(name) => Ok(name),
-        Err(RescueFault::NotThere(number)) => Err(RunFault::NotThere(number)),
         Err(_) => Err(RunFault::Memory),
     }
 }
@@ -79,7 +92,10 @@ impl<'a> Place<'a> {
     pub(crate) fn highest<R: Files + AllocGlobal + Clone + Drop>(
         &self,
         rt: &R,
-    ) -> Result<u16, RunFault> {
+    ) -> Result<u16, RunFault>
+        ensures highest { IfOk result (λ number. number ≤ 999) }
+        ensures refused { IfErr result IsFileFault }
+    {
         let alloc = rt.alloc();
         let folder = folder_of(self.top);
         let place = self.at(alloc, folder)?;
@@ -94,7 +110,9 @@ impl<'a> Place<'a> {
         &self,
         rt: &R,
         path: &str,
-    ) -> Result<Option<Vec<u8>>, RunFault> {
+    ) -> Result<Option<Vec<u8>>, RunFault>
+        ensures { IfErr result IsFileFault }
+    {
         let place = self.at(rt.alloc(), path)?;
         match fs::read(rt, place.as_str()) {
             Ok(bytes) => Ok(Some(bytes)),
@@ -105,10 +123,9 @@ impl<'a> Place<'a> {
 
     /// Locks the file beside the DAG file that is named for it, until the handle is let go or the
     /// process ends; the file is made where it is missing.
-    pub(crate) fn lock<R: Files<File = File> + AllocGlobal>(
-        &self,
-        rt: &R,
-    ) -> Result<File, RunFault> {
+    pub(crate) fn lock<R: Files<File = File> + AllocGlobal>(&self, rt: &R) -> Result<File, RunFault>
+        ensures { IfErr result IsFileFault }
+    {
         let alloc = rt.alloc();
         let path = lock_path(alloc, self.top)?;
         let place = self.at(alloc, path.as_str())?;
@@ -127,7 +144,9 @@ impl<'a> Place<'a> {
     }
 
     /// What is told where another manager runs the DAG.
-    pub(crate) fn taken(&self, alloc: Global) -> RunFault {
+    pub(crate) fn taken(&self, alloc: Global) -> RunFault
+        ensures { IsFileFault result }
+    {
         let Ok(path) = lock_path(alloc, self.top) else {
             return RunFault::Memory;
         };
@@ -142,7 +161,9 @@ impl<'a> Place<'a> {
     pub(crate) fn put_journal_away<R: Files<File = File> + AllocGlobal>(
         &self,
         rt: &R,
-    ) -> Result<(), RunFault> {
+    ) -> Result<(), RunFault>
+        ensures { IfErr result IsFileFault }
+    {
         let alloc = rt.alloc();
         let path = journal_path(alloc, self.top)?;
         let old = old_journal_path(alloc, self.top)?;

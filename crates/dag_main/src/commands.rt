@@ -1,14 +1,11 @@
 //! The program's commands over the system's files and streams.
 
 use crate::beside::refused;
-use crate::check::check_text;
-use crate::fault::RunFault;
 use crate::loading::{Reading, files_of};
-use crate::report::rehearse_text;
 use crate::request::{Request, read_words};
 use crate::runs::{RunOptions, run_dag};
 use crate::status_here::status_here;
-use crate::warnings::Answer;
+use dag_texts::{Answer, RunFault, check_text, rehearse_text};
 use std::alloc::Global;
 use std::fs::File;
 use std::process::Processes;

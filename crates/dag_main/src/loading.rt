@@ -1,7 +1,10 @@
 //! The files of a DAG, read from the disk.
 
-use crate::fault::RunFault;
+ghost use Rattle.std.specs.Prelude.{◌≡◌, IfErr};
+ghost use Rattle.dag_texts.specs.declared.fault.RunFault.TheVariants.{Memory};
+
 use dag_reader::{Command, ReadFault, Text, Word, read_dag};
+use dag_texts::RunFault;
 use splices::{FileSet, path_in};
 use std::alloc::Global;
 use std::fs;
@@ -44,7 +47,9 @@ pub(crate) fn files_in<R: Files + AllocGlobal>(
     rt: &R,
     seat: &str,
     top: &str,
-) -> Result<FileSet, RunFault> {
+) -> Result<FileSet, RunFault>
+    ensures { IfErr result (λ fault. fault ≡ Memory) }
+{
     let bytes = read_file(rt, seat, top)?;
     files_from(rt, seat, top, bytes, Reading::SubmitFilesToo)
 }
@@ -56,7 +61,9 @@ fn files_from<R: Files + AllocGlobal>(
     top: &str,
     bytes: Option<Vec<u8>>,
     reading: Reading,
-) -> Result<FileSet, RunFault> {
+) -> Result<FileSet, RunFault>
+    ensures { IfErr result (λ fault. fault ≡ Memory) }
+{
     let alloc = rt.alloc();
     let mut files = FileSet::new(alloc);
     let mut wanted = Vec::new(alloc);
@@ -81,7 +88,9 @@ fn add_file<R: Files + AllocGlobal>(
     next: &Wanted,
     reading: Reading,
     wanted: &mut Vec<Wanted>,
-) -> Result<(), RunFault> {
+) -> Result<(), RunFault>
+    ensures { IfErr result (λ fault. fault ≡ Memory) }
+{
     let path = match next {
         Wanted::Splice { path, .. } => path.as_str(),
         Wanted::Submit { path } => path.as_str(),
@@ -112,7 +121,9 @@ fn want_files(
     bytes: &[u8],
     reading: Reading,
     wanted: &mut Vec<Wanted>,
-) -> Result<(), RunFault> {
+) -> Result<(), RunFault>
+    ensures { IfErr result (λ fault. fault ≡ Memory) }
+{
     let file = match read_dag(alloc, bytes) {
         Ok(file) => file,
         Err(ReadFault::Memory) => return Err(RunFault::Memory),
@@ -131,7 +142,9 @@ fn want_file(
     command: &Command,
     reading: Reading,
     wanted: &mut Vec<Wanted>,
-) -> Result<(), RunFault> {
+) -> Result<(), RunFault>
+    ensures { IfErr result (λ fault. fault ≡ Memory) }
+{
     match command {
         Command::Splice { file, dir, .. } => {
             let folder = path_in(alloc, folder, dir_text(dir))?;
@@ -166,7 +179,9 @@ fn want_submit(
     dir: &Option<Word>,
     file: &Word,
     wanted: &mut Vec<Wanted>,
-) -> Result<(), RunFault> {
+) -> Result<(), RunFault>
+    ensures { IfErr result (λ fault. fault ≡ Memory) }
+{
     let folder = path_in(alloc, folder, dir_text(dir))?;
     let path = path_in(alloc, folder.as_str(), file.text())?;
     wanted.push(Wanted::Submit { path })?;
@@ -197,7 +212,9 @@ fn read_file<R: Files + AllocGlobal>(
     rt: &R,
     seat: &str,
     path: &str,
-) -> Result<Option<Vec<u8>>, RunFault> {
+) -> Result<Option<Vec<u8>>, RunFault>
+    ensures { IfErr result (λ fault. fault ≡ Memory) }
+{
     let place = path_in(rt.alloc(), seat, path)?;
     match fs::read(rt, place.as_str()) {
         Ok(bytes) => Ok(Some(bytes)),

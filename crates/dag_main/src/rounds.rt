@@ -1,19 +1,18 @@
 //! Which round of a DAG a run is: what its journal and its rescue files say.
 
-ghost use Rattle.std.specs.Prelude.{◌≡◌, IfOk};
+ghost use Rattle.std.specs.Prelude.{◌≡◌, ◌≤◌, IfOk, IfErr};
 ghost use Rattle.event_journal.specs.Image.{IsRescueNumber};
 ghost use Rattle.run_leader.specs.Rounds.{IsNumbered};
+ghost use Rattle.dag_texts.specs.declared.fault.RunFault.TheVariants.{Memory};
+ghost use Rattle.dag_main.specs.Runs.{IsRoundFault};
 
-use crate::beside::{Place, journal_path};
-use crate::fault::RunFault;
+use crate::beside::{LAST_NUMBER, Place, journal_path};
+use dag_texts::RunFault;
 use event_journal::{FileDisk, Journal, JournalFault, Peek};
 use recovery::ManagerFault;
 use run_leader::Start;
 use std::fs::File;
 use std::rt::Files;
-
-/// The greatest number of a rescue file.
-const LAST_NUMBER: u16 = 999;
 
 /// What is done with the journal of a DAG.
 #[derive(Clone, Copy, Debug, PartialEq, Eq)]
@@ -51,7 +50,9 @@ pub(crate) fn disk_at<R: Files<File = File> + AllocGlobal + Copy + Drop>(
     rt: R,
     place: &Place<'_>,
     path: &str,
-) -> Result<FileDisk<R>, RunFault> {
+) -> Result<FileDisk<R>, RunFault>
+    ensures { IfErr result (λ fault. fault ≡ Memory) }
+{
     let alloc = rt.alloc();
     let at = place.at(alloc, path)?;
     Ok(FileDisk::at(rt, String::from_str(alloc, at.as_str())?))
@@ -67,7 +68,8 @@ pub(crate) fn round_of<R: Files<File = File> + AllocGlobal + Copy + Drop>(
     place: &Place<'_>,
     autorescue: bool,
 ) -> Result<Round, RunFault>
-    ensures { IfOk result (λ round. IsRescueNumber round.next) }
+    ensures numbers { IfOk result (λ round. IsRescueNumber round.next × (round.used ≤ 999)) }
+    ensures refused { IfErr result IsRoundFault }
 {
     let alloc = rt.alloc();
     let mut disk = disk_at(rt, place, journal_path(alloc, place.top)?.as_str())?;
@@ -88,7 +90,8 @@ pub(crate) fn round_of<R: Files<File = File> + AllocGlobal + Copy + Drop>(
 
 /// The round of an unfinished journal, whose header has the numbers.
 fn unfinished(peek: &Peek) -> Result<Round, RunFault>
-    ensures { IfOk result (λ round. IsRescueNumber round.next) }
+    ensures numbers { IfOk result (λ round. IsRescueNumber round.next × (round.used ≤ 999)) }
+    ensures refused { IfErr result IsRoundFault }
 {
     if peek.used > LAST_NUMBER {
         return Err(RunFault::NotThere(peek.used));

@@ -1,19 +1,17 @@
 //! A run with children of the operating system.
 
-ghost use Rattle.std.specs.Prelude.{◌≡◌, IfOk, Some, string_bytes};
+ghost use Rattle.std.specs.Prelude.{◌≤◌, IfOk, IfErr, string_bytes};
 ghost use Rattle.splices.specs.FileSet.{bytes_of, entries_of};
 ghost use Rattle.event_journal.specs.Image.{IsRescueNumber};
-ghost use Rattle.dag_main.specs.Planned.{IsPlanBy};
-ghost use Rattle.dag_main.specs.Runs.{IsPlannedRun, IsLedRun, IsRunOf};
+ghost use Rattle.dag_texts.specs.Planned.{IsPlanBy};
+ghost use Rattle.dag_main.specs.Runs.{IsPlannedRun, IsLedRun, IsRunOf, IsRoundPlanFault, IsStopFault, IsRunFault};
 
 use crate::beside::{Place, journal_path, rescue_path};
-use crate::fault::RunFault;
 use crate::loading::files_in;
-use crate::plans::{graph_of, plan_by};
 use crate::rounds::{Journaled, Round, disk_at, round_of, start_of};
 use crate::status_here::{bytes_of, named};
-use crate::warnings::{Answer, warning_text};
 use dag_graph::Graph;
+use dag_texts::{Answer, RunFault, graph_of, plan_by, warning_text};
 use job_starter::{DriveFault, LocalSystem, ProcessStarter};
 use recovery::ManagerFault;
 use run_leader::run_round;
@@ -43,11 +41,14 @@ struct Report {
 }
 
 /// Why a command is refused whose run was stopped.
-fn in_run(fault: DriveFault) -> RunFault {
+fn in_run(fault: DriveFault) -> RunFault
+    ensures { IsStopFault result }
+{
     match fault {
         DriveFault::Memory | DriveFault::Manager(ManagerFault::Memory) => RunFault::Memory,
         DriveFault::Manager(fault) => RunFault::InManager(fault),
-        fault => RunFault::InRun(fault),
+        DriveFault::StartMemory => RunFault::StartMemory,
+        DriveFault::WaitFault => RunFault::WaitFault,
     }
 }
 
@@ -59,7 +60,9 @@ fn plan_of_round<R: Files<File = File> + AllocGlobal + Copy + Drop>(
     graph: Graph,
     round: &Round,
 ) -> Result<Plan, RunFault>
+    requires used { round.now.used ≤ 999 }
     ensures plan { IfOk result (IsPlannedRun files.now graph) }
+    ensures refused { IfErr result (IsRoundPlanFault files.now place.now.top.now graph) }
 {
     let alloc = rt.alloc();
     if round.used == 0 {
@@ -83,6 +86,7 @@ fn run_planned<R: Processes + Files<File = File> + Clock + AllocGlobal + Copy + 
 ) -> Result<Report, RunFault>
     requires next { IsRescueNumber round.now.next }
     ensures led { IfOk result (λ report. IsLedRun plan.now (string_bytes report.text) report.status) }
+    ensures refused { IfErr result IsStopFault }
 {
     let alloc = rt.alloc();
     let rescue_name = rescue_path(alloc, place.top, round.next)?;
@@ -124,7 +128,7 @@ fn is_same(round: &Round, found: &Round) -> bool {
 /// (`FileRefused`), the first fault of the submit files and the texts of jobs (`InPlan`) and then of
 /// the rescue file (`InRescue`), another manager that runs the DAG (`FileRefused` with the file that
 /// it has locked), and a journal that can't be renamed (`FileRefused`). Then those of the manager
-/// (`InManager`) and of the children (`InRun`); what was recorded stays. Want of memory may stand
+/// (`InManager`) and of the children (`StartMemory`, `WaitFault`); what was recorded stays. Want of memory may stand
 /// before any.
 pub fn run_dag<R: Processes + Files<File = File> + Clock + AllocGlobal + Copy + Drop>(
     rt: R,
@@ -135,6 +139,8 @@ pub fn run_dag<R: Processes + Files<File = File> + Clock + AllocGlobal + Copy + 
     // The report is that of a round of the plan of some files, led to its end.
     ensures run { IfOk result (λ answer.
         IsRunOf top.now (string_bytes answer.text) (string_bytes answer.warnings) answer.status) }
+    // It is refused for the first cause of the stated order, or for want of memory.
+    ensures refused { IfErr result (IsRunFault top.now) }
 {
     let alloc = rt.alloc();
     let place = Place { folder, top };

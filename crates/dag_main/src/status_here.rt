@@ -1,11 +1,12 @@
 //! The status of a run, by the files that stand beside its DAG file.
 
-use crate::beside::{Place, journal_path, rescue_path};
-use crate::fault::RunFault;
+ghost use Rattle.std.specs.Prelude.{◌≡◌};
+ghost use Rattle.dag_texts.specs.Planned.{in_line, named_by};
+
+use crate::beside::{LAST_NUMBER, Place, journal_path, rescue_path};
 use crate::loading::files_in;
-use crate::statuses::{disk_of, status_of};
-use crate::warnings::Answer;
 use dag_reader::Text;
+use dag_texts::{Answer, RunFault, disk_of, status_of};
 use event_journal::{Journal, JournalFault};
 use rescue_file::RescueFault;
 use run_plan::PlanFault;
@@ -27,6 +28,7 @@ fn used_in(alloc: Global, journal: Option<&[u8]>) -> Result<u16, RunFault> {
     }
 }
 
+/// The bytes, where there are some.
 pub(crate) fn bytes_of(bytes: &Option<Vec<u8>>) -> Option<&[u8]> {
     match bytes {
         Some(bytes) => Some(bytes.as_slice()),
@@ -39,11 +41,16 @@ fn used_path(alloc: Global, top: &str, used: u16) -> Result<Option<Text>, RunFau
     if used == 0 {
         return Ok(None);
     }
+    if used > LAST_NUMBER {
+        return Err(RunFault::NotThere(used));
+    }
     Ok(Some(rescue_path(alloc, top, used)?))
 }
 
 /// A fault of a plan, with the path of the rescue file where it is that of a line there.
-pub(crate) fn named(fault: RunFault, rescue: Option<Text>) -> RunFault {
+pub(crate) fn named(fault: RunFault, rescue: Option<Text>) -> RunFault
+    ensures { result ≡ named_by (in_line fault) rescue fault }
+{
     match (in_line(&fault), rescue) {
         (Some(line), Some(path)) => RunFault::InRescue(path, line),
         (_, _) => fault,
@@ -51,7 +58,9 @@ pub(crate) fn named(fault: RunFault, rescue: Option<Text>) -> RunFault {
 }
 
 /// The fault of a line of the rescue file, if it is one.
-fn in_line(fault: &RunFault) -> Option<RescueFault> {
+fn in_line(fault: &RunFault) -> Option<RescueFault>
+    ensures { result ≡ in_line fault.now }
+{
     match fault {
         RunFault::InPlan(PlanFault::InRescue(fault)) => Some(*fault),
         _ => None,

@@ -15,6 +15,7 @@ use Rattle.recovery.specs.Chain.{commands_in}
 use Rattle.job_starter.specs.declared.Call.{Call}
 use Rattle.job_starter.specs.declared.Call.TheVariants as calls
 use Rattle.job_starter.specs.declared.Started.TheVariants.{NotStarted}
+use Rattle.job_starter.proofs.Phases.{noop-quiet}
 use Rattle.job_starter.specs.Calls.{snapshot_of}
 use Rattle.job_starter.specs.Drives.{launch_of, IsCommandAt, IsStep, passes, starts, fails, ends, kills, Drives, no_step, one_more, IsCutOff, clean, launched, failed, ended, Kills, nobody, one_killed, IsHalted, IsStopped}
 use Rattle.job_starter.specs.Handed.{handed, HandsAll, HandsAllButOne}
@@ -43,7 +44,7 @@ loud plan past key command starting is =
 step-exact : (limits : Limits) (plan : Plan) (may : List Call → Key → Outcome → Type 0) (past : List Record) (told : List Call) (after : List Record) (last : List Call)
     → IsStep limits plan may past told after last → Exactly plan past told after last
 step-exact limits plan may past told _ _ (passes {key = key} step chosen silent) =
-    nothing plan past told (End key (Exit 0) ∷ launch_of past key ∷ past) told refl (quiet plan past key silent)
+    nothing plan past told (End key (Exit 0) ∷ launch_of past key ∷ past) told refl (quiet plan past key (noop-quiet (node_at plan key.node) key.phase silent))
 step-exact limits plan may past told _ _ (starts {key = key} {command = command} step chosen starting is) =
     record { own = (key, Ok command) ∷ []; are = refl; commands = loud plan past key command starting is }
 step-exact limits plan may past told _ _ (fails {key = key} {command = command} step chosen starting is may_be) =

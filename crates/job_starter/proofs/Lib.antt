@@ -5,3 +5,5 @@ pub mod Walks
 pub mod Rounds
 pub mod Handing
 pub mod Images
+pub mod Phases
+pub mod Outcomes

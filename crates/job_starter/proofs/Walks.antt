@@ -5,6 +5,7 @@ use Rattle.std.proofs.lemmas.Bool.{and_parts, and_from, false≢true}
 use Rattle.node_machine.specs.declared.Key.{Key}
 use Rattle.node_machine.specs.declared.Outcome.{Outcome}
 use Rattle.node_machine.specs.declared.Outcome.TheVariants.{Exit, NoStart}
+use Rattle.node_machine.specs.Story.{is_noop_job}
 use Rattle.throttles.specs.declared.Limits.{Limits}
 use Rattle.run_plan.specs.Plan.{Plan, node_at}
 use Rattle.run_plan.specs.Commands.{starts_child}
@@ -57,11 +58,11 @@ module _ (limits : Limits) (plan : Plan) (may : List Call → Key → Outcome �
   module _ (key : Key) (chosen : IsChoice limits plan past (choices.Start key)) (plan' : Plan) (same_plan : plan' ≡ plan)
       (records : List Record) (is : records ≡ launch_of past key ∷ past) where
     pub step-passes : (result : Result (Unit {0}) DriveFault) (after : List Record) → AreInStep plan past told
-        → starts_child (node_at plan' key.node) key.phase ≡ false → OnOk result (after ≡ End key (Exit 0) ∷ records)
+        → is_noop_job (node_at plan key.node).course key.phase ≡ true → OnOk result (after ≡ End key (Exit 0) ∷ records)
         → OnOk result (IsStep limits plan may past told after told)
     step-passes (Ok unit) after step quiet more =
         subst (λ r. IsStep limits plan may past told r told) (sym (more ∙ ap (λ r. End key (Exit 0) ∷ r) is))
-        (passes step chosen (subst (λ (p : Plan). starts_child (node_at p key.node) key.phase ≡ false) same_plan quiet))
+        (passes step chosen quiet)
     step-passes (Err fault) after step quiet more = tt
 
     pub cut-launched : (result : Result (Unit {0}) DriveFault) (after : List Record) → OnErr result (after ≡ records)

@@ -5,6 +5,7 @@ use Rattle.std.specs.declared.snapshot.Snapshot.{Snapshot}
 use Rattle.node_machine.specs.declared.Key.{Key}
 use Rattle.node_machine.specs.declared.Outcome.{Outcome}
 use Rattle.node_machine.specs.declared.Outcome.TheVariants.{Exit, NoStart}
+use Rattle.node_machine.specs.Story.{is_noop_job}
 use Rattle.throttles.specs.declared.Limits.{Limits}
 use Rattle.run_plan.specs.declared.command.ChildCommand.{ChildCommand}
 use Rattle.run_plan.specs.Plan.{Plan, node_at}
@@ -57,13 +58,13 @@ pub record IsHandedOver (plan : Plan) (records : List Record) (key : Key) (answe
 abbrev pub IsHeld : Limits → Plan → List Record → Type 0
 IsHeld limits plan past = (node : ℕ) → startable limits plan past node ≡ None
 
--- One step of a run: what is chosen is launched, and handed over with its command where it starts a child; where it starts none
--- it ends at once with Exit 0, and where the child did not start, with NoStart. Or nothing more may be launched, and a child is
+-- One step of a run: what is chosen is launched. The job of a NOOP ends at once with Exit 0; all else is handed over with its
+-- command, and ends at once with NoStart where its child did not start. Or nothing more may be launched, and a child is
 -- told to have ended. Each is done while the children that run are the outstanding phases. Or a child is killed whose phase is
 -- not outstanding.
 pub data IsStep (limits : Limits) (plan : Plan) (may : List Call → Key → Outcome → Type 0) (past : List Record) (told : List Call) : List Record → List Call → Type 0 where
   passes : {key : Key} → AreInStep plan past told → IsChoice limits plan past (choices.Start key)
-      → IsFalse (starts_child (node_at plan key.node) key.phase)
+      → IsTrue (is_noop_job (node_at plan key.node).course key.phase)
       → IsStep limits plan may past told (End key (Exit 0) ∷ launch_of past key ∷ past) told
   starts : {key : Key} {command : ChildCommand} → AreInStep plan past told → IsChoice limits plan past (choices.Start key)
       → IsTrue (starts_child (node_at plan key.node) key.phase) → IsCommandAt plan past key command

@@ -196,18 +196,23 @@ pub fn launch_round<D: Disk + Drop, S: Starter>(
     requires unfinished { IsFalse (is_over (past_of manager.old)) }
     ensures plan { plan_of manager.new ≡ plan_of manager.old }
     ensures limits { limits_of manager.new ≡ limits_of manager.old }
+    // What was recorded and handed over, one step behind another.
     ensures steps { OnOk result (Drives (limits_of manager.old) (plan_of manager.old) (S.may_tell starter.old)
         (past_of manager.old) (S.told starter.old) (past_of manager.new) (S.told starter.new)) }
+    // Nothing more is let in, or the newest record aborts the run.
     ensures done { OnOk result (IsLaunched (limits_of manager.old) (plan_of manager.old) (past_of manager.new)) }
+    // Behind a fault: steps, and what is left of one that was cut off.
     ensures stopped { OnErr result (IsHalted (limits_of manager.old) (plan_of manager.old) (S.may_tell starter.old)
         (past_of manager.old) (S.told starter.old) (past_of manager.new) (S.told starter.new)) }
     ensures later { S.faults starter.old ≤ S.faults starter.new }
     ensures refused { IfErr result (IsDriveFault D.faults D.capacity
         (S.faults starter.old) (S.faults starter.new) manager.new) }
     ensures waits_for_none { Starts (S.told starter.old) (S.told starter.new) }
+    // On an honest disk each image that a crash may leave meanwhile is that of a moment of the run.
     ensures any_moment { AtAnyMoment D.honest D.seen D.may_leave D.moment D.left_since
         manager.old manager.new (IsMomentOfRun (limits_of manager.old) (plan_of manager.old)
         (S.may_tell starter.old) (past_of manager.old) (S.told starter.old)) }
+    // What it recorded is in every later image.
     ensures acknowledged { OnOk result
         (StaysAcknowledged D.honest D.seen D.may_leave manager.old manager.new) }
     ensures disk { KeepsDisk D.honest D.capacity manager.old manager.new }
@@ -388,8 +393,10 @@ pub fn drive<D: Disk + Drop, S: Starter>(
     requires unfinished { IsFalse (is_over (past_of manager.old)) }
     ensures plan { plan_of manager.new ≡ plan_of manager.old }
     ensures limits { limits_of manager.new ≡ limits_of manager.old }
+    // What was recorded and handed over, one step behind another.
     ensures steps { OnOk result (Drives (limits_of manager.old) (plan_of manager.old) (S.may_tell starter.old)
         (past_of manager.old) (S.told starter.old) (past_of manager.new) (S.told starter.new)) }
+    // The run's choice is to finish, with this verdict.
     ensures over { IfOk result (λ end.
         IsChoice (limits_of manager.old) (plan_of manager.old) (past_of manager.new) (Choice.Finish end.verdict)) }
     ensures aborted { IfOk result (λ end.
@@ -400,15 +407,19 @@ pub fn drive<D: Disk + Drop, S: Starter>(
     // Without abort the run shows the fates that the recursion over parents reads from its endings.
     ensures fates { IfOk result (λ end. IsFalse end.aborted → AreFates (plan_of manager.old)
         (table_of (past_of manager.new)) (shown (plan_of manager.old) (past_of manager.new))) }
+    // Behind a fault: steps, what is left of one that was cut off, and kills.
     ensures stopped { OnErr result (IsStopped (limits_of manager.old) (plan_of manager.old) (S.may_tell starter.old)
         (past_of manager.old) (S.told starter.old) (past_of manager.new) (S.told starter.new)) }
+    // No child runs, however the call returns.
     ensures none_left { running (S.told starter.new) ≡ [] }
     ensures later { S.faults starter.old ≤ S.faults starter.new }
     ensures refused { IfErr result (IsDriveFault D.faults D.capacity
         (S.faults starter.old) (S.faults starter.new) manager.new) }
+    // On an honest disk each image that a crash may leave meanwhile is that of a moment of the run.
     ensures any_moment { AtAnyMoment D.honest D.seen D.may_leave D.moment D.left_since
         manager.old manager.new (IsMomentOfRun (limits_of manager.old) (plan_of manager.old)
         (S.may_tell starter.old) (past_of manager.old) (S.told starter.old)) }
+    // What it recorded is in every later image.
     ensures acknowledged { OnOk result
         (StaysAcknowledged D.honest D.seen D.may_leave manager.old manager.new) }
     ensures disk { KeepsDisk D.honest D.capacity manager.old manager.new }

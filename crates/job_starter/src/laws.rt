@@ -1,10 +1,14 @@
 //! What holds of the definitions alone. No program calls these functions.
 
 ghost use Rattle.std.specs.Prelude.{◌≡◌, ℕ, List, [], ◌∷◌};
+ghost use Rattle.node_machine.specs.declared.Key.{Key};
+ghost use Rattle.node_machine.specs.declared.Outcome.{Outcome};
+ghost use Rattle.node_machine.specs.Story.{Table};
 ghost use Rattle.throttles.specs.declared.Limits.{Limits};
 ghost use Rattle.run_plan.specs.Plan.{Plan};
 ghost use Rattle.sched_core.specs.declared.Record.{Record};
 ghost use Rattle.sched_core.specs.declared.Record.TheVariants.{Life};
+ghost use Rattle.sched_core.specs.Lives.{HasOutcomesOf};
 ghost use Rattle.event_journal.specs.Image.{Header};
 ghost use Rattle.recovery.specs.Chain.{ReadsForInputs};
 ghost use Rattle.job_starter.specs.declared.Call.{Call};
@@ -45,4 +49,15 @@ pub fn stops<S: Starter>()
 pub fn begins()
     ensures { (plan : Plan) (past : List Record) (told : List Call) →
         running told ≡ [] → AreInStep plan (Life ∷ past) told }
+{}
+
+/// Where a starter tells what a table says, and nothing else, the endings that a run records are the
+/// table's: so the fates that `drive` shows at its end without abort are those of the table.
+pub fn outcomes<S: Starter>()
+    ensures { (limits : Limits) (plan : Plan) (starter : S) (table : Table)
+        (past : List Record) (told : List Call) (after : List Record) (last : List Call) →
+        ((calls : List Call) (key : Key) (outcome : Outcome) →
+        S.may_tell starter calls key outcome → table key.node key.attempt key.phase ≡ outcome) →
+        Drives limits plan (S.may_tell starter) past told after last →
+        HasOutcomesOf plan table past → HasOutcomesOf plan table after }
 {}

@@ -1,10 +1,12 @@
 use Rattle.std.proofs.Common.{rules, ◌≡◌, refl, sym, ◌∙◌, subst, true, false}
 use Rattle.event_journal.proofs.Moments.{on_ok}
-use Rattle.run_plan.specs.Plan.{Plan}
+use Rattle.run_plan.specs.Plan.{Plan, node_at}
+use Rattle.run_plan.specs.Commands.{starts_child}
 use Rattle.sched_core.specs.Run.{is_lawful}
 use Rattle.recovery.specs.Managed.{past_of}
 use Rattle.job_starter.specs.Drives.{clean, none_started}
 use Rattle.job_starter.proofs.Images.{cut_call, then_call}
+use Rattle.job_starter.proofs.Phases.{quiet-noop}
 use Rattle.job_starter.proofs.Walks.{starts-same, starts-handed, cut-told, cut-clean, step-passes, cut-launched, cut-unhanded, step-starts, step-fails, cut-failed}
 use Rattle.job_starter.proofs.driving.launch_one.Goals as goal
 
@@ -15,7 +17,10 @@ pub returns-then-not-starts_child-clause-step : goal.returns-then-not-starts_chi
 returns-then-not-starts_child-clause-step g c =
     let quiet : c.starts_child.result ≡ false = search rules in
     step-passes _ _ _ _ _ c.args.key c.requires.chosen _ c.record_launch.ensures.plan _ c.in_default.ensures.past c.record_end.result _
-    c.requires.in_step (sym c.starts_child.ensures ∙ quiet) c.record_end.ensures.past
+    c.requires.in_step
+    (quiet-noop _ _ _ c.args.key c.requires.open c.requires.chosen
+    (subst (λ (p : Plan). starts_child (node_at p c.args.key.node) c.args.key.phase ≡ false) c.record_launch.ensures.plan (sym c.starts_child.ensures ∙ quiet)))
+    c.record_end.ensures.past
 
 pub returns-then-not-starts_child-clause-cut : goal.returns-then-not-starts_child-clause-cut
 returns-then-not-starts_child-clause-cut g c =

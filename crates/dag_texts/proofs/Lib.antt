@@ -1,0 +1,8 @@
+pub mod Endings
+pub mod Reports
+pub mod OneReport
+pub mod RescueParts
+pub mod PlansOfFiles
+mod Checks
+pub mod CalmReports
+pub mod StatusFaults

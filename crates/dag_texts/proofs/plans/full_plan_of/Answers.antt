@@ -1,0 +1,19 @@
+use Rattle.splices.specs.FileSet.{bytes_of}
+use Rattle.dag_texts.proofs.PlansOfFiles.{full-dag, full-acyclic, full-sound, full-refused}
+use Rattle.dag_texts.proofs.plans.full_plan_of.Goals as goal
+
+pub returns-in-Ok-clause-dag : goal.returns-in-Ok-clause-dag
+returns-in-Ok-clause-dag c =
+    full-dag (bytes_of c.args.files.now) c.args.path.now c.in_ok-graph.graph _ c.in_ok-graph.ensures.graph c.in_ok-graph.ensures.acyclic c.in-Ok.plan c.in-Ok.ensures.plan
+
+pub returns-in-Ok-clause-acyclic : goal.returns-in-Ok-clause-acyclic
+returns-in-Ok-clause-acyclic c =
+    full-acyclic (bytes_of c.args.files.now) c.args.path.now c.in_ok-graph.graph _ c.in_ok-graph.ensures.graph c.in_ok-graph.ensures.acyclic c.in-Ok.plan c.in-Ok.ensures.plan
+
+pub returns-in-Ok-clause-sound : goal.returns-in-Ok-clause-sound
+returns-in-Ok-clause-sound c =
+    full-sound (bytes_of c.args.files.now) c.args.path.now c.in_ok-graph.graph _ c.in_ok-graph.ensures.graph c.in_ok-graph.ensures.acyclic c.in-Ok.plan c.in-Ok.ensures.plan
+
+pub returns-in-Err-clause-refused : goal.returns-in-Err-clause-refused
+returns-in-Err-clause-refused c =
+    rw (c.in_plan.ensures) (full-refused (bytes_of c.args.files.now) c.args.path.now c.in_ok-graph.graph _ c.in_ok-graph.ensures.graph c.in_ok-graph.ensures.acyclic c.in-Err.fault c.in-Err.ensures.refused.1)

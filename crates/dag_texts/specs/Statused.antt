@@ -1,0 +1,72 @@
+-- What `status` prints.
+use Rattle.std.specs.Prelude.{◌≡◌, ℕ, List, [], reverse, Option, Some, None, Result, Ok, Err, IsTrue}
+use Rattle.splices.specs.Opening.{Files}
+use Rattle.run_plan.specs.Plan.{Plan}
+use Rattle.sched_core.specs.declared.Record.{Record}
+use Rattle.sched_core.specs.Run.{is_lawful}
+use Rattle.event_journal.specs.declared.fault.JournalFault.{JournalFault}
+use Rattle.event_journal.specs.declared.fault.JournalFault.TheVariants as journal
+use Rattle.event_journal.specs.Image.{Found}
+use Rattle.event_journal.specs.Reading.{replay_for}
+use Rattle.recovery.specs.Replay.{IsFirstForeign}
+use Rattle.recovery.specs.declared.fault.ManagerFault.TheVariants as manager
+use Rattle.status_report.specs.Text.{status_text_of}
+use Rattle.dag_texts.specs.Planned.{IsPlanWith, IsPlanWithFault}
+use Rattle.dag_texts.specs.Report.{warning_lines}
+use Rattle.dag_texts.specs.declared.fault.RunFault.{RunFault}
+use Rattle.dag_texts.specs.declared.fault.RunFault.TheVariants.{InManager, Memory}
+
+-- a journal that is not there has no bytes
+abbrev pub journal_bytes : Option (List ℕ) → List ℕ
+journal_bytes None = []
+journal_bytes (Some bytes) = bytes
+
+-- the records that reading gives, the oldest first; a Fresh place has none
+abbrev pub records_read : Result (Option Found) JournalFault → Option (List Record)
+records_read (Ok None) = Some []
+records_read (Ok (Some found)) = Some found.records
+records_read (Err fault) = None
+
+-- the records of a journal of this plan that has these bytes
+abbrev pub records_at : Plan → List ℕ → Option (List Record)
+records_at plan bytes = records_read (replay_for plan.digest bytes)
+
+-- what is told of a journal in memory, whose disk fails for want of memory alone
+abbrev pub read_fault : JournalFault → RunFault
+read_fault journal.Memory = Memory
+read_fault journal.Device = Memory
+read_fault journal.DiskFull = InManager (manager.Journal journal.DiskFull)
+read_fault journal.NotAJournal = InManager (manager.Journal journal.NotAJournal)
+read_fault (journal.Version v) = InManager (manager.Journal (journal.Version v))
+read_fault journal.OtherInputs = InManager (manager.Journal journal.OtherInputs)
+read_fault journal.SlotsFull = InManager (manager.Journal journal.SlotsFull)
+read_fault journal.Broken = InManager (manager.Journal journal.Broken)
+read_fault (journal.BadSlot slot) = InManager (manager.Journal (journal.BadSlot slot))
+
+-- the status text of these records, which are lawful
+pub record IsStatusText (plan : Plan) (bytes text : List ℕ) : Type 0 where
+  pub records : List Record
+  pub are_records : records_at plan bytes ≡ Some records
+  pub lawful : IsTrue (is_lawful plan (reverse records))
+  pub text_is : text ≡ status_text_of plan (reverse records)
+
+-- Why there is none: the bytes are no journal of this plan; a record may not follow those before it; memory ran out.
+pub data IsRecordsFault (plan : Plan) (bytes : List ℕ) : RunFault → Type 0 where
+  no_journal : (fault : JournalFault) → replay_for plan.digest bytes ≡ Err fault → IsRecordsFault plan bytes (InManager (manager.Journal fault))
+  foreign_record : (records : List Record) (slot : ℕ) → records_at plan bytes ≡ Some records → IsFirstForeign plan records slot →
+      IsRecordsFault plan bytes (InManager (manager.Foreign slot))
+  reading_had_no_memory : IsRecordsFault plan bytes Memory
+
+-- the status text of the plan of these files, at the records of the journal
+pub record IsStatusOf (files : Files) (entries : List (List ℕ × List ℕ)) (path : List ℕ) (rescue journal : Option (List ℕ)) (text warnings : List ℕ) (status : ℕ) : Type 0 where
+  pub plan : Plan
+  pub planned : IsPlanWith files entries path rescue plan
+  pub says : IsStatusText plan (journal_bytes journal) text
+  pub warnings_are : warnings ≡ warning_lines plan.graph.dag.warnings
+  pub status_is : status ≡ 0
+
+-- why it is refused: there is no plan, or its journal has no records of a run
+pub data IsStatusFault (files : Files) (entries : List (List ℕ × List ℕ)) (path : List ℕ) (rescue journal : Option (List ℕ)) : RunFault → Type 0 where
+  no_plan : (fault : RunFault) → IsPlanWithFault files entries path rescue fault → IsStatusFault files entries path rescue journal fault
+  no_records : (plan : Plan) (fault : RunFault) → IsPlanWith files entries path rescue plan → IsRecordsFault plan (journal_bytes journal) fault →
+      IsStatusFault files entries path rescue journal fault

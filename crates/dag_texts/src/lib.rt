@@ -1,0 +1,19 @@
+//! The commands of dagrun, each as a call over texts: what it answers, and why it is refused.
+#![tactic(auto)]
+
+mod check;
+mod fault;
+pub mod laws;
+mod plans;
+mod rehearsal;
+mod report;
+mod statuses;
+mod warnings;
+
+pub use check::check_text;
+pub use fault::RunFault;
+pub use plans::{graph_of, plan_by};
+pub use rehearsal::run_table;
+pub use report::rehearse_text;
+pub use statuses::{disk_of, status_of};
+pub use warnings::{Answer, warning_text};

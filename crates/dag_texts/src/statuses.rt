@@ -1,0 +1,133 @@
+//! The status of a run, by its journal.
+
+ghost use Rattle.std.specs.Prelude.{◌≡◌, Ok, Err, Some, reverse, IfOk, IfErr, string_bytes};
+ghost use Rattle.std.specs.Option.{option_map};
+ghost use Rattle.splices.specs.FileSet.{bytes_of, entries_of};
+ghost use Rattle.event_journal.specs.Memory.{disk_bytes};
+ghost use Rattle.event_journal.specs.Reading.{RefusedAs, replay_for};
+ghost use Rattle.event_journal.specs.Journal.{IsReadFault};
+ghost use Rattle.dag_texts.specs.declared.fault.RunFault.TheVariants.{Memory};
+ghost use Rattle.dag_texts.specs.Report.{warning_lines};
+ghost use Rattle.dag_texts.specs.Statused.{journal_bytes, records_at, read_fault, IsStatusText, IsRecordsFault, IsStatusOf, IsStatusFault};
+
+use crate::fault::RunFault;
+use crate::plans::plan_with;
+use crate::warnings::{Answer, warning_text};
+use event_journal::{Journal, JournalFault, MemDisk, Opened};
+use recovery::{ManagerFault, replay};
+use run_plan::Plan;
+use sched_core::{Core, Record};
+use splices::FileSet;
+use status_report::status_text;
+use std::alloc::{AllocError, Global};
+
+/// The status of the run of the DAG file of this path whose journal has these bytes: a line for each
+/// node, in plan order. The DAG file, those of its splices and the submit files of its nodes stand in
+/// the file set; `rescue` is the rescue file that the run read, if it read one. No journal, or one
+/// that was not begun, has no records.
+///
+/// # Errors
+/// The first fault that opening the files meets (`InFiles`), a cycle (`Cycle`), the first fault of
+/// the submit files, the texts of jobs and the rescue file (`InPlan`), that of the journal or its
+/// first record that may not follow (`InManager`), and want of memory.
+pub fn status_of(
+    alloc: Global,
+    files: &FileSet,
+    path: &str,
+    rescue: Option<&[u8]>,
+    journal: Option<&[u8]>,
+) -> Result<Answer, RunFault>
+    ensures status { IfOk result (λ answer. IsStatusOf (bytes_of files.now) (entries_of files.now) path.now
+        (option_map (λ b. b.now) rescue.entry) (option_map (λ b. b.now) journal.entry)
+        (string_bytes answer.text) (string_bytes answer.warnings) answer.status) }
+    ensures refused { IfErr result (IsStatusFault (bytes_of files.now) (entries_of files.now) path.now
+        (option_map (λ b. b.now) rescue.entry) (option_map (λ b. b.now) journal.entry)) }
+{
+    let plan = plan_with(alloc, files, path, rescue)?;
+    status_plan(alloc, &plan, bytes_in(journal))
+}
+
+/// The bytes of a journal; none where there is none.
+fn bytes_in<'a>(journal: Option<&'a [u8]>) -> &'a [u8]
+    ensures { result.now ≡ journal_bytes (option_map (λ b. b.now) journal.entry) }
+{
+    match journal {
+        Some(bytes) => bytes,
+        None => &[],
+    }
+}
+
+/// The status of the run of a plan whose journal has these bytes.
+fn status_plan(alloc: Global, plan: &Plan, bytes: &[u8]) -> Result<Answer, RunFault>
+    ensures says { IfOk result (λ answer. IsStatusText plan.now bytes.now (string_bytes answer.text)) }
+    ensures warnings { IfOk result (λ answer. string_bytes answer.warnings ≡ warning_lines plan.now.graph.dag.warnings) }
+    ensures status { IfOk result (λ answer. answer.status ≡ 0) }
+    ensures refused { IfErr result (IsRecordsFault plan.now bytes.now) }
+{
+    let records = records_of(alloc, plan, bytes)?;
+    let core = core_of(alloc, plan, bytes, &records)?;
+    core.keeps_the_law();
+    Ok(Answer {
+        text: status_text(alloc, &core)?,
+        warnings: warning_text(alloc, plan.graph().flat().warnings())?,
+        status: 0,
+    })
+}
+
+/// A disk in memory of these bytes.
+pub fn disk_of(alloc: Global, bytes: &[u8]) -> Result<MemDisk, AllocError>
+    ensures { IfOk result (λ disk. disk_bytes disk ≡ bytes.now) }
+{
+    let mut copy = Vec::new(alloc);
+    copy.extend_from_slice(bytes)?;
+    Ok(MemDisk::of(alloc, copy, bytes.len()))
+}
+
+/// Why a journal in memory is refused: such a disk fails for want of memory alone.
+fn in_journal(fault: JournalFault) -> RunFault
+    ensures { result ≡ read_fault fault }
+{
+    match fault {
+        JournalFault::Memory | JournalFault::Device => RunFault::Memory,
+        fault => RunFault::InManager(ManagerFault::Journal(fault)),
+    }
+}
+
+/// The records of a journal of this plan, the oldest first.
+fn records_of(alloc: Global, plan: &Plan, bytes: &[u8]) -> Result<Vec<Record>, RunFault>
+    ensures ok { IfOk result (λ records. records_at plan.now bytes.now ≡ Some records.items) }
+    ensures refused { IfErr result (IsRecordsFault plan.now bytes.now) }
+{
+    let disk = disk_of(alloc, bytes)?;
+    match Journal::open(alloc, disk, plan.digest(), u32::MAX) {
+        Ok(Opened::Found(journal)) => {
+            let mut journal = journal;
+            match journal.records(alloc) {
+                Ok(records) => Ok(records),
+                Err(_) => Err(RunFault::Memory),
+            }
+        }
+        Ok(Opened::Fresh(_)) => Ok(Vec::new(alloc)),
+        Err((_disk, fault)) => Err(in_journal(fault)),
+    }
+}
+
+/// The core that has these records, which are those of a journal.
+fn core_of<'a>(
+    alloc: Global,
+    plan: &'a Plan,
+    bytes: &[u8],
+    records: &[Record],
+) -> Result<Core<'a>, RunFault>
+    requires { records_at plan.now bytes.now ≡ Some records.now }
+    ensures plan { IfOk result (λ core. core.plan ≡ plan.now) }
+    ensures records { IfOk result (λ core. core.past ≡ reverse records.now) }
+    ensures refused { IfErr result (IsRecordsFault plan.now bytes.now) }
+{
+    let _bytes = bytes;
+    match replay(alloc, plan, records) {
+        Ok(core) => Ok(core),
+        Err(ManagerFault::Foreign(slot)) => Err(RunFault::InManager(ManagerFault::Foreign(slot))),
+        Err(_) => Err(RunFault::Memory),
+    }
+}
