@@ -1,0 +1,18 @@
+use Rattle.std.proofs.Common.{string_bytes}
+use Rattle.recovery.specs.Managed.{past_of}
+use Rattle.recovery.specs.Seal.{IsRescued}
+use Rattle.run_leader.specs.Led.{IsLed}
+use Rattle.run_leader.specs.Rounds.{IsRound}
+use Rattle.run_leader.proofs.Openings.{both, round-of}
+use Rattle.run_leader.proofs.rounds.run_round.Goals as goal
+
+pub returns : goal.returns
+returns g c = record {
+  round = both (λ led. IsLed c.args.plan.now (past_of c.in-Ok.manager) (past_of c.lead.new.manager) (string_bytes led.text) led.status)
+      (λ led. IsRescued g.R.Disk.honest g.R.Disk.may_leave c.args.plan.now (past_of c.lead.new.manager) led.rescue)
+      (λ led. IsRound g.D.Disk.honest g.D.Disk.seen g.R.Disk.honest g.R.Disk.may_leave c.args.plan.now c.args.disk (string_bytes led.text) led.status led.rescue)
+      c.lead.result
+      (λ led is rescued. round-of g.D.Disk.honest g.D.Disk.seen g.R.Disk.honest g.R.Disk.may_leave c.args.plan.now c.args.disk c.in-Ok.manager (past_of c.lead.new.manager) (string_bytes led.text) led.status led.rescue
+      c.in-Ok.ensures.life c.in-Ok.ensures.begun is rescued)
+      c.lead.ensures.led c.lead.ensures.rescued;
+}
