@@ -3,5 +3,4 @@
 #
 #   tests/kill.sh PROGRAM [ROUNDS [SEED]]     20 rounds where no number is given
 set -euo pipefail
-cd -- "$(dirname -- "${BASH_SOURCE[0]}")"
-exec python3 kill.py "$(realpath "${1:-../dist/dagrun}")" "${@:2}"
+exec python3 "$(dirname -- "${BASH_SOURCE[0]}")/kill.py" "$(realpath -- "$1")" "${@:2}"
