@@ -1,7 +1,6 @@
 // Runs with children of the operating system.
 use crate::plans::{File, NO_LIMITS, plan_of, run};
 use job_starter::{LocalSystem, ProcessStarter, RunEnd};
-use std::alloc::Global;
 use std::test::Fail;
 use std::time::Duration;
 use std::{env, fs, thread};
@@ -27,38 +26,39 @@ pub const LEAVE_SH: File = (
      if [ $i -gt 200 ]; then exit 9; fi; sleep 0.05; done; exit 7\n",
 );
 
-/// The path of a file in a folder.
-pub fn inside(alloc: Global, folder: &str, name: &str) -> Result<String, Fail> {
-    Ok(format!(in alloc; "{folder}/{name}")?)
-}
-
-/// A folder of a test's own with these files. It was not there before.
-pub fn folder_of(rt: &HostRuntime, name: &str, files: &[File]) -> Result<String, Fail> {
-    let alloc = rt.alloc();
-    let here = env::current_dir(rt)?;
-    let folder = inside(alloc, here.as_str(), name)?;
-    fs::create_dir(rt, folder.as_str())?;
+/// Makes a test's own folder, with these files. It was not there before.
+pub fn make_folder(rt: &HostRuntime, name: &str, files: &[File]) -> Result<(), Fail> {
+    fs::create_dir(rt, name)?;
     for (file, text) in files {
-        let path = inside(alloc, folder.as_str(), file)?;
+        let path = format!(in rt.alloc(); "{name}/{file}")?;
         fs::write(rt, path.as_str(), text.as_bytes())?;
     }
-    Ok(folder)
+    Ok(())
 }
 
-/// Runs a DAG with children whose paths are taken from a folder: what each node came to, and the
-/// result.
+/// A test's folder as an absolute path.
+pub fn path_of(rt: &HostRuntime, name: &str) -> Result<String, Fail> {
+    let here = env::current_dir(rt)?;
+    Ok(format!(in rt.alloc(); "{}/{name}", here.as_str())?)
+}
+
+/// Runs a DAG with children whose paths are taken from a test's folder: what each node came to, and
+/// the result.
 pub fn run_in(
     rt: &HostRuntime,
-    folder: &str,
+    name: &str,
     dag: &str,
     submits: &[File],
     limits: Limits,
 ) -> Result<(RunEnd, String), Fail> {
     let alloc = rt.alloc();
+    let folder = path_of(rt, name)?;
+    let mut starter = ProcessStarter::new(LocalSystem::new(alloc, *rt, folder.as_str())?);
+    drop(folder);
     let plan = plan_of(alloc, dag, submits)?;
-    let mut starter = ProcessStarter::new(LocalSystem::new(alloc, *rt, folder)?);
-    let (end, text) = run(alloc, &plan, limits, &mut starter)?;
+    let answer = run(alloc, &plan, limits, &mut starter);
     drop(plan);
+    let (end, text) = answer?;
     Ok((end?, text))
 }
 
@@ -75,19 +75,24 @@ static ENDINGS: [(&str, &str, u8); 7] = [
 
 #[test]
 fn told_endings(rt: HostRuntime) -> Result<(), Fail> {
-    let folder = folder_of(&rt, "told_endings.test", &[CODE_SH])?;
-    let number = inside(rt.alloc(), folder.as_str(), "n")?;
+    make_folder(&rt, "told_endings.test", &[CODE_SH])?;
     let submit = (
         "a.sub",
         "executable = /bin/sh\narguments = code.sh n\nqueue\n",
     );
     for (code, due, verdict) in ENDINGS {
-        fs::write(&rt, number.as_str(), code.as_bytes())?;
-        let (end, text) = run_in(&rt, folder.as_str(), "JOB A a.sub\n", &[submit], NO_LIMITS)?;
+        fs::write(&rt, "told_endings.test/n", code.as_bytes())?;
+        let (end, text) = run_in(
+            &rt,
+            "told_endings.test",
+            "JOB A a.sub\n",
+            &[submit],
+            NO_LIMITS,
+        )?;
         assert_eq!(rt; text.as_str(), due);
         assert_eq!(rt; end.verdict, verdict);
     }
-    fs::remove_dir_all(&rt, folder.as_str())?;
+    fs::remove_dir_all(&rt, "told_endings.test")?;
     Ok(())
 }
 
@@ -105,23 +110,23 @@ static GATES: [File; 2] = [
 
 #[test]
 fn two_children_overlap(rt: HostRuntime) -> Result<(), Fail> {
-    let folder = folder_of(&rt, "two_children_overlap.test", &[GATE_SH])?;
+    make_folder(&rt, "two_children_overlap.test", &[GATE_SH])?;
     let dag = "JOB A a.sub\nJOB B b.sub\n";
-    let (end, text) = run_in(&rt, folder.as_str(), dag, &GATES, NO_LIMITS)?;
+    let (end, text) = run_in(&rt, "two_children_overlap.test", dag, &GATES, NO_LIMITS)?;
     assert_eq!(rt; text.as_str(), "A Done 1 0\nB Done 1 0\n");
     assert_eq!(rt; end.verdict, 0);
-    fs::remove_dir_all(&rt, folder.as_str())?;
+    fs::remove_dir_all(&rt, "two_children_overlap.test")?;
     Ok(())
 }
 
 #[test]
 fn one_child_at_a_time(rt: HostRuntime) -> Result<(), Fail> {
-    let folder = folder_of(&rt, "one_child_at_a_time.test", &[GATE_SH])?;
+    make_folder(&rt, "one_child_at_a_time.test", &[GATE_SH])?;
     let dag = "JOB A a.sub\nJOB B b.sub\nCATEGORY A c\nCATEGORY B c\nMAXJOBS c 1\n";
-    let (end, text) = run_in(&rt, folder.as_str(), dag, &GATES, NO_LIMITS)?;
+    let (end, text) = run_in(&rt, "one_child_at_a_time.test", dag, &GATES, NO_LIMITS)?;
     assert_eq!(rt; text.as_str(), "A Error 1 9\nB Error 1 9\n");
     assert_eq!(rt; end.verdict, 1);
-    fs::remove_dir_all(&rt, folder.as_str())?;
+    fs::remove_dir_all(&rt, "one_child_at_a_time.test")?;
     Ok(())
 }
 
@@ -139,15 +144,14 @@ static LEAVES: [File; 2] = [
 
 #[test]
 fn abort_kills(rt: HostRuntime) -> Result<(), Fail> {
-    let folder = folder_of(&rt, "abort_kills.test", &[GATE_SH, LEAVE_SH])?;
+    make_folder(&rt, "abort_kills.test", &[GATE_SH, LEAVE_SH])?;
     let dag = "JOB A a.sub\nJOB B b.sub\nABORT-DAG-ON A 7\n";
-    let (end, text) = run_in(&rt, folder.as_str(), dag, &LEAVES, NO_LIMITS)?;
+    let (end, text) = run_in(&rt, "abort_kills.test", dag, &LEAVES, NO_LIMITS)?;
     assert_eq!(rt; text.as_str(), "A Error 1 7\nB NotRun 0 -\n");
     assert_eq!(rt; (end.verdict, end.aborted), (7, true));
     thread::sleep(&rt, Duration::from_secs(12));
-    let file = inside(rt.alloc(), folder.as_str(), "b")?;
-    assert!(rt; fs::exists(&rt, file.as_str())?);
-    fs::remove_dir_all(&rt, folder.as_str())?;
+    assert!(rt; fs::exists(&rt, "abort_kills.test/b")?);
+    fs::remove_dir_all(&rt, "abort_kills.test")?;
     Ok(())
 }
 
@@ -161,17 +165,17 @@ static NOT_STARTED: [&str; 4] = [
 
 #[test]
 fn program_not_there(rt: HostRuntime) -> Result<(), Fail> {
-    let folder = folder_of(&rt, "program_not_there.test", &[])?;
+    make_folder(&rt, "program_not_there.test", &[])?;
     let dag = "JOB A a.sub\nJOB B b.sub\nRETRY A 1\n";
     for submit in NOT_STARTED {
         let submits = [
             ("a.sub", submit),
             ("b.sub", "executable = /bin/echo\nqueue\n"),
         ];
-        let (end, text) = run_in(&rt, folder.as_str(), dag, &submits, NO_LIMITS)?;
+        let (end, text) = run_in(&rt, "program_not_there.test", dag, &submits, NO_LIMITS)?;
         assert_eq!(rt; text.as_str(), "A Error 2 -1001\nB Done 1 0\n", "{submit}");
         assert_eq!(rt; end.verdict, 1);
     }
-    fs::remove_dir_all(&rt, folder.as_str())?;
+    fs::remove_dir_all(&rt, "program_not_there.test")?;
     Ok(())
 }
