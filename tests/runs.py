@@ -203,6 +203,16 @@ def a_first_life_of_four_records(folder):
     same(len(folder.read("x.dag.journal")), HEADER + SLOT * 12 + 1)
 
 
+def a_life_of_one_launch(folder):
+    folder.write("x.dag", DIAMOND)
+    folder.echo(*"abcd")
+    folder.call("run", "x.dag")
+    # Life and the launch of A.
+    folder.cut_journal(2)
+    waits = "".join(f"{name} NOT_READY attempts=0 value=-\n" for name in "BCD")
+    same(folder.call("status", "x.dag"), ("A SUBMITTED attempts=0 value=-\n" + waits, "", 0))
+
+
 def a_folder_for_a_rescue_file(folder):
     folder.write("x.dag", DIAMOND)
     folder.echo(*"abcd")
@@ -276,6 +286,9 @@ def lines_of_a_rescue_file(folder):
     refused(folder, ("run", "x.dag"), "E2 UnknownNode x.dag.rescue002:2")
     folder.write("x.dag.rescue010", "RETRY A 1\n")
     refused(folder, ("run", "x.dag"), "E1 BadLine x.dag.rescue010:1")
+    folder.write("y.dag", DIAMOND + "FINAL F d.sub\n")
+    folder.write("y.dag.rescue001", "DONE A\nDONE F\n")
+    refused(folder, ("run", "y.dag"), "E3 FinalDone y.dag.rescue001:2")
     # A fault of a submit file is told before that of the rescue file.
     os.remove(folder.at("d.sub"))
     refused(folder, ("run", "x.dag"), "P1 MissingFile d.sub")
@@ -410,6 +423,7 @@ ROWS = [
     two_wait_for_each_other,
     an_abort_and_final,
     a_first_life_of_four_records,
+    a_life_of_one_launch,
     a_folder_for_a_rescue_file,
     a_folder_for_the_journal,
     a_journal_that_stays,
