@@ -3,8 +3,14 @@ set -eu
 top=$(cd -- "$(dirname -- "${BASH_SOURCE[0]}")/.." && pwd)
 work=$(mktemp -d)
 trap 'rm -rf "$work"' EXIT
-(cd "$top/examples" && "$top/dagrun" check diamond.dag >/dev/null)
-program=$top/crates/dagrun/out/dagrun
+# Which program: DAGRUN names another one than that of these sources.
+program=${DAGRUN-}
+if [ -z "$program" ]; then
+    (cd "$top/examples" && "$top/dagrun" check diamond.dag >/dev/null)
+    program=$top/crates/dagrun/out/dagrun
+    if "$top/dist.sh" --check >/dev/null 2>&1; then program=$top/dist/dagrun; fi
+fi
+program=$(realpath -- "$program")
 
 # milliseconds COMMAND..: how long it takes, whatever its status
 milliseconds() {

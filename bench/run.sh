@@ -1,18 +1,36 @@
 #!/usr/bin/env bash
-# Times runs of two graphs of /bin/true beside `make -j4` and `ninja -j4` on the same graphs, in turn, so that all of them see the
-# same machine: a chain of 200 jobs, and 1,000 jobs side by side (dagrun: --maxjobs 4). Then it counts the fsyncs of a run, where
-# strace is there. make and ninja keep no journal.
-# With a number: how often each is timed (3); the least of the times is printed.
+# Times runs beside `make -j` and `ninja -j` on the same graphs, in turn, so that all of them see the same machine: a chain of 200
+# /bin/true, 1,000 /bin/true side by side (4 at once), and 1,000 `sleep 0.1` side by side (64 at once). First with the journal on
+# a disk, then in memory (/dev/shm). Then it counts the syncs of a run, where strace is there. make and ninja keep no journal.
+#   bench/run.sh [TIMES]     how often each is timed (3); the least of the times is printed
 . "$(dirname -- "${BASH_SOURCE[0]}")/common.sh"
 times=${1:-3}
-cd "$work"
-printf 'executable = /bin/true\nqueue\n' >true.sub
-awk 'BEGIN { for (i = 0; i < 200; i++) print "JOB n" i " true.sub"; for (i = 1; i < 200; i++) print "PARENT n" i - 1 " CHILD n" i }' >chain.dag
-awk 'BEGIN { for (i = 0; i < 1000; i++) print "JOB n" i " true.sub" }' >wide.dag
-awk 'BEGIN { print "all: n199\nn0:\n\t@/bin/true"; for (i = 1; i < 200; i++) print "n" i ": n" i - 1 "\n\t@/bin/true" }' >chain.mk
-awk 'BEGIN { printf "all:"; for (i = 0; i < 1000; i++) printf " n" i; print ""; for (i = 0; i < 1000; i++) print "n" i ":\n\t@/bin/true" }' >wide.mk
-awk 'BEGIN { print "rule t\n  command = /bin/true\nbuild n0: t"; for (i = 1; i < 200; i++) print "build n" i ": t n" i - 1 }' >chain.ninja
-awk 'BEGIN { print "rule t\n  command = /bin/true"; for (i = 0; i < 1000; i++) print "build n" i ": t" }' >wide.ninja
+disk=$work
+memory=
+if [ -w /dev/shm ]; then
+    memory=$(mktemp -d /dev/shm/dagrun.XXXXXX)
+    trap 'rm -rf "$work" "$memory"' EXIT
+fi
+
+# graphs: the three graphs in this folder, for each of the three programs
+graphs() {
+    printf 'executable = /bin/true\nqueue\n' >true.sub
+    printf 'executable = /bin/sleep\narguments = 0.1\nqueue\n' >sleep.sub
+    awk 'BEGIN { for (i = 0; i < 200; i++) print "JOB n" i " true.sub"; for (i = 1; i < 200; i++) print "PARENT n" i - 1 " CHILD n" i }' >chain.dag
+    awk 'BEGIN { for (i = 0; i < 1000; i++) print "JOB n" i " true.sub" }' >wide.dag
+    awk 'BEGIN { for (i = 0; i < 1000; i++) print "JOB n" i " sleep.sub" }' >sleeps.dag
+    awk 'BEGIN { print "all: n199\nn0:\n\t@/bin/true"; for (i = 1; i < 200; i++) print "n" i ": n" i - 1 "\n\t@/bin/true" }' >chain.mk
+    side_by_side /bin/true >wide.mk
+    side_by_side '/bin/sleep 0.1' >sleeps.mk
+    awk 'BEGIN { print "rule t\n  command = /bin/true\nbuild n0: t"; for (i = 1; i < 200; i++) print "build n" i ": t n" i - 1 }' >chain.ninja
+    awk 'BEGIN { print "rule t\n  command = /bin/true"; for (i = 0; i < 1000; i++) print "build n" i ": t" }' >wide.ninja
+    awk 'BEGIN { print "rule t\n  command = /bin/sleep 0.1"; for (i = 0; i < 1000; i++) print "build n" i ": t" }' >sleeps.ninja
+}
+
+# side_by_side COMMAND: the makefile of 1,000 such commands
+side_by_side() {
+    awk -v command="$1" 'BEGIN { printf "all:"; for (i = 0; i < 1000; i++) printf " n" i; print ""; for (i = 0; i < 1000; i++) print "n" i ":\n\t@" command }'
+}
 
 # fresh: nothing is left of an earlier run
 fresh() { rm -rf ./*.journal ./*.journal.old ./*.lock ./*.rescue* .ninja_log .ninja_deps; }
@@ -27,21 +45,37 @@ seconds() {
     awk -v n=$((ended - begun)) 'BEGIN { printf "%.3f\n", n / 1e9 }'
 }
 
-for graph in chain wide; do
+# row GRAPH AT_ONCE WORDS: the least time of each program on a graph
+row() {
+    local name
     : >dagrun.times; : >make.times; : >ninja.times
     for _ in $(seq "$times"); do
-        seconds "$program" run --maxjobs 4 $graph.dag >>dagrun.times
-        if command -v make >/dev/null; then seconds make -s -j4 -f $graph.mk all >>make.times; fi
-        if command -v ninja >/dev/null; then seconds ninja -j4 -f $graph.ninja >>ninja.times; fi
+        seconds "$program" run --maxjobs "$2" "$1.dag" >>dagrun.times
+        if command -v make >/dev/null; then seconds make -s -j"$2" -f "$1.mk" all >>make.times; fi
+        if command -v ninja >/dev/null; then seconds ninja -j"$2" -f "$1.ninja" >>ninja.times; fi
     done
-    printf '%s of /bin/true:' "$([ $graph = chain ] && echo 'a chain of 200 jobs' || echo '1,000 jobs side by side')"
+    printf '%s:' "$3"
     for name in dagrun make ninja; do
         if [ -s $name.times ]; then printf ' %s %s s' $name "$(sort -n $name.times | head -n 1)"; fi
     done
-    if command -v strace >/dev/null; then
+    echo
+}
+
+for folder in "$disk" $memory; do
+    cd "$folder"
+    graphs
+    if [ "$folder" = "$disk" ]; then echo 'on a disk'; else echo 'in memory'; fi
+    row chain 4 '  a chain of 200 /bin/true'
+    row wide 4 '  1,000 /bin/true, 4 at once'
+    row sleeps 64 '  1,000 sleep 0.1, 64 at once'
+done
+cd "$disk"
+if command -v strace >/dev/null; then
+    for graph in chain wide; do
         fresh
         strace -f -e trace=fsync,fdatasync -o calls "$program" run --maxjobs 4 $graph.dag >/dev/null
-        printf '; %s fsyncs' "$(grep -c 'sync(' calls)"
-    fi
-    echo
-done
+        printf '%s: %s syncs\n' $graph "$(grep -c 'sync(' calls)"
+    done
+fi
+# What a sync costs here.
+dd if=/dev/zero of=synced bs=512 count=200 oflag=sync 2>&1 | awk '/copied/ { printf "200 synced writes: %s s\n", $(NF - 3) }'

@@ -5,7 +5,7 @@ stand behind its public calls, without comments, blank lines and imports, beside
 A definition stands behind a call where a clause of it names the definition, or a definition that stands behind it does; Value and
 view of a public type count as clauses. Left out are laws (laws.rt), which promise more and change nothing that a call answers, and
 for the calls of EXACT the clauses beside the exact one, which follow from it. The rest of specs/ is of private functions.
-With --list the definitions behind the calls are named too.
+With --all laws and second tellings count too. With --list the definitions behind the calls are named.
 """
 import pathlib
 import re
@@ -13,6 +13,7 @@ import sys
 
 LOWEST = ['dag_reader', 'splices', 'dag_graph', 'submit_file', 'vars_macros', 'rescue_file']
 EXACT = {'read_dag': ['exact'], 'read_submit': ['exact', 'not_text'], 'read_rescue': ['exact']}
+ALL = '--all' in sys.argv
 TOP = pathlib.Path(__file__).resolve().parent.parent
 
 
@@ -75,7 +76,7 @@ def clauses(path, exported):
             name, skipped = found.group(3), False
             inside = public and bool(found.group(2) or of_trait) if found.group(1) else bool(found.group(2)) and name in exported
         if found := re.match(r'\s*ensures (\w+) ', line):
-            skipped = name in EXACT and found.group(1) not in EXACT[name]
+            skipped = not ALL and name in EXACT and found.group(1) not in EXACT[name]
         if re.match(r'\s*\{\s*$', line) or line.rstrip().endswith(';') and not line.lstrip().startswith('ghost'):
             inside = False
         if inside and not skipped or public and re.match(r'\s*ghost (Value|view) ', line):
@@ -112,8 +113,11 @@ class Specs:
             source = TOP / 'crates' / crate / 'src'
             exported = set(re.findall(r'\w+', ' '.join(re.findall(r'pub use [^;]*;', (source / 'lib.rt').read_text()))))
             for path in source.rglob('*.rt'):
+                text = path.read_text()
                 if path.stem != 'laws':
-                    open_ones += self.named(clauses(path, exported), imports_of(path.read_text()))
+                    open_ones += self.named(clauses(path, exported), imports_of(text))
+                elif ALL:
+                    open_ones += self.named(words_of(text), imports_of(text))
         while open_ones:
             one = open_ones.pop()
             if one not in found:
@@ -123,7 +127,7 @@ class Specs:
 
 
 def main():
-    crates = [word for word in sys.argv[1:] if word != '--list'] or LOWEST
+    crates = [word for word in sys.argv[1:] if not word.startswith('--')] or LOWEST
     specs = Specs(crates)
     behind = specs.behind(crates)
     if '--list' in sys.argv:

@@ -8,17 +8,17 @@ import ctypes
 import os
 import random
 import shutil
-import struct
 import subprocess
 import sys
 import tempfile
 import time
 
+from journals import check_records, ended_in, is_finished, records_in
+
 WIDTH = 10
 ROWS = 20
 NAMES = [f"n{i}" for i in range(WIDTH * ROWS)]
 FAILING = "n157"
-LAUNCH, END, FINISH = 2, 3, 4
 
 
 def write(folder, name, text):
@@ -38,23 +38,6 @@ def make_graph(folder):
     os.mkdir(os.path.join(folder, "runs"))
 
 
-def records_in(folder):
-    """The records of the journal: kind, key (node, attempt, phase), value."""
-    path = os.path.join(folder, "x.dag.journal")
-    if not os.path.exists(path):
-        return []
-    with open(path, "rb") as file:
-        journal = file.read()
-    found = []
-    for at in range(64, len(journal), 32):
-        if journal[at] != 0x4F:
-            break
-        kind, phase = journal[at + 1], journal[at + 2]
-        node, attempt, value = struct.unpack(">IIi", journal[at + 4 : at + 16])
-        found.append((kind, (node, attempt, phase), value))
-    return found
-
-
 def runs_in(folder):
     """How often each job ran."""
     counts = {}
@@ -72,10 +55,6 @@ def rescue_in(folder):
         return file.read()
 
 
-def ended_in(records):
-    return [key for kind, key, _ in records if kind == END]
-
-
 def adopt_orphans():
     """Makes the children of a manager that was killed children of this process."""
     set_child_subreaper = 36
@@ -90,17 +69,6 @@ def wait_for_group(group):
             os.waitpid(-group, 0)
     except ChildProcessError:
         return
-
-
-def check_records(records, before):
-    if records[: len(before)] != before:
-        sys.exit("records were lost or changed")
-    ended = set()
-    for kind, key, _ in records:
-        if kind in (LAUNCH, END) and key in ended:
-            sys.exit(f"{key} is launched or ended behind its end")
-        if kind == END:
-            ended.add(key)
 
 
 def one_round(program, folder, longest):
@@ -131,7 +99,7 @@ def one_round(program, folder, longest):
                 sys.exit(f"{name} ran again though its end was recorded")
         settled = {NAMES[key[0]]: counts[NAMES[key[0]]] for key in ended_in(records)}
         before = records
-        if status is None and records and records[-1][0] == FINISH:
+        if status is None and is_finished(records):
             # It was killed behind its last record: the report is what `status` tells, and the verdict.
             text = subprocess.run([program, "status", "x.dag"], cwd=folder, capture_output=True, text=True).stdout
             status = records[-1][2]

@@ -1,4 +1,5 @@
-/* Loaded before libc: the allocation of number REFUSE_AT (from 1) is refused, and none after it. */
+/* Loaded before libc: the allocation of number REFUSE_AT (from 1) is refused, and none after it. Programs that are started from
+   here do not load it. */
 #define _GNU_SOURCE
 #include <dlfcn.h>
 #include <errno.h>
@@ -6,11 +7,19 @@
 
 static long count, refused;
 
+static void look(void) {
+    const char *text = getenv("REFUSE_AT");
+    refused = text ? atol(text) : -1;
+}
+
+__attribute__((constructor)) static void begin(void) {
+    if (!refused) look();
+    unsetenv("LD_PRELOAD");
+    unsetenv("REFUSE_AT");
+}
+
 static int refuses(void) {
-    if (!refused) {
-        const char *text = getenv("REFUSE_AT");
-        refused = text ? atol(text) : -1;
-    }
+    if (!refused) look();
     return ++count == refused;
 }
 

@@ -2,11 +2,15 @@
 ghost use Rattle.std.specs.Prelude.{◌≤◌, ◌<◌};
 
 use crate::runs::{FAILS_ONCE, RECORDS, add, add_and_fail, add_many, begin, records_on, written};
-use event_journal::{Disk, FileDisk, Fuse, FuseDisk, JournalFault, MemDisk};
+use event_journal::{
+    Disk, DiskFault, FileDisk, Fuse, FuseDisk, Journal, JournalFault, MemDisk, ReadFault,
+};
 use sched_core::Record;
 use std::alloc::Global;
 use std::fs;
+use std::fs::File;
 use std::process::Abort;
+use std::rt::Files;
 use std::test::Fail;
 
 #[test]
@@ -123,6 +127,43 @@ fn file_in_a_missing_folder(rt: HostRuntime) -> Result<(), Fail> {
         Ok(_) => panic!(rt; "a journal in no folder"),
         Err(fault) => assert_eq!(rt; fault, JournalFault::Device),
     }
+    Ok(())
+}
+
+// A disk whose file is there and can't be opened: each call fails, and none reads as a missing file.
+fn never_opens<R: Files<File = File> + Drop>(rt: &impl Abort, alloc: Global, disk: FileDisk<R>) {
+    let mut disk = disk;
+    assert_eq!(rt; disk.size(), Err(DiskFault::Failed));
+    assert!(rt; matches!(disk.read(alloc), Err(ReadFault::Failed)));
+    assert_eq!(rt; disk.sync(), Err(DiskFault::Failed));
+    assert_eq!(rt; disk.cut(0), Err(DiskFault::Failed));
+    assert_eq!(rt; disk.write_at(0, b"x"), Err(DiskFault::Failed));
+    match Journal::peek(alloc, &mut disk) {
+        Err(fault) => assert_eq!(rt; fault, JournalFault::Device),
+        Ok(_) => panic!(rt; "a journal is read"),
+    }
+}
+
+#[test]
+fn file_is_a_folder(rt: HostRuntime) -> Result<(), Fail> {
+    let name = "file_is_a_folder.test";
+    fs::create_dir(&rt, name)?;
+    let alloc = rt.alloc();
+    never_opens(&rt, alloc, FileDisk::at(rt, String::from_str(alloc, name)?));
+    fs::remove_dir_all(&rt, name)?;
+    Ok(())
+}
+
+#[test]
+fn file_within_a_file(rt: HostRuntime) -> Result<(), Fail> {
+    let name = "file_within_a_file.test";
+    fs::write(&rt, name, b"x")?;
+    let alloc = rt.alloc();
+    let path = String::from_str(alloc, "file_within_a_file.test/journal")?;
+    never_opens(&rt, alloc, FileDisk::at(rt, path));
+    let bytes = fs::read(&rt, name)?;
+    assert_eq!(rt; bytes.as_slice(), b"x".as_slice());
+    fs::remove_file(&rt, name)?;
     Ok(())
 }
 

@@ -4,6 +4,8 @@
 #[cfg(test)]
 mod children;
 #[cfg(test)]
+mod faults;
+#[cfg(test)]
 mod memory;
 #[cfg(test)]
 mod plans;

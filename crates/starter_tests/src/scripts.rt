@@ -2,7 +2,9 @@
 ghost use Rattle.node_machine.specs.OutcomeTable.{HasPossibleOutcomes};
 
 use crate::plans::{File, NO_LIMITS, plan_of, run};
-use job_starter::{Call, DriveFault, RunEnd, Script, ScriptedStarter, Started, Starter};
+use job_starter::{
+    Call, DriveFault, RunEnd, Script, ScriptedStarter, StartFault, Started, Starter,
+};
 use node_machine::{Table, read_table};
 use run_plan::Plan;
 use std::alloc::Global;
@@ -18,6 +20,7 @@ struct Row {
     places: &'static [usize],
     failing_start: Option<u64>,
     failing_wait: Option<u64>,
+    lets_go: bool,
     limits: Limits,
     // How the run ends, the calls of the starter, and what the nodes come to.
     due: &'static str,
@@ -29,6 +32,7 @@ const QUIET: Row = Row {
     places: &[],
     failing_start: None,
     failing_wait: None,
+    lets_go: false,
     limits: NO_LIMITS,
     due: "",
 };
@@ -42,7 +46,7 @@ const ONE_JOB: Limits = Limits {
 
 const THREE: &str = "JOB A a.sub\nJOB B a.sub\nJOB C a.sub\n";
 
-static ROWS: [Row; 10] = [
+static ROWS: [Row; 11] = [
     Row {
         due: "result 0\n",
         ..QUIET
@@ -83,6 +87,15 @@ static ROWS: [Row; 10] = [
     Row {
         dag: "JOB B b.sub\nJOB A a.sub\nRETRY B 3\nABORT-DAG-ON B 7 RETURN 42\nFINAL F f.sub\n",
         table: "B 0 JOB 7\n",
+        due: "result 0 aborted\nstart 0 Job\nstart 1 Job\nend 0 Job Exit(7)\nkill 1 Job\n\
+              start 2 Job\nend 2 Job Exit(0)\nB Error 1 7\nA NotRun 0 -\nF Done 1 0\n",
+        ..QUIET
+    },
+    // A child that is not killed is let go of all the same.
+    Row {
+        dag: "JOB B b.sub\nJOB A a.sub\nRETRY B 3\nABORT-DAG-ON B 7 RETURN 42\nFINAL F f.sub\n",
+        table: "B 0 JOB 7\n",
+        lets_go: true,
         due: "result 0 aborted\nstart 0 Job\nstart 1 Job\nend 0 Job Exit(7)\nkill 1 Job\n\
               start 2 Job\nend 2 Job Exit(0)\nB Error 1 7\nA NotRun 0 -\nF Done 1 0\n",
         ..QUIET
@@ -157,7 +170,7 @@ fn shown(alloc: Global, plan: &Plan, table: &Table, row: &Row) -> Result<String,
         places,
         failing_start: row.failing_start,
         failing_wait: row.failing_wait,
-        lets_go: false,
+        lets_go: row.lets_go,
     };
     let mut starter = ScriptedStarter::new(alloc, plan, table, script);
     let (end, nodes) = run(alloc, plan, row.limits, &mut starter)?;
@@ -184,5 +197,28 @@ fn scripted_runs(rt: HostRuntime) -> Result<(), Fail> {
     for row in &ROWS {
         shows(&rt, rt.alloc(), row)?;
     }
+    Ok(())
+}
+
+#[test]
+fn no_child_to_wait_for(rt: HostRuntime) -> Result<(), Fail> {
+    let alloc = rt.alloc();
+    let Ok(table) = read_table(alloc, b"") else {
+        panic!(rt; "no table");
+    };
+    let plan = plan_of(alloc, THREE, &SUBMITS)?;
+    let script = Script {
+        places: Vec::new(alloc),
+        failing_start: None,
+        failing_wait: None,
+        lets_go: false,
+    };
+    let mut starter = ScriptedStarter::new(alloc, &plan, &table, script);
+    let answer = starter.wait_any();
+    let faults = starter.faults();
+    drop(starter);
+    drop(plan);
+    assert_eq!(rt; answer, Err(StartFault::NoChild));
+    assert_eq!(rt; faults, 0);
     Ok(())
 }

@@ -1,0 +1,296 @@
+// Runs that are stopped, by a disk that fails or by a starter that refuses, and taken up again.
+ghost use Rattle.node_machine.specs.OutcomeTable.{HasPossibleOutcomes};
+
+use crate::plans::{File, NO_LIMITS, plan_of};
+use event_journal::{Fuse, FuseDisk, Journal, MemDisk, Opened};
+use job_starter::{Script, ScriptedStarter};
+use node_machine::{Table, read_table};
+use recovery::{Manager, ManagerFault, replay};
+use run_leader::lead;
+use run_plan::Plan;
+use sched_core::Record;
+use status_report::run_text;
+use std::alloc::Global;
+use std::process::Abort;
+use std::test::Fail;
+
+const ROOM: usize = 100_000;
+
+const SLOTS: u32 = 1000;
+
+/// What stops a life.
+#[derive(Clone, Copy)]
+struct Stop {
+    journal: Fuse,
+    rescue: Fuse,
+    failing_start: Option<u64>,
+    failing_wait: Option<u64>,
+}
+
+const NOTHING: Stop = Stop {
+    journal: Fuse::Spent,
+    rescue: Fuse::Spent,
+    failing_start: None,
+    failing_wait: None,
+};
+
+/// A kind of stop, at the call of a number.
+#[derive(Clone, Copy)]
+enum Kind {
+    JournalOnce,
+    JournalFromThere,
+    RescueOnce,
+    RescueFromThere,
+    Start,
+    Wait,
+}
+
+static KINDS: [Kind; 6] = [
+    Kind::JournalOnce,
+    Kind::JournalFromThere,
+    Kind::RescueOnce,
+    Kind::RescueFromThere,
+    Kind::Start,
+    Kind::Wait,
+];
+
+fn stop_of(kind: Kind, number: u64) -> Stop {
+    match kind {
+        Kind::JournalOnce => Stop {
+            journal: Fuse::One(number),
+            ..NOTHING
+        },
+        Kind::JournalFromThere => Stop {
+            journal: Fuse::All(number),
+            ..NOTHING
+        },
+        Kind::RescueOnce => Stop {
+            rescue: Fuse::One(number),
+            ..NOTHING
+        },
+        Kind::RescueFromThere => Stop {
+            rescue: Fuse::All(number),
+            ..NOTHING
+        },
+        Kind::Start => Stop {
+            failing_start: Some(number),
+            ..NOTHING
+        },
+        Kind::Wait => Stop {
+            failing_wait: Some(number),
+            ..NOTHING
+        },
+    }
+}
+
+/// A life: what it left on the disk, the records that it had, and its report where it ended the run.
+#[derive(Drop)]
+struct Life {
+    disk: MemDisk,
+    records: Vec<Record>,
+    text: Option<String>,
+}
+
+// Begins a run where no journal is on the disk, and recovers it where one is.
+fn manager_on<'a>(
+    alloc: Global,
+    disk: FuseDisk<MemDisk>,
+    plan: &'a Plan,
+) -> Result<Manager<'a, FuseDisk<MemDisk>>, (FuseDisk<MemDisk>, ManagerFault)> {
+    let mut disk = disk;
+    match Journal::peek(alloc, &mut disk) {
+        Ok(None) => Manager::begin(alloc, disk, plan, 0, 1, SLOTS, NO_LIMITS),
+        Ok(Some(_)) => Manager::recover(alloc, disk, plan, SLOTS, NO_LIMITS),
+        Err(fault) => Err((disk, ManagerFault::Journal(fault))),
+    }
+}
+
+fn copied(alloc: Global, records: &[Record]) -> Result<Vec<Record>, Fail> {
+    let mut copy = Vec::new(alloc);
+    for record in records {
+        copy.push(*record)?;
+    }
+    Ok(copy)
+}
+
+fn live(
+    alloc: Global,
+    disk: MemDisk,
+    plan: &Plan,
+    table: &Table,
+    stop: &Stop,
+) -> Result<Life, Fail>
+    requires { HasPossibleOutcomes table.now }
+{
+    let mut manager = match manager_on(alloc, FuseDisk::new(disk, stop.journal), plan) {
+        Ok(manager) => manager,
+        Err((disk, _fault)) => {
+            return Ok(Life {
+                disk: disk.into_disk(),
+                records: Vec::new(alloc),
+                text: None,
+            });
+        }
+    };
+    let script = Script {
+        places: Vec::new(alloc),
+        failing_start: stop.failing_start,
+        failing_wait: stop.failing_wait,
+        lets_go: false,
+    };
+    let mut starter = ScriptedStarter::new(alloc, plan, table, script);
+    let rescue = FuseDisk::new(MemDisk::new(alloc, ROOM), stop.rescue);
+    let answer = lead(alloc, &mut manager, plan, &mut starter, rescue);
+    let records = copied(alloc, manager.core().records())?;
+    Ok(Life {
+        disk: manager.into_disk().into_disk(),
+        records,
+        text: answer.ok().map(|led| led.text),
+    })
+}
+
+// The records of a journal, and its disk.
+fn read_back(alloc: Global, plan: &Plan, disk: MemDisk) -> Result<(MemDisk, Vec<Record>), Fail> {
+    match Journal::open(alloc, disk, plan.digest(), SLOTS) {
+        Ok(Opened::Found(journal)) => {
+            let mut journal = journal;
+            let records = journal.records(alloc)?;
+            Ok((journal.into_disk(), records))
+        }
+        Ok(Opened::Fresh(journal)) => Ok((journal.into_disk(), Vec::new(alloc))),
+        Err((_, fault)) => Err(Fail::from(fault)),
+    }
+}
+
+fn is_finished(records: &[Record]) -> bool {
+    matches!(records.last(), Some(Record::Finish(_)))
+}
+
+// The report of a run that was stopped, once it is taken up again: replayed where its end had been
+// recorded.
+fn taken_up(
+    rt: &impl Abort,
+    alloc: Global,
+    plan: &Plan,
+    table: &Table,
+    stopped: Life,
+) -> Result<String, Fail>
+    requires { HasPossibleOutcomes table.now }
+{
+    let (disk, records) = read_back(alloc, plan, stopped.disk)?;
+    assert!(rt; records.starts_with(&stopped.records));
+    if is_finished(&records) {
+        let core = replay(alloc, plan, &records)?;
+        return Ok(run_text(alloc, &core, core.verdict())?);
+    }
+    let life = live(alloc, disk, plan, table, &NOTHING)?;
+    assert!(rt; life.records.starts_with(&stopped.records));
+    match life.text {
+        Some(text) => Ok(text),
+        None => panic!(rt; "taken up again it is stopped"),
+    }
+}
+
+// Stops a run at the call of each number in turn, until it isn't stopped; how often it was.
+fn stops(
+    rt: &impl Abort,
+    alloc: Global,
+    plan: &Plan,
+    table: &Table,
+    kind: Kind,
+    due: &str,
+) -> Result<u64, Fail>
+    requires { HasPossibleOutcomes table.now }
+{
+    for number in 0..1000u64 {
+        let disk = MemDisk::new(alloc, ROOM);
+        let life = live(alloc, disk, plan, table, &stop_of(kind, number))?;
+        if let Some(text) = &life.text {
+            assert_eq!(rt; text.as_str(), due);
+            return Ok(number);
+        }
+        let text = taken_up(rt, alloc, plan, table, life)?;
+        assert_eq!(rt; text.as_str(), due);
+    }
+    panic!(rt; "it is stopped a thousand times");
+}
+
+static SUBMITS: [File; 4] = [
+    ("a.sub", "executable = /bin/a\nqueue\n"),
+    ("b.sub", "executable = /bin/b\nqueue\n"),
+    ("c.sub", "executable = /bin/c\nqueue\n"),
+    ("d.sub", "executable = /bin/d\nqueue\n"),
+];
+
+const DIAMOND: &str = "JOB A a.sub\nJOB B b.sub\nJOB C c.sub\nJOB D d.sub\n\
+                       PARENT A CHILD B C\nPARENT B C CHILD D\n";
+
+struct Run {
+    table: &'static str,
+    // How many records a run without a stop has, how many children it starts, and how often the disk
+    // of its rescue file is called: cut, written and synced.
+    records: u64,
+    children: u64,
+    rescue: u64,
+    due: &'static str,
+}
+
+static RUNS: [Run; 2] = [
+    Run {
+        table: "",
+        records: 10,
+        children: 4,
+        rescue: 0,
+        due: "A DONE attempts=1 value=0\nB DONE attempts=1 value=0\nC DONE attempts=1 value=0\n\
+              D DONE attempts=1 value=0\nresult 0\n",
+    },
+    Run {
+        table: "C 0 JOB 3\n",
+        records: 8,
+        children: 3,
+        rescue: 3,
+        due: "A DONE attempts=1 value=0\nB DONE attempts=1 value=0\nC ERROR attempts=1 value=3\n\
+              D NOT_READY attempts=0 value=-\nresult 1\n",
+    },
+];
+
+// Whether a kind stops a run at as many calls as it has: for each record the journal's disk is
+// written and synced twice, and so it is at its beginning, behind one sync at least.
+fn is_due(run: &Run, kind: Kind, count: u64) -> bool {
+    match kind {
+        Kind::JournalOnce | Kind::JournalFromThere => count > 4 * (run.records + 1),
+        Kind::RescueOnce | Kind::RescueFromThere => count == run.rescue,
+        Kind::Start | Kind::Wait => count == run.children,
+    }
+}
+
+fn stopped_everywhere(
+    rt: &impl Abort,
+    alloc: Global,
+    plan: &Plan,
+    run: &Run,
+) -> Result<(), Fail> {
+    let Ok(table) = read_table(alloc, run.table.as_bytes()) else {
+        panic!(rt; "no table");
+    };
+    for kind in KINDS {
+        let count = stops(rt, alloc, plan, &table, kind, run.due)?;
+        assert!(rt; is_due(run, kind, count));
+    }
+    Ok(())
+}
+
+fn all_stopped(rt: &impl Abort, alloc: Global, plan: &Plan) -> Result<(), Fail> {
+    for run in &RUNS {
+        stopped_everywhere(rt, alloc, plan, run)?;
+    }
+    Ok(())
+}
+
+#[test]
+fn runs_are_taken_up_again(rt: HostRuntime) -> Result<(), Fail> {
+    let plan = plan_of(rt.alloc(), DIAMOND, &SUBMITS)?;
+    let answer = all_stopped(&rt, rt.alloc(), &plan);
+    drop(plan);
+    answer
+}

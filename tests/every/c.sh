@@ -1,0 +1,2 @@
+read word
+exit "$word"
