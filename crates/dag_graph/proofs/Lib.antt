@@ -1,5 +1,6 @@
 pub mod Lists
 pub mod Families
+pub mod Groups
 pub mod Ranks
 pub mod Climbs
 pub mod Told

@@ -77,12 +77,12 @@ add_read old cur places new here i n lt within len unused read kept added v befo
     (λ other. added (λ last. other (subst (λ (ns : List ℕ). IsLast ns n) is last)) ∙ ap (λ (ns : List ℕ). ns ++ n ∷ []) is)
     v before
 
-pub within_read : (lists : List (List ℕ)) (seen here : List ℕ) (i count : ℕ) → i < length lists → here ≡ get_or lists i here → seen ≡ here → AreBelow (length lists) lists → count ≡ length lists → All (λ m. m < count) seen
-within_read lists seen here i count lt read same below all = λ k d small.
+pub within_read : (lists : List (List ℕ)) (seen here : List ℕ) (i count bound : ℕ) → i < length lists → here ≡ get_or lists i here → seen ≡ here → AreBelow bound lists → count ≡ bound → All (λ m. m < count) seen
+within_read lists seen here i count bound lt read same below all = λ k d small.
     let is : seen ≡ get_or lists i [] = same ∙ get_or_read lists i here lt read [] in
     let there : k < length (get_or lists i []) = subst (λ (ns : List ℕ). k < length ns) is small in
     let value : get_or seen k d ≡ get_or (get_or lists i []) k 0 = ap (λ (ns : List ℕ). get_or ns k d) is ∙ get_or_default (get_or lists i []) k d 0 there in
-    let less : get_or (get_or lists i []) k 0 < length lists = below i k lt there in
+    let less : get_or (get_or lists i []) k 0 < bound = below i k lt there in
     omega arith
 
 pub holders_more : (lists : List (List ℕ)) (seen here : List ℕ) (cur next : List (List ℕ)) (i v : ℕ) → i < length lists → here ≡ get_or lists i here → seen ≡ here → get_or cur v [] ≡ holders_below i lists v → get_or next v [] ≡ get_or cur v [] ++ (if has seen v then i ∷ [] else []) → get_or next v [] ≡ holders_below (i + 1) lists v

@@ -1,6 +1,6 @@
 -- Lists of numbers of nodes.
-use Rattle.std.specs.Prelude.{◌≡◌, ℕ, ◌-◌, ◌<◌, Bool, ◌==◌, List, [], length, slice_get, slice_index_or, filter, Some}
-use Rattle.std.specs.List.{list_any, range_with_len}
+use Rattle.std.specs.Prelude.{◌≡◌, ℕ, ◌-◌, ◌<◌, Bool, ◌==◌, List, [], length, map, slice_get, slice_index_or, filter, Some}
+use Rattle.std.specs.List.{list_any, flat_map, range_with_len}
 
 -- whether a number stands in a list
 abbrev pub has : List ℕ → ℕ → Bool
@@ -10,7 +10,7 @@ has numbers number = list_any (λ m. m == number) numbers
 abbrev pub IsLast : List ℕ → ℕ → Type 0
 IsLast numbers number = slice_get numbers (length numbers - 1) ≡ Some number
 
--- each number in the lists is that of one of the lists
+-- each number in the lists is below this one
 abbrev pub AreBelow : ℕ → List (List ℕ) → Type 0
 AreBelow count lists = (v k : ℕ) → v < length lists → k < length (slice_index_or lists v []) → slice_index_or (slice_index_or lists v []) k 0 < count
 
@@ -21,3 +21,10 @@ holders_below bound lists number = filter (λ v. has (slice_index_or lists v [])
 -- the numbers of the lists in which a number stands
 abbrev pub holders_of : List (List ℕ) → ℕ → List ℕ
 holders_of lists number = holders_below (length lists) lists number
+
+-- the numbers in the lists at these places, as often
+abbrev pub named : List (List ℕ) → List ℕ → List ℕ
+named lists places = flat_map (λ place. slice_index_or lists place []) places
+
+abbrev pub all_named : List (List ℕ) → List (List ℕ) → List (List ℕ)
+all_named lists places = map (named lists) places

@@ -47,6 +47,13 @@ impl Numbers {
         Ok(())
     }
 
+    /// Adds numbers behind the others.
+    pub(crate) fn extend(&mut self, numbers: &[u32]) -> Result<(), AllocError>
+        ensures { OnOk result (self.new ≡ self.old ++ numbers.now) }
+    {
+        self.numbers.extend_from_slice(numbers)
+    }
+
     /// Adds a number behind the others, unless it is the last of them.
     pub(crate) fn add(&mut self, number: u32) -> Result<(), AllocError>
         ensures kept { IsLast self.old number → OnOk result (self.new ≡ self.old) }
@@ -91,13 +98,17 @@ pub(crate) fn add_at(
     Ok(())
 }
 
-/// Of each number the lists in which it stands, ascending and each once.
-pub(crate) fn inverted(alloc: Global, lists: &[Numbers]) -> Result<Vec<Numbers>, AllocError>
-    requires few { length lists.now ≤ 4096 }
-    requires within { AreBelow (length lists.now) lists.now }
-    ensures { IfOk result (λ v. v.items ≡ map (holders_of lists.now) (range_with_len 0 (length lists.now))) }
+/// Of each of `count` numbers the lists in which it stands, ascending and each once.
+pub(crate) fn inverted(
+    alloc: Global,
+    count: usize,
+    lists: &[Numbers],
+) -> Result<Vec<Numbers>, AllocError>
+    requires few { length lists.now < 2 ^ 32 }
+    requires within { AreBelow count lists.now }
+    ensures { IfOk result (λ v. v.items ≡ map (holders_of lists.now) (range_with_len 0 count)) }
 {
-    let mut inverse = empty_lists(alloc, lists.len())?;
+    let mut inverse = empty_lists(alloc, count)?;
     for (number, list) in lists.iter().enumerate() {
         add_at(&mut inverse, list.as_slice(), number as u32)?;
     }

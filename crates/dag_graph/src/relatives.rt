@@ -1,13 +1,14 @@
 //! The parents and the children of each node.
 
-ghost use Rattle.std.specs.Prelude.{◌≡◌, [], ◌<◌, ◌≤◌, ℕ, IfOk, length, slice_index_or};
-ghost use Rattle.std.specs.List.{All, list_any};
-ghost use Rattle.splices.specs.Dag.{IsBelow};
-ghost use Rattle.dag_graph.specs.Numbers.{has, AreBelow};
-ghost use Rattle.dag_graph.specs.Graph.{is_edge, all_parents_of, all_children_of};
+ghost use Rattle.std.specs.Prelude.{◌≡◌, ◌<◌, ◌≤◌, IfOk, length, map};
+ghost use Rattle.std.specs.List.{All, flat_map, range_with_len};
+ghost use Rattle.splices.specs.Dag.{IsGroupBelow};
+ghost use Rattle.splices.specs.Places.{ends_of};
+ghost use Rattle.dag_graph.specs.Numbers.{AreBelow, holders_of, all_named, named};
+ghost use Rattle.dag_graph.specs.Graph.{all_parents_of, all_children_of};
 
-use crate::numbers::{Numbers, empty_lists, inverted};
-use splices::{Edge, FlatDag};
+use crate::numbers::{Numbers, add_at, empty_lists, inverted};
+use splices::{EdgeGroup, FlatDag, Side};
 use std::alloc::{AllocError, Global};
 
 /// Of each ordinary node its parents and its children, ascending and each once.
@@ -17,28 +18,85 @@ pub(crate) struct Relatives {
     pub(crate) children: Vec<Numbers>,
 }
 
-/// Of each node the children that the edges name, in their order and as often.
-fn named_children(alloc: Global, count: usize, edges: &[Edge]) -> Result<Vec<Numbers>, AllocError>
+/// The numbers of nodes, of which there are few.
+fn numbers_of(alloc: Global, count: usize, nodes: &[usize]) -> Result<Numbers, AllocError>
     requires few { count ≤ 4096 }
-    requires within { All (IsBelow count) edges.now }
-    ensures len { IfOk result (λ v. length v.items ≡ count) }
-    ensures below { IfOk result (λ v. AreBelow count v.items) }
-    ensures each { IfOk result (λ v. (p c : ℕ) → p < count → has (slice_index_or v.items p []) c ≡ list_any (is_edge p c) edges.now) }
+    requires within { All (λ n. n < count) nodes.now }
+    ensures { IfOk result (λ numbers. numbers ≡ nodes.now) }
 {
-    let mut lists = empty_lists(alloc, count)?;
-    for edge in edges {
-        lists[edge.parent].push(edge.child as u32)?;
+    let mut numbers = Numbers::new(alloc);
+    for node in nodes {
+        numbers.push(*node as u32)?;
+    }
+    Ok(numbers)
+}
+
+/// Of each group the nodes that it has on a side.
+fn side_of(
+    alloc: Global,
+    count: usize,
+    side: Side,
+    groups: &[EdgeGroup],
+) -> Result<Vec<Numbers>, AllocError>
+    requires few { count ≤ 4096 }
+    requires within { All (IsGroupBelow count) groups.now }
+    ensures { IfOk result (λ v. v.items ≡ map (ends_of side) groups.now) }
+{
+    let mut lists = Vec::new(alloc);
+    for group in groups {
+        lists.push(numbers_of(alloc, count, group.ends(side))?)?;
     }
     Ok(lists)
 }
 
-/// Of each node its parents.
+/// The numbers that stand in these lists, as often.
+fn named(alloc: Global, places: &[u32], lists: &[Numbers]) -> Result<Numbers, AllocError>
+    requires { All (λ place. place < length lists.now) places.now }
+    ensures { IfOk result (λ numbers. numbers ≡ named lists.now places.now) }
+{
+    let mut numbers = Numbers::new(alloc);
+    for place in places {
+        numbers.extend(lists[*place as usize].as_slice())?;
+    }
+    Ok(numbers)
+}
+
+/// Of each node those that have a group in which it is a child, ascending and each once: each node
+/// is a parent in the groups that stand in its list, and each group has the children of its list.
+fn parents_by(
+    alloc: Global,
+    homes: &[Numbers],
+    children: &[Numbers],
+) -> Result<Vec<Numbers>, AllocError>
+    requires few { length homes.now ≤ 4096 }
+    requires homes { AreBelow (length children.now) homes.now }
+    requires children { AreBelow (length homes.now) children.now }
+    ensures { IfOk result (λ v. v.items ≡ map (holders_of (all_named children.now homes.now)) (range_with_len 0 (length homes.now))) }
+{
+    let mut parents = empty_lists(alloc, homes.len())?;
+    for (number, places) in homes.iter().enumerate() {
+        let numbers = named(alloc, places.as_slice(), children)?;
+        add_at(&mut parents, numbers.as_slice(), number as u32)?;
+    }
+    Ok(parents)
+}
+
+/// Of each node its parents. The time is by the pairs that the groups say, and the memory by those
+/// that differ.
 fn parent_lists(alloc: Global, dag: &FlatDag) -> Result<Vec<Numbers>, AllocError>
     ensures { IfOk result (λ v. v.items ≡ all_parents_of dag.now) }
 {
-    let named = named_children(alloc, dag.nodes().len(), dag.edges())?;
-    let parents = inverted(alloc, named.as_slice())?;
-    Ok(parents)
+    let count = dag.nodes().len();
+    let groups = dag.edges();
+    // As many groups don't fit into memory.
+    if groups.len() > 0xffff_ffff {
+        return Err(AllocError);
+    }
+    let parents = side_of(alloc, count, Side::Parent, groups)?;
+    let children = side_of(alloc, count, Side::Child, groups)?;
+    let homes = inverted(alloc, count, parents.as_slice())?;
+    let listed = parents_by(alloc, homes.as_slice(), children.as_slice())?;
+    Ok(listed)
 }
 
 /// Of each node its children.
@@ -51,7 +109,7 @@ fn child_lists(
     ensures { IfOk result (λ v. v.items ≡ all_children_of dag.now) }
 {
     let _ = dag.nodes();
-    let children = inverted(alloc, parents)?;
+    let children = inverted(alloc, parents.len(), parents)?;
     Ok(children)
 }
 

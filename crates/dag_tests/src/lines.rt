@@ -41,9 +41,8 @@ fn script(
     match setting {
         Some(script) => {
             let line = script.line;
-            let program = &script.program;
-            let arguments = &script.arguments;
-            format!(in alloc; " {line}:{kind} {program}{arguments}")
+            let words = &script.words;
+            format!(in alloc; " {line}:{kind}{words}")
         }
         None => Ok(String::new(alloc)),
     }

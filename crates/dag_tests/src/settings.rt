@@ -41,7 +41,7 @@ static ONE_NODE: [(&str, &str); 7] = [
 static MACROS: [(&str, &str); 4] = [
     (
         "JOB A a\nVARS A m=\"1\" n=\"2\"\nVARS A APPEND M=\"3\"\nVARS A k=\"4\"\n",
-        "A 2:PREPEND n=2 3:APPEND M=3 4:PREPEND k=4;",
+        "A 3:APPEND M=3 2:PREPEND n=2 4:PREPEND k=4;",
     ),
     (
         "JOB A a\nVARS A APPEND m=\"1\"\nVARS A m=\"2\"\n",

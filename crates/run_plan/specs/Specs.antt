@@ -47,7 +47,7 @@ course_of node = record {
 
 -- the words of a script, of which the first is the program
 abbrev pub script_of : Option ScriptSetting → Option (List (List ℕ))
-script_of setting = option_map (λ s. s.program ∷ s.arguments) setting
+script_of setting = option_map (λ s. s.words) setting
 
 -- what the children of a node with this job are started by
 abbrev pub orders_of : Job → FlatNode → Orders

@@ -1,11 +1,11 @@
 //! What the children of a node are started by.
 
-ghost use Rattle.std.specs.Prelude.{◌≡◌, ◌∷◌, IfOk, [], None};
+ghost use Rattle.std.specs.Prelude.{◌≡◌, IfOk};
 ghost use Rattle.run_plan.specs.Plan.{no_orders};
 ghost use Rattle.run_plan.specs.Specs.{script_of, orders_of};
 
-use dag_reader::{Text, Texts};
-use splices::{FlatNode, ScriptSetting};
+use dag_reader::Text;
+use splices::{FlatNode, ScriptSetting, SharedTexts};
 use std::alloc::{AllocError, Global};
 use std::marker::Model;
 use vars_macros::Macros;
@@ -37,8 +37,8 @@ impl Model for Job {
 /// first is the program, and its job.
 pub(crate) struct Orders {
     folder: Text,
-    pre: Option<Texts>,
-    post: Option<Texts>,
+    pre: Option<SharedTexts>,
+    post: Option<SharedTexts>,
     job: Job,
 }
 
@@ -69,8 +69,8 @@ impl Orders {
     {
         Ok(Orders {
             folder: Text::new(alloc, node.folder.as_str())?,
-            pre: script_of(alloc, &node.settings.pre)?,
-            post: script_of(alloc, &node.settings.post)?,
+            pre: script_of(&node.settings.pre)?,
+            post: script_of(&node.settings.post)?,
             job,
         })
     }
@@ -83,14 +83,14 @@ impl Orders {
     }
 
     /// The words of the PRE script.
-    pub(crate) fn pre(&self) -> &Option<Texts>
+    pub(crate) fn pre(&self) -> &Option<SharedTexts>
         ensures { result.now ≡ self.now.pre }
     {
         &self.pre
     }
 
     /// The words of the POST script.
-    pub(crate) fn post(&self) -> &Option<Texts>
+    pub(crate) fn post(&self) -> &Option<SharedTexts>
         ensures { result.now ≡ self.now.post }
     {
         &self.post
@@ -118,22 +118,12 @@ impl Orders {
     }
 }
 
-fn script_of(alloc: Global, setting: &Option<ScriptSetting>) -> Result<Option<Texts>, AllocError>
+/// The words of a script, which the flat DAG has too.
+fn script_of(setting: &Option<ScriptSetting>) -> Result<Option<SharedTexts>, AllocError>
     ensures { IfOk result (λ words. words ≡ script_of setting.now) }
 {
     match setting {
-        Some(script) => Ok(Some(words_of(alloc, script)?)),
+        Some(script) => Ok(Some(script.words.share()?)),
         None => Ok(None),
     }
-}
-
-fn words_of(alloc: Global, script: &ScriptSetting) -> Result<Texts, AllocError>
-    ensures { IfOk result (λ words. words ≡ script.now.program ∷ script.now.arguments) }
-{
-    let mut words = Texts::new(alloc);
-    words.push(Text::new(alloc, script.program.as_str())?)?;
-    for argument in script.arguments.as_slice() {
-        words.push(Text::new(alloc, argument.as_str())?)?;
-    }
-    Ok(words)
 }

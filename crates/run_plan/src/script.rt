@@ -8,7 +8,7 @@ ghost use Rattle.run_plan.specs.declared.job.JobFault.TheVariants.{Memory};
 use crate::command::ChildCommand;
 use crate::job::JobFault;
 use dag_reader::{Text, Texts};
-use splices::path_in;
+use splices::{SharedTexts, path_in};
 use std::alloc::{AllocError, Global};
 use vars_macros::{ScriptFacts, script_words};
 
@@ -50,7 +50,7 @@ fn command_of_words(alloc: Global, folder: &str, words: &Texts) -> Result<ChildC
 pub(crate) fn script_command(
     alloc: Global,
     folder: &str,
-    script: &Option<Texts>,
+    script: &Option<SharedTexts>,
     facts: &ScriptFacts,
 ) -> Result<ChildCommand, JobFault>
     ensures ok { IfOk result (λ command. command ≡ command_of_words folder.now (map (λ word. script_word facts.now word) (words_of script.now))) }

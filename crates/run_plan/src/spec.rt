@@ -6,7 +6,7 @@ ghost use Rattle.std.specs.Option.{option_map};
 ghost use Rattle.std.specs.List.{list_any};
 ghost use Rattle.vars_macros.specs.Script.{is_whole_run};
 ghost use Rattle.run_plan.specs.Plan.{no_node};
-ghost use Rattle.run_plan.specs.Commands.{command_of, command_of_job, script_facts, words_of, job_reads_launch, orders_use_whole_run, uses_whole_run};
+ghost use Rattle.run_plan.specs.Commands.{command_of, command_of_job, script_facts, words_of, job_reads_launch, uses_whole_run};
 ghost use Rattle.run_plan.specs.JobAnswers.{Gives};
 ghost use Rattle.run_plan.specs.Specs.{course_of, retries_of, unless_exit_of, abort_return_of, priority_of, place_of, spec_of};
 ghost use Rattle.run_plan.specs.declared.job.JobFault.TheVariants.{Memory};
@@ -19,7 +19,7 @@ use dag_reader::{Text, Texts};
 use node_machine::{Course, Phase};
 use splices::{
     AbortSetting, CategoryLimit, CategorySetting, FlatNode, PreSkipSetting, PrioritySetting,
-    RetrySetting,
+    RetrySetting, SharedTexts,
 };
 use std::alloc::{AllocError, Global};
 use std::marker::Model;
@@ -35,7 +35,8 @@ pub struct NodeSpec {
     priority: i32,
     category: Option<usize>,
     orders: Orders,
-    whole_run: bool,
+    /// whether one of its job's texts holds the launch number
+    reads_launch: bool,
 }
 
 // Each function that lets a value go calls this; a derived drop stands in each, part by part.
@@ -50,7 +51,7 @@ impl Drop for NodeSpec {
             priority: _,
             category: _,
             orders: _,
-            whole_run: _,
+            reads_launch: _,
         } = self;
     }
 }
@@ -58,7 +59,7 @@ impl Drop for NodeSpec {
 impl Model for NodeSpec {
     ghost use Rattle.std.specs.Prelude.{◌≡◌};
     ghost use Rattle.run_plan.specs.Plan.{NodeSpec as NodeValue};
-    ghost use Rattle.run_plan.specs.Commands.{uses_whole_run};
+    ghost use Rattle.run_plan.specs.Commands.{job_reads_launch};
 
     ghost Value = { NodeValue };
 
@@ -73,16 +74,7 @@ impl Model for NodeSpec {
       orders = a.orders;
     } };
 
-    ghost invariant = { λ a. a.whole_run ≡ uses_whole_run (record {
-      name = a.name;
-      course = a.course;
-      done = a.done;
-      parents = a.parents.items;
-      abort_return = a.abort_return;
-      priority = a.priority;
-      category = a.category;
-      orders = a.orders;
-    }) };
+    ghost invariant = { λ a. a.reads_launch ≡ job_reads_launch a.orders.job a.course.retries };
 }
 
 impl NodeSpec {
@@ -137,10 +129,12 @@ impl NodeSpec {
 
     /// Whether a word of the node's commands is known in a whole run alone: `$DAG_STATUS`,
     /// `$FAILED_COUNT` or `$JOBID` in a script, or the launch number in a text of its job.
+    #[tactic(auto, unfolding(crate::specs::Commands::uses_whole_run))]
     pub fn uses_whole_run(&self) -> bool
         ensures { result ≡ uses_whole_run self.now }
     {
-        self.whole_run
+        let orders = &self.orders;
+        has_whole_run_word(orders.pre()) || (has_whole_run_word(orders.post()) || self.reads_launch)
     }
 
     /// What the files say of a node with these parents and this job, which a rescue file may have
@@ -158,7 +152,7 @@ impl NodeSpec {
     {
         let course = course_of(node);
         let orders = Orders::new(alloc, node, job)?;
-        let whole_run = uses_whole_run(alloc, &orders, course.retries)?;
+        let reads_launch = job_reads_launch(alloc, orders.job(), course.retries)?;
         Ok(NodeSpec {
             name: Text::new(alloc, node.name.as_str())?,
             course,
@@ -168,7 +162,7 @@ impl NodeSpec {
             priority: priority_of(&node.settings.priority),
             category: category_of(limits, &node.settings.category),
             orders,
-            whole_run,
+            reads_launch,
         })
     }
 
@@ -193,7 +187,7 @@ impl NodeSpec {
             priority: 0,
             category: None,
             orders: Orders::none(alloc)?,
-            whole_run: false,
+            reads_launch: false,
         })
     }
 
@@ -270,6 +264,7 @@ fn command_of_job(
     }
 }
 
+/// Whether one of the job's texts holds the launch number.
 fn job_reads_launch(alloc: Global, job: &Job, retries: u32) -> Result<bool, JobFault>
     ensures ok { IfOk result (λ reads. reads ≡ job_reads_launch job.now retries) }
     ensures err { IfErr result (λ fault. fault ≡ Memory) }
@@ -286,22 +281,14 @@ fn job_reads_launch(alloc: Global, job: &Job, retries: u32) -> Result<bool, JobF
     }
 }
 
-fn has_whole_run_word(script: &Option<Texts>) -> bool
+/// Whether a word of a script is known in a whole run alone.
+fn has_whole_run_word(script: &Option<SharedTexts>) -> bool
     ensures { result ≡ list_any is_whole_run (words_of script.now) }
 {
     match script {
         Some(words) => vars_macros::uses_whole_run(words.as_slice()),
         None => false,
     }
-}
-
-/// Whether a word of these orders is known in a whole run alone.
-fn uses_whole_run(alloc: Global, orders: &Orders, retries: u32) -> Result<bool, JobFault>
-    ensures ok { IfOk result (λ uses. uses ≡ orders_use_whole_run orders.now retries) }
-    ensures err { IfErr result (λ fault. fault ≡ Memory) }
-{
-    let reads = job_reads_launch(alloc, orders.job(), retries)?;
-    Ok(has_whole_run_word(orders.pre()) || (has_whole_run_word(orders.post()) || reads))
 }
 
 fn course_of(node: &FlatNode) -> Course

@@ -3,12 +3,13 @@ use Rattle.std.proofs.Common.{◌≡◌, ℕ, ◌+◌, ◌≤◌, List, [], leng
 use Rattle.std.proofs.lemmas.List.{length-append}
 use Rattle.std.specs.List.{All, flat_map}
 use Rattle.splices.specs.declared.flat.FlatNode.{FlatNode}
-use Rattle.splices.specs.declared.flat.Edge.{Edge}
+use Rattle.splices.specs.declared.flat.EdgeGroup.{EdgeGroup}
 use Rattle.splices.specs.declared.fault.DagFault.{DagFault}
 use Rattle.splices.specs.declared.fault.SpliceFault.{SpliceFault}
 use Rattle.splices.specs.declared.open.Draft.{Draft}
 use Rattle.splices.specs.declared.open.Used.{Used}
-use Rattle.splices.specs.Dag.{Dag, IsBelow, IsWithin}
+use Rattle.splices.specs.Dag.{Dag, IsGroupBelow, IsWithin}
+use Rattle.splices.specs.Places.{edges_of}
 use Rattle.splices.specs.Nodes.{own_count, finals_in}
 use Rattle.splices.specs.Warnings.{Told}
 use Rattle.splices.specs.Forest.{Forest, none, more, Tree, opened_as, forest_files, tree_files, forest_count, job_nodes}
@@ -18,13 +19,13 @@ use Rattle.splices.specs.Opening.{forest_declared}
 use Rattle.splices.specs.Adds.{Fails, OpensTop, IsFew}
 use Rattle.splices.specs.Opened.{first_of, flat_of, dag_unless, dag_of}
 use Rattle.splices.proofs.Opened.{fails_bind, own-length, nodes-length}
-use Rattle.splices.proofs.Within.{tree_below}
+use Rattle.splices.proofs.Within.{edges_below, tree_below}
 
 pub dag_fails : (top : List ℕ) (e : SpliceFault) (read : Result Tree DagFault) → Fails e read → Fails e (dag_of top read)
 dag_fails top e read fails = fails_bind e read (λ tree. dag_unless top (files_fault (tree_files [] tree)) tree) fails
 
 abbrev pub drawn : List ℕ → Draft → Dag
-drawn top d = record { top = top; nodes = d.nodes.items; final_node = first_of d.finals.items; edges = d.edges.items; categories = d.told.limits; warnings = d.told.warnings }
+drawn top d = record { top = top; nodes = d.nodes.items; final_node = first_of d.finals.items; edges = edges_of d.edges.items; categories = d.told.limits; warnings = d.told.warnings }
 
 pub dag_faulty : (top : List ℕ) (found : Draft × Option DagFault) (fault : DagFault) (read : Result Tree DagFault) → OpensTop (Ok found) read → found.1 ≡ Some fault → dag_of top read ≡ Err fault
 dag_faulty top found fault read opened is =
@@ -38,8 +39,8 @@ dag_given top found read opened is =
     ap (dag_of top) opened.1 ∙ ap (λ (f : Option DagFault). dag_unless top f tree) (sym opened.6 ∙ is)
     ∙ ap (λ (ns : List FlatNode). Ok (record (flat_of top tree) { nodes = ns })) (sym opened.2)
     ∙ ap (λ (ns : List FlatNode). Ok (record (flat_of top tree) { nodes = d.nodes.items; final_node = first_of ns })) (sym opened.3)
-    ∙ ap (λ (es : List Edge). Ok (record (flat_of top tree) { nodes = d.nodes.items; final_node = first_of d.finals.items; edges = es })) (sym opened.4)
-    ∙ ap (λ (t : Told). Ok (record { top = top; nodes = d.nodes.items; final_node = first_of d.finals.items; edges = d.edges.items; categories = t.limits; warnings = t.warnings })) (sym opened.5)
+    ∙ ap (λ (es : List EdgeGroup). Ok (record (flat_of top tree) { nodes = d.nodes.items; final_node = first_of d.finals.items; edges = edges_of es })) (sym opened.4)
+    ∙ ap (λ (t : Told). Ok (record { top = top; nodes = d.nodes.items; final_node = first_of d.finals.items; edges = edges_of d.edges.items; categories = t.limits; warnings = t.warnings })) (sym opened.5)
 
 count_le : (f : Forest) → forest_count f ≤ forest_declared f
 count_le none = omega arith
@@ -55,6 +56,12 @@ tree-length t =
     ∙ ap (λ (n : ℕ). n + length (flat_map job_nodes (forest_files [] t.inner))) (own-length this)
     ∙ ap (λ (n : ℕ). own_count t.file.commands + n) (nodes-length [] t.inner)
 
+pub drawn_below : (found : Draft × Option DagFault) (read : Result Tree DagFault) → OpensTop (Ok found) read → All (IsGroupBelow (length found.0.nodes.items)) found.0.edges.items
+drawn_below found read opened =
+    let t = opened.0 in
+    let nodes : length found.0.nodes.items ≡ tree_count t = ap (λ (ns : List FlatNode). length ns) opened.2 ∙ tree-length t in
+    subst (λ (n : ℕ). All (IsGroupBelow n) found.0.edges.items) (sym nodes) (subst (All (IsGroupBelow (tree_count t))) (sym opened.4) (tree_below t))
+
 pub drawn_within : (top : List ℕ) (found : Draft × Option DagFault) (read : Result Tree DagFault) → OpensTop (Ok found) read → IsFew found.0.used → IsWithin (drawn top found.0)
 drawn_within top found read opened few =
     let t = opened.0 in
@@ -64,5 +71,5 @@ drawn_within top found read opened few =
     let inner : forest_count t.inner ≤ forest_declared t.inner = count_le t.inner in
     record {
       few = omega arith;
-      edges = subst (λ (n : ℕ). All (IsBelow n) found.0.edges.items) (sym nodes) (subst (All (IsBelow (tree_count t))) (sym opened.4) (tree_below t));
+      edges = edges_below (length found.0.nodes.items) found.0.edges.items (drawn_below found read opened);
     }

@@ -2,8 +2,10 @@ pub mod NameLists
 pub mod Positions
 pub mod LineLists
 pub mod Limits
+pub mod MacroLists
 pub mod NodeSteps
 pub mod TellSteps
+pub mod Groups
 pub mod Marks
 pub mod Opened
 pub mod Own
@@ -11,3 +13,4 @@ pub mod Trees
 pub mod Within
 pub mod Dags
 pub mod OpeningFiles
+pub mod Said

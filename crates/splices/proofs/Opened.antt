@@ -7,7 +7,7 @@ use Rattle.std.specs.Option.{option_or}
 use Rattle.dag_reader.specs.declared.command.Command.{Command}
 use Rattle.splices.specs.declared.flat.FlatNode.{FlatNode}
 use Rattle.splices.specs.declared.flat.Settings.{Settings}
-use Rattle.splices.specs.declared.flat.Edge.{Edge}
+use Rattle.splices.specs.declared.flat.EdgeGroup.{EdgeGroup}
 use Rattle.splices.specs.declared.part.Part.{Part}
 use Rattle.splices.specs.declared.open.Draft.{Draft}
 use Rattle.splices.specs.declared.open.Used.{Used}
@@ -123,7 +123,7 @@ edges-joined first none g = ap (λ (n : ℕ). forest_edges n g) (sym (add-zero f
 edges-joined first (more name file inner others) g =
     let count = own_count file.commands + forest_count inner in
     let within = file_edges first file.commands (forest_edges (first + own_count file.commands) inner) (forest_parts (first + own_count file.commands) inner) in
-    ap (λ (es : List Edge). within ++ es) (edges-joined (first + count) others g)
+    ap (λ (es : List EdgeGroup). within ++ es) (edges-joined (first + count) others g)
     ∙ sym (append_assoc within (forest_edges (first + count) others) (forest_edges (first + count + forest_count others) g))
     ∙ ap (λ (n : ℕ). (within ++ forest_edges (first + count) others) ++ forest_edges n g) (add_assoc first count (forest_count others))
 
@@ -144,10 +144,10 @@ pub adds_more : (prefix : List ℕ) (old mid new : Draft) (f g : Forest) → Add
 adds_more prefix old mid new f g a b =
     record {
       files = subst (AddsFiles old new) (sym (files-joined prefix f g)) (files_more old mid new (forest_files prefix f) (forest_files prefix g) a.files b.files);
-      edges = b.edges ∙ ap (λ (es : List Edge). es ++ forest_edges (length mid.nodes.items) g) a.edges
+      edges = b.edges ∙ ap (λ (es : List EdgeGroup). es ++ forest_edges (length mid.nodes.items) g) a.edges
           ∙ append_assoc old.edges.items (forest_edges (length old.nodes.items) f) (forest_edges (length mid.nodes.items) g)
           ∙ ap (λ (n : ℕ). old.edges.items ++ (forest_edges (length old.nodes.items) f ++ forest_edges n g)) (longer prefix old mid f a)
-          ∙ ap (λ (es : List Edge). old.edges.items ++ es) (sym (edges-joined (length old.nodes.items) f g));
+          ∙ ap (λ (es : List EdgeGroup). old.edges.items ++ es) (sym (edges-joined (length old.nodes.items) f g));
       used = b.used ∙ ap (λ (u : Used). with_forest u g) a.used ∙ used-joined old.used f g;
     }
 

@@ -10,7 +10,7 @@ use Rattle.dag_reader.specs.declared.command.Command.{Command}
 use Rattle.dag_reader.specs.declared.command.Command.TheVariants.{Splice}
 use Rattle.dag_reader.specs.Word.{PlacedText}
 use Rattle.splices.specs.declared.flat.FlatNode.{FlatNode}
-use Rattle.splices.specs.declared.flat.Edge.{Edge}
+use Rattle.splices.specs.declared.flat.EdgeGroup.{EdgeGroup}
 use Rattle.splices.specs.declared.part.Part.{Part}
 use Rattle.splices.specs.declared.open.Draft.{Draft}
 use Rattle.splices.specs.declared.open.Found.{Found}
@@ -27,6 +27,10 @@ use Rattle.splices.specs.Opening.{◌>>=◌, Files, Opener, joined, said_by, wit
 use Rattle.splices.specs.Adds.{Fails, AddsFiles, AddsForest, AddsTree, SameButEdges}
 use Rattle.splices.proofs.Opened.{fails_bind, rest_at, files_more, used_is, nodes-length, own-length, adds_more, parts_more, fault_more, behind_more, behind_fails, open_deeper}
 use Rattle.splices.proofs.Own.{names-length}
+
+-- what a file says, seen as another list
+pub said_too : (r : Result (List Command) DagFault) (x y : List Command) → r ≡ Ok x → y ≡ x → r ≡ Ok y
+said_too r x y is same = subst (λ (cs : List Command). r ≡ Ok cs) (sym same) is
 
 -- what opening left, of the lines before place i
 abbrev pub Front : Opener → Used → List (List ℕ) → List ℕ → List ℕ → List Command → ℕ → Result Forest DagFault → Draft → Draft → List Part → List Part → Option DagFault → Type 0
@@ -93,7 +97,7 @@ splice_opens opener above now folder below path prefix names name file dir comma
       ap (open_line opener old.used above folder) is ∙ here ∙ ap (λ (r : Result Tree DagFault). r >>= λ t. Ok (more name.text t.file t.inner none)) opens,
       record {
         files = subst (λ (fs : List OpenFile). AddsFiles old new fs) files_are (record { nodes = adds.files.nodes; finals = adds.files.finals; told = adds.files.told });
-        edges = adds.edges ∙ ap (λ (es : List Edge). old.edges.items ++ es) (sym (append-nil (tree_edges (length old.nodes.items) tree)));
+        edges = adds.edges ∙ ap (λ (es : List EdgeGroup). old.edges.items ++ es) (sym (append-nil (tree_edges (length old.nodes.items) tree)));
         used = adds.used ∙ alone_used old.used name.text tree;
       },
       put ∙ ap (λ (x : Part). p ++ x ∷ []) own.3,
@@ -189,7 +193,7 @@ tree_opens files left above folder path prefix contents lines old mid inner new 
     let lines_are : new.edges.items ≡ old.edges.items ++ tree_edges at tree =
     edges ∙ ap (λ (x : Scope). inner.edges.items ++ flat_map (line_edges x) lines) scope_is
     ∙ ap (λ (ls : List Command). inner.edges.items ++ flat_map (line_edges (scope_of at cs (forest_parts (at + own_count cs) forest))) ls) are
-    ∙ ap (λ (es : List Edge). es ++ flat_map (line_edges (scope_of at cs (forest_parts (at + own_count cs) forest))) cs) (adds.edges ∙ ap (λ (es : List Edge). es ++ forest_edges (length mid.nodes.items) forest) begun.edges ∙ ap (λ (n : ℕ). old.edges.items ++ forest_edges n forest) middle)
+    ∙ ap (λ (es : List EdgeGroup). es ++ flat_map (line_edges (scope_of at cs (forest_parts (at + own_count cs) forest))) cs) (adds.edges ∙ ap (λ (es : List EdgeGroup). es ++ forest_edges (length mid.nodes.items) forest) begun.edges ∙ ap (λ (n : ℕ). old.edges.items ++ forest_edges n forest) middle)
     ∙ append_assoc old.edges.items (forest_edges (at + own_count cs) forest) (flat_map (line_edges (scope_of at cs (forest_parts (at + own_count cs) forest))) cs) in
     let added : AddsFiles old inner (tree_files prefix tree) = files_more old mid inner (this ∷ []) (forest_files prefix forest) (begun.files (forest_counts forest)) adds.files in
     let total : length new.nodes.items ≡ at + (own_count cs + forest_count forest) = ap (λ (ns : List FlatNode). length ns) same.nodes ∙ counted prefix folder path contents old mid inner forest begun adds in
@@ -233,7 +237,7 @@ top_opens files left above front path top old new found used is empty same no_no
       ap (λ (u : Used). open_file files left u (top ∷ []) [] top) (sym used_are) ∙ ap (λ (a : List (List ℕ)). open_file files left old.used a [] top) (sym here) ∙ opened,
       adds.files.nodes ∙ ap (λ (ns : List FlatNode). ns ++ flat_map job_nodes (tree_files [] tree)) no_nodes,
       adds.files.finals ∙ ap (λ (ns : List FlatNode). ns ++ flat_map final_nodes (tree_files [] tree)) no_finals,
-      adds.edges ∙ ap (λ (es : List Edge). es ++ tree_edges (length old.nodes.items) tree) no_edges ∙ ap (λ (ns : List FlatNode). tree_edges (length ns) tree) no_nodes,
+      adds.edges ∙ ap (λ (es : List EdgeGroup). es ++ tree_edges (length old.nodes.items) tree) no_edges ∙ ap (λ (ns : List FlatNode). tree_edges (length ns) tree) no_nodes,
       adds.files.told ∙ ap (λ (t : Told). tell_files t (tree_files [] tree)) no_told,
       fault,
       adds.used ∙ ap (λ (u : Used). with_forest (with_file u tree.file.commands) tree.inner) used_are,

@@ -8,14 +8,14 @@ use Rattle.std.specs.Str.{bytes_eq}
 use Rattle.dag_reader.specs.declared.command.Command.{Command}
 use Rattle.dag_reader.specs.declared.command.Command.TheVariants.{ParentChild}
 use Rattle.dag_reader.specs.Word.{PlacedText}
-use Rattle.splices.specs.declared.flat.Edge.{Edge}
+use Rattle.splices.specs.declared.flat.EdgeGroup.{EdgeGroup}
 use Rattle.splices.specs.declared.flat.Side.{Side}
 use Rattle.splices.specs.declared.flat.Side.TheVariants.{Parent, Child}
 use Rattle.splices.specs.declared.part.Part.{Part}
-use Rattle.splices.specs.Dag.{IsBelow}
+use Rattle.splices.specs.Dag.{IsBelow, IsGroupBelow}
 use Rattle.splices.specs.Nodes.{own_count, jobs_in, job_names}
 use Rattle.splices.specs.Forest.{Forest, none, more, Tree, forest_count}
-use Rattle.splices.specs.Places.{edge, pairs, is_end}
+use Rattle.splices.specs.Places.{edge, edges_of, pairs, is_end}
 use Rattle.splices.specs.Edges.{Scope, scope_of, side_of, part_nodes, splice_nodes, job_or_splice, stands_for, all_stand_for, line_edges, file_edges, part_of, forest_edges, forest_parts, tree_count, tree_edges}
 use Rattle.splices.proofs.Own.{names-length}
 
@@ -33,10 +33,10 @@ range_below first (suc count) n fits = All-cons (Below n) first (range_with_len 
 abbrev PartBelow : ℕ → Part → Type 0
 PartBelow n p = All (Below n) p.heads × All (Below n) p.tails
 
-part_below : (first count n : ℕ) (edges : List Edge) → first + count ≤ n → PartBelow n (part_of first count edges)
-part_below first count n edges fits = (
-  All-filter (λ k. not (is_end Child edges k)) (Below n) (range_with_len first count) (range_below first count n fits),
-  All-filter (λ k. not (is_end Parent edges k)) (Below n) (range_with_len first count) (range_below first count n fits),
+part_below : (first count n : ℕ) (groups : List EdgeGroup) → first + count ≤ n → PartBelow n (part_of first count groups)
+part_below first count n groups fits = (
+  All-filter (λ k. not (is_end Child (edges_of groups) k)) (Below n) (range_with_len first count) (range_below first count n fits),
+  All-filter (λ k. not (is_end Parent (edges_of groups) k)) (Below n) (range_with_len first count) (range_below first count n fits),
 )
 
 one_below : (n k : ℕ) → k < n → All (Below n) (k ∷ [])
@@ -78,30 +78,38 @@ pairs_below n (p ∷ ps) children above below =
     All-append (IsBelow n) (map (λ c. edge p c) children) (pairs ps children) (row_below n p children (All-head (Below n) p ps above) below)
     (pairs_below n ps children (All-tail (Below n) p ps above) below)
 
-line_below : (n : ℕ) (scope : Scope) (c : Command) → scope.first + length scope.jobs ≤ n → All (PartBelow n) scope.parts → All (IsBelow n) (line_edges scope c)
-line_below n scope (ParentChild parents children) fits below =
-    pairs_below n (all_stand_for Parent scope parents) (all_stand_for Child scope children) (all_below n Parent scope parents fits below) (all_below n Child scope children fits below)
-line_below n scope c fits below = All-nil (IsBelow n)
+-- both ends of each edge of groups
+pub edges_below : (n : ℕ) (groups : List EdgeGroup) → All (IsGroupBelow n) groups → All (IsBelow n) (edges_of groups)
+edges_below n [] below = All-nil (IsBelow n)
+edges_below n (g ∷ gs) below =
+    let here : IsGroupBelow n g = All-head (IsGroupBelow n) g gs below in
+    All-append (IsBelow n) (pairs g.parents g.children) (edges_of gs) (pairs_below n g.parents g.children here.parents here.children) (edges_below n gs (All-tail (IsGroupBelow n) g gs below))
 
-file_below : (n first : ℕ) (cs : List Command) (edges : List Edge) (parts : List Part) → first + own_count cs ≤ n → All (IsBelow n) edges → All (PartBelow n) parts → All (IsBelow n) (file_edges first cs edges parts)
+line_below : (n : ℕ) (scope : Scope) (c : Command) → scope.first + length scope.jobs ≤ n → All (PartBelow n) scope.parts → All (IsGroupBelow n) (line_edges scope c)
+line_below n scope (ParentChild parents children) fits below =
+    All-cons (IsGroupBelow n) (record { parents = all_stand_for Parent scope parents; children = all_stand_for Child scope children }) []
+    (record { parents = all_below n Parent scope parents fits below; children = all_below n Child scope children fits below }) (All-nil (IsGroupBelow n))
+line_below n scope c fits below = All-nil (IsGroupBelow n)
+
+file_below : (n first : ℕ) (cs : List Command) (edges : List EdgeGroup) (parts : List Part) → first + own_count cs ≤ n → All (IsGroupBelow n) edges → All (PartBelow n) parts → All (IsGroupBelow n) (file_edges first cs edges parts)
 file_below n first cs edges parts fits inner below =
     let names : length (job_names cs) ≡ own_count cs = names-length (jobs_in cs) in
-    All-append (IsBelow n) edges (flat_map (line_edges (scope_of first cs parts)) cs) inner
-    (all_flat (IsBelow n) (line_edges (scope_of first cs parts)) cs (λ c. line_below n (scope_of first cs parts) c (omega arith) below))
+    All-append (IsGroupBelow n) edges (flat_map (line_edges (scope_of first cs parts)) cs) inner
+    (all_flat (IsGroupBelow n) (line_edges (scope_of first cs parts)) cs (λ c. line_below n (scope_of first cs parts) c (omega arith) below))
 
-forest_below : (f : Forest) (first n : ℕ) → first + forest_count f ≤ n → All (IsBelow n) (forest_edges first f) × All (PartBelow n) (forest_parts first f)
-forest_below none first n fits = (All-nil (IsBelow n), All-nil (PartBelow n))
+forest_below : (f : Forest) (first n : ℕ) → first + forest_count f ≤ n → All (IsGroupBelow n) (forest_edges first f) × All (PartBelow n) (forest_parts first f)
+forest_below none first n fits = (All-nil (IsGroupBelow n), All-nil (PartBelow n))
 forest_below (more name file inner others) first n fits =
     let cs = file.commands in
     let count = own_count cs + forest_count inner in
     let within = forest_below inner (first + own_count cs) n (omega arith) in
     let behind = forest_below others (first + count) n (omega arith) in
     let here = file_edges first cs (forest_edges (first + own_count cs) inner) (forest_parts (first + own_count cs) inner) in (
-      All-append (IsBelow n) here (forest_edges (first + count) others) (file_below n first cs _ _ (omega arith) within.0 within.1) behind.0,
+      All-append (IsGroupBelow n) here (forest_edges (first + count) others) (file_below n first cs _ _ (omega arith) within.0 within.1) behind.0,
       All-cons (PartBelow n) (part_of first count here) (forest_parts (first + count) others) (part_below first count n here (omega arith)) behind.1,
     )
 
-pub tree_below : (t : Tree) → All (IsBelow (tree_count t)) (tree_edges 0 t)
+pub tree_below : (t : Tree) → All (IsGroupBelow (tree_count t)) (tree_edges 0 t)
 tree_below t =
     let cs = t.file.commands in
     let within = forest_below t.inner (0 + own_count cs) (tree_count t) (omega arith) in

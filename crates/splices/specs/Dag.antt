@@ -3,6 +3,7 @@ use Rattle.std.specs.Prelude.{ℕ, ◌<◌, ◌≤◌, List, length, Option}
 use Rattle.std.specs.List.{All}
 use Rattle.splices.specs.declared.flat.FlatNode.{FlatNode}
 use Rattle.splices.specs.declared.flat.Edge.{Edge}
+use Rattle.splices.specs.declared.flat.EdgeGroup.{EdgeGroup}
 use Rattle.splices.specs.declared.flat.CategoryLimit.{CategoryLimit}
 use Rattle.splices.specs.declared.flat.DagWarning.{DagWarning}
 
@@ -20,6 +21,11 @@ pub record Dag : Type 0 where
 pub record IsBelow (count : ℕ) (edge : Edge) : Type 0 where
   pub parent : edge.parent < count
   pub child : edge.child < count
+
+-- the same of all nodes of a group
+pub record IsGroupBelow (count : ℕ) (group : EdgeGroup) : Type 0 where
+  pub parents : All (λ n. n < count) group.parents
+  pub children : All (λ n. n < count) group.children
 
 -- edges between the ordinary nodes, of which there are at most 4,096
 pub record IsWithin (dag : Dag) : Type 0 where

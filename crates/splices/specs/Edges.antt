@@ -1,17 +1,17 @@
--- The edges of opened files. A node's number is its place among all nodes.
+-- The edges of opened files, in groups: each PARENT line is one. A node's number is its place among all nodes.
 use Rattle.std.specs.Prelude.{ℕ, ◌+◌, List, [], ◌∷◌, ◌++◌, Option, Some, None, position, slice_get}
 use Rattle.std.specs.List.{flat_map}
 use Rattle.std.specs.Str.{bytes_eq}
 use Rattle.dag_reader.specs.declared.command.Command.{Command}
 use Rattle.dag_reader.specs.declared.command.Command.TheVariants.{ParentChild}
 use Rattle.dag_reader.specs.Word.{PlacedText}
-use Rattle.splices.specs.declared.flat.Edge.{Edge}
+use Rattle.splices.specs.declared.flat.EdgeGroup.{EdgeGroup}
 use Rattle.splices.specs.declared.flat.Side.{Side}
 use Rattle.splices.specs.declared.flat.Side.TheVariants.{Parent, Child}
 use Rattle.splices.specs.declared.part.Part.{Part}
 use Rattle.splices.specs.Nodes.{own_count, job_names, splice_names}
 use Rattle.splices.specs.Forest.{Tree, Forest, none, more, forest_count}
-use Rattle.splices.specs.Places.{pairs, free_of}
+use Rattle.splices.specs.Places.{edges_of, free_of}
 
 -- What a PARENT line sees: the number of the file's first node, the names of its nodes and of its splices
 -- in the order of their lines, and the splices' parts.
@@ -48,21 +48,23 @@ stands_for side scope w = job_or_splice side scope w.text (position (bytes_eq w.
 abbrev pub all_stand_for : Side → Scope → List PlacedText → List ℕ
 all_stand_for side scope ws = flat_map (stands_for side scope) ws
 
--- the edges of a line
-abbrev pub line_edges : Scope → Command → List Edge
-line_edges scope (ParentChild parents children) = pairs (all_stand_for Parent scope parents) (all_stand_for Child scope children)
+-- the edges of a line: each node that its parents stand for is a parent of each that its children stand for
+abbrev pub line_edges : Scope → Command → List EdgeGroup
+line_edges scope (ParentChild parents children) =
+    record { parents = all_stand_for Parent scope parents; children = all_stand_for Child scope children } ∷ []
 line_edges scope _ = []
 
 -- the edges of a file: those of its splices, and those of its lines
-abbrev pub file_edges : ℕ → List Command → List Edge → List Part → List Edge
+abbrev pub file_edges : ℕ → List Command → List EdgeGroup → List Part → List EdgeGroup
 file_edges first commands inner_edges inner_parts = inner_edges ++ flat_map (line_edges (scope_of first commands inner_parts)) commands
 
-abbrev pub part_of : ℕ → ℕ → List Edge → Part
-part_of first count edges = record { heads = free_of Child first count edges; tails = free_of Parent first count edges; count = count }
+abbrev pub part_of : ℕ → ℕ → List EdgeGroup → Part
+part_of first count groups =
+    record { heads = free_of Child first count (edges_of groups); tails = free_of Parent first count (edges_of groups); count = count }
 
 -- The edges of the files, the first of whose nodes has the number `first`, and their parts.
 abbrev mutual
-  pub forest_edges : ℕ → Forest → List Edge
+  pub forest_edges : ℕ → Forest → List EdgeGroup
   forest_edges first none = []
   forest_edges first (more name file inner others) =
       file_edges first file.commands (forest_edges (first + own_count file.commands) inner) (forest_parts (first + own_count file.commands) inner)
@@ -79,7 +81,7 @@ abbrev mutual
 abbrev pub tree_count : Tree → ℕ
 tree_count t = own_count t.file.commands + forest_count t.inner
 
-abbrev pub tree_edges : ℕ → Tree → List Edge
+abbrev pub tree_edges : ℕ → Tree → List EdgeGroup
 tree_edges first t = file_edges first t.file.commands (forest_edges (first + own_count t.file.commands) t.inner) (forest_parts (first + own_count t.file.commands) t.inner)
 
 abbrev pub tree_part : ℕ → Tree → Part

@@ -2,6 +2,7 @@ pub mod Paths
 pub mod Places
 pub mod Dag
 pub mod Nodes
+pub mod MacroKeys
 pub mod Settings
 pub mod Warnings
 pub mod FileSet
@@ -15,3 +16,5 @@ pub mod Adds
 pub mod Opened
 pub mod NodeChanges
 pub mod OpenedFiles
+pub mod SaidFiles
+pub mod Library

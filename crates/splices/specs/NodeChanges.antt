@@ -3,7 +3,8 @@ use Rattle.std.specs.Prelude.{ℕ, ◌+◌, nat_lt, Bool, not, ◌&&◌, List, [
 use Rattle.dag_reader.specs.declared.command.Command.{Command}
 use Rattle.splices.specs.declared.flat.FlatNode.{FlatNode}
 use Rattle.splices.specs.Nodes.{Declared, node_of}
-use Rattle.splices.specs.Settings.{no_settings, with_line}
+use Rattle.dag_reader.specs.declared.command.Command.TheVariants.{Script}
+use Rattle.splices.specs.Settings.{no_settings, script_words, with_line}
 use Rattle.splices.specs.Warnings.{each_once, replaced_in}
 
 -- a node of which no line says anything, and one after one more line that is for it
@@ -12,6 +13,11 @@ plain_node prefix folder d = node_of prefix folder no_settings d
 
 abbrev pub set_node : List ℕ → Command → FlatNode → FlatNode
 set_node prefix c node = record node { settings = with_line prefix node.settings c }
+
+-- the words of the script that a line says; none where it says none
+abbrev pub words_said : Command → List (List ℕ)
+words_said (Script kind target program arguments) = script_words program arguments
+words_said _ = []
 
 -- the nodes, the first of which has this place, with a change of those whose places are reached
 abbrev pub changed_where : (ℕ → Bool) → (FlatNode → FlatNode) → ℕ → List FlatNode → List FlatNode

@@ -5,6 +5,7 @@ use Rattle.splices.specs.declared.fault.DagFault.{DagFault}
 use Rattle.splices.specs.Dag.{Dag}
 use Rattle.splices.specs.Forest.{Tree, tree_files, job_nodes, final_nodes, tell_files}
 use Rattle.splices.specs.Edges.{tree_edges}
+use Rattle.splices.specs.Places.{edges_of}
 use Rattle.splices.specs.Faults.{files_fault}
 use Rattle.splices.specs.Warnings.{Told}
 use Rattle.splices.specs.Opening.{Files, opened_at, ◌>>=◌}
@@ -23,7 +24,7 @@ flat_of top tree = record {
   top = top;
   nodes = flat_map job_nodes (tree_files [] tree);
   final_node = first_of (flat_map final_nodes (tree_files [] tree));
-  edges = tree_edges 0 tree;
+  edges = edges_of (tree_edges 0 tree);
   categories = (tell_files nothing_told (tree_files [] tree)).limits;
   warnings = (tell_files nothing_told (tree_files [] tree)).warnings;
 }

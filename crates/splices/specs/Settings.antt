@@ -1,6 +1,5 @@
 -- What the lines of a file set for its nodes: each line is one step, and of two settings of one kind the later wins whole.
-use Rattle.std.specs.Prelude.{ℕ, Bool, false, not, List, [], ◌∷◌, ◌++◌, map, fold, Option, Some, None, if◌then◌else◌}
-use Rattle.std.specs.List.{filter}
+use Rattle.std.specs.Prelude.{ℕ, Bool, false, List, [], ◌∷◌, ◌++◌, map, fold, Option, Some, None, if◌then◌else◌}
 use Rattle.std.specs.Str.{str_eq_ignore_ascii_case}
 use Rattle.dag_reader.specs.declared.command.Command.{Command}
 use Rattle.dag_reader.specs.declared.command.Command.TheVariants.{Script, Retry, PreSkip, Vars, Priority, Category, AbortDagOn}
@@ -26,8 +25,12 @@ line_of (AllNodes span) = span.line
 abbrev pub full_category : List ℕ → List ℕ → List ℕ
 full_category prefix name = if begins_with 43 name then name else prefix ++ name
 
+-- the words of a script, of which the first is the program
+abbrev pub script_words : PlacedText → List PlacedText → List (List ℕ)
+script_words program arguments = program.text ∷ map (λ w. w.text) arguments
+
 abbrev pub script_of : Target → PlacedText → List PlacedText → ScriptSetting
-script_of target program arguments = record { line = line_of target; program = program.text; arguments = map (λ w. w.text) arguments }
+script_of target program arguments = record { line = line_of target; words = script_words program arguments }
 
 abbrev pub macro_of : ℕ → Placement → Macro → MacroSetting
 macro_of line placement m = record { line = line; placement = placement; name = m.name.text; text = m.text.text }
@@ -39,9 +42,10 @@ macros_of target placement macros = map (macro_of (line_of target) placement) ma
 abbrev pub is_namesake : MacroSetting → MacroSetting → Bool
 is_namesake m other = str_eq_ignore_ascii_case m.name other.name
 
--- macros with one more, in place of its namesakes
+-- Macros with one more: of two of one name the later wins, at the place of the first.
 abbrev pub with_macro : List MacroSetting → MacroSetting → List MacroSetting
-with_macro macros m = filter (λ other. not (is_namesake m other)) macros ++ m ∷ []
+with_macro [] m = m ∷ []
+with_macro (other ∷ macros) m = if is_namesake m other then m ∷ macros else other ∷ with_macro macros m
 
 -- the same with these, one after the other
 abbrev pub with_macros : List MacroSetting → List MacroSetting → List MacroSetting

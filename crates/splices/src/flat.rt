@@ -1,18 +1,22 @@
 //! The flat DAG: nodes, edges and settings of all files.
 
 ghost use Rattle.std.specs.Prelude.{◌≡◌};
+ghost use Rattle.splices.specs.Places.{other_side};
 
-use dag_reader::{Placement, Text, Texts};
+use crate::name_table::NameTable;
+use crate::part::Numbers;
+use crate::shared::SharedTexts;
+use dag_reader::{Placement, Text};
 use std::alloc::Global;
 use std::fmt;
 use std::marker::Model;
 
-/// `SCRIPT PRE` or `SCRIPT POST`: the program and its words, and the line that says so.
+/// `SCRIPT PRE` or `SCRIPT POST`: the words of the script, of which the first is the program, and the
+/// line that says so. The nodes that a line is for share its words.
 #[derive(Debug, Drop)]
 pub struct ScriptSetting {
     pub line: usize,
-    pub program: Text,
-    pub arguments: Texts,
+    pub words: SharedTexts,
 }
 
 /// `RETRY`: how often a failed node is repeated, and the value that ends this.
@@ -39,19 +43,23 @@ pub struct MacroSetting {
     pub text: Text,
 }
 
-/// Macros. A contract sees the list of them.
+/// Macros, which are found by their names in lower case. A contract sees the list of them.
 #[derive(Debug, Drop)]
 pub struct MacroSettings {
+    pub(crate) names: NameTable,
     pub(crate) items: Vec<MacroSetting>,
 }
 
 impl Model for MacroSettings {
-    ghost use Rattle.std.specs.Prelude.{List};
+    ghost use Rattle.std.specs.Prelude.{◌≡◌, List, map};
+    ghost use Rattle.splices.specs.MacroKeys.{key_of};
     ghost use Rattle.splices.specs.declared.flat.MacroSetting.{MacroSetting};
 
     ghost Value = { List MacroSetting };
 
     ghost view = { λ m. m.items.items };
+
+    ghost invariant = { λ m. m.names ≡ map key_of m.items.items };
 }
 
 impl MacroSettings {
@@ -68,6 +76,7 @@ impl MacroSettings {
         ensures { result ≡ [] }
     {
         MacroSettings {
+            names: NameTable::new(alloc),
             items: Vec::new(alloc),
         }
     }
@@ -156,6 +165,27 @@ pub struct Edge {
     pub child: usize,
 }
 
+/// Edges: each of the parents is one of each of the children. A PARENT line says one group.
+#[derive(Debug, Drop)]
+pub struct EdgeGroup {
+    pub(crate) parents: Numbers,
+    pub(crate) children: Numbers,
+}
+
+impl EdgeGroup {
+    ghost use Rattle.splices.specs.Places.{ends_of};
+
+    /// The numbers of the parents, or of the children, as often as the line names them.
+    pub fn ends(&self, side: Side) -> &[usize]
+        ensures { result.now ≡ ends_of side self.now }
+    {
+        match side {
+            Side::Parent => self.parents.as_slice(),
+            Side::Child => self.children.as_slice(),
+        }
+    }
+}
+
 /// A side of an edge.
 #[derive(Clone, Copy, Debug, PartialEq, Eq)]
 pub enum Side {
@@ -163,15 +193,14 @@ pub enum Side {
     Child,
 }
 
-impl Edge {
-    ghost use Rattle.splices.specs.Places.{end_of};
-
-    pub(crate) fn end(&self, side: Side) -> usize
-        ensures { result ≡ end_of side self.now }
+impl Side {
+    /// The other side.
+    pub(crate) fn other(self) -> Side
+        ensures { result ≡ other_side self }
     {
-        match side {
-            Side::Parent => self.parent,
-            Side::Child => self.child,
+        match self {
+            Side::Parent => Side::Child,
+            Side::Child => Side::Parent,
         }
     }
 }
@@ -216,7 +245,7 @@ pub struct FlatDag {
     top: Text,
     nodes: Vec<FlatNode>,
     final_node: Option<FlatNode>,
-    edges: Vec<Edge>,
+    edges: Vec<EdgeGroup>,
     categories: Vec<CategoryLimit>,
     warnings: Vec<DagWarning>,
 }
@@ -236,31 +265,37 @@ impl Drop for FlatDag {
 }
 
 impl Model for FlatDag {
-    ghost use Rattle.splices.specs.Dag.{Dag, IsWithin};
+    ghost use Rattle.std.specs.Prelude.{length};
+    ghost use Rattle.std.specs.List.{All};
+    ghost use Rattle.splices.specs.Dag.{Dag, IsGroupBelow, IsWithin};
+    ghost use Rattle.splices.specs.Places.{edges_of};
 
     ghost Value = { Dag };
 
-    ghost view = { λ d. record { top = d.top; nodes = d.nodes.items; final_node = d.final_node; edges = d.edges.items; categories = d.categories.items; warnings = d.warnings.items } };
+    ghost view = { λ d. record { top = d.top; nodes = d.nodes.items; final_node = d.final_node; edges = edges_of d.edges.items; categories = d.categories.items; warnings = d.warnings.items } };
 
-    ghost invariant = { λ d. IsWithin (record { top = d.top; nodes = d.nodes.items; final_node = d.final_node; edges = d.edges.items; categories = d.categories.items; warnings = d.warnings.items }) };
+    ghost invariant = { λ d. IsWithin (record { top = d.top; nodes = d.nodes.items; final_node = d.final_node; edges = edges_of d.edges.items; categories = d.categories.items; warnings = d.warnings.items })
+        × All (IsGroupBelow (length d.nodes.items)) d.edges.items };
 }
 
 impl FlatDag {
     ghost use Rattle.std.specs.Prelude.{◌≤◌, length};
     ghost use Rattle.std.specs.List.{All};
     ghost use Rattle.std.specs.Option.{option_map};
-    ghost use Rattle.splices.specs.Dag.{IsBelow, IsWithin};
+    ghost use Rattle.splices.specs.Dag.{IsBelow, IsGroupBelow, IsWithin};
+    ghost use Rattle.splices.specs.Places.{edges_of};
 
     pub(crate) fn new(
         top: Text,
         nodes: Vec<FlatNode>,
         final_node: Option<FlatNode>,
-        edges: Vec<Edge>,
+        edges: Vec<EdgeGroup>,
         categories: Vec<CategoryLimit>,
         warnings: Vec<DagWarning>,
     ) -> FlatDag
-        requires { IsWithin (record { top = top; nodes = nodes.items; final_node = final_node; edges = edges.items; categories = categories.items; warnings = warnings.items }) }
-        ensures { result ≡ record { top = top; nodes = nodes.items; final_node = final_node; edges = edges.items; categories = categories.items; warnings = warnings.items } }
+        requires within { IsWithin (record { top = top; nodes = nodes.items; final_node = final_node; edges = edges_of edges.items; categories = categories.items; warnings = warnings.items }) }
+        requires below { All (IsGroupBelow (length nodes.items)) edges.items }
+        ensures { result ≡ record { top = top; nodes = nodes.items; final_node = final_node; edges = edges_of edges.items; categories = categories.items; warnings = warnings.items } }
     {
         FlatDag {
             top,
@@ -297,11 +332,12 @@ impl FlatDag {
         }
     }
 
-    /// The pairs of parents and children, which are ordinary nodes; a pair may stand there more
-    /// than once.
-    pub fn edges(&self) -> &[Edge]
-        ensures are { result.now ≡ self.now.edges }
+    /// The pairs of parents and children, which are ordinary nodes, in the groups that PARENT lines
+    /// say; a pair may stand there more than once.
+    pub fn edges(&self) -> &[EdgeGroup]
+        ensures are { edges_of result.now ≡ self.now.edges }
         ensures within { All (IsBelow (length self.now.nodes)) self.now.edges }
+        ensures below { All (IsGroupBelow (length self.now.nodes)) result.now }
     {
         self.edges.as_slice()
     }

@@ -9,7 +9,7 @@ use std::alloc::{AllocError, Global};
 use std::marker::Model;
 
 /// Names, each of which has the number of its place. A contract sees the list of them.
-#[derive(Drop)]
+#[derive(Debug, Drop)]
 pub(crate) struct NameTable {
     names: IndexSet<String>,
 }

@@ -1,17 +1,19 @@
 //! Opens the files of a DAG, each with those of its splices.
 
 ghost use Rattle.std.specs.Prelude.{◌≡◌, ◌+◌, ◌-◌, ◌∷◌, [], ◌++◌, ◌<◌, ◌≤◌, ◌^◌, length, drop, map, IfOk, OnOk, vec_len, ℕ, List};
-ghost use Rattle.std.specs.List.{flat_map};
+ghost use Rattle.std.specs.List.{All, flat_map};
 ghost use Rattle.std.specs.Option.{option_or};
 ghost use Rattle.dag_reader.specs.Reading.{commands_of};
 ghost use Rattle.splices.specs.Edges.{part_of, line_edges};
 ghost use Rattle.splices.specs.Faults.{first_some, line_fault};
 ghost use Rattle.splices.specs.Nodes.{job_names, final_names, splice_names};
 ghost use Rattle.splices.specs.FileSet.{bytes_of};
+ghost use Rattle.splices.specs.Library.{files_in};
 ghost use Rattle.splices.specs.Forest.{inside};
-ghost use Rattle.splices.specs.Opening.{said_by, says_at, check_final, check_file, check_count, open_file, open_lines, open_line, with_file};
+ghost use Rattle.splices.specs.Opening.{said_by, check_final, check_file, check_count, open_file, open_lines, open_line, with_file};
 ghost use Rattle.splices.specs.Adds.{Gives, AddsFiles, OpensTree, OpensForest, OpensTop, IsFew, SameButEdges};
-ghost use Rattle.splices.specs.Dag.{IsWithin};
+ghost use Rattle.splices.specs.Dag.{IsGroupBelow, IsWithin};
+ghost use Rattle.splices.specs.Places.{edges_of};
 ghost use Rattle.splices.specs.Opened.{dag_at, first_of};
 
 use crate::check::NameCheck;
@@ -20,14 +22,15 @@ use crate::edges::LineScope;
 use crate::ends::free_nodes;
 use crate::fault::{DagFault, SpliceFault};
 use crate::file_set::FileSet;
-use crate::flat::{Edge, FlatDag, FlatNode, Side};
+use crate::flat::{EdgeGroup, FlatDag, FlatNode, Side};
+use crate::library::Library;
 use crate::names::Names;
 use crate::nodes::dir_text;
 use crate::own_nodes::own_nodes;
 use crate::part::Part;
 use crate::paths::path_in;
 use crate::told::Told;
-use dag_reader::{Command, DagFile, ReadFault, Text, Texts, read_dag};
+use dag_reader::{Command, DagFile, Text, Texts};
 use std::alloc::{AllocError, Global};
 
 /// How many nodes the files have that were opened, FINAL among them, and how many splices were
@@ -43,7 +46,7 @@ pub(crate) struct Used {
 pub(crate) struct Draft {
     pub(crate) nodes: Vec<FlatNode>,
     pub(crate) finals: Vec<FlatNode>,
-    pub(crate) edges: Vec<Edge>,
+    pub(crate) edges: Vec<EdgeGroup>,
     pub(crate) told: Told,
     pub(crate) used: Used,
 }
@@ -83,20 +86,35 @@ const MOST: usize = 4_096;
 pub fn open_dag(alloc: Global, files: &FileSet, top: &str) -> Result<FlatDag, SpliceFault>
     ensures { Gives (λ dag. dag) result (dag_at (bytes_of files.now) top.now) }
 {
-    let (draft, fault) = open_top(alloc, files, DEEPEST, top)?;
+    let (draft, fault) = open_files(alloc, files, DEEPEST, top)?;
     match fault {
         Some(fault) => Err(SpliceFault::Dag(fault)),
         None => Ok(draft.into_dag(Text::new(alloc, top)?)),
     }
 }
 
-fn open_top(
+/// Opens the file of this path, each file of the set being read once.
+fn open_files(
     alloc: Global,
     files: &FileSet,
     left: usize,
     top: &str,
 ) -> Result<(Draft, Option<DagFault>), SpliceFault>
     ensures opened { OpensTop result (open_file (bytes_of files.now) left (record { nodes = 0; splices = 0 }) (top.now ∷ []) [] top.now) }
+    ensures few { IfOk result (λ found. IsFew found.0.used) }
+{
+    let library = Library::new(alloc, files)?;
+    let found = open_top(alloc, &library, left, top)?;
+    Ok(found)
+}
+
+fn open_top(
+    alloc: Global,
+    files: &Library,
+    left: usize,
+    top: &str,
+) -> Result<(Draft, Option<DagFault>), SpliceFault>
+    ensures opened { OpensTop result (open_file (files_in files.now) left (record { nodes = 0; splices = 0 }) (top.now ∷ []) [] top.now) }
     ensures few { IfOk result (λ found. IsFew found.0.used) }
 {
     let mut draft = Draft {
@@ -113,23 +131,6 @@ fn open_top(
     above.push(Text::new(alloc, top)?)?;
     let found = open_tree(alloc, files, left, &mut above, "", top, "", &mut draft)?;
     Ok((draft, found.fault))
-}
-
-/// What the file of this path says.
-fn read_file(alloc: Global, files: &FileSet, path: &str) -> Result<DagFile, SpliceFault>
-    ensures { Gives commands_of result (says_at path.now (bytes_of files.now path.now)) }
-{
-    let Some(bytes) = files.get(path) else {
-        return Err(SpliceFault::Dag(DagFault::MissingFile(Text::new(alloc, path)?)));
-    };
-    match read_dag(alloc, bytes) {
-        Ok(file) => Ok(file),
-        Err(ReadFault::Memory) => Err(SpliceFault::Memory),
-        Err(ReadFault::Line(fault)) => Err(SpliceFault::Dag(DagFault::InFile(
-            Text::new(alloc, path)?,
-            fault,
-        ))),
-    }
 }
 
 /// Refuses FINAL in a file that lies in another.
@@ -218,7 +219,7 @@ fn add_own(
 #[cycle(opening)]
 fn open_tree(
     alloc: Global,
-    files: &FileSet,
+    files: &Library,
     left: usize,
     above: &mut Texts,
     folder: &str,
@@ -227,19 +228,20 @@ fn open_tree(
     draft: &mut Draft,
 ) -> Result<Found, SpliceFault>
     requires few { draft.old.used.nodes ≤ 4096 }
-    ensures opened { OpensTree prefix.now result draft.old draft.new (open_file (bytes_of files.now) left draft.old.used above.old folder.now path.now) }
+    ensures opened { OpensTree prefix.now result draft.old draft.new (open_file (files_in files.now) left draft.old.used above.old folder.now path.now) }
     ensures above { OnOk result (above.new ≡ above.old) }
     ensures few { OnOk result (IsFew draft.new.used) }
 {
     if left == 0 {
         return Err(SpliceFault::Dag(DagFault::TooDeep(Text::new(alloc, path)?)));
     }
-    let file = read_file(alloc, files, path)?;
+    let read = files.read(alloc, path)?;
+    let file = read.file();
     let lines = file.commands.as_slice();
     let names = check_file(alloc, &draft.used, above, path, lines)?;
     let first = draft.nodes.as_slice().len();
     let start = draft.edges.as_slice().len();
-    add_own(alloc, path, prefix, folder, &names, &file, draft)?;
+    add_own(alloc, path, prefix, folder, &names, file, draft)?;
     let mut parts = Vec::new(alloc);
     let inner = open_forest(
         alloc,
@@ -367,7 +369,7 @@ fn names_in(alloc: Global, prefix: &str, name: &str) -> Result<Text, AllocError>
 #[cycle(opening)]
 fn open_forest(
     alloc: Global,
-    files: &FileSet,
+    files: &Library,
     left: usize,
     above: &mut Texts,
     folder: &str,
@@ -377,7 +379,7 @@ fn open_forest(
     parts: &mut Vec<Part>,
 ) -> Result<Option<DagFault>, SpliceFault>
     requires few { IsFew draft.old.used }
-    ensures opened { OpensForest prefix.now result draft.old draft.new parts.old.items parts.new.items (open_lines (open_file (bytes_of files.now) left) draft.old.used above.old folder.now commands.now) }
+    ensures opened { OpensForest prefix.now result draft.old draft.new parts.old.items parts.new.items (open_lines (open_file (files_in files.now) left) draft.old.used above.old folder.now commands.now) }
     ensures above { OnOk result (above.new ≡ above.old) }
     ensures few { OnOk result (IsFew draft.new.used) }
 {
@@ -394,7 +396,7 @@ fn open_forest(
 #[cycle(opening)]
 fn open_splice(
     alloc: Global,
-    files: &FileSet,
+    files: &Library,
     left: usize,
     above: &mut Texts,
     folder: &str,
@@ -404,7 +406,7 @@ fn open_splice(
     parts: &mut Vec<Part>,
 ) -> Result<Option<DagFault>, SpliceFault>
     requires few { IsFew draft.old.used }
-    ensures opened { OpensForest prefix.now result draft.old draft.new parts.old.items parts.new.items (open_line (open_file (bytes_of files.now) left) draft.old.used above.old folder.now command.now) }
+    ensures opened { OpensForest prefix.now result draft.old draft.new parts.old.items parts.new.items (open_line (open_file (files_in files.now) left) draft.old.used above.old folder.now command.now) }
     ensures above { OnOk result (above.new ≡ above.old) }
     ensures few { OnOk result (IsFew draft.new.used) }
 {
@@ -437,8 +439,9 @@ fn open_splice(
 impl Draft {
     /// The flat DAG of the draft, whose top file has this path.
     fn into_dag(self, top: Text) -> FlatDag
-        requires { IsWithin (record { top = top; nodes = self.nodes.items; final_node = first_of self.finals.items; edges = self.edges.items; categories = self.told.limits; warnings = self.told.warnings }) }
-        ensures { result ≡ record { top = top; nodes = self.nodes.items; final_node = first_of self.finals.items; edges = self.edges.items; categories = self.told.limits; warnings = self.told.warnings } }
+        requires within { IsWithin (record { top = top; nodes = self.nodes.items; final_node = first_of self.finals.items; edges = edges_of self.edges.items; categories = self.told.limits; warnings = self.told.warnings }) }
+        requires below { All (IsGroupBelow (length self.nodes.items)) self.edges.items }
+        ensures { result ≡ record { top = top; nodes = self.nodes.items; final_node = first_of self.finals.items; edges = edges_of self.edges.items; categories = self.told.limits; warnings = self.told.warnings } }
     {
         let mut finals = self.finals;
         let final_node = if finals.is_empty() {

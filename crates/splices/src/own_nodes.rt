@@ -10,7 +10,7 @@ use crate::flat::{FlatNode, Settings};
 use crate::names::Names;
 use crate::nodes::dir_text;
 use crate::paths::path_in;
-use crate::settings::target_of;
+use crate::settings::{target_of, words_said};
 use crate::told::Told;
 use dag_reader::{Command, DagFile, Text, Word};
 use std::alloc::{AllocError, Global};
@@ -85,10 +85,12 @@ fn set_between(
     ensures replaced { IfOk result (λ lines. lines.items
         ≡ replaced_among (is_between from until) command.now nodes.old) }
 {
+    let words = words_said(alloc, command)?;
     let mut replaced = Vec::new(alloc);
     for place in from..until {
         let node = &mut nodes[place];
-        node.settings.set(alloc, prefix, command, &mut replaced)?;
+        node.settings
+            .set(alloc, prefix, command, &words, &mut replaced)?;
     }
     Ok(replaced)
 }

@@ -1,15 +1,17 @@
 //! What a line sets for a node.
 
-ghost use Rattle.std.specs.Prelude.{◌≡◌, ◌∷◌, [], Some, not, find, map, IfOk, OnOk};
-ghost use Rattle.std.specs.List.{filter};
+ghost use Rattle.std.specs.Prelude.{◌≡◌, ◌∷◌, [], Some, find, map, IfOk, OnOk};
 ghost use Rattle.std.specs.Option.{option_map};
-ghost use Rattle.splices.specs.Settings.{full_category, is_namesake, line_of, macro_of, macros_of, no_settings, script_of, target_of, with_line, with_macro, with_macros, with_script};
+ghost use Rattle.splices.specs.MacroKeys.{key_of};
+ghost use Rattle.splices.specs.NodeChanges.{words_said};
+ghost use Rattle.splices.specs.Settings.{full_category, is_namesake, line_of, macro_of, macros_of, no_settings, script_words, target_of, with_line, with_macro, with_macros, with_script};
 ghost use Rattle.splices.specs.Warnings.{joined, line_if, replaced_by, replaced_in, script_setting};
 
 use crate::flat::{
     AbortSetting, CategorySetting, MacroSetting, MacroSettings, PreSkipSetting, PrioritySetting,
     RetrySetting, ScriptSetting, Settings,
 };
+use crate::shared::SharedTexts;
 use dag_reader::{Command, Macro, Placement, ScriptKind, Target, Text, Texts, Word};
 use std::alloc::{AllocError, Global};
 
@@ -30,25 +32,26 @@ impl Settings {
         }
     }
 
-    /// Puts in what a line says of the node, and adds the lines that it replaces to those there.
+    /// Puts in what a line says of the node, and adds the lines that it replaces to those there. The
+    /// words of the script that it says, if it says one, are handed in, for all of its nodes share
+    /// them.
     pub(crate) fn set(
         &mut self,
         alloc: Global,
         prefix: &str,
         command: &Command,
+        words: &SharedTexts,
         replaced: &mut Vec<usize>,
     ) -> Result<(), AllocError>
+        requires { words.now ≡ words_said command.now }
         ensures settings { OnOk result (self.new ≡ with_line prefix.now self.old command.now) }
         ensures replaced { OnOk result
             (replaced.new.items ≡ joined replaced.old.items (replaced_in self.old command.now)) }
     {
         match command {
-            Command::Script {
-                kind,
-                node,
-                program,
-                arguments,
-            } => self.set_script(alloc, *kind, node, program, arguments.as_slice(), replaced),
+            Command::Script { kind, node, .. } => {
+                self.set_script(*kind, ScriptSetting::new(node, words)?, replaced)
+            }
             Command::Retry {
                 node,
                 retries,
@@ -82,19 +85,14 @@ impl Settings {
 
     fn set_script(
         &mut self,
-        alloc: Global,
         kind: ScriptKind,
-        target: &Target,
-        program: &Word,
-        arguments: &[Word],
+        setting: ScriptSetting,
         replaced: &mut Vec<usize>,
     ) -> Result<(), AllocError>
-        ensures settings { OnOk result
-            (self.new ≡ with_script kind (script_of target.now program.now arguments.now) self.old) }
+        ensures settings { OnOk result (self.new ≡ with_script kind setting self.old) }
         ensures replaced { OnOk result (replaced.new.items
             ≡ joined replaced.old.items (line_if (λ s. s.line) (script_setting kind self.old))) }
     {
-        let setting = ScriptSetting::new(alloc, target, program, arguments)?;
         match kind {
             ScriptKind::Pre => self.set_pre(setting, replaced),
             ScriptKind::Post => self.set_post(setting, replaced),
@@ -230,18 +228,13 @@ impl Settings {
 }
 
 impl ScriptSetting {
-    fn new(
-        alloc: Global,
-        target: &Target,
-        program: &Word,
-        arguments: &[Word],
-    ) -> Result<ScriptSetting, AllocError>
-        ensures { IfOk result (λ s. s ≡ script_of target.now program.now arguments.now) }
+    /// That of these words, by a line with this target.
+    fn new(target: &Target, words: &SharedTexts) -> Result<ScriptSetting, AllocError>
+        ensures { IfOk result (λ s. s ≡ record { line = line_of target.now; words = words.now }) }
     {
         Ok(ScriptSetting {
             line: target_line(target),
-            program: Text::new(alloc, program.text())?,
-            arguments: word_texts(alloc, arguments)?,
+            words: words.share()?,
         })
     }
 }
@@ -263,42 +256,40 @@ impl MacroSetting {
         })
     }
 
-    /// Whether the two have one name; letters have no case there.
-    fn is_namesake(&self, other: &MacroSetting) -> bool
-        ensures { result ≡ is_namesake self.now other.now }
+    /// The name in lower case: letters have no case there.
+    fn key(&self, alloc: Global) -> Result<Text, AllocError>
+        ensures { IfOk result (λ key. key ≡ key_of self.now) }
     {
-        let name = self.name.as_str();
-        name.eq_ignore_ascii_case(other.name.as_str())
+        let key = self.name.as_str().to_ascii_lowercase(alloc)?;
+        Text::new(alloc, key.as_str())
     }
 }
 
 impl MacroSettings {
-    /// The first namesake of a macro.
-    fn namesake(&self, one: &MacroSetting) -> Option<&MacroSetting>
-        ensures { option_map (λ m. m.now) result ≡ find (is_namesake one.now) self.now }
-    {
-        self.items.iter().find(|other| one.is_namesake(other))
-    }
-
-    /// Takes out the namesakes of a macro.
-    fn remove_namesakes(&mut self, one: &MacroSetting)
-        ensures { self.new ≡ filter (λ other. not (is_namesake one.now other)) self.old }
-    {
-        self.items.retain(|other| !one.is_namesake(other));
-    }
-
-    /// Puts in a macro in place of its namesakes, and adds the line of the first of them to those
-    /// there.
-    fn put(&mut self, one: MacroSetting, replaced: &mut Vec<usize>) -> Result<(), AllocError>
+    /// Puts in a macro, in place of its namesake if there is one, whose line is added to those there.
+    fn put(
+        &mut self,
+        alloc: Global,
+        one: MacroSetting,
+        replaced: &mut Vec<usize>,
+    ) -> Result<(), AllocError>
         ensures macros { OnOk result (self.new ≡ with_macro self.old one) }
         ensures replaced { OnOk result (replaced.new.items
             ≡ joined replaced.old.items (line_if (λ m. m.line) (find (is_namesake one) self.old))) }
     {
-        if let Some(old) = self.namesake(&one) {
-            add_once(replaced, old.line)?;
+        let key = one.key(alloc)?;
+        match self.names.place_of(key.as_str()) {
+            Some(place) => {
+                let old = &self.items[place];
+                add_once(replaced, old.line)?;
+                self.items[place] = one;
+            }
+            None => {
+                self.items.reserve(1)?;
+                self.names.add(alloc, key.as_str())?;
+                self.items.push(one)?;
+            }
         }
-        self.remove_namesakes(&one);
-        self.items.push(one)?;
         Ok(())
     }
 
@@ -317,10 +308,8 @@ impl MacroSettings {
             ≡ joined replaced.old.items (replaced_by self.old (macros_of target.now placement macros.now))) }
     {
         for one in macros {
-            self.put(
-                MacroSetting::new(alloc, target_line(target), placement, one)?,
-                replaced,
-            )?;
+            let one = MacroSetting::new(alloc, target_line(target), placement, one)?;
+            self.put(alloc, one, replaced)?;
         }
         Ok(())
     }
@@ -362,15 +351,30 @@ pub(crate) fn full_category(alloc: Global, prefix: &str, name: &str) -> Result<T
     }
 }
 
-/// The texts of words.
-fn word_texts(alloc: Global, words: &[Word]) -> Result<Texts, AllocError>
-    ensures { IfOk result (λ t. t ≡ map (λ w. w.text) words.now) }
+/// The words of the script that a line says, for all of its nodes; none where it says none.
+pub(crate) fn words_said(alloc: Global, command: &Command) -> Result<SharedTexts, AllocError>
+    ensures { IfOk result (λ words. words ≡ words_said command.now) }
 {
-    let mut texts = Texts::new(alloc);
-    for word in words {
-        texts.push(Text::new(alloc, word.text())?)?;
+    match command {
+        Command::Script {
+            program,
+            arguments,
+            ..
+        } => SharedTexts::new(alloc, script_words(alloc, program, arguments.as_slice())?),
+        _ => SharedTexts::new(alloc, Texts::new(alloc)),
     }
-    Ok(texts)
+}
+
+/// The words of a script, of which the first is the program.
+fn script_words(alloc: Global, program: &Word, arguments: &[Word]) -> Result<Texts, AllocError>
+    ensures { IfOk result (λ words. words ≡ script_words program.now arguments.now) }
+{
+    let mut words = Texts::new(alloc);
+    words.push(Text::new(alloc, program.text())?)?;
+    for word in arguments {
+        words.push(Text::new(alloc, word.text())?)?;
+    }
+    Ok(words)
 }
 
 /// Adds a line that is not there yet.

@@ -7,11 +7,11 @@ use Rattle.dag_graph.proofs.numbers.inverted.Goals as goal
 pub add_at-requires-clause-within : goal.add_at-requires-clause-within
 add_at-requires-clause-within c =
     let turn : c.loop-number.number < length c.args.lists.now = omega arith in
-    within_read c.args.lists.now c.as_slice.result.now _ c.loop-number.number _ turn c.index-lists-number.is c.as_slice.ensures c.requires.within c.loop-number.invariant.len
+    within_read c.args.lists.now c.as_slice.result.now _ c.loop-number.number _ c.args.count turn c.index-lists-number.is c.as_slice.ensures c.requires.within c.loop-number.invariant.len
 
 pub add_at-requires-clause-unused : goal.add_at-requires-clause-unused
 add_at-requires-clause-unused c = λ v small.
-    let low : v < length c.args.lists.now = omega (arith, c.loop-number.invariant.len) in
+    let low : v < c.args.count = omega (arith, c.loop-number.invariant.len) in
     subst (λ (ns : List ℕ). ¬ (IsLast ns c.loop-number.number)) (sym (c.loop-number.invariant.each v low)) (filter_last (λ u. has (get_or c.args.lists.now u []) v) c.loop-number.number)
 
 pub loop-number-preserved : goal.loop-number-preserved
@@ -29,4 +29,4 @@ pub returns : goal.returns
 returns c =
     let inv = c.loop-number.invariant in
     let all : c.loop-number.number ≡ length c.args.lists.now = omega arith in
-    fill_by_all (holders_of c.args.lists.now) c.loop-number.inverse.items (length c.args.lists.now) [] inv.len (λ v small. subst (λ (n : ℕ). get_or c.loop-number.inverse.items v [] ≡ holders_below n c.args.lists.now v) all (inv.each v small))
+    fill_by_all (holders_of c.args.lists.now) c.loop-number.inverse.items c.args.count [] inv.len (λ v small. subst (λ (n : ℕ). get_or c.loop-number.inverse.items v [] ≡ holders_below n c.args.lists.now v) all (inv.each v small))

@@ -4,6 +4,6 @@ use Rattle.dag_graph.proofs.numbers.inverted.Given as goal
 
 abbrev pub invariant-loop-number : goal.invariant-loop-number
 invariant-loop-number l = record {
-  len : length l.inverse.items ≡ length l.lists;
-  each : (v : ℕ) → v < length l.lists → slice_index_or l.inverse.items v [] ≡ holders_below l.number l.lists v;
+  len : length l.inverse.items ≡ l.count;
+  each : (v : ℕ) → v < l.count → slice_index_or l.inverse.items v [] ≡ holders_below l.number l.lists v;
 }

@@ -17,7 +17,7 @@ pub meet_all-requires-clause-below : goal.meet_all-requires-clause-below
 meet_all-requires-clause-below c =
     let node : c.args.node < length c.args.parents.now = omega (arith, c.requires.node, lists_len (length c.args.dag.now.nodes) c.args.dag.now.edges c.args.parents.now c.requires.parents) in
     let len : length c.in_ok-search.search.met ≡ length c.args.parents.now = ap (λ (s : Searched). length s.met) c.in_ok-search.ensures ∙ length-replicate (length c.args.parents.now) false in
-    within_read c.args.parents.now c.as_slice.result.now c.index-parents-node.result c.args.node (length c.in_ok-search.search.met) node c.index-parents-node.is c.as_slice.ensures (all_below (length c.args.dag.now.nodes) c.args.dag.now.edges c.args.parents.now c.requires.parents) len
+    within_read c.args.parents.now c.as_slice.result.now c.index-parents-node.result c.args.node (length c.in_ok-search.search.met) (length c.args.parents.now) node c.index-parents-node.is c.as_slice.ensures (all_below (length c.args.dag.now.nodes) c.args.dag.now.edges c.args.parents.now c.requires.parents) len
 
 pub loop-done-init : goal.loop-done-init
 loop-done-init c =
@@ -33,7 +33,7 @@ meet_all-requires-in-loop-done-clause-below c =
     let lt : c.loop-done.done < length c.loop-done.search.found = omega (arith, c.count.ensures) in
     let inside = inv.search.below c.loop-done.done lt in
     let next : c.node_at-next.result < length c.args.parents.now = omega (arith, inside, c.node_at-next.ensures, inv.len) in
-    within_read c.args.parents.now c.as_slice-in-loop-done.result.now c.index-parents-next.result c.node_at-next.result (length c.loop-done.search.met) next c.index-parents-next.is c.as_slice-in-loop-done.ensures (all_below (length c.args.dag.now.nodes) c.args.dag.now.edges c.args.parents.now c.requires.parents) inv.len
+    within_read c.args.parents.now c.as_slice-in-loop-done.result.now c.index-parents-next.result c.node_at-next.result (length c.loop-done.search.met) (length c.args.parents.now) next c.index-parents-next.is c.as_slice-in-loop-done.ensures (all_below (length c.args.dag.now.nodes) c.args.dag.now.edges c.args.parents.now c.requires.parents) inv.len
 
 pub loop-done-preserved : goal.loop-done-preserved
 loop-done-preserved c =
