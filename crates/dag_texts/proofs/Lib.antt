@@ -6,3 +6,4 @@ pub mod PlansOfFiles
 mod Checks
 pub mod CalmReports
 pub mod StatusFaults
+pub mod AuditTexts

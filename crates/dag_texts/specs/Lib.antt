@@ -5,3 +5,4 @@ pub mod Refusals
 pub mod Checked
 pub mod Planned
 pub mod Statused
+pub mod Audited

@@ -1,6 +1,7 @@
 //! The commands of dagrun, each as a call over texts: what it answers, and why it is refused.
 #![tactic(auto)]
 
+mod audits;
 mod check;
 mod fault;
 pub mod laws;
@@ -10,6 +11,7 @@ mod report;
 mod statuses;
 mod warnings;
 
+pub use audits::audit_of;
 pub use check::check_text;
 pub use fault::RunFault;
 pub use plans::{graph_of, plan_by};

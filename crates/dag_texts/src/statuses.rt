@@ -48,7 +48,7 @@ pub fn status_of(
 }
 
 /// The bytes of a journal; none where there is none.
-fn bytes_in<'a>(journal: Option<&'a [u8]>) -> &'a [u8]
+pub(crate) fn bytes_in<'a>(journal: Option<&'a [u8]>) -> &'a [u8]
     ensures { result.now ≡ journal_bytes (option_map (λ b. b.now) journal.entry) }
 {
     match journal {

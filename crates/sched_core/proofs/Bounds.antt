@@ -62,7 +62,7 @@ pick : (P : Stand → Type 0) (b : Bool) (s t : Stand) → P s → P t → P (if
 pick P true s t p q = p
 pick P false s t p q = q
 
-abbrev left : Course → Stand → ℕ
+abbrev pub left : Course → Stand → ℕ
 left course stand = phases_left course stand.attempt stand.phase
 
 some-from : (course : Course) (phase : Phase) → 1 ≤ phases_from course phase
@@ -116,7 +116,7 @@ closed-left course i value good n le some = go (good || is_set_to course.unless_
         (first-from course) (product-step (phases_in course) course.retries i (omega arith)) some
 
 -- PRE comes next only where there is one
-abbrev HasPre : Course → Stand → Type 0
+abbrev pub HasPre : Course → Stand → Type 0
 HasPre course stand = stand.phase ≡ Some Pre → course.pre ≡ true
 
 pre-closed : (course : Course) (i : ℕ) (value : ℤ) (good : Bool) → HasPre course (closed course i value good)
@@ -170,7 +170,7 @@ pre-steps : (course : Course) (stand : Stand) (es : List Ended) → HasPre cours
 pre-steps course stand [] has = has
 pre-steps course stand (e ∷ es) has = pre-steps course (step course stand e.outcome) es (pre-step course stand e.outcome has)
 
-pre-after : (course : Course) (es : List Ended) → HasPre course (stand_after course es)
+pub pre-after : (course : Course) (es : List Ended) → HasPre course (stand_after course es)
 pre-after course es = pre-steps course (stand_before course 0 None false) es (pre-first course 0 None false)
 
 -- one phase less
@@ -178,7 +178,7 @@ next-less : (post x : ℕ) → (1 + post + x < 2 + post + x)
 next-less post x = omega arith
 
 -- an ending leaves fewer phases
-step-left : (course : Course) (stand : Stand) (outcome : Outcome) (phase : Phase) → HasPre course stand → stand.phase ≡ Some phase → stand.attempt ≤ course.retries
+pub step-left : (course : Course) (stand : Stand) (outcome : Outcome) (phase : Phase) → HasPre course stand → stand.phase ≡ Some phase → stand.attempt ≤ course.retries
     → left course (step course stand outcome) < left course stand
 step-left course stand outcome phase has is le =
     subst (λ o. left course (step_at course stand o outcome) < phases_left course stand.attempt o) (sym is) (go phase is)

@@ -77,7 +77,7 @@ fate_at plan table (suc bound) node = fate_by plan table (fate_at plan table bou
 
 module _ (plan : Plan) (table : Table) (rank : ℕ → ℕ) (ranked : IsRankedBy rank plan) where
   -- a fate rests on the parents' alone
-  by-parents : (fates fates' : ℕ → Fate) (node : ℕ) → ((parent : ℕ) → Contains (node_at plan node).parents parent → fates parent ≡ fates' parent)
+  pub by-parents : (fates fates' : ℕ → Fate) (node : ℕ) → ((parent : ℕ) → Contains (node_at plan node).parents parent → fates parent ≡ fates' parent)
       → fate_by plan table fates node ≡ fate_by plan table fates' node
   by-parents fates fates' node same =
       let test = λ (f : Fate). is_done_state f.state in
