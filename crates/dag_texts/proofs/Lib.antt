@@ -1,4 +1,4 @@
-pub mod Endings
+pub mod Rehearsals
 pub mod Reports
 pub mod OneReport
 pub mod RescueParts

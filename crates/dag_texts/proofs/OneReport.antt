@@ -60,10 +60,10 @@ calm-report files path outcomes limits text warnings status r calm =
       is_dag = r.is_dag;
       is_order = r.is_order;
       has_entries = r.has_entries;
-      are_fates = table-fates plan table r.past (record { finished = r.finished; calm = calm; outcomes = r.told });
-      final_fate = λ some. table-final plan table r.past r.finished r.told (some-final (r.dag.final_node) some);
-      text_is = r.text_is ∙ report-is plan r.past r.finished calm status;
-      status_is = r.status_is ∙ status-is plan r.past r.finished calm;
+      are_fates = table-fates plan table r.past (record { finished = r.run.finished; calm = calm; outcomes = r.run.outcomes });
+      final_fate = λ some. table-final plan table r.past r.run.finished r.run.outcomes (some-final (r.dag.final_node) some);
+      text_is = r.text_is ∙ report-is plan r.past r.run.finished calm status;
+      status_is = r.status_is ∙ status-is plan r.past r.run.finished calm;
     }
   where
     some-final : (final_node : Option FlatNode) → is_some final_node ≡ true → is_some (option_map (final_spec (sources_of None [])) final_node) ≡ true
@@ -170,7 +170,7 @@ pub one-calm : (files : Files) (path : List ℕ) (outcomes : Option (List ℕ)) 
 one-calm files path outcomes limits bounds text other warnings notes status verdict a b calm =
     calm-fates (plan_by b.dag b.order) (table_by (plan_by b.dag b.order) b.entries) (rank_in b.order)
     (made-ranked (record { dag = b.dag; order = b.order }) (sources_of None []) (digest_of b.dag.top [] None) b.is_order)
-    (shown (plan_by a.dag a.order) a.past) fates-too calm-too b.past (lawful_part (plan_by b.dag b.order) b.past b.finished) b.told
+    (shown (plan_by a.dag a.order) a.past) fates-too calm-too b.past (lawful_part (plan_by b.dag b.order) b.past b.run.finished) b.run.outcomes
   where
     same : a.dag ≡ b.dag
     same = ap (dag_or b.dag) (sym a.is_dag ∙ b.is_dag)
@@ -179,7 +179,7 @@ one-calm files path outcomes limits bounds text other warnings notes status verd
     entries = one-list outcomes a.entries b.entries a.has_entries b.has_entries
 
     fates : AreFates (plan_by a.dag a.order) (table_by (plan_by a.dag a.order) a.entries) (shown (plan_by a.dag a.order) a.past)
-    fates = table-fates (plan_by a.dag a.order) (table_by (plan_by a.dag a.order) a.entries) a.past (record { finished = a.finished; calm = calm; outcomes = a.told })
+    fates = table-fates (plan_by a.dag a.order) (table_by (plan_by a.dag a.order) a.entries) a.past (record { finished = a.run.finished; calm = calm; outcomes = a.run.outcomes })
 
     fates-too : AreFates (plan_by b.dag b.order) (table_by (plan_by b.dag b.order) b.entries) (shown (plan_by a.dag a.order) a.past)
     fates-too =

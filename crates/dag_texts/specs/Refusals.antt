@@ -1,5 +1,5 @@
 -- What the parts of a rehearsal answer.
-use Rattle.std.specs.Prelude.{◌≡◌, ℕ, List, Option, Some, Ok, Err, IsTrue}
+use Rattle.std.specs.Prelude.{◌≡◌, ℕ, List, Option, Some, Ok, Err}
 use Rattle.std.specs.Str.Lines.{lines}
 use Rattle.node_machine.specs.OutcomeTable.{Entry}
 use Rattle.node_machine.specs.OutcomesFile as outcomes_file
@@ -12,21 +12,19 @@ use Rattle.dag_graph.specs.Cycles.{NamesCycle}
 use Rattle.run_plan.specs.Plan.{Plan}
 use Rattle.run_plan.specs.Submitted.{bare_plan}
 use Rattle.sched_core.specs.declared.Record.{Record}
-use Rattle.sched_core.specs.Run.{exit_status, is_finished}
-use Rattle.sched_core.specs.Lives.{HasOutcomesOf}
-use Rattle.sched_core.specs.Core.{GoesByChoice}
+use Rattle.sched_core.specs.Run.{exit_status}
 use Rattle.throttles.specs.declared.Limits.{Limits}
-use Rattle.dag_texts.specs.Rehearsal.{table_by}
+use Rattle.dag_texts.specs.Rehearsal.{IsRehearsed}
 use Rattle.dag_texts.specs.Report.{report_of}
 use Rattle.dag_texts.specs.declared.fault.RunFault.{RunFault}
 use Rattle.dag_texts.specs.declared.fault.RunFault.TheVariants.{InFiles, Cycle, InPlan, InTable, InRescue, NotThere, InManager, StartMemory, WaitFault, FileRefused, Memory}
 
--- the report and the exit status of a run of the plan that is finished, by the choices that the limits leave and at the
--- outcomes of the entries
-abbrev pub ReportsRun : Limits → Plan → List Entry → List ℕ → ℕ → Type 0
-ReportsRun limits plan entries text status = (past : List Record)
-    × IsTrue (is_finished plan past) × GoesByChoice limits plan past × HasOutcomesOf plan (table_by plan entries) past
-    × (text ≡ report_of plan past status) × (status ≡ exit_status plan past)
+-- the report and the exit status of a run of the plan under the limits, at the outcomes of the entries
+pub record ReportsRun (limits : Limits) (plan : Plan) (entries : List Entry) (text : List ℕ) (status : ℕ) : Type 0 where
+  pub past : List Record
+  pub run : IsRehearsed limits plan entries past
+  pub text_is : text ≡ report_of plan past status
+  pub status_is : status ≡ exit_status plan past
 
 -- the plan of files, with no submit file read
 pub record IsPlanOf (files : Files) (path : List ℕ) (plan : Plan) : Type 0 where

@@ -1,5 +1,5 @@
 -- What a rehearsal answers, by the bytes that it is given.
-use Rattle.std.specs.Prelude.{◌≡◌, ℕ, true, List, [], Option, Some, None, is_some, Ok, Err, IsTrue, IsFalse, if◌then◌else◌}
+use Rattle.std.specs.Prelude.{◌≡◌, ℕ, true, List, [], Option, Some, None, is_some, Ok, Err, IsFalse, if◌then◌else◌}
 use Rattle.std.specs.Str.Lines.{lines}
 use Rattle.node_machine.specs.OutcomeTable.{Entry}
 use Rattle.node_machine.specs.OutcomesFile as outcomes_file
@@ -12,12 +12,10 @@ use Rattle.dag_graph.specs.Cycles.{NamesCycle}
 use Rattle.run_plan.specs.Plan.{Plan, count_of, all_below}
 use Rattle.run_plan.specs.Submitted.{bare_plan}
 use Rattle.sched_core.specs.declared.Record.{Record}
-use Rattle.sched_core.specs.Run.{is_finished, is_aborted, exit_status}
-use Rattle.sched_core.specs.Lives.{HasOutcomesOf}
-use Rattle.sched_core.specs.Core.{GoesByChoice}
+use Rattle.sched_core.specs.Run.{is_aborted, exit_status}
 use Rattle.throttles.specs.declared.Limits.{Limits}
 use Rattle.sched_core.specs.Fate.{Fate, AreFates, final_fate, is_done_state}
-use Rattle.dag_texts.specs.Rehearsal.{table_by}
+use Rattle.dag_texts.specs.Rehearsal.{table_by, IsRehearsed}
 use Rattle.dag_texts.specs.Report.{report_of, fated_report, warning_lines}
 use Rattle.dag_texts.specs.declared.fault.RunFault.{RunFault}
 use Rattle.dag_texts.specs.declared.fault.RunFault.TheVariants.{InFiles, Cycle, InPlan, InTable, InRescue, NotThere, InManager, StartMemory, WaitFault, FileRefused, Memory}
@@ -31,9 +29,9 @@ abbrev pub HasEntries : Option (List ℕ) → List Entry → Type 0
 HasEntries None entries = entries ≡ []
 HasEntries (Some text) entries = outcomes_file.SayAll 1 (lines text) entries
 
--- What a rehearsal answers: the report of a run of the DAG of the file with this path, which is finished, by the choices that the
--- limits leave and at the outcomes of the entries, with the exit status and the warnings. No node of the DAG is its own
--- ancestor, since an order has parents before their children.
+-- What a rehearsal answers: the report of a run of the DAG of the file with this path under the limits, at the outcomes of the
+-- entries, with the exit status and the warnings. No node of the DAG is its own ancestor, since an order has parents before
+-- their children.
 pub record IsRehearsalOf (files : Files) (path : List ℕ) (outcomes : Option (List ℕ)) (limits : Limits) (text warnings : List ℕ) (status : ℕ) : Type 0 where
   pub dag : Dag
   pub order : List ℕ
@@ -42,9 +40,7 @@ pub record IsRehearsalOf (files : Files) (path : List ℕ) (outcomes : Option (L
   pub is_dag : dag_at files path ≡ Ok dag
   pub is_order : IsOrderOf dag order
   pub has_entries : HasEntries outcomes entries
-  pub finished : IsTrue (is_finished (plan_by dag order) past)
-  pub chosen : GoesByChoice limits (plan_by dag order) past
-  pub told : HasOutcomesOf (plan_by dag order) (table_by (plan_by dag order) entries) past
+  pub run : IsRehearsed limits (plan_by dag order) entries past
   pub text_is : text ≡ report_of (plan_by dag order) past status
   pub status_is : status ≡ exit_status (plan_by dag order) past
   pub warnings_are : warnings ≡ warning_lines dag.warnings

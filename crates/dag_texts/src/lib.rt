@@ -15,7 +15,7 @@ pub use audits::audit_of;
 pub use check::check_text;
 pub use fault::RunFault;
 pub use plans::{graph_of, plan_by};
-pub use rehearsal::run_table;
+pub use rehearsal::{Rehearsal, run_table};
 pub use report::rehearse_text;
 pub use statuses::{disk_of, status_of};
 pub use warnings::{Answer, warning_text};

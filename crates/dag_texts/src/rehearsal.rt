@@ -1,108 +1,104 @@
 //! The run of a plan at the outcomes of a table.
 
-ghost use Rattle.std.specs.Prelude.{◌≡◌, ◌≤◌, ◌∷◌, [], true, false, IsTrue, OnOk, IfOk, IfErr};
+ghost use Rattle.std.specs.Prelude.{◌≡◌, [], ◌∷◌, IfOk, IfErr, string_bytes};
 ghost use Rattle.node_machine.specs.OutcomeTable.{HasPossibleOutcomes};
-ghost use Rattle.run_plan.specs.Plan.{count_of};
-ghost use Rattle.sched_core.specs.declared.CoreFault.TheVariants.{Memory};
-ghost use Rattle.sched_core.specs.Run.{may_follow};
-ghost use Rattle.dag_texts.specs.Rehearsal.{table_by, ending_of, IsRehearsed, IsGoing, IsAfterStep};
+ghost use Rattle.sched_core.specs.Run.{exit_status};
+ghost use Rattle.recovery.specs.Managed.{plan_of, past_of};
+ghost use Rattle.job_starter.specs.Drives.{limits_of};
+ghost use Rattle.status_report.specs.Text.{run_text};
+ghost use Rattle.dag_texts.specs.Rehearsal.{IsRehearsed};
+ghost use Rattle.dag_texts.specs.declared.fault.RunFault.TheVariants.{Memory};
 
-use node_machine::{Key, Outcome, Phase, Table};
+use crate::fault::RunFault;
+use event_journal::MemDisk;
+use job_starter::{Script, ScriptedStarter};
+use node_machine::Table;
+use recovery::Manager;
+use run_leader::lead;
 use run_plan::Plan;
-use sched_core::{Choice, Core, CoreFault, Record};
+use sched_core::{Core, Record, Verdict};
 use std::alloc::Global;
 use throttles::Limits;
 
-/// What a phase ends with: the table's outcome, and Exit 0 for the job of a NOOP.
-fn ending(plan: &Plan, table: &Table, key: &Key) -> Outcome
-    requires { key.now.node ≤ count_of plan.now }
-    ensures { result ≡ ending_of plan.now table.now key.now }
-{
-    let spec = plan.spec(key.node);
-    if spec.course().noop && matches!(key.phase, Phase::Job) {
-        Outcome::Exit(0)
-    } else {
-        table.get(spec.name(), key.attempt, key.phase)
+/// A run that was led to its end: its manager, what it prints, and its exit status.
+#[derive(Drop)]
+pub struct Rehearsal<'a> {
+    pub(crate) manager: Manager<'a, MemDisk>,
+    pub(crate) text: String,
+    pub(crate) status: Verdict,
+}
+
+impl<'a> Rehearsal<'a> {
+    /// The core, with the records of the run.
+    pub fn core(&self) -> &Core<'a>
+        ensures { result.now ≡ self.now.manager.core }
+    {
+        self.manager.core()
     }
 }
 
-/// Adds a record that may follow.
-fn add(core: &mut Core<'_>, entry: Record) -> Result<(), CoreFault>
-    requires { IsTrue (may_follow core.old.plan core.old.past entry) }
-    ensures plan { core.new.plan ≡ core.old.plan }
-    ensures limits { core.new.limits ≡ core.old.limits }
-    ensures past { OnOk result (core.new.past ≡ entry ∷ core.old.past) }
+/// A run that has begun, with its journal in memory.
+fn begin<'a>(
+    alloc: Global,
+    plan: &'a Plan,
+    limits: Limits,
+) -> Result<Manager<'a, MemDisk>, RunFault>
+    ensures plan { IfOk result (λ manager. plan_of manager ≡ plan.now) }
+    ensures limits { IfOk result (λ manager. limits_of manager ≡ limits) }
+    ensures past { IfOk result (λ manager. past_of manager ≡ Record.Life ∷ []) }
     ensures err { IfErr result (λ fault. fault ≡ Memory) }
 {
-    core.reserve(1)?;
-    let _ = core.apply(entry);
-    Ok(())
-}
-
-/// A run that has begun.
-fn begin<'a>(alloc: Global, plan: &'a Plan, limits: Limits) -> Result<Core<'a>, CoreFault>
-    ensures ok { IfOk result (λ core. (core.plan ≡ plan.now)
-        × (core.limits ≡ limits) × (core.past ≡ Record.Life ∷ [])) }
-    ensures err { IfErr result (λ fault. fault ≡ Memory) }
-{
-    let mut core = Core::new(alloc, plan, limits)?;
-    add(&mut core, Record::Life)?;
-    Ok(core)
-}
-
-/// Starts what is to be started, or ends the phase that was launched first, or finishes the run,
-/// which the answer says.
-fn step(core: &mut Core<'_>, plan: &Plan, table: &Table) -> Result<bool, CoreFault>
-    requires possible { HasPossibleOutcomes table.now }
-    requires going { IsGoing plan.now (table_by plan.now table.now) core.old }
-    ensures ok { IfOk result (λ over.
-        IsAfterStep over plan.now (table_by plan.now table.now) core.old core.new) }
-    ensures limits { core.new.limits ≡ core.old.limits }
-    ensures err { IfErr result (λ fault. fault ≡ Memory) }
-{
-    core.keeps_the_law();
-    match core.choose() {
-        Choice::Start(key) => {
-            let number = core.launch_number(&key);
-            add(core, Record::Launch(key, number))?;
-            Ok(false)
-        }
-        Choice::Wait => {
-            let Some(key) = core.oldest() else {
-                unreachable!()
-            };
-            let outcome = ending(plan, table, &key);
-            add(core, Record::End(key, outcome))?;
-            Ok(false)
-        }
-        Choice::Finish(verdict) => {
-            add(core, Record::Finish(verdict))?;
-            Ok(true)
-        }
+    let journal = MemDisk::new(alloc, usize::MAX);
+    match Manager::begin(alloc, journal, plan, 0, 1, u32::MAX, limits) {
+        Ok(manager) => Ok(manager),
+        Err((_journal, _fault)) => Err(RunFault::Memory),
     }
 }
 
-/// Runs a plan at the outcomes of a table: whatever may be launched and is let in by the limits is
-/// launched, the greatest priority first and then in plan order; then the phase that was launched
-/// first ends; and so on until the run is finished.
+/// The script by which children end in the order of their starts, and no call is refused.
+fn in_order(alloc: Global) -> Script
+    ensures { result.places.items ≡ [] }
+{
+    Script {
+        places: Vec::new(alloc),
+        failing_start: None,
+        failing_wait: None,
+        lets_go: false,
+    }
+}
+
+/// Runs a plan at the outcomes of a table, as a run with children goes, but with its journal in memory
+/// and children that the table stands for: whatever may be launched and is let in by the limits is
+/// launched, the greatest priority first and then in plan order; where nothing more is let in, the child
+/// that was started first ends as the table says. The job of a NOOP ends at once, and so does a phase
+/// whose child the table says can't be started.
 ///
-/// The core that it answers is finished, and its endings are the table's. It is refused for
-/// want of memory alone.
+/// # Errors
+/// `Memory`, wherever in the run it was refused, and where the run has more than 2^32 - 1 records, as many
+/// as its journal counts.
 pub fn run_table<'a>(
     alloc: Global,
     plan: &'a Plan,
     table: &Table,
     limits: Limits,
-) -> Result<Core<'a>, CoreFault>
+) -> Result<Rehearsal<'a>, RunFault>
     requires possible { HasPossibleOutcomes table.now }
-    ensures run { IfOk result (λ core.
-        IsRehearsed plan.now (table_by plan.now table.now) core × (core.limits ≡ limits)) }
+    ensures plan { IfOk result (λ run. plan_of run.manager ≡ plan.now) }
+    ensures run { IfOk result (λ run. IsRehearsed limits plan.now table.now (past_of run.manager)) }
+    ensures text { IfOk result (λ run.
+        string_bytes run.text ≡ run_text plan.now (past_of run.manager) run.status) }
+    ensures status { IfOk result (λ run. run.status ≡ exit_status plan.now (past_of run.manager)) }
     ensures err { IfErr result (λ fault. fault ≡ Memory) }
 {
-    let mut core = begin(alloc, plan, limits)?;
-    loop {
-        if step(&mut core, plan, table)? {
-            return Ok(core);
-        }
-    }
+    let mut manager = begin(alloc, plan, limits)?;
+    let mut starter = ScriptedStarter::new(alloc, plan, table, in_order(alloc));
+    let rescue = MemDisk::new(alloc, usize::MAX);
+    let Ok(led) = lead(alloc, &mut manager, plan, &mut starter, rescue) else {
+        return Err(RunFault::Memory);
+    };
+    Ok(Rehearsal {
+        manager,
+        text: led.text,
+        status: led.status,
+    })
 }

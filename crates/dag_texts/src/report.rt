@@ -1,29 +1,29 @@
 //! The report of a rehearsal.
 
-ghost use Rattle.std.specs.Prelude.{◌≡◌, List, IfOk, IfErr, string_bytes};
+ghost use Rattle.std.specs.Prelude.{◌≡◌, ◌++◌, List, IfOk, IfErr, string_bytes};
 ghost use Rattle.std.specs.Option.{option_map};
 ghost use Rattle.node_machine.specs.OutcomeTable.{Entry, SameOutcomes, HasPossibleOutcomes};
 ghost use Rattle.splices.specs.FileSet.{bytes_of};
-ghost use Rattle.dag_texts.specs.Report.{rescue_part, report_of, warning_lines};
+ghost use Rattle.dag_texts.specs.Report.{rescue_part, warning_lines};
 ghost use Rattle.dag_texts.specs.Rehearsed.{HasEntries, IsRehearsalOf, IsOwed};
 ghost use Rattle.dag_texts.specs.Refusals.{ReportsRun, IsTableFault};
 ghost use Rattle.dag_texts.specs.declared.fault.RunFault.TheVariants.{Memory};
 
 use crate::fault::RunFault;
 use crate::plans::plan_of;
-use crate::rehearsal::run_table;
+use crate::rehearsal::{Rehearsal, run_table};
 use crate::warnings::{Answer, warning_text};
 use node_machine::{Table, TableFault, read_table};
 use rescue_file::rescue_text;
 use run_plan::Plan;
-use sched_core::{Core, Verdict};
+use sched_core::Core;
 use splices::FileSet;
-use status_report::run_text;
 use std::alloc::Global;
 use throttles::Limits;
 
 /// Rehearses the DAG file of this path and those of its splices, which stand in the file set: runs
-/// the nodes at the outcomes of a table under these limits, with no child and no disk.
+/// the nodes at the outcomes of a table under these limits, as a run with children goes, with no child
+/// and with its journal in memory.
 ///
 /// `outcomes` is the text of the table; without it each phase ends with Exit 0. The report has a
 /// line for each node in plan order, `name STATE attempts=n value=v`, then `result N`, N the exit
@@ -69,12 +69,13 @@ fn rehearse_plan(
         string_bytes answer.warnings ≡ warning_lines plan.now.graph.dag.warnings) }
     ensures err { IfErr result (λ fault. fault ≡ Memory) }
 {
-    let Ok(core) = run_table(alloc, plan, table, limits) else {
-        return Err(RunFault::Memory);
-    };
-    let status = core.verdict();
+    let Rehearsal {
+        manager,
+        text,
+        status,
+    } = run_table(alloc, plan, table, limits)?;
     Ok(Answer {
-        text: report_of(alloc, &core, status)?,
+        text: with_rescue(alloc, text, manager.core())?,
         warnings: warning_text(alloc, plan.graph().flat().warnings())?,
         status,
     })
@@ -114,13 +115,14 @@ fn rescue_part(alloc: Global, core: &Core<'_>) -> Result<String, RunFault>
     }
 }
 
-/// The report of a run that ends with this status.
-fn report_of(alloc: Global, core: &Core<'_>, status: Verdict) -> Result<String, RunFault>
-    ensures ok { IfOk result (λ text. string_bytes text ≡ report_of core.now.plan core.now.past status) }
+/// What a run prints, and the text of the rescue file behind it, where one is needed.
+fn with_rescue(alloc: Global, text: String, core: &Core<'_>) -> Result<String, RunFault>
+    ensures ok { IfOk result (λ whole.
+        string_bytes whole ≡ string_bytes text ++ rescue_part core.now.plan core.now.past) }
     ensures err { IfErr result (λ fault. fault ≡ Memory) }
 {
-    let mut text = run_text(alloc, core, status)?;
+    let mut whole = text;
     let rescue = rescue_part(alloc, core)?;
-    text.push_str(rescue.as_str())?;
-    Ok(text)
+    whole.push_str(rescue.as_str())?;
+    Ok(whole)
 }

@@ -45,7 +45,7 @@ step-exact : (limits : Limits) (plan : Plan) (may : List Call → Key → Outcom
     → IsStep limits plan may past told after last → Exactly plan past told after last
 step-exact limits plan may past told _ _ (passes {key = key} step chosen silent) =
     nothing plan past told (End key (Exit 0) ∷ launch_of past key ∷ past) told refl (quiet plan past key (noop-quiet (node_at plan key.node) key.phase silent))
-step-exact limits plan may past told _ _ (starts {key = key} {command = command} step chosen starting is) =
+step-exact limits plan may past told _ _ (starts {key = key} {command = command} step chosen starting is may_run) =
     record { own = (key, Ok command) ∷ []; are = refl; commands = loud plan past key command starting is }
 step-exact limits plan may past told _ _ (fails {key = key} {command = command} step chosen starting is may_be) =
     record { own = (key, Ok command) ∷ []; are = refl; commands = loud plan past key command starting is }
@@ -135,7 +135,7 @@ stopped limits plan may past told after last s =
 step-adds : (limits : Limits) (plan : Plan) (may : List Call → Key → Outcome → Type 0) (past : List Record) (told : List Call) (after : List Record) (last : List Call)
     → IsStep limits plan may past told after last → (own : List Record) × (after ≡ own ++ past)
 step-adds limits plan may past told _ _ (passes {key = key} step chosen silent) = (End key (Exit 0) ∷ launch_of past key ∷ [], refl)
-step-adds limits plan may past told _ _ (starts {key = key} {command = command} step chosen starting is) = (launch_of past key ∷ [], refl)
+step-adds limits plan may past told _ _ (starts {key = key} {command = command} step chosen starting is may_run) = (launch_of past key ∷ [], refl)
 step-adds limits plan may past told _ _ (fails {key = key} {command = command} step chosen starting is may_be) = (End key NoStart ∷ launch_of past key ∷ [], refl)
 step-adds limits plan may past told _ _ (ends {key = key} {outcome = outcome} step held ran may_be) = (End key outcome ∷ [], refl)
 step-adds limits plan may past told _ _ (kills {key = key} ran free) = ([], refl)

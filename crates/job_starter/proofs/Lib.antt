@@ -7,3 +7,4 @@ pub mod Handing
 pub mod Images
 pub mod Phases
 pub mod Outcomes
+pub mod Scripts

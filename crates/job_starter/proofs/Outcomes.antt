@@ -17,7 +17,7 @@ module _ (limits : Limits) (plan : Plan) (may : List Call → Key → Outcome �
   step-outcomes : (past : List Record) (told : List Call) (after : List Record) (last : List Call) → IsStep limits plan may past told after last
       → HasOutcomesOf plan table past → HasOutcomesOf plan table after
   step-outcomes past told _ _ (passes {key = key} s chosen noop) has = (λ no. absurd (false≢true (sym no ∙ noop)), has)
-  step-outcomes past told _ _ (starts s chosen child command) has = has
+  step-outcomes past told _ _ (starts s chosen child command may_run) has = has
   step-outcomes past told _ _ (fails {key = key} s chosen child command may_be) has = (λ no. tells told key NoStart may_be, has)
   step-outcomes past told _ _ (ends {key = key} {outcome = outcome} s held ran may_be) has = (λ no. tells told key outcome may_be, has)
   step-outcomes past told _ _ (kills ran free) has = has

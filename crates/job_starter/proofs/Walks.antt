@@ -21,7 +21,7 @@ use Rattle.job_starter.specs.declared.Call.TheVariants as calls
 use Rattle.job_starter.specs.declared.Started.{Started}
 use Rattle.job_starter.specs.declared.Started.TheVariants.{Running, NotStarted}
 use Rattle.job_starter.specs.declared.driving.DriveFault.{DriveFault}
-use Rattle.job_starter.specs.Calls.{running, TellsNoMore}
+use Rattle.job_starter.specs.Calls.{running, MayRun, TellsNoMore}
 use Rattle.job_starter.specs.Drives.{launch_of, IsHandedOver, AreInStep, IsHeld, IsStep, passes, starts, fails, ends, kills, final_verdict, Drives, no_step, one_more, IsCutOff, clean, launched, failed, ended, Starts, none_started, one_start, Kills, nobody, one_killed, AbortsAtLast}
 use Rattle.job_starter.proofs.Steps.{chosen-free}
 
@@ -85,12 +85,12 @@ module _ (limits : Limits) (plan : Plan) (may : List Call → Key → Outcome �
     child = subst (λ (p : Plan). starts_child (node_at p key.node) key.phase ≡ true) same_plan
 
     pub step-starts : (heard : List Call) (answer : Started) → answer ≡ Running → AreInStep plan past told
-        → starts_child (node_at plan' key.node) key.phase ≡ true
+        → starts_child (node_at plan' key.node) key.phase ≡ true → MayRun may told key
         → IsHandedOver plan' records key answer told heard → IsStep limits plan may past told records heard
-    step-starts heard answer runs step starting handed =
+    step-starts heard answer runs step starting may_run handed =
         let h = subst (λ a. IsHandedOver plan (launch_of past key ∷ past) key a told heard) runs (moved heard answer handed) in
         subst (λ r. IsStep limits plan may past told r heard) (sym is)
-        (subst (λ l. IsStep limits plan may past told (launch_of past key ∷ past) l) (sym h.entry) (starts step chosen (child starting) h.is))
+        (subst (λ l. IsStep limits plan may past told (launch_of past key ∷ past) l) (sym h.entry) (starts step chosen (child starting) h.is may_run))
 
     pub step-fails : (result : Result (Unit {0}) DriveFault) (after : List Record) (heard : List Call) (answer : Started)
         → answer ≡ NotStarted → AreInStep plan past told → starts_child (node_at plan' key.node) key.phase ≡ true → may told key NoStart
@@ -176,7 +176,7 @@ pub step-in-step : (limits : Limits) (plan : Plan) (may : List Call → Key → 
 step-in-step limits plan may past told _ _ lawful going step (passes {key = key} s chosen quiet) calm =
     let p = passed plan past key (Exit 0) (chosen-free limits plan past key lawful going chosen) calm in
     record { same = step.same ∙ sym p; children = subst (λ keys. list_all (λ (k : Key). starts_child (node_at plan k.node) k.phase) keys ≡ true) (sym p) step.children }
-step-in-step limits plan may past told _ _ lawful going step (starts {key = key} s chosen child command) calm =
+step-in-step limits plan may past told _ _ lawful going step (starts {key = key} s chosen child command may_run) calm =
     record { same = ap (λ keys. key ∷ keys) step.same; children = and_from _ _ child step.children }
 step-in-step limits plan may past told _ _ lawful going step (fails {key = key} s chosen child command may_be) calm =
     let p = passed plan past key NoStart (chosen-free limits plan past key lawful going chosen) calm in
@@ -196,7 +196,7 @@ pub step-empty : (limits : Limits) (plan : Plan) (may : List Call → Key → Ou
     → IsStep limits plan may past told after heard → is_aborted plan past ≡ false → is_aborted plan after ≡ true → outstanding plan after ≡ []
 step-empty limits plan may past told _ _ (passes {key = key} s chosen quiet) calm aborted =
     end-empty plan (launch_of past key ∷ past) key (Exit 0) (launch-calm plan past key ∙ calm) aborted
-step-empty limits plan may past told _ _ (starts {key = key} s chosen child command) calm aborted =
+step-empty limits plan may past told _ _ (starts {key = key} s chosen child command may_run) calm aborted =
     absurd (false≢true (sym (launch-calm plan past key ∙ calm) ∙ aborted))
 step-empty limits plan may past told _ _ (fails {key = key} s chosen child command may_be) calm aborted =
     end-empty plan (launch_of past key ∷ past) key NoStart (launch-calm plan past key ∙ calm) aborted
@@ -214,7 +214,8 @@ drives-kills limits plan may past told after heard _ drives empty (one_killed {k
 step-fewer : (limits : Limits) (plan : Plan) (may may' : List Call → Key → Outcome → Type 0) (past : List Record) (told : List Call) (after : List Record) (heard : List Call)
     → TellsNoMore may may' → IsStep limits plan may' past told after heard → IsStep limits plan may past told after heard
 step-fewer limits plan may may' past told _ _ t (passes s chosen quiet) = passes s chosen quiet
-step-fewer limits plan may may' past told _ _ t (starts s chosen child command) = starts s chosen child command
+step-fewer limits plan may may' past told _ _ t (starts {key = key} s chosen child command may_run) =
+    starts s chosen child command (may_run.0, may_run.1, t _ key may_run.0 may_run.2)
 step-fewer limits plan may may' past told _ _ t (fails {key = key} s chosen child command may_be) = fails s chosen child command (t _ key NoStart may_be)
 step-fewer limits plan may may' past told _ _ t (ends {key = key} {outcome = outcome} s held ran may_be) = ends s held ran (t _ key outcome may_be)
 step-fewer limits plan may may' past told _ _ t (kills ran free) = kills ran free
@@ -248,7 +249,7 @@ final-choice limits plan past (choices.Finish status) verdict chosen is =
 pub step-aborts : (limits : Limits) (plan : Plan) (may : List Call → Key → Outcome → Type 0) (past : List Record) (told : List Call) (after : List Record) (heard : List Call)
     → IsStep limits plan may past told after heard → is_aborted plan past ≡ false → is_aborted plan after ≡ true → AbortsAtLast plan after
 step-aborts limits plan may past told _ _ (passes {key = key} s chosen quiet) calm aborted = (launch-calm plan past key ∙ calm, aborted)
-step-aborts limits plan may past told _ _ (starts {key = key} s chosen child command) calm aborted =
+step-aborts limits plan may past told _ _ (starts {key = key} s chosen child command may_run) calm aborted =
     absurd (false≢true (sym (launch-calm plan past key ∙ calm) ∙ aborted))
 step-aborts limits plan may past told _ _ (fails {key = key} s chosen child command may_be) calm aborted = (launch-calm plan past key ∙ calm, aborted)
 step-aborts limits plan may past told _ _ (ends s held ran may_be) calm aborted = (calm, aborted)

@@ -1,8 +1,9 @@
 -- The calls of a starter that were answered, the newest first, and the children that run.
-use Rattle.std.specs.Prelude.{◌<◌, ◌≤◌, ◌-◌, ◌^◌, ◌⊎◌, ℕ, List, [], ◌∷◌, Option, Some, None}
+use Rattle.std.specs.Prelude.{◌≢◌, ◌<◌, ◌≤◌, ◌-◌, ◌^◌, ◌⊎◌, ℕ, List, [], ◌∷◌, Option, Some, None}
 use Rattle.std.specs.declared.snapshot.Snapshot.{Snapshot}
 use Rattle.node_machine.specs.declared.Key.{Key}
 use Rattle.node_machine.specs.declared.Outcome.{Outcome}
+use Rattle.node_machine.specs.declared.Outcome.TheVariants.{NoStart}
 use Rattle.sched_core.specs.Run.{without}
 use Rattle.job_starter.specs.declared.Call.{Call}
 use Rattle.job_starter.specs.declared.Call.TheVariants as calls
@@ -32,6 +33,10 @@ Rises before now = (before < now) ⊎ (2 ^ 64 - 1 ≤ now)
 -- What may be told now might have been told before.
 abbrev pub TellsNoMore : (List Call → Key → Outcome → Type 0) → (List Call → Key → Outcome → Type 0) → Type 0
 TellsNoMore old new = (told : List Call) (key : Key) (outcome : Outcome) → new told key outcome → old told key outcome
+
+-- A child that runs may come to another ending than that it did not start.
+abbrev pub MayRun : (List Call → Key → Outcome → Type 0) → List Call → Key → Type 0
+MayRun may told key = (outcome : Outcome) × (outcome ≢ NoStart) × may told key outcome
 
 -- the key that stands last: of the children that run, the one that was started first
 abbrev pub oldest : List Key → Option Key

@@ -23,7 +23,7 @@ use Rattle.job_starter.specs.declared.Call.{Call}
 use Rattle.job_starter.specs.declared.Call.TheVariants as calls
 use Rattle.job_starter.specs.declared.Started.{Started}
 use Rattle.job_starter.specs.declared.Started.TheVariants.{Running, NotStarted}
-use Rattle.job_starter.specs.Calls.{running, snapshot_of}
+use Rattle.job_starter.specs.Calls.{running, snapshot_of, MayRun}
 
 -- the limits that a manager keeps to
 abbrev pub limits_of : {D : Type 0} → Managed D → Limits
@@ -67,7 +67,7 @@ pub data IsStep (limits : Limits) (plan : Plan) (may : List Call → Key → Out
       → IsTrue (is_noop_job (node_at plan key.node).course key.phase)
       → IsStep limits plan may past told (End key (Exit 0) ∷ launch_of past key ∷ past) told
   starts : {key : Key} {command : ChildCommand} → AreInStep plan past told → IsChoice limits plan past (choices.Start key)
-      → IsTrue (starts_child (node_at plan key.node) key.phase) → IsCommandAt plan past key command
+      → IsTrue (starts_child (node_at plan key.node) key.phase) → IsCommandAt plan past key command → MayRun may told key
       → IsStep limits plan may past told (launch_of past key ∷ past) (calls.Started key (snapshot_of command) Running ∷ told)
   fails : {key : Key} {command : ChildCommand} → AreInStep plan past told → IsChoice limits plan past (choices.Start key)
       → IsTrue (starts_child (node_at plan key.node) key.phase) → IsCommandAt plan past key command → may told key NoStart

@@ -8,7 +8,7 @@ ghost use Rattle.sched_core.specs.Run.{is_among, is_aborted, is_over, is_open, i
 ghost use Rattle.sched_core.specs.Fate.{AreFates, shown};
 ghost use Rattle.sched_core.specs.Core.{IsChoice};
 ghost use Rattle.recovery.specs.Managed.{plan_of, past_of};
-ghost use Rattle.job_starter.specs.Calls.{running, TellsNoMore};
+ghost use Rattle.job_starter.specs.Calls.{running, MayRun, TellsNoMore};
 ghost use Rattle.job_starter.specs.Drives.{limits_of, launch_of, AreInStep, IsNearerEnd, IsHandedOver, IsHeld, IsStep, final_verdict, Drives, IsCutOff, Starts, Kills, IsLaunched, IsHalted, IsStopped};
 ghost use Rattle.job_starter.specs.Causes.{IsDriveFault};
 ghost use Rattle.job_starter.specs.Moments.{IsMomentOfRun, AtAnyMoment, StaysAcknowledged, KeepsDisk};
@@ -83,6 +83,8 @@ fn hand_over<D: Disk + Drop, S: Starter>(
     ensures silent { OnErr result (S.told starter.new ≡ S.told starter.old) }
     ensures may_be { IfOk result (λ answer.
         answer ≡ Started.NotStarted → S.may_tell starter.old (S.told starter.old) key NoStart) }
+    ensures may_run { IfOk result (λ answer.
+        answer ≡ Started.Running → MayRun (S.may_tell starter.old) (S.told starter.old) key) }
     ensures later { S.faults starter.old ≤ S.faults starter.new }
     ensures refused { IfErr result (IsDriveFault D.faults D.capacity
         (S.faults starter.old) (S.faults starter.new) manager.now) }

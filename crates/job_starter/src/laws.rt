@@ -4,11 +4,14 @@ ghost use Rattle.std.specs.Prelude.{◌≡◌, ℕ, List, [], ◌∷◌};
 ghost use Rattle.node_machine.specs.declared.Key.{Key};
 ghost use Rattle.node_machine.specs.declared.Outcome.{Outcome};
 ghost use Rattle.node_machine.specs.Story.{Table};
+ghost use Rattle.node_machine.specs.OutcomeTable.{Entry};
 ghost use Rattle.throttles.specs.declared.Limits.{Limits};
 ghost use Rattle.run_plan.specs.Plan.{Plan};
 ghost use Rattle.sched_core.specs.declared.Record.{Record};
 ghost use Rattle.sched_core.specs.declared.Record.TheVariants.{Life};
 ghost use Rattle.sched_core.specs.Lives.{HasOutcomesOf};
+ghost use Rattle.sched_core.specs.Core.{IsChoice};
+ghost use Rattle.sched_core.specs.declared.Choice.TheVariants as choices;
 ghost use Rattle.event_journal.specs.Image.{Header};
 ghost use Rattle.recovery.specs.Chain.{ReadsForInputs};
 ghost use Rattle.job_starter.specs.declared.Call.{Call};
@@ -16,6 +19,7 @@ ghost use Rattle.job_starter.specs.Calls.{running};
 ghost use Rattle.job_starter.specs.Drives.{AreInStep, Drives, IsHalted, IsStopped};
 ghost use Rattle.job_starter.specs.Handed.{HandsAll, HandsAllButOne};
 ghost use Rattle.job_starter.specs.Moments.{IsMomentOfRun, IsLifeAt};
+ghost use Rattle.job_starter.specs.Scripts.{IsScripted};
 
 use crate::Starter;
 
@@ -60,4 +64,16 @@ pub fn outcomes<S: Starter>()
         S.may_tell starter calls key outcome → table key.node key.attempt key.phase ≡ outcome) →
         Drives limits plan (S.may_tell starter) past told after last →
         HasOutcomesOf plan table past → HasOutcomesOf plan table after }
+{}
+
+/// A starter by a table leaves nothing open but the orders of kills, where the child that was started
+/// first ends first: two runs that go on from the same records under the same limits, each until its
+/// choice is to finish, have the same records, with abort or without.
+pub fn one_script()
+    ensures { (limits : Limits) (plan : Plan) (table : List Entry)
+        (past after other : List Record) (told last heard rest : List Call) (verdict status : ℕ) →
+        Drives limits plan (IsScripted plan table []) past told after last →
+        Drives limits plan (IsScripted plan table []) past heard other rest →
+        IsChoice limits plan after (choices.Finish verdict) →
+        IsChoice limits plan other (choices.Finish status) → after ≡ other }
 {}

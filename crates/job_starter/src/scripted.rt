@@ -1,10 +1,10 @@
 //! A starter that starts nothing: a table says how each child ends.
-ghost use Rattle.std.specs.Prelude.{◌≡◌, ◌∷◌, [], ◌≤◌, ◌<◌, length, suc, IsTrue, IsFalse, IfOk, IfSome, OnErr, IfErr, reverse};
+ghost use Rattle.std.specs.Prelude.{◌≡◌, ◌≢◌, ◌∷◌, [], ◌≤◌, ◌<◌, length, suc, IsTrue, IsFalse, IfOk, IfSome, OnErr, IfErr, reverse};
 ghost use Rattle.node_machine.specs.Story.{is_possible};
 ghost use Rattle.node_machine.specs.OutcomeTable.{HasPossibleOutcomes};
 ghost use Rattle.run_plan.specs.Plan.{count_of};
 ghost use Rattle.sched_core.specs.Run.{is_among};
-ghost use Rattle.job_starter.specs.Calls.{running, Rises, TellsNoMore};
+ghost use Rattle.job_starter.specs.Calls.{running, Rises, MayRun, TellsNoMore};
 ghost use Rattle.job_starter.specs.Causes.{IsStartFault, IsWaitFault};
 ghost use Rattle.job_starter.specs.Scripts.{scripted_outcome, IsScripted};
 
@@ -41,6 +41,17 @@ pub struct ScriptedStarter<'a> {
     waits: u64,
     faults: u64,
     ghost possible: { HasPossibleOutcomes table.now },
+}
+
+/// What comes of the start of a child that ends so.
+fn answer_for(outcome: Outcome) -> Started
+    ensures not_started { result ≡ Started.NotStarted → outcome ≡ Outcome.NoStart }
+    ensures runs { result ≡ Started.Running → outcome ≢ Outcome.NoStart }
+{
+    match outcome {
+        Outcome::NoStart => Started::NotStarted,
+        _ => Started::Running,
+    }
 }
 
 impl<'a> ScriptedStarter<'a> {
@@ -108,10 +119,7 @@ impl<'a> Starter for ScriptedStarter<'a> {
         if self.log.make_room().is_err() {
             return Err(no_memory(&mut self.faults));
         }
-        let answer = match self.outcome_of(&key) {
-            Outcome::NoStart => Started::NotStarted,
-            _ => Started::Running,
-        };
+        let answer = answer_for(self.outcome_of(&key));
         self.log.started(key, command, answer);
         Ok(answer)
     }

@@ -5,7 +5,7 @@ ghost use Rattle.node_machine.specs.declared.Key.{Key};
 ghost use Rattle.node_machine.specs.declared.Outcome.{Outcome};
 ghost use Rattle.sched_core.specs.Run.{is_among};
 ghost use Rattle.job_starter.specs.declared.Call.{Call};
-ghost use Rattle.job_starter.specs.Calls.{running, snapshot_of, TellsNoMore};
+ghost use Rattle.job_starter.specs.Calls.{running, snapshot_of, MayRun, TellsNoMore};
 ghost use Rattle.job_starter.specs.Causes.{IsStartFault, IsAskFault, IsWaitFault};
 
 use crate::{Call, Killed, StartFault, Started};
@@ -38,6 +38,8 @@ pub trait Starter {
             (λ answer. told self.new ≡ Call.Started key (snapshot_of command.now) answer ∷ told self.old) }
         ensures not_started { IfOk result (λ answer.
             answer ≡ Started.NotStarted → may_tell self.old (told self.old) key Outcome.NoStart) }
+        ensures runs { IfOk result (λ answer.
+            answer ≡ Started.Running → MayRun (may_tell self.old) (told self.old) key) }
         ensures refused { OnErr result (told self.new ≡ told self.old) }
         ensures err { IfErr result (IsStartFault (faults self.old) (faults self.new)) }
         ensures later { faults self.old ≤ faults self.new }
@@ -103,6 +105,8 @@ pub trait System {
             (λ answer. told self.new ≡ Call.Started key (snapshot_of command.now) answer ∷ told self.old) }
         ensures not_started { IfOk result (λ answer.
             answer ≡ Started.NotStarted → may_tell self.old (told self.old) key Outcome.NoStart) }
+        ensures runs { IfOk result (λ answer.
+            answer ≡ Started.Running → MayRun (may_tell self.old) (told self.old) key) }
         ensures refused { OnErr result (told self.new ≡ told self.old) }
         ensures err { IfErr result (IsStartFault (faults self.old) (faults self.new)) }
         ensures later { faults self.old ≤ faults self.new }

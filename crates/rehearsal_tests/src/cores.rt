@@ -32,16 +32,16 @@ fn told(rt: &impl Abort, alloc: Global, plan: &Plan) -> Result<(), Fail> {
     let Ok(table) = read_table(alloc, b"B 0 JOB 1\nB 1 JOB 2\n") else {
         panic!(rt; "no table");
     };
-    let Ok(core) = run_table(alloc, plan, &table, NO_LIMITS) else {
+    let Ok(run) = run_table(alloc, plan, &table, NO_LIMITS) else {
         panic!(rt; "no run");
     };
-    let Ok(history) = core.history(alloc, 1) else {
+    let Ok(history) = run.core().history(alloc, 1) else {
         panic!(rt; "no history");
     };
     assert_eq!(rt; history.len(), 2);
     assert!(rt; history[1].attempt == 1 && history[1].phase == Phase::Job);
     assert!(rt; history[1].outcome == Outcome::Exit(2));
-    let Ok(marks) = core.marks(alloc) else {
+    let Ok(marks) = run.core().marks(alloc) else {
         panic!(rt; "no marks");
     };
     assert_eq!(rt; marks.as_slice(), [true, false, false].as_slice());

@@ -21,11 +21,11 @@ const ONE_JOB: Limits = Limits {
 
 /// The nodes of the launches in their order, as a text of their numbers.
 fn launches(rt: &impl Abort, alloc: Global, plan: &Plan, limits: Limits) -> Result<String, Fail> {
-    let Ok(core) = run_table(alloc, plan, &Table::empty(alloc), limits) else {
+    let Ok(run) = run_table(alloc, plan, &Table::empty(alloc), limits) else {
         panic!(rt; "no run");
     };
     let mut text = String::new(alloc);
-    for entry in core.records() {
+    for entry in run.core().records() {
         match entry {
             Record::Launch(
                 Key {
@@ -62,13 +62,26 @@ fn priorities(rt: HostRuntime) -> Result<(), Fail> {
     Ok(())
 }
 
-/// A category of one job at a time holds B and C apart, and A runs beside them; a job of a NOOP counts.
+/// A category of one job at a time holds B and C apart, and A runs beside them.
 #[test]
 fn categories(rt: HostRuntime) -> Result<(), Fail> {
-    let text = "JOB A a\nJOB B b NOOP\nJOB C c\nCATEGORY B k\nCATEGORY C k\nMAXJOBS k 1\n";
+    let text = "JOB A a\nJOB B b\nJOB C c\nCATEGORY B k\nCATEGORY C k\nMAXJOBS k 1\n";
     let plan = plan_of(rt.alloc(), text)?;
     let all = launches(&rt, rt.alloc(), &plan, NO_LIMITS)?;
     assert_eq!(rt; all.as_str(), "0 1 (0) (1) 2 (2) ");
+    drop(plan);
+    Ok(())
+}
+
+/// The job of a NOOP ends at once, before anything else is launched; the limit on jobs holds it too.
+#[test]
+fn noops(rt: HostRuntime) -> Result<(), Fail> {
+    let text = "JOB A a\nJOB B b NOOP\nJOB C c\n";
+    let plan = plan_of(rt.alloc(), text)?;
+    let all = launches(&rt, rt.alloc(), &plan, NO_LIMITS)?;
+    assert_eq!(rt; all.as_str(), "0 1 (1) 2 (0) (2) ");
+    let one = launches(&rt, rt.alloc(), &plan, ONE_JOB)?;
+    assert_eq!(rt; one.as_str(), "0 (0) 1 (1) 2 (2) ");
     drop(plan);
     Ok(())
 }

@@ -24,7 +24,7 @@ use Rattle.event_journal.specs.Image.{Header}
 use Rattle.event_journal.proofs.Moments as moments
 use Rattle.recovery.specs.Managed.{ReadsBeforeOrAfter}
 use Rattle.job_starter.proofs.Handing.{drives-adds, halted-adds}
-use Rattle.run_leader.specs.Led.{GoOnFrom, IsLed}
+use Rattle.run_leader.specs.Led.{GoOnFrom, IsLed, DrivesToEnd}
 
 aborted-after : (plan : Plan) (past : List Record) (status : ℕ) → is_aborted plan (Finish status ∷ past) ≡ is_aborted plan past
 unfolding is_aborted
@@ -66,6 +66,19 @@ led-by limits plan plan0 plan1 plan2 own same last begun between records text st
     (subst (λ (p : Plan). is_aborted p between ≡ false → AreFates p (table_of records) (shown p records)) here fates)
     (subst (λ (p : Plan). text ≡ run_text p records status) (last ∙ here) prints)
     (subst (λ (p : Plan). status ≡ exit_status p between) (sym own) chosen.2)
+
+-- the steps of a run and its end, in the plans of the manager at each call
+pub to-end : (limits : Limits) (plan plan' : Plan) → plan' ≡ plan → (may : List Call → Key → Outcome → Type 0)
+    (past between records : List Record) (told heard : List Call) (status : ℕ)
+    → Drives limits plan may past told between heard → IsChoice limits plan between (choices.Finish status)
+    → records ≡ Finish (exit_status plan' between) ∷ between → DrivesToEnd limits plan may past told records heard
+to-end limits plan plan' same may past between records told heard status steps chosen is = record {
+  between = between;
+  status = status;
+  steps = steps;
+  chosen = chosen;
+  ended = is ∙ ap (λ (p : Plan). Finish (exit_status p between) ∷ between) same ∙ ap (λ (n : ℕ). Finish n ∷ between) (sym chosen.2);
+}
 
 pub stopped-adds : (limits : Limits) (plan : Plan) (may : List Call → Key → Outcome → Type 0) (past : List Record) (told : List Call) (after : List Record) (last : List Call)
     → IsStopped limits plan may past told after last → GoOnFrom past after

@@ -1,10 +1,18 @@
 -- A run that is led to its end.
-use Rattle.std.specs.Prelude.{◌≡◌, ℕ, List, ◌++◌, IsTrue, IsFalse}
+use Rattle.std.specs.Prelude.{◌≡◌, ℕ, List, ◌∷◌, ◌++◌, IsTrue, IsFalse}
 use Rattle.run_plan.specs.Plan.{Plan}
 use Rattle.sched_core.specs.declared.Record.{Record}
 use Rattle.sched_core.specs.Run.{is_finished, is_aborted, exit_status, table_of}
 use Rattle.sched_core.specs.Fate.{AreFates, shown}
 use Rattle.status_report.specs.Text.{run_text}
+use Rattle.node_machine.specs.declared.Key.{Key}
+use Rattle.node_machine.specs.declared.Outcome.{Outcome}
+use Rattle.throttles.specs.declared.Limits.{Limits}
+use Rattle.sched_core.specs.declared.Record.TheVariants.{Finish}
+use Rattle.sched_core.specs.declared.Choice.TheVariants as choices
+use Rattle.sched_core.specs.Core.{IsChoice}
+use Rattle.job_starter.specs.declared.Call.{Call}
+use Rattle.job_starter.specs.Drives.{Drives}
 
 -- the records went on from these
 abbrev pub GoOnFrom : List Record → List Record → Type 0
@@ -19,3 +27,11 @@ pub record IsLed (plan : Plan) (begun records : List Record) (text : List ℕ) (
   pub fates : IsFalse (is_aborted plan records) → AreFates plan (table_of records) (shown plan records)
   pub text_is : text ≡ run_text plan records status
   pub status_is : status ≡ exit_status plan records
+
+-- One step of a run behind another, until what is to be done next is to finish; and then its end, with that verdict.
+pub record DrivesToEnd (limits : Limits) (plan : Plan) (may : List Call → Key → Outcome → Type 0) (past : List Record) (told : List Call) (records : List Record) (heard : List Call) : Type 0 where
+  pub between : List Record
+  pub status : ℕ
+  pub steps : Drives limits plan may past told between heard
+  pub chosen : IsChoice limits plan between (choices.Finish status)
+  pub ended : records ≡ Finish status ∷ between

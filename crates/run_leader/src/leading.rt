@@ -8,7 +8,7 @@ ghost use Rattle.job_starter.specs.Drives.{AreInStep, limits_of};
 ghost use Rattle.job_starter.specs.Calls.{running};
 ghost use Rattle.job_starter.specs.Handed.{HandsAll, HandsAllButOne};
 ghost use Rattle.job_starter.specs.Moments.{AtAnyMoment, IsMomentOfRun, StaysAcknowledged};
-ghost use Rattle.run_leader.specs.Led.{GoOnFrom, IsLed};
+ghost use Rattle.run_leader.specs.Led.{GoOnFrom, IsLed, DrivesToEnd};
 
 use event_journal::Disk;
 use job_starter::{DriveFault, Starter, drive};
@@ -63,6 +63,10 @@ pub fn lead<D: Disk + Drop, R: Disk + Drop, S: Starter>(
     requires unfinished { IsFalse (is_over (past_of manager.old)) }
     ensures led { IfOk result (λ led.
         IsLed plan.now (past_of manager.old) (past_of manager.new) (string_bytes led.text) led.status) }
+    // What was recorded and handed over, one step behind another, and then the end.
+    ensures steps { OnOk result (DrivesToEnd (limits_of manager.old) (plan_of manager.old)
+        (S.may_tell starter.old) (past_of manager.old) (S.told starter.old)
+        (past_of manager.new) (S.told starter.new)) }
     // Behind a fault too the records went on, and no child runs; the commands of the own launches were
     // handed over once each and in their order, behind a fault perhaps but the last.
     ensures plan { plan_of manager.new ≡ plan_of manager.old }

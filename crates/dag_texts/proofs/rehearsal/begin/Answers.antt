@@ -1,8 +1,7 @@
-use Rattle.std.proofs.Common.{not, ap, List}
-use Rattle.sched_core.specs.declared.Record.{Record}
-use Rattle.sched_core.specs.Run.{may_follow, is_over}
+use Rattle.std.proofs.Common.{ap}
+use Rattle.event_journal.specs.Image.{replay_of}
 use Rattle.dag_texts.proofs.rehearsal.begin.Goals as goal
 
-pub add-requires : goal.add-requires
-unfolding may_follow
-add-requires c = ap (λ (past : List Record). not (is_over past)) c.in_ok-core.ensures.ok.2
+pub begin-requires-clause-fresh : goal.begin-requires-clause-fresh
+unfolding replay_of
+begin-requires-clause-fresh c = λ honest. ap replay_of c.new-journal.ensures.bytes

@@ -1,18 +1,21 @@
-use Rattle.std.proofs.Common.{◌∙◌, ap, subst}
-use Rattle.throttles.specs.declared.Limits.{Limits}
-use Rattle.sched_core.specs.Core.{GoesByChoice}
+use Rattle.std.proofs.Common.{◌++◌, ◌∙◌, ap, refl, string_bytes}
 use Rattle.run_plan.specs.Plan.{Plan}
-use Rattle.sched_core.specs.Run.{exit_status}
-use Rattle.dag_texts.specs.Report.{report_of}
+use Rattle.sched_core.specs.Core.{Progress}
+use Rattle.recovery.specs.Managed.{past_of}
+use Rattle.dag_texts.specs.Report.{rescue_part}
+use Rattle.dag_texts.proofs.RescueParts.{whole-report}
 use Rattle.dag_texts.proofs.report.rehearse_plan.Goals as goal
 
 pub returns-clause-run : goal.returns-clause-run
 returns-clause-run c =
-    let run = c.in-Ok.ensures.run.0 in (
-      c.in-Ok.core.past,
-      run.finished,
-      subst (λ (l : Limits). GoesByChoice l c.args.plan.now c.in-Ok.core.past) c.in-Ok.ensures.run.1 run.chosen,
-      run.outcomes,
-      c.in_ok-report_of.ensures.ok ∙ ap (λ (p : Plan). report_of p c.in-Ok.core.past c.verdict-status.result) run.plan_is,
-      c.verdict-status.ensures ∙ ap (λ (p : Plan). exit_status p c.in-Ok.core.past) run.plan_is,
-    )
+    let run = c.in_ok-manager.field-0 in
+    let past = past_of run.manager in
+    let printed = string_bytes run.text in
+    record {
+      past = past;
+      run = c.in_ok-manager.ensures.run;
+      text_is = whole-report c.args.plan.now past run.status printed (rescue_part c.args.plan.now past) _ c.in_ok-manager.ensures.text refl
+          (c.in_ok-with_rescue.ensures.ok ∙ ap (λ (p : Progress). printed ++ rescue_part p.plan p.past) c.core.ensures.lends
+          ∙ ap (λ (p : Plan). printed ++ rescue_part p past) c.in_ok-manager.ensures.plan);
+      status_is = c.in_ok-manager.ensures.status;
+    }

@@ -31,7 +31,7 @@ pub returns-in-Ok-Running-clause-step : goal.returns-in-Ok-Running-clause-step
 returns-in-Ok-Running-clause-step g c =
     let starts : c.starts_child.result ≡ true = search rules in
     step-starts _ _ _ _ _ c.args.key c.requires.chosen _ c.record_launch.ensures.plan _ c.in_default.ensures.past _ c.in-Ok-Running.field-0
-    c.in-Ok-Running.field-0-is c.requires.in_step (sym c.starts_child.ensures ∙ starts)
+    c.in-Ok-Running.field-0-is c.requires.in_step (sym c.starts_child.ensures ∙ starts) (c.in-Ok-Running.ensures.may_run c.in-Ok-Running.field-0-is)
     c.in-Ok-Running.ensures.handed
 
 pub returns-in-Ok-NotStarted-clause-step : goal.returns-in-Ok-NotStarted-clause-step

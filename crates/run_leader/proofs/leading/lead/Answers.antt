@@ -10,7 +10,7 @@ use Rattle.job_starter.proofs.Handing.{driven, stopped, drives-adds}
 use Rattle.job_starter.proofs.Images.{one_call}
 use Rattle.job_starter.specs.Handed.{HandsAllButOne}
 use Rattle.run_leader.specs.Led.{GoOnFrom}
-use Rattle.run_leader.proofs.Ends.{led-by, stopped-adds, finished-adds, finished-hands, all-but-one, then_end}
+use Rattle.run_leader.proofs.Ends.{led-by, stopped-adds, finished-adds, finished-hands, all-but-one, then_end, to-end}
 use Rattle.run_leader.proofs.leading.lead.Goals as goal
 
 pub returns-in-Ok-run_text-clause-led : goal.returns-in-Ok-run_text-clause-led
@@ -101,3 +101,9 @@ returns-in-Err-run_text-clause-any_moment g c = λ honest header was.
     (one_call g.D.Disk.honest g.D.Disk.seen g.D.Disk.may_leave g.D.Disk.moment g.D.Disk.left_since g.met.D.Disk.only_now
     c.drive.new.manager c.finish.new.self _ c.in-Ok-finish.ensures.any_moment c.in-Ok-finish.ensures.broken (c.in-Ok.ensures.disk.keeps honest) header
     (c.in-Ok.ensures.acknowledged honest header was))
+
+pub returns-in-Ok-run_text-clause-steps : goal.returns-in-Ok-run_text-clause-steps
+returns-in-Ok-run_text-clause-steps g c =
+    to-end (limits_of c.args.manager.now) (plan_of c.args.manager.now) (plan_of c.drive.new.manager) c.in-Ok.ensures.plan (g.S.Starter.may_tell c.args.starter.now)
+    (past_of c.args.manager.now) (past_of c.drive.new.manager) (past_of c.finish.new.self) (g.S.Starter.told c.args.starter.now) (g.S.Starter.told c.drive.new.starter)
+    c.in-Ok.end.verdict c.in-Ok.ensures.steps c.in-Ok.ensures.over c.in-Ok-finish.ensures.past
