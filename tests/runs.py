@@ -52,7 +52,11 @@ class Folder:
             self.write(name + ".sub", f"executable = /bin/echo\narguments = {name}\noutput = {name}.out\nqueue\n")
 
     def start(self, *words):
-        return subprocess.Popen([self.program, *words], cwd=self.path, stdout=subprocess.PIPE, stderr=subprocess.PIPE)
+        # A shell starts what it puts into the background so that it ignores SIGINT, and so would all that is started from there.
+        return subprocess.Popen(
+            [self.program, *words], cwd=self.path, stdout=subprocess.PIPE, stderr=subprocess.PIPE,
+            preexec_fn=lambda: signal.signal(signal.SIGINT, signal.SIG_DFL),
+        )
 
     def call(self, *words):
         """What the program prints, what it tells, and its exit status."""
@@ -359,6 +363,52 @@ def an_orphan_holds_no_lock(folder):
     first.communicate(timeout=30)
 
 
+def limits_of_a_call(folder):
+    """How many jobs, PRE and POST scripts run at once, by the words of the call: 0 is no limit."""
+    names = [f"n{number}" for number in range(6)]
+    lines = [f"JOB {name} job.sub\nSCRIPT PRE {name} count.sh pre {name}\nSCRIPT POST {name} count.sh post {name}\n" for name in names]
+    folder.write("x.dag", "".join(lines) + "".join(f'VARS {name} me="{name}"\n' for name in names))
+    folder.write("job.sub", "executable = count.sh\narguments = job $(me)\nqueue\n")
+    folder.write("count.sh", '#!/bin/sh\n: > on.$1.$2\nls -d on.$1.* | wc -l >> most.$1\nsleep 0.2\nrm on.$1.$2\n')
+    os.chmod(folder.at("count.sh"), 0o755)
+    report = "".join(f"{name} DONE attempts=1 value=0\n" for name in names) + "result 0\n"
+    for words, most in (
+        (("x.dag",), (6, 6, 6)),
+        (("--maxjobs", "3", "x.dag", "--maxpre=0"), (6, 3, 6)),
+        (("x.dag", "--maxpost=1", "--maxpre", "+2"), (2, 6, 1)),
+        (("x.dag", "--maxjobs=65535"), (6, 6, 6)),
+    ):
+        same(folder.call("run", *words), (report, "", 0))
+        found = [max(int(line) for line in folder.read(f"most.{kind}").split()) for kind in ("pre", "job", "post")]
+        # Side by side children may miss one another on a busy machine; what a limit holds back never runs.
+        for at_once, limit in zip(found, most):
+            same((at_once <= limit, limit == 6 or at_once == limit), (True, True))
+        for kind in ("pre", "job", "post"):
+            os.remove(folder.at(f"most.{kind}"))
+
+
+def words_that_are_no_request(folder):
+    folder.write("x.dag", "JOB A a.sub\n")
+    folder.echo("a")
+    for words in (
+        ("check", "x.dag", "table"),
+        ("rehearse",),
+        ("--help",),
+        ("fly", "x.dag"),
+        ("rehearse", "x.dag", "--maxjobs", "65536"),
+        ("rehearse", "x.dag", "--maxpre=-1"),
+        ("rehearse", "x.dag", "--maxjobs=1", "--maxjobs=1"),
+        ("check", "x.dag", "--maxjobs", "1"),
+        ("run", "x.dag", "--autorescue", "2"),
+        ("status",),
+    ):
+        report, told, status = folder.call(*words)
+        same((words, report, told != "", status), (words, "", True, 125))
+    for words in (("x.dag",), ("--maxjobs", "3", "x.dag", "--maxpre=0"), ("x.dag", "--maxpost=65535", "--maxpre", "+2")):
+        same(folder.call("rehearse", *words), ("A DONE attempts=1 value=0\nresult 0\n", "", 0))
+    same(sorted(os.listdir(folder.path)), ["a.sub", "x.dag"])
+
+
 def in_another_folder(folder):
     """The files beside a DAG file stand in its folder, submit files and jobs in the folder of the call."""
     os.mkdir(folder.at("dags"))
@@ -436,6 +486,8 @@ ROWS = [
     stopped_by_sigterm,
     stopped_by_sigint,
     an_orphan_holds_no_lock,
+    limits_of_a_call,
+    words_that_are_no_request,
     in_another_folder,
     the_example,
 ]

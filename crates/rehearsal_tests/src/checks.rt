@@ -1,7 +1,7 @@
 //! What `check` answers.
 
 use crate::NO_LIMITS;
-use dag_main::{check_text, rehearse_text};
+use dag_texts::{check_text, rehearse_text};
 use splices::FileSet;
 use std::alloc::Global;
 use std::test::Fail;

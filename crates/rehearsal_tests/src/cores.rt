@@ -2,7 +2,7 @@
 
 use crate::NO_LIMITS;
 use dag_graph::Graph;
-use dag_main::run_table;
+use dag_texts::run_table;
 use node_machine::{Outcome, Phase, read_table};
 use run_plan::{Plan, PlanFault};
 use splices::{FileSet, open_dag};

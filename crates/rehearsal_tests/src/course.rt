@@ -3,7 +3,7 @@
 use crate::NO_LIMITS;
 use crate::cores::plan_of;
 use dag_graph::Graph;
-use dag_main::run_table;
+use dag_texts::run_table;
 use node_machine::{Key, Phase, Table, read_table};
 use ready_queue::{Member, QueueFault, ReadyQueue};
 use run_plan::Plan;
