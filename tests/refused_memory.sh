@@ -1,7 +1,7 @@
 #!/usr/bin/env bash
 # Refuses each allocation in turn, the first, the second, .. until none is refused.
-# - Of a rehearsal, and of a check with submit files: each time the program either says on standard error that memory is out,
-#   prints nothing on standard output and ends with status 125, or gives its answer.
+# - Of a rehearsal, of a check with submit files, and of an audit with a rescue file: each time the program either says on
+#   standard error that memory is out, prints nothing on standard output and ends with status 125, or gives its answer.
 # - Of a writer of a journal: each time it says so and ends with another status than 0, or it appends its records; and then the
 #   journal, opened with ample memory, holds each record that was acknowledged.
 # usage: refused_memory.sh DAGRUN WRITER
@@ -13,12 +13,21 @@ work=$(mktemp -d)
 trap 'rm -rf "$work"' EXIT
 cc -shared -fPIC -O1 -o "$work/refuse.so" "$top/tests/refuse_memory.c" -ldl || exit 1
 report=$(cat "$top/examples/diamond_one_fails.expected")
+from=$top/examples
 
-# answer PLACE STATUS EXPECTED WORDS..: whether it went well; sets refused to 1 where the allocation of that place was refused
+# A finished run that read a rescue file; nothing is started.
+mkdir "$work/run"
+printf 'JOB A a.sub NOOP\nJOB B b.sub NOOP\nPARENT A CHILD B\n' >"$work/run/x.dag"
+printf 'DONE A\n' >"$work/run/x.dag.rescue001"
+(cd "$work/run" && "$program" run x.dag) >/dev/null || exit 1
+audited=$'A DONE attempts=0 value=-\nB DONE attempts=1 value=0\naudit ok'
+
+# answer PLACE STATUS EXPECTED WORDS..: whether it went well, called in the folder $from; sets refused to 1 where the allocation
+# of that place was refused
 answer() {
     local place=$1 wanted=$2 expected=$3 output status
     shift 3
-    cd "$top/examples" || return 1
+    cd "$from" || return 1
     output=$(REFUSE_AT=$place LD_PRELOAD="$work/refuse.so" "$program" "$@" 2>"$work/error")
     status=$?
     refused=0
@@ -33,6 +42,10 @@ rehearse() {
 
 check() {
     answer "$1" 0 'ok nodes=2 edges=1 final=no' check message.dag
+}
+
+audit() {
+    from=$work/run answer "$1" 0 "$audited" audit x.dag
 }
 
 # append PLACE: the same of a writer that appends eight records
@@ -70,4 +83,4 @@ each() {
     return 1
 }
 
-each rehearse && each check && each append
+each rehearse && each check && each audit && each append
