@@ -3,7 +3,8 @@
 The graph has 200 short jobs, 20 rows of 10, each row above the next; each job appends a line to a file of its own, and one of
 them fails. After each kill the children that the manager left are waited for, and the journal is read: its records are those
 that were there before, and perhaps more; no phase has two ends or is launched behind its end; a job whose end was recorded has
-not run since. In the end the report, the exit status and the rescue file are those of a run that is not killed."""
+not run since. In the end the report, the exit status and the rescue file are those of a run that is not killed,
+and the audit of the journal says the same of each node."""
 import ctypes
 import os
 import random
@@ -107,6 +108,9 @@ def one_round(program, folder, longest):
         if status is not None:
             if len(set(ended_in(records))) != len(ended_in(records)):
                 sys.exit("an end is recorded twice")
+            audit = subprocess.run([program, "audit", "x.dag"], cwd=folder, capture_output=True, text=True)
+            if (audit.stdout, audit.returncode) != (text.replace(f"result {status}\n", "audit ok\n"), 0):
+                sys.exit(f"another audit: {audit.stdout}{audit.stderr}")
             return (text, status, rescue_in(folder)), kills
 
 

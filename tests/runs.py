@@ -9,6 +9,7 @@ import os
 import re
 import shutil
 import signal
+import struct
 import subprocess
 import sys
 import tempfile
@@ -81,6 +82,31 @@ class Folder:
                 return
             time.sleep(0.01)
         raise AssertionError(f"there are no {count} records after ten seconds")
+
+
+def slot(kind, phase=0, outcome=0, node=0, attempt=0, value=0, number=0):
+    """A record of a journal, with an open gate: docs/JOURNAL.md, "The bytes"."""
+    return struct.pack(">BBBBIIiQQ", 0x4F, kind, phase, outcome, node, attempt, value, number, 0)
+
+
+LIFE = slot(1)
+
+
+def launched(node, number):
+    """The launch of a node's job, in its first attempt."""
+    return slot(2, phase=2, node=node, number=number)
+
+
+def exited(node, code):
+    return slot(3, phase=2, outcome=1, node=node, value=code)
+
+
+def finished(status):
+    return slot(4, value=status)
+
+
+def changed(journal, place, byte):
+    return journal[:place] + bytes([byte]) + journal[place + 1 :]
 
 
 def same(found, wanted):
@@ -310,6 +336,144 @@ def a_foreign_record(folder):
     refused(folder, ("status", "x.dag"), "M2 Foreign 2")
 
 
+def audited(folder, answer):
+    """What `audit` prints, and its status."""
+    same(folder.call("audit", "x.dag"), (answer + "\n", "", 0 if answer.endswith("audit ok") else 1))
+
+
+NODES_DONE = ALL_DONE.replace("result 0\n", "")
+
+
+def audit_of_a_diamond(folder):
+    folder.write("x.dag", DIAMOND)
+    folder.echo(*"abcd")
+    audited(folder, "audit no F1 NotAJournal")
+    same(folder.there("x.dag.journal"), False)
+    folder.call("run", "x.dag")
+    audited(folder, NODES_DONE + "audit ok")
+
+
+def audit_of_two_crashes(folder):
+    """A crash once the launch of B is recorded, and one once its end is; A to D are nodes 0 to 3."""
+    folder.write("x.dag", DIAMOND)
+    folder.echo(*"abcd")
+    folder.call("run", "x.dag")
+    header = folder.read("x.dag.journal")[:HEADER]
+    first = [LIFE, launched(0, 1), exited(0, 0), launched(1, 2)]
+    second = [LIFE, launched(1, 3), launched(2, 4), exited(1, 0)]
+    third = [LIFE, launched(2, 5), exited(2, 0), launched(3, 6), exited(3, 0), finished(0)]
+    records = first + second + third
+    same(len(records), 14)
+    folder.write("x.dag.journal", header + b"".join(records) + b"\0")
+    audited(folder, NODES_DONE + "audit ok")
+    same(folder.call("status", "x.dag"), (NODES_DONE, "", 0))
+    for count in (0, 4, 8, 13):
+        folder.write("x.dag.journal", header + b"".join(records[:count]) + b"\0")
+        audited(folder, "audit no F3 Unfinished")
+    # The same records, of which one may not follow: B is launched while it runs, or Finish comes too early.
+    folder.write("x.dag.journal", header + b"".join(first + [launched(1, 3)]) + b"\0")
+    audited(folder, "audit no F2 NotARun 4")
+    folder.write("x.dag.journal", header + b"".join(first + [finished(0)]) + b"\0")
+    audited(folder, "audit no F2 NotARun 4")
+
+
+def audit_of_a_failing_job(folder):
+    folder.write("x.dag", "JOB A a.sub\nRETRY A 0\n")
+    folder.shell("a", "exit 1\n")
+    same(folder.call("run", "x.dag"), ("A ERROR attempts=1 value=1\nresult 1\n", "", 1))
+    audited(folder, "A ERROR attempts=1 value=1\naudit ok")
+    journal = folder.read("x.dag.journal")
+    same(journal[HEADER:], LIFE + launched(0, 1) + exited(0, 1) + finished(1) + b"\0")
+    rows = [
+        # Another version, other inputs, a header that is not whole, or none.
+        (changed(journal, 1, 7), "F1 NotAJournal"),
+        (changed(journal, 8, journal[8] ^ 1), "F1 NotAJournal"),
+        (changed(journal, 40, 1), "F1 NotAJournal"),
+        (journal[:10], "F1 NotAJournal"),
+        (b"\0" * 100, "F1 NotAJournal"),
+        (b"J", "F1 NotAJournal"),
+        (b"", "F1 NotAJournal"),
+        # The launch of attempt 5; a launch with a value, which no record has.
+        (changed(journal, HEADER + SLOT + 11, 5), "F2 NotARun 1"),
+        (changed(journal, HEADER + SLOT + 15, 1), "F1 NotAJournal"),
+        # A second Finish, and a status that is not the verdict.
+        (journal[: HEADER + SLOT * 4] + finished(1) + b"\0", "F2 NotARun 4"),
+        (journal[: HEADER + SLOT * 3] + finished(0) + b"\0", "F2 NotARun 3"),
+        # A slot whose gate is closed ends the records.
+        (changed(journal, HEADER + SLOT * 3, 0), "F3 Unfinished"),
+    ]
+    for bytes_there, answer in rows:
+        folder.write("x.dag.journal", bytes_there)
+        audited(folder, "audit no " + answer)
+
+
+def audit_of_an_abort(folder):
+    folder.write("x.dag", "JOB A a.sub NOOP\nJOB B b.sub NOOP\nJOB C c.sub\nABORT-DAG-ON A 0 RETURN 5\nDOT x.dot\n")
+    folder.echo("c")
+    warning = "warning: x.dag:5 ignored\n"
+    report = "A DONE attempts=1 value=0\nB READY attempts=0 value=-\nC READY attempts=0 value=-\nresult 5\n"
+    same(folder.call("run", "x.dag"), (report, warning, 5))
+    same(folder.call("audit", "x.dag"), ("audit no F5 Aborted\n", warning, 1))
+    # Without Finish the run is not finished; with the end of C, of which nothing is outstanding behind the abort, it is none.
+    journal = folder.read("x.dag.journal")
+    last = len(journal) - SLOT - 1
+    same(journal[last:], finished(5) + b"\0")
+    folder.write("x.dag.journal", journal[:last] + b"\0")
+    same(folder.call("audit", "x.dag"), ("audit no F3 Unfinished\n", warning, 1))
+    folder.write("x.dag.journal", journal[:last] + exited(2, 0) + b"\0")
+    same(folder.call("audit", "x.dag"), (f"audit no F2 NotARun {(last - HEADER) // SLOT}\n", warning, 1))
+
+
+def audit_of_a_failing_final(folder):
+    folder.write("x.dag", "JOB A a.sub\nRETRY A 1\nJOB B b.sub\nPARENT A CHILD B\nFINAL F f.sub\n")
+    folder.shell("a", "exit 2\n")
+    folder.echo("b")
+    folder.shell("f", "exit 3\n")
+    report = "A ERROR attempts=2 value=2\nB NOT_READY attempts=0 value=-\n"
+    same(folder.call("run", "x.dag"), (report + "F ERROR attempts=1 value=3\nresult 1\n", "", 1))
+    audited(folder, report + "audit ok")
+
+
+def audit_behind_a_rescue_file(folder):
+    folder.write("x.dag", DIAMOND)
+    folder.echo(*"abd")
+    folder.shell("c", "[ -e ok ] || exit 3\n")
+    folder.call("run", "x.dag")
+    report = "A DONE attempts=1 value=0\nB DONE attempts=1 value=0\nC ERROR attempts=1 value=3\nD NOT_READY attempts=0 value=-\n"
+    audited(folder, report + "audit ok")
+    folder.write("ok", "")
+    folder.call("run", "x.dag")
+    report = "A DONE attempts=0 value=-\nB DONE attempts=0 value=-\nC DONE attempts=1 value=0\nD DONE attempts=1 value=0\n"
+    audited(folder, report + "audit ok")
+    # The rescue file that the round read is one of its inputs.
+    rescue = folder.read("x.dag.rescue001")
+    folder.write("x.dag.rescue001", rescue + b"# a comment more\n")
+    audited(folder, "audit no F1 NotAJournal")
+    folder.write("x.dag.rescue001", rescue + b"DONE Q\n")
+    refused(folder, ("audit", "x.dag"), "E2 UnknownNode x.dag.rescue001:7")
+    os.remove(folder.at("x.dag.rescue001"))
+    audited(folder, "audit no F1 NotAJournal")
+    os.mkdir(folder.at("x.dag.rescue001"))
+    refused(folder, ("audit", "x.dag"), "X2 FileRefused x.dag.rescue001")
+
+
+def refusals_of_audit(folder):
+    folder.write("x.dag", "JOB A a.sub\n")
+    folder.echo("a")
+    folder.call("run", "x.dag")
+    journal = folder.read("x.dag.journal")
+    os.remove(folder.at("a.sub"))
+    refused(folder, ("audit", "x.dag"), "P1 MissingFile a.sub")
+    os.remove(folder.at("x.dag"))
+    refused(folder, ("audit", "x.dag"), "S1 MissingFile x.dag")
+    # A number that no rescue file has is told before the DAG is opened, and a journal that can't be read before that.
+    folder.write("x.dag.journal", journal[:4] + b"\x03\xe8" + journal[6:])
+    refused(folder, ("audit", "x.dag"), "E4 NotThere 1000")
+    os.remove(folder.at("x.dag.journal"))
+    os.mkdir(folder.at("x.dag.journal"))
+    refused(folder, ("audit", "x.dag"), "X2 FileRefused x.dag.journal")
+
+
 def a_second_manager(folder):
     folder.write("x.dag", "JOB A a.sub\n")
     folder.shell("a", ": > begun\nwhile [ ! -e go ]; do sleep 0.02; done\n")
@@ -319,6 +483,7 @@ def a_second_manager(folder):
     refused(folder, ("run", "x.dag"), "X2 FileRefused x.dag.lock")
     same(folder.read("x.dag.journal"), before)
     same(folder.call("status", "x.dag"), ("A SUBMITTED attempts=0 value=-\n", "", 0))
+    audited(folder, "audit no F3 Unfinished")
     folder.write("go", "")
     same(first.communicate(timeout=30), (b"A DONE attempts=1 value=0\nresult 0\n", b""))
 
@@ -482,6 +647,13 @@ ROWS = [
     numbers_that_no_file_has,
     lines_of_a_rescue_file,
     a_foreign_record,
+    audit_of_a_diamond,
+    audit_of_two_crashes,
+    audit_of_a_failing_job,
+    audit_of_an_abort,
+    audit_of_a_failing_final,
+    audit_behind_a_rescue_file,
+    refusals_of_audit,
     a_second_manager,
     stopped_by_sigterm,
     stopped_by_sigint,

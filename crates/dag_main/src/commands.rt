@@ -1,10 +1,10 @@
 //! The program's commands over the system's files and streams.
 
 use crate::beside::refused;
+use crate::by_journal::{audit_here, status_here};
 use crate::loading::{Reading, files_of};
 use crate::request::{Request, read_words};
 use crate::runs::{RunOptions, run_dag};
-use crate::status_here::status_here;
 use dag_texts::{Answer, RunFault, check_text, rehearse_text};
 use std::alloc::Global;
 use std::fs::File;
@@ -38,6 +38,7 @@ pub fn run<
     match read_words(rt.alloc(), words) {
         Ok(Request::Run { dag, options }) => finish(rt, run_here(rt, dag, &options)),
         Ok(Request::Status { dag }) => finish(rt, status(rt, dag)),
+        Ok(Request::Audit { dag }) => finish(rt, audit(rt, dag)),
         Ok(Request::Check { dag }) => finish(rt, check(rt, dag)),
         Ok(
             Request::Rehearse {
@@ -94,6 +95,11 @@ fn run_here<R: Files<File = File> + Processes + Clock + Env + AllocGlobal + Copy
 fn status<R: Files + Env + AllocGlobal>(rt: &R, dag: &str) -> Result<Answer, RunFault> {
     let folder = folder_now(rt)?;
     status_here(rt, folder.as_str(), dag)
+}
+
+fn audit<R: Files + Env + AllocGlobal>(rt: &R, dag: &str) -> Result<Answer, RunFault> {
+    let folder = folder_now(rt)?;
+    audit_here(rt, folder.as_str(), dag)
 }
 
 fn check<R: Files + Input + AllocGlobal>(rt: &R, dag: &str) -> Result<Answer, RunFault> {

@@ -3,14 +3,14 @@
 #![tactic(auto)]
 
 mod beside;
+mod by_journal;
 mod commands;
 mod loading;
 mod request;
 mod rounds;
 mod runs;
-mod status_here;
 
 pub use commands::run;
-pub use dag_texts::{Answer, RunFault, check_text, rehearse_text, run_table, status_of};
+pub use dag_texts::{Answer, RunFault, audit_of, check_text, rehearse_text, run_table, status_of};
 pub use request::{Request, read_words};
 pub use runs::{RunOptions, run_dag};

@@ -34,6 +34,11 @@ pub enum Request<'a> {
         dag: &'a str,
     },
 
+    /// `audit DAG`: the path of the DAG file.
+    Audit {
+        dag: &'a str,
+    },
+
     /// `rehearse DAG [OUTCOMES]`, and no words at all, which is `rehearse -`: the path of the DAG
     /// file, `-` for standard input, and that of the table of outcomes.
     Rehearse {
@@ -60,6 +65,12 @@ fn file_argument<'a>(alloc: Global) -> Arg<'a> {
 fn status_command<'a>(alloc: Global) -> Result<Command<'a>, AllocError> {
     Command::new(alloc, "status")
         .about("Says where each node of a run stands, by its journal")
+        .arg(file_argument(alloc))
+}
+
+fn audit_command<'a>(alloc: Global) -> Result<Command<'a>, AllocError> {
+    Command::new(alloc, "audit")
+        .about("Says whether a journal is that of a finished run, and what its nodes came to")
         .arg(file_argument(alloc))
 }
 
@@ -148,6 +159,7 @@ fn dagrun_command<'a>(alloc: Global) -> Result<Command<'a>, AllocError> {
         .disable_help_subcommand(true)
         .subcommand(run_command(alloc)?)?
         .subcommand(status_command(alloc)?)?
+        .subcommand(audit_command(alloc)?)?
         .subcommand(check_command(alloc)?)?
         .subcommand(rehearse_command(alloc)?)
 }
@@ -172,6 +184,9 @@ pub fn read_words<'a>(alloc: Global, words: &'a [&'a str]) -> Result<Request<'a>
             options: options_of(found),
         }),
         Some(("status", found)) => Ok(Request::Status {
+            dag: found.get_str("DAG").unwrap_or("-"),
+        }),
+        Some(("audit", found)) => Ok(Request::Audit {
             dag: found.get_str("DAG").unwrap_or("-"),
         }),
         Some(("check", found)) => Ok(Request::Check {

@@ -7,9 +7,9 @@ ghost use Rattle.dag_texts.specs.Planned.{IsPlanBy};
 ghost use Rattle.dag_main.specs.Runs.{IsPlannedRun, IsLedRun, IsRunOf, IsRoundPlanFault, IsStopFault, IsRunFault};
 
 use crate::beside::{Place, journal_path, rescue_path};
+use crate::by_journal::{bytes_of, named};
 use crate::loading::files_in;
 use crate::rounds::{Journaled, Round, disk_at, round_of, start_of};
-use crate::status_here::{bytes_of, named};
 use dag_graph::Graph;
 use dag_texts::{Answer, RunFault, graph_of, plan_by, warning_text};
 use job_starter::{DriveFault, LocalSystem, ProcessStarter};

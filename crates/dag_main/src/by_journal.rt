@@ -1,4 +1,4 @@
-//! The status of a run, by the files that stand beside its DAG file.
+//! What is told of a run by its journal, from the files that stand beside its DAG file.
 
 ghost use Rattle.std.specs.Prelude.{◌≡◌};
 ghost use Rattle.dag_texts.specs.Planned.{in_line, named_by};
@@ -6,7 +6,7 @@ ghost use Rattle.dag_texts.specs.Planned.{in_line, named_by};
 use crate::beside::{LAST_NUMBER, Place, journal_path, rescue_path};
 use crate::loading::files_in;
 use dag_reader::Text;
-use dag_texts::{Answer, RunFault, disk_of, status_of};
+use dag_texts::{Answer, RunFault, audit_of, disk_of, status_of};
 use event_journal::{Journal, JournalFault};
 use rescue_file::RescueFault;
 use run_plan::PlanFault;
@@ -67,30 +67,75 @@ fn in_line(fault: &RunFault) -> Option<RescueFault>
     }
 }
 
+/// What stands beside a DAG file of its last round: the journal, and the path and the bytes of the
+/// rescue file that the journal names.
+#[derive(Drop)]
+struct LastRound {
+    journal: Option<Vec<u8>>,
+    name: Option<Text>,
+    rescue: Option<Vec<u8>>,
+}
+
+/// The last round of a DAG file.
+///
+/// # Errors
+/// In this order: a journal that the system refuses to read, a number of a rescue file above 999 in
+/// its header, a rescue file that the system refuses to read. Where the header can't be read, no
+/// rescue file is.
+fn last_round<R: Files + AllocGlobal>(rt: &R, place: &Place<'_>) -> Result<LastRound, RunFault> {
+    let alloc = rt.alloc();
+    let journal = place.read(rt, journal_path(alloc, place.top)?.as_str())?;
+    let used = used_in(alloc, bytes_of(&journal))?;
+    let name = used_path(alloc, place.top, used)?;
+    let rescue = match &name {
+        Some(name) => place.read(rt, name.as_str())?,
+        None => None,
+    };
+    Ok(LastRound {
+        journal,
+        name,
+        rescue,
+    })
+}
+
+/// What a call answers, a fault in a line of the rescue file with its path.
+fn with_name(answer: Result<Answer, RunFault>, name: Option<Text>) -> Result<Answer, RunFault> {
+    match answer {
+        Ok(answer) => Ok(answer),
+        Err(fault) => Err(named(fault, name)),
+    }
+}
+
 /// The status of the DAG file of this path, seen from this folder, with its journal and the rescue
 /// file that the journal names.
 ///
 /// # Errors
-/// In this order: a journal that the system refuses to read, a number of a rescue file above 999 in
-/// its header, a rescue file that the system refuses to read; and then as `status_of`. Where the
-/// header can't be read, no rescue file is.
+/// As `last_round`, and then as `status_of`.
 pub(crate) fn status_here<R: Files + AllocGlobal>(
     rt: &R,
     folder: &str,
     top: &str,
 ) -> Result<Answer, RunFault> {
-    let alloc = rt.alloc();
-    let place = Place { folder, top };
-    let journal = place.read(rt, journal_path(alloc, top)?.as_str())?;
-    let used = used_in(alloc, bytes_of(&journal))?;
-    let name = used_path(alloc, top, used)?;
-    let rescue = match &name {
-        Some(name) => place.read(rt, name.as_str())?,
-        None => None,
-    };
+    let round = last_round(rt, &Place { folder, top })?;
     let files = files_in(rt, folder, top)?;
-    match status_of(alloc, &files, top, bytes_of(&rescue), bytes_of(&journal)) {
-        Ok(answer) => Ok(answer),
-        Err(fault) => Err(named(fault, name)),
-    }
+    let journal = bytes_of(&round.journal);
+    let answer = status_of(rt.alloc(), &files, top, bytes_of(&round.rescue), journal);
+    with_name(answer, round.name)
+}
+
+/// The audit of the DAG file of this path, seen from this folder, with its journal and the rescue
+/// file that the journal names.
+///
+/// # Errors
+/// As `last_round`, and then as `audit_of`.
+pub(crate) fn audit_here<R: Files + AllocGlobal>(
+    rt: &R,
+    folder: &str,
+    top: &str,
+) -> Result<Answer, RunFault> {
+    let round = last_round(rt, &Place { folder, top })?;
+    let files = files_in(rt, folder, top)?;
+    let journal = bytes_of(&round.journal);
+    let answer = audit_of(rt.alloc(), &files, top, bytes_of(&round.rescue), journal);
+    with_name(answer, round.name)
 }
