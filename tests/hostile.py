@@ -121,7 +121,7 @@ def journals_that_were_changed(folder):
     folder.shell("a", "exit 1\n")
     same(folder.call("run", "x.dag"), ("A ERROR attempts=1 value=1\nresult 1\n", "", 1))
     whole = folder.read("x.dag.journal")
-    # Its slots are those of the manual: Life, the launch and the end of A's job with 1, Finish with 1, and a closed gate.
+    # Its bytes are those of docs/JOURNAL.md: Life, the launch and the end of A's job with 1, Finish with 1, and a closed gate.
     slots = ["4f01", "4f0202" + "00" * 20 + "01", "4f030201" + "00" * 11 + "01", "4f04" + "00" * 13 + "01"]
     wanted = b"".join(bytes.fromhex(slot).ljust(SLOT, b"\0") for slot in slots) + b"\0"
     same([whole[:8].hex(), whole[40:HEADER], whole[HEADER:]], ["4a01000000000001", bytes(24), wanted])

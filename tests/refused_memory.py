@@ -30,7 +30,7 @@ def call(folder, library, place, *words):
 
 def is_refusal(answer):
     report, told, status = answer
-    return status == 125 and report == "" and re.fullmatch(r"dagrun: (X1 Memory|A1 StartMemory)\n|dagrun: [^\n]*out of memory[^\n]*\n", told)
+    return status == 125 and report == "" and re.fullmatch(r"dagrun: (X1 Memory|A1 StartMemory)\n", told)
 
 
 class Reading:
@@ -148,13 +148,10 @@ def main():
         call(second, library, 0, program, "run", "x.dag")
         each("run of a second round", step, Running(second, library, work, program))
         call(second, library, 0, program, "run", "x.dag")
-        for name in COMMANDS_OF_A_JOURNAL:
+        for name in ("status", "audit"):
             each(name, step, Reading(second, library, program, name, "x.dag"))
         each("writer", step, Writing(work, library, writer))
 
-
-# The commands that read a journal.
-COMMANDS_OF_A_JOURNAL = ("status",)
 
 if __name__ == "__main__":
     main()

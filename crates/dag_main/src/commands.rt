@@ -5,6 +5,8 @@ use crate::by_journal::{audit_here, status_here};
 use crate::loading::{Reading, files_of};
 use crate::request::{Request, read_words};
 use crate::runs::{RunOptions, run_dag};
+use clap::Error;
+use clap::error::ErrorKind;
 use dag_texts::{Answer, RunFault, check_text, rehearse_text};
 use std::alloc::Global;
 use std::fs::File;
@@ -47,11 +49,17 @@ pub fn run<
                 limits,
             },
         ) => finish(rt, rehearse(rt, dag, outcomes, limits)),
-        Err(error) => {
-            let _ = eprint!(rt; "{error}");
-            REFUSED
-        }
+        Err(error) => refuse_words(rt, &error),
     }
+}
+
+/// Tells why the words are no request: want of memory as everywhere, else by clap's text.
+fn refuse_words<R: Print + Eprint>(rt: &R, error: &Error) -> u8 {
+    if error.kind() == ErrorKind::OutOfMemory {
+        return finish(rt, Err(RunFault::Memory));
+    }
+    let _ = eprint!(rt; "{error}");
+    REFUSED
 }
 
 fn finish<R: Print + Eprint>(rt: &R, answer: Result<Answer, RunFault>) -> u8 {
