@@ -53,7 +53,7 @@ static TWO_CRASHES: [Record; 14] = [
     Record::Finish(0),
 ];
 
-fn table_of(rt: &impl Abort, alloc: Global, text: &[u8]) -> Table {
+pub fn table_of(rt: &impl Abort, alloc: Global, text: &[u8]) -> Table {
     let Ok(table) = read_table(alloc, text) else {
         panic!(rt; "no table");
     };
@@ -83,7 +83,7 @@ fn two_crashes(rt: HostRuntime) -> Result<(), Fail> {
     answer
 }
 
-static OUTCOMES: &[u8] =
+pub static OUTCOMES: &[u8] =
     b"B 0 JOB 1\nX 0 JOB 1\nX 1 JOB 1\nX 2 JOB 1\nY 0 JOB 2\nZ 0 JOB signal 6\n";
 
 // What each node shows at the end of a run whose lives stop after so many records each.
@@ -104,7 +104,7 @@ fn shown(rt: &impl Abort, alloc: Global, plan: &Plan, lives: &[u32]) -> Result<S
 }
 
 // How many records each life adds: without a crash, and with one to three.
-static LIVES: [&[u32]; 4] = [&[100], &[4, 100], &[3, 4, 100], &[1, 3, 4, 100]];
+pub static LIVES: [&[u32]; 4] = [&[100], &[4, 100], &[3, 4, 100], &[1, 3, 4, 100]];
 
 fn agree(rt: &impl Abort, alloc: Global, plan: &Plan, due: &str) -> Result<(), Fail> {
     for lives in LIVES {
