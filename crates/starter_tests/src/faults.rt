@@ -113,13 +113,7 @@ fn copied(alloc: Global, records: &[Record]) -> Result<Vec<Record>, Fail> {
     Ok(copy)
 }
 
-fn live(
-    alloc: Global,
-    disk: MemDisk,
-    plan: &Plan,
-    table: &Table,
-    stop: &Stop,
-) -> Result<Life, Fail>
+fn live(alloc: Global, disk: MemDisk, plan: &Plan, table: &Table, stop: &Stop) -> Result<Life, Fail>
     requires { HasPossibleOutcomes table.now }
 {
     let mut manager = match manager_on(alloc, FuseDisk::new(disk, stop.journal), plan) {
@@ -264,12 +258,7 @@ fn is_due(run: &Run, kind: Kind, count: u64) -> bool {
     }
 }
 
-fn stopped_everywhere(
-    rt: &impl Abort,
-    alloc: Global,
-    plan: &Plan,
-    run: &Run,
-) -> Result<(), Fail> {
+fn stopped_everywhere(rt: &impl Abort, alloc: Global, plan: &Plan, run: &Run) -> Result<(), Fail> {
     let Ok(table) = read_table(alloc, run.table.as_bytes()) else {
         panic!(rt; "no table");
     };
