@@ -1,5 +1,8 @@
 // Runs that are stopped, by a disk that fails or by a starter that refuses, and taken up again.
+ghost use Rattle.std.specs.Prelude.{◌≡◌, IfOk};
 ghost use Rattle.node_machine.specs.OutcomeTable.{HasPossibleOutcomes};
+ghost use Rattle.recovery.specs.Managed.{plan_of, past_of};
+ghost use Rattle.recovery.specs.Recovery.{IsNewLife};
 
 use crate::plans::{File, NO_LIMITS, plan_of};
 use event_journal::{Fuse, FuseDisk, Journal, MemDisk, Opened};
@@ -96,7 +99,10 @@ fn manager_on<'a>(
     alloc: Global,
     disk: FuseDisk<MemDisk>,
     plan: &'a Plan,
-) -> Result<Manager<'a, FuseDisk<MemDisk>>, (FuseDisk<MemDisk>, ManagerFault)> {
+) -> Result<Manager<'a, FuseDisk<MemDisk>>, (FuseDisk<MemDisk>, ManagerFault)>
+    ensures plan { IfOk result (λ manager. plan_of manager ≡ plan.now) }
+    ensures life { IfOk result (λ manager. IsNewLife (past_of manager)) }
+{
     let mut disk = disk;
     match Journal::peek(alloc, &mut disk) {
         Ok(None) => Manager::begin(alloc, disk, plan, 0, 1, SLOTS, NO_LIMITS),
@@ -221,9 +227,10 @@ const DIAMOND: &str = "JOB A a.sub\nJOB B b.sub\nJOB C c.sub\nJOB D d.sub\n\
 
 struct Run {
     table: &'static str,
-    // How many records a run without a stop has, how many children it starts, and how often the disk
-    // of its rescue file is called: cut, written and synced.
-    records: u64,
+    // How many calls of the journal's disk there are at least, four for a record and as many at its
+    // beginning, how many children are started, and how often the disk of the rescue file is called:
+    // cut, written and synced.
+    journal: u64,
     children: u64,
     rescue: u64,
     due: &'static str,
@@ -232,7 +239,7 @@ struct Run {
 static RUNS: [Run; 2] = [
     Run {
         table: "",
-        records: 10,
+        journal: 44,
         children: 4,
         rescue: 0,
         due: "A DONE attempts=1 value=0\nB DONE attempts=1 value=0\nC DONE attempts=1 value=0\n\
@@ -240,7 +247,7 @@ static RUNS: [Run; 2] = [
     },
     Run {
         table: "C 0 JOB 3\n",
-        records: 8,
+        journal: 36,
         children: 3,
         rescue: 3,
         due: "A DONE attempts=1 value=0\nB DONE attempts=1 value=0\nC ERROR attempts=1 value=3\n\
@@ -248,11 +255,10 @@ static RUNS: [Run; 2] = [
     },
 ];
 
-// Whether a kind stops a run at as many calls as it has: for each record the journal's disk is
-// written and synced twice, and so it is at its beginning, behind one sync at least.
+// Whether a kind stops a run at as many calls as it has.
 fn is_due(run: &Run, kind: Kind, count: u64) -> bool {
     match kind {
-        Kind::JournalOnce | Kind::JournalFromThere => count > 4 * (run.records + 1),
+        Kind::JournalOnce | Kind::JournalFromThere => count >= run.journal,
         Kind::RescueOnce | Kind::RescueFromThere => count == run.rescue,
         Kind::Start | Kind::Wait => count == run.children,
     }
