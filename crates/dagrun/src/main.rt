@@ -3,12 +3,17 @@
 
 use dag_main::run;
 use std::alloc::Global;
+use std::io::ErrorKind;
 use std::process::ExitCode;
 use std::{env, io};
 
 fn main(rt: HostRuntime) -> ExitCode {
     match run_words(&rt) {
         Ok(status) => ExitCode::from(status),
+        Err(error) if error.kind() == ErrorKind::OutOfMemory => {
+            let _ = eprintln!(&rt; "dagrun: X1 Memory");
+            ExitCode::from(125u8)
+        }
         Err(error) => {
             let _ = eprintln!(&rt; "dagrun: {error}");
             ExitCode::from(125u8)

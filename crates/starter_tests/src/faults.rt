@@ -177,15 +177,24 @@ fn taken_up(
 ) -> Result<String, Fail>
     requires { HasPossibleOutcomes table.now }
 {
-    let (disk, records) = read_back(alloc, plan, stopped.disk)?;
-    assert!(rt; records.starts_with(&stopped.records));
+    let Life {
+        disk,
+        records: acknowledged,
+        text: _,
+    } = stopped;
+    let (disk, records) = read_back(alloc, plan, disk)?;
+    assert!(rt; records.starts_with(&acknowledged));
     if is_finished(&records) {
         let core = replay(alloc, plan, &records)?;
         return Ok(run_text(alloc, &core, core.verdict())?);
     }
-    let life = live(alloc, disk, plan, table, &NOTHING)?;
-    assert!(rt; life.records.starts_with(&stopped.records));
-    match life.text {
+    let Life {
+        disk: _,
+        records,
+        text,
+    } = live(alloc, disk, plan, table, &NOTHING)?;
+    assert!(rt; records.starts_with(&acknowledged));
+    match text {
         Some(text) => Ok(text),
         None => panic!(rt; "taken up again it is stopped"),
     }
