@@ -1,7 +1,7 @@
 #!/usr/bin/env python3
 """Refuses each allocation of a command in turn, the first, the second, .. until none is refused.
 
-    tests/refused_memory.py PROGRAM WRITER [STEP]    STEP: every so manieth place alone (1)
+    tests/refused_memory.sh PROGRAM WRITER [STEP]    STEP: every so manieth place alone (1)
 
 The commands run on tests/every, files with a line of each kind. Each time the command gives its answer, or prints nothing but
 one line that says that memory is out (X1, A1 for a child) and ends with 125; then the same command gives the whole answer, and
