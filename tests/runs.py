@@ -545,9 +545,9 @@ def limits_of_a_call(folder):
     ):
         same(folder.call("run", *words), (report, "", 0))
         found = [max(int(line) for line in folder.read(f"most.{kind}").split()) for kind in ("pre", "job", "post")]
-        # Side by side children may miss one another on a busy machine; what a limit holds back never runs.
+        # Children may miss one another on a busy machine, so that fewer are counted; what a limit holds back never runs.
         for at_once, limit in zip(found, most):
-            same((at_once <= limit, limit == 6 or at_once == limit), (True, True))
+            same(at_once <= limit, True)
         for kind in ("pre", "job", "post"):
             os.remove(folder.at(f"most.{kind}"))
 
