@@ -537,17 +537,22 @@ def limits_of_a_call(folder):
     folder.write("count.sh", '#!/bin/sh\n: > on.$1.$2\nls -d on.$1.* | wc -l >> most.$1\nsleep 0.2\nrm on.$1.$2\n')
     os.chmod(folder.at("count.sh"), 0o755)
     report = "".join(f"{name} DONE attempts=1 value=0\n" for name in names) + "result 0\n"
+    # None is whatever the limits of the others leave.
     for words, most in (
         (("x.dag",), (6, 6, 6)),
-        (("--maxjobs", "3", "x.dag", "--maxpre=0"), (6, 3, 6)),
-        (("x.dag", "--maxpost=1", "--maxpre", "+2"), (2, 6, 1)),
+        (("--maxjobs", "3", "x.dag", "--maxpre=0"), (6, 3, None)),
+        (("x.dag", "--maxpost=1", "--maxpre", "+2"), (2, None, 1)),
         (("x.dag", "--maxjobs=65535"), (6, 6, 6)),
     ):
-        same(folder.call("run", *words), (report, "", 0))
-        found = [max(int(line) for line in folder.read(f"most.{kind}").split()) for kind in ("pre", "job", "post")]
-        # Children may miss one another on a busy machine, so that fewer are counted; what a limit holds back never runs.
-        for at_once, limit in zip(found, most):
-            same(at_once <= limit, True)
+        # On a busy machine children may miss one another, so a run is tried again; more than a limit are never there.
+        for _ in range(5):
+            same(folder.call("run", *words), (report, "", 0))
+            found = [max(int(line) for line in folder.read(f"most.{kind}").split()) for kind in ("pre", "job", "post")]
+            due = [at_once if limit is None else limit for at_once, limit in zip(found, most)]
+            same([at_once <= limit for at_once, limit in zip(found, due)], [True] * 3)
+            if found == due:
+                break
+        same(found, due)
         for kind in ("pre", "job", "post"):
             os.remove(folder.at(f"most.{kind}"))
 
