@@ -4,8 +4,8 @@ use Rattle.splices.specs.FileSet.{bytes_of, entries_of}
 use Rattle.splices.specs.declared.file_set.FileSet.{FileSet}
 use Rattle.dag_graph.specs.Graph.{Network}
 use Rattle.run_plan.specs.Plan.{Plan}
-use Rattle.sched_core.specs.declared.Record.{Record}
-use Rattle.sched_core.specs.declared.Record.TheVariants.{Life}
+use Rattle.node_machine.specs.declared.Record.{Record}
+use Rattle.node_machine.specs.declared.Record.TheVariants.{Life}
 use Rattle.run_plan.specs.Digest.{digest_of}
 use Rattle.run_plan.specs.Submitted.{plan_at}
 use Rattle.run_plan.specs.declared.fault.PlanFault.TheVariants as plans

@@ -1,7 +1,7 @@
 -- Without abort the report of a run is that of the fates.
 use Rattle.std.proofs.Common.{◌≡◌, ℕ, zero, suc, ◌+◌, Bool, true, false, not, ◌&&◌, ◌||◌, List, [], ◌∷◌, ◌++◌, is_some, refl, sym, ap, ◌∙◌, if◌then◌else◌}
 use Rattle.run_plan.specs.Plan.{Plan, count_of, all_below}
-use Rattle.sched_core.specs.declared.Record.{Record}
+use Rattle.node_machine.specs.declared.Record.{Record}
 use Rattle.sched_core.specs.Run.{is_done, is_in_error, is_aborted, is_finished, status_of_abort, exit_status, needs_rescue}
 use Rattle.sched_core.specs.Fate.{shown, is_done_state}
 use Rattle.sched_core.proofs.Finished.{state-done, final-error}

@@ -8,8 +8,8 @@ use Rattle.node_machine.specs.declared.Outcome.TheVariants.{Exit}
 use Rattle.node_machine.specs.OutcomeTable.{Entry, SameOutcomes}
 use Rattle.throttles.specs.declared.Limits.{Limits}
 use Rattle.run_plan.specs.Plan.{Plan, node_at, count_of}
-use Rattle.sched_core.specs.declared.Record.{Record}
-use Rattle.sched_core.specs.declared.Record.TheVariants.{Life}
+use Rattle.node_machine.specs.declared.Record.{Record}
+use Rattle.node_machine.specs.declared.Record.TheVariants.{Life}
 use Rattle.sched_core.specs.Run.{is_finished}
 use Rattle.sched_core.specs.Lives.{HasOutcomesOf}
 use Rattle.sched_core.proofs.LivesLemmas.{table-fates}

@@ -2,7 +2,7 @@
 use Rattle.std.proofs.Common.{◌≡◌, ℕ, suc, ◌+◌, ◌<◌, Bool, true, false, List, [], ◌∷◌, length, unwrap_or, refl, sym, ap, ◌∙◌, subst, arith, add-zero, append_assoc, ◌++◌, if◌then◌else◌}
 use Rattle.std.specs.Prelude.{slice_get}
 use Rattle.run_plan.specs.Plan.{Plan, count_of}
-use Rattle.sched_core.specs.declared.Record.{Record}
+use Rattle.node_machine.specs.declared.Record.{Record}
 use Rattle.sched_core.specs.Core.{AreMarks}
 use Rattle.sched_core.specs.Run.{is_done, needs_rescue}
 use Rattle.status_report.specs.Text.{status_text_of, result_line, run_text}

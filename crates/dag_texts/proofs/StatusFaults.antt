@@ -9,7 +9,7 @@ use Rattle.run_plan.specs.PlanAnswers.{Fails}
 use Rattle.run_plan.specs.Submitted.{plan_at}
 use Rattle.run_plan.specs.declared.fault.PlanFault.{PlanFault}
 use Rattle.run_plan.specs.declared.fault.PlanFault.TheVariants as plans
-use Rattle.sched_core.specs.declared.Record.{Record}
+use Rattle.node_machine.specs.declared.Record.{Record}
 use Rattle.sched_core.specs.Core.{Progress}
 use Rattle.sched_core.specs.Run.{is_lawful}
 use Rattle.status_report.specs.Text.{status_text_of}

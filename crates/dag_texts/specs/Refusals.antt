@@ -11,7 +11,7 @@ use Rattle.dag_graph.specs.Graph.{IsAcyclic, IsOrderOf}
 use Rattle.dag_graph.specs.Cycles.{NamesCycle}
 use Rattle.run_plan.specs.Plan.{Plan}
 use Rattle.run_plan.specs.Submitted.{bare_plan}
-use Rattle.sched_core.specs.declared.Record.{Record}
+use Rattle.node_machine.specs.declared.Record.{Record}
 use Rattle.sched_core.specs.Run.{exit_status}
 use Rattle.throttles.specs.declared.Limits.{Limits}
 use Rattle.dag_texts.specs.Rehearsal.{IsRehearsed}

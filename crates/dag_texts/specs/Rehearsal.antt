@@ -4,8 +4,8 @@ use Rattle.node_machine.specs.Story.{Table}
 use Rattle.node_machine.specs.OutcomeTable.{Entry}
 use Rattle.throttles.specs.declared.Limits.{Limits}
 use Rattle.run_plan.specs.Plan.{Plan}
-use Rattle.sched_core.specs.declared.Record.{Record}
-use Rattle.sched_core.specs.declared.Record.TheVariants.{Life}
+use Rattle.node_machine.specs.declared.Record.{Record}
+use Rattle.node_machine.specs.declared.Record.TheVariants.{Life}
 use Rattle.sched_core.specs.Run.{is_finished, is_aborted}
 use Rattle.sched_core.specs.Fate.{AreFates, shown}
 use Rattle.sched_core.specs.Lives.{HasOutcomesOf}

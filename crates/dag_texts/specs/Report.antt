@@ -3,7 +3,7 @@ use Rattle.std.specs.Prelude.{ℕ, zero, suc, ◌+◌, Bool, not, ◌||◌, ◌&
 use Rattle.std.specs.Fmt.{decimal}
 use Rattle.std.specs.List.{flat_map}
 use Rattle.run_plan.specs.Plan.{Plan, count_of, all_below}
-use Rattle.sched_core.specs.declared.Record.{Record}
+use Rattle.node_machine.specs.declared.Record.{Record}
 use Rattle.sched_core.specs.Run.{is_done, needs_rescue}
 use Rattle.sched_core.specs.Fate.{Fate, is_done_state}
 use Rattle.rescue_file.specs.Written.{ordinary_names, rescue_text_of}

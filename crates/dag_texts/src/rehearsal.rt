@@ -12,11 +12,11 @@ ghost use Rattle.dag_texts.specs.declared.fault.RunFault.TheVariants.{Memory};
 use crate::fault::RunFault;
 use event_journal::MemDisk;
 use job_starter::{Script, ScriptedStarter};
-use node_machine::Table;
+use node_machine::{Record, Table, Verdict};
 use recovery::Manager;
 use run_leader::lead;
 use run_plan::Plan;
-use sched_core::{Core, Record, Verdict};
+use sched_core::Core;
 use std::alloc::Global;
 use throttles::Limits;
 

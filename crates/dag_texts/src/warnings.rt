@@ -3,7 +3,7 @@
 ghost use Rattle.std.specs.Prelude.{◌≡◌, ◌++◌, OnOk, IfOk, string_bytes};
 ghost use Rattle.dag_texts.specs.Report.{warning_line, warning_lines};
 
-use sched_core::Verdict;
+use node_machine::Verdict;
 use splices::DagWarning;
 use std::alloc::{AllocError, Global};
 

@@ -5,7 +5,7 @@ use Rattle.std.proofs.lemmas.Bool.{and_parts, and_from, false≢true}
 use Rattle.std.proofs.lemmas.List.{reverse-append, reverse-reverse, take-append-drop, take_more, take-take}
 use Rattle.std.proofs.lemmas.Option.{slice_get_within, unwrap_or-slice_get}
 use Rattle.run_plan.specs.Plan.{Plan, IsRankedBy}
-use Rattle.sched_core.specs.declared.Record.{Record}
+use Rattle.node_machine.specs.declared.Record.{Record}
 use Rattle.sched_core.specs.Run.{written, table_of, is_lawful, is_over, is_finished, is_aborted, may_follow}
 use Rattle.sched_core.specs.Fate.{Fate}
 use Rattle.sched_core.proofs.LivesLemmas.{lawful-tail}

@@ -4,7 +4,7 @@ use Rattle.std.proofs.lemmas.List.{ext_get_or}
 use Rattle.node_machine.specs.declared.State.TheVariants.{NotRun}
 use Rattle.node_machine.specs.Story.{Table}
 use Rattle.run_plan.specs.Plan.{Plan, count_of, IsRankedBy}
-use Rattle.sched_core.specs.declared.Record.{Record}
+use Rattle.node_machine.specs.declared.Record.{Record}
 use Rattle.sched_core.specs.Run.{table_of, is_finished, is_aborted}
 use Rattle.sched_core.specs.Fate.{Fate, AreFates, shown, without_attempts}
 use Rattle.sched_core.proofs.Finished.{own-fates}

@@ -21,7 +21,7 @@ use Rattle.run_plan.specs.Plan.{Plan, Job, NodeSpec, no_node, node_at, count_of}
 use Rattle.run_plan.specs.Specs.{Sources, spec_of, specs_from, final_spec, plan_of, is_marked}
 use Rattle.run_plan.specs.Submitted.{◌>>=◌, first_fault, all_nodes, rescued_in, in_rescue, sources_of, plan_at}
 use Rattle.run_plan.proofs.PlanFacts.{count-is}
-use Rattle.sched_core.specs.declared.Record.{Record}
+use Rattle.node_machine.specs.declared.Record.{Record}
 use Rattle.sched_core.specs.Run.{history, is_done, needs_rescue}
 use Rattle.sched_core.specs.Rounds.{Round, IsRound, IsRescuedBy, AreRounds}
 use Rattle.recovery.specs.Rescue.{marks_of, rescue_text_for}

@@ -2,7 +2,7 @@
 use Rattle.std.specs.Prelude.{◌≡◌, ℕ, List, ◌++◌, Option, Some, None, Result, Ok, Err, codes, IsTrue, IsFalse}
 use Rattle.std.specs.Fmt.{decimal}
 use Rattle.run_plan.specs.Plan.{Plan}
-use Rattle.sched_core.specs.declared.Record.{Record}
+use Rattle.node_machine.specs.declared.Record.{Record}
 use Rattle.sched_core.specs.Run.{table_of, is_lawful, is_over, is_finished, is_aborted}
 use Rattle.sched_core.specs.Fate.{Fate}
 use Rattle.event_journal.specs.declared.fault.JournalFault.{JournalFault}

@@ -7,7 +7,7 @@ ghost use Rattle.splices.specs.Opened.{dag_at};
 ghost use Rattle.dag_graph.specs.Graph.{Network};
 ghost use Rattle.run_plan.specs.Plan.{Plan, node_at, count_of, IsRankedBy};
 ghost use Rattle.run_plan.specs.Submitted.{plan_at};
-ghost use Rattle.sched_core.specs.declared.Record.{Record};
+ghost use Rattle.node_machine.specs.declared.Record.{Record};
 ghost use Rattle.sched_core.specs.Run.{needs_rescue};
 ghost use Rattle.sched_core.specs.Fate.{Fate, AreFates};
 ghost use Rattle.sched_core.specs.Rounds.{Round, IsRound, IsRescuedBy, AreRounds};

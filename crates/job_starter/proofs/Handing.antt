@@ -8,8 +8,8 @@ use Rattle.run_plan.specs.declared.command.ChildCommand.{ChildCommand}
 use Rattle.throttles.specs.declared.Limits.{Limits}
 use Rattle.run_plan.specs.Plan.{Plan, node_at}
 use Rattle.run_plan.specs.Commands.{CommandOrFault, command_of, starts_child}
-use Rattle.sched_core.specs.declared.Record.{Record}
-use Rattle.sched_core.specs.declared.Record.TheVariants.{End}
+use Rattle.node_machine.specs.declared.Record.{Record}
+use Rattle.node_machine.specs.declared.Record.TheVariants.{End}
 use Rattle.sched_core.specs.Commands.{facts_in}
 use Rattle.recovery.specs.Chain.{commands_in}
 use Rattle.job_starter.specs.declared.Call.{Call}

@@ -7,7 +7,7 @@ use Rattle.node_machine.specs.declared.Outcome.TheVariants.{NoStart}
 use Rattle.node_machine.specs.Story.{Table}
 use Rattle.throttles.specs.declared.Limits.{Limits}
 use Rattle.run_plan.specs.Plan.{Plan}
-use Rattle.sched_core.specs.declared.Record.{Record}
+use Rattle.node_machine.specs.declared.Record.{Record}
 use Rattle.sched_core.specs.Lives.{HasOutcomesOf}
 use Rattle.job_starter.specs.declared.Call.{Call}
 use Rattle.job_starter.specs.Drives.{IsStep, passes, starts, fails, ends, kills, Drives, no_step, one_more}

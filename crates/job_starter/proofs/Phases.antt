@@ -13,7 +13,7 @@ use Rattle.throttles.specs.declared.Limits.{Limits}
 use Rattle.run_plan.specs.Plan.{Plan, NodeSpec, node_at}
 use Rattle.run_plan.specs.Commands.{starts_child}
 use Rattle.sched_core.specs.declared.Choice.TheVariants as choices
-use Rattle.sched_core.specs.declared.Record.{Record}
+use Rattle.node_machine.specs.declared.Record.{Record}
 use Rattle.sched_core.specs.Run.{history, is_open}
 use Rattle.sched_core.specs.Core.{IsChoice}
 use Rattle.sched_core.proofs.Best.{chosen-follows}

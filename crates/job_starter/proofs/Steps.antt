@@ -11,8 +11,8 @@ use Rattle.throttles.specs.declared.Limits.{Limits}
 use Rattle.run_plan.specs.Plan.{Plan, NodeSpec, node_at, count_of}
 use Rattle.run_plan.specs.Commands.{starts_child}
 use Rattle.sched_core.specs.declared.Choice.TheVariants as choices
-use Rattle.sched_core.specs.declared.Record.{Record}
-use Rattle.sched_core.specs.declared.Record.TheVariants.{End}
+use Rattle.node_machine.specs.declared.Record.{Record}
+use Rattle.node_machine.specs.declared.Record.TheVariants.{End}
 use Rattle.sched_core.specs.Run.{history, is_open, is_over, may_follow, may_launch, is_lawful, is_nothing, is_among, is_same, outstanding}
 use Rattle.sched_core.specs.Core.{IsChoice, has_key_of, startable, nothing_launchable}
 use Rattle.sched_core.proofs.Keys.{same-eq}

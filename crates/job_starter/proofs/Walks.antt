@@ -11,8 +11,8 @@ use Rattle.run_plan.specs.Plan.{Plan, node_at}
 use Rattle.run_plan.specs.Commands.{starts_child}
 use Rattle.sched_core.specs.declared.Choice.{Choice}
 use Rattle.sched_core.specs.declared.Choice.TheVariants as choices
-use Rattle.sched_core.specs.declared.Record.{Record}
-use Rattle.sched_core.specs.declared.Record.TheVariants.{End}
+use Rattle.node_machine.specs.declared.Record.{Record}
+use Rattle.node_machine.specs.declared.Record.TheVariants.{End}
 use Rattle.sched_core.specs.Run.{is_open, is_lawful, is_among, is_same, is_nothing, outstanding, without, is_aborted}
 use Rattle.sched_core.specs.Core.{IsChoice}
 use Rattle.sched_core.proofs.Keys.{same-self}

@@ -1,6 +1,6 @@
 -- Why a starter refuses a call, and why a run is stopped before its end.
 use Rattle.std.specs.Prelude.{◌≡◌, ℕ, List, [], IsTrue}
-use Rattle.sched_core.specs.declared.Record.{Record}
+use Rattle.node_machine.specs.declared.Record.{Record}
 use Rattle.sched_core.specs.Run.{may_follow}
 use Rattle.event_journal.specs.declared.journal.Journal.{Journal}
 use Rattle.recovery.specs.Managed.{Managed, plan_of, past_of, IsRefusal}

@@ -12,8 +12,8 @@ use Rattle.run_plan.specs.Plan.{Plan, node_at}
 use Rattle.run_plan.specs.Commands.{command_of, starts_child}
 use Rattle.sched_core.specs.declared.Choice.{Choice}
 use Rattle.sched_core.specs.declared.Choice.TheVariants as choices
-use Rattle.sched_core.specs.declared.Record.{Record}
-use Rattle.sched_core.specs.declared.Record.TheVariants.{Launch, End}
+use Rattle.node_machine.specs.declared.Record.{Record}
+use Rattle.node_machine.specs.declared.Record.TheVariants.{Launch, End}
 use Rattle.sched_core.specs.Run.{outstanding, is_among, is_aborted, is_open, launch_number}
 use Rattle.sched_core.specs.Bound.{records_left}
 use Rattle.sched_core.specs.Core.{IsChoice, startable}

@@ -19,10 +19,10 @@ use crate::records::{
 };
 use crate::{Started, Starter};
 use event_journal::Disk;
-use node_machine::{Key, Outcome};
+use node_machine::{Key, Outcome, Record, Verdict};
 use recovery::{Manager, ManagerFault};
 use run_plan::Plan;
-use sched_core::{Choice, Record, Verdict};
+use sched_core::Choice;
 use std::alloc::Global;
 use thiserror::Error;
 

@@ -12,9 +12,9 @@ ghost use Rattle.job_starter.specs.Moments.{AtAnyMoment, StaysAcknowledged, Keep
 
 use crate::DriveFault;
 use event_journal::Disk;
-use node_machine::{Key, Outcome, Phase};
+use node_machine::{Key, Outcome, Phase, Record};
 use recovery::Manager;
-use sched_core::{Choice, Record};
+use sched_core::Choice;
 
 /// The records of a manager are lawful at every moment.
 pub fn keeps_the_law<D: Disk + Drop>(manager: &Manager<'_, D>)

@@ -3,8 +3,7 @@ ghost use Rattle.std.specs.Prelude.{◌≡◌, ◌≤◌, ◌<◌, IfOk, length,
 
 use crate::runs::{FAILS_ONCE, JOB, RECORDS, SIZE, records_on, written};
 use event_journal::{Journal, JournalFault, MemDisk, Peek, decode_record, encode_record, has_slot};
-use node_machine::Outcome;
-use sched_core::Record;
+use node_machine::{Outcome, Record};
 use std::alloc::{AllocError, Global};
 use std::process::Abort;
 use std::test::Fail;

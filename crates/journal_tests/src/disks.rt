@@ -5,7 +5,7 @@ use crate::runs::{FAILS_ONCE, RECORDS, add, add_and_fail, add_many, begin, recor
 use event_journal::{
     Disk, DiskFault, FileDisk, Fuse, FuseDisk, Journal, JournalFault, MemDisk, ReadFault,
 };
-use sched_core::Record;
+use node_machine::Record;
 use std::alloc::Global;
 use std::fs;
 use std::fs::File;

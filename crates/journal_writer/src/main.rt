@@ -8,8 +8,7 @@ ghost use Rattle.event_journal.specs.Journal.{journal_disk, is_broken, IsSettled
 
 use anyhow::{Result, bail};
 use event_journal::{Disk, FileDisk, Journal, JournalFault, Opened};
-use node_machine::{Key, Phase};
-use sched_core::Record;
+use node_machine::{Key, Phase, Record};
 use std::alloc::Global;
 use std::env;
 

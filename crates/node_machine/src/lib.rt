@@ -49,6 +49,22 @@ pub struct Key {
     pub phase: Phase,
 }
 
+/// A record of a run.
+#[derive(Clone, Copy, Debug, PartialEq, Eq)]
+pub enum Record {
+    /// A manager begins, or goes on after another one stopped.
+    Life,
+    /// A phase is launched. Launches of jobs are numbered from 1, others have number 0.
+    Launch(Key, u64),
+    /// A phase ends.
+    End(Key, Outcome),
+    /// The run ends with this exit status.
+    Finish(Verdict),
+}
+
+/// The exit status of a run.
+pub type Verdict = u8;
+
 /// A phase of a node that ended: the attempt from 0, the phase, and how it ended.
 #[derive(Clone, Copy, Debug, PartialEq, Eq)]
 pub struct Ended {

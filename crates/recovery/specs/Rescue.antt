@@ -2,7 +2,7 @@
 use Rattle.std.specs.Prelude.{ℕ, Bool, List, map}
 use Rattle.std.specs.List.{range_with_len}
 use Rattle.run_plan.specs.Plan.{Plan, count_of}
-use Rattle.sched_core.specs.declared.Record.{Record}
+use Rattle.node_machine.specs.declared.Record.{Record}
 use Rattle.sched_core.specs.Run.{is_done}
 use Rattle.rescue_file.specs.Written.{ordinary_names, rescue_text_of}
 

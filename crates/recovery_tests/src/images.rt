@@ -2,10 +2,9 @@
 use crate::lives::{given, life};
 use crate::plans::{ROOM, SLOTS, job, plan_of};
 use event_journal::{JournalFault, MemDisk};
-use node_machine::{Key, Outcome, Phase};
+use node_machine::{Key, Outcome, Phase, Record};
 use recovery::ManagerFault;
 use run_plan::Plan;
-use sched_core::Record;
 use std::alloc::Global;
 use std::process::Abort;
 use std::test::Fail;

@@ -3,10 +3,10 @@ ghost use Rattle.std.specs.Prelude.{◌≡◌, Ok};
 
 use crate::plans::{NO_LIMITS, ROOM, SLOTS};
 use event_journal::{Journal, JournalFault, MemDisk, Opened};
-use node_machine::Table;
+use node_machine::{Record, Table};
 use recovery::{Manager, ManagerFault, Sealed};
 use run_plan::Plan;
-use sched_core::{Choice, Record};
+use sched_core::Choice;
 use std::alloc::Global;
 use std::process::Abort;
 use std::test::Fail;

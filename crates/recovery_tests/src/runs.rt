@@ -1,10 +1,9 @@
 // Runs over crashes.
 use crate::lives::{records_on, run};
 use crate::plans::{DIAMOND, PLAN_P, PLAN_Q, job, plan_of};
-use node_machine::{Key, Outcome, Phase, State, Table, read_table};
+use node_machine::{Key, Outcome, Phase, Record, State, Table, read_table};
 use recovery::replay;
 use run_plan::Plan;
-use sched_core::Record;
 use std::alloc::Global;
 use std::process::Abort;
 use std::test::Fail;

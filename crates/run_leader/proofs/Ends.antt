@@ -7,8 +7,8 @@ use Rattle.throttles.specs.declared.Limits.{Limits}
 use Rattle.node_machine.specs.declared.Key.{Key}
 use Rattle.node_machine.specs.declared.Outcome.{Outcome}
 use Rattle.run_plan.specs.Plan.{Plan}
-use Rattle.sched_core.specs.declared.Record.{Record}
-use Rattle.sched_core.specs.declared.Record.TheVariants.{Finish}
+use Rattle.node_machine.specs.declared.Record.{Record}
+use Rattle.node_machine.specs.declared.Record.TheVariants.{Finish}
 use Rattle.sched_core.specs.declared.Choice.TheVariants as choices
 use Rattle.sched_core.specs.Run.{is_over, is_lawful, is_aborted, may_follow, exit_status, table_of}
 use Rattle.sched_core.specs.Fate.{AreFates, shown}

@@ -2,7 +2,7 @@
 use Rattle.std.proofs.Common.{ℕ, List, [], ◌∷◌, Option, Result, Ok, Err, sym, ap, ◌∙◌, subst}
 use Rattle.std.specs.Prelude.{IfOk}
 use Rattle.run_plan.specs.Plan.{Plan}
-use Rattle.sched_core.specs.declared.Record.{Record}
+use Rattle.node_machine.specs.declared.Record.{Record}
 use Rattle.recovery.specs.Managed.{Managed, past_of}
 use Rattle.recovery.specs.Recovery.{IsNewLife}
 use Rattle.recovery.specs.Chain.{ReadsForInputs}

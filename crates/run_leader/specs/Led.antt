@@ -1,14 +1,14 @@
 -- A run that is led to its end.
 use Rattle.std.specs.Prelude.{◌≡◌, ℕ, List, ◌∷◌, ◌++◌, IsTrue, IsFalse}
 use Rattle.run_plan.specs.Plan.{Plan}
-use Rattle.sched_core.specs.declared.Record.{Record}
+use Rattle.node_machine.specs.declared.Record.{Record}
 use Rattle.sched_core.specs.Run.{is_finished, is_aborted, exit_status, table_of}
 use Rattle.sched_core.specs.Fate.{AreFates, shown}
 use Rattle.status_report.specs.Text.{run_text}
 use Rattle.node_machine.specs.declared.Key.{Key}
 use Rattle.node_machine.specs.declared.Outcome.{Outcome}
 use Rattle.throttles.specs.declared.Limits.{Limits}
-use Rattle.sched_core.specs.declared.Record.TheVariants.{Finish}
+use Rattle.node_machine.specs.declared.Record.TheVariants.{Finish}
 use Rattle.sched_core.specs.declared.Choice.TheVariants as choices
 use Rattle.sched_core.specs.Core.{IsChoice}
 use Rattle.job_starter.specs.declared.Call.{Call}

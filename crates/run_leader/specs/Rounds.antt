@@ -1,8 +1,8 @@
 -- How a round begins: anew, or where the last manager left it.
 use Rattle.std.specs.Prelude.{◌≡◌, ℕ, List, ◌∷◌, Option, Ok, None, IsTrue}
 use Rattle.run_plan.specs.Plan.{Plan}
-use Rattle.sched_core.specs.declared.Record.{Record}
-use Rattle.sched_core.specs.declared.Record.TheVariants.{Life}
+use Rattle.node_machine.specs.declared.Record.{Record}
+use Rattle.node_machine.specs.declared.Record.TheVariants.{Life}
 use Rattle.sched_core.specs.Run.{is_lawful}
 use Rattle.event_journal.specs.Image.{Header, header_of, IsRescueNumber, replay_of}
 use Rattle.event_journal.specs.Reading.{replay_for}

@@ -12,9 +12,9 @@ ghost use Rattle.run_leader.specs.Led.{GoOnFrom, IsLed, DrivesToEnd};
 
 use event_journal::Disk;
 use job_starter::{DriveFault, Starter, drive};
+use node_machine::Verdict;
 use recovery::{Manager, ManagerFault, Sealed};
 use run_plan::Plan;
-use sched_core::Verdict;
 use status_report::run_text;
 use std::alloc::Global;
 

@@ -8,7 +8,7 @@ use Rattle.node_machine.specs.Stand.{next_of, stand_after}
 use Rattle.node_machine.proofs.Beginnings.{Fits, whole-value, nil-value}
 use Rattle.node_machine.proofs.Standing.{steps-next}
 use Rattle.run_plan.specs.Plan.{Plan, node_at, count_of, IsRankedBy}
-use Rattle.sched_core.specs.declared.Record.{Record}
+use Rattle.node_machine.specs.declared.Record.{Record}
 use Rattle.node_machine.specs.declared.State.TheVariants.{Done, NotRun}
 use Rattle.sched_core.specs.Run.{history, value_in, is_met, has_abort_value, is_aborted, is_lawful}
 use Rattle.sched_core.specs.Fate.{Fate, is_done_state, without_attempts, told_by, AreFates, shown}

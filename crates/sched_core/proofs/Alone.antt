@@ -6,8 +6,8 @@ use Rattle.std.proofs.lemmas.Bool.{and_parts, and_from, not-true, ltb-true, ne_e
 use Rattle.node_machine.specs.declared.Outcome.{Outcome}
 use Rattle.node_machine.specs.declared.Key.{Key}
 use Rattle.run_plan.specs.Plan.{Plan, count_of, all_below}
-use Rattle.sched_core.specs.declared.Record.{Record}
-use Rattle.sched_core.specs.declared.Record.TheVariants.{Life, Launch, End, Finish}
+use Rattle.node_machine.specs.declared.Record.{Record}
+use Rattle.node_machine.specs.declared.Record.TheVariants.{Life, Launch, End, Finish}
 use Rattle.sched_core.specs.Run.{next, outstanding, without, is_same, is_among, is_free, is_aborted, may_follow, may_launch, is_ready, is_final_ready, is_lawful}
 use Rattle.sched_core.specs.Core.{is_running, has_key_of}
 use Rattle.sched_core.proofs.Keys.{Each, each_among}

@@ -10,8 +10,8 @@ use Rattle.throttles.specs.declared.Limits.{Limits}
 use Rattle.throttles.specs.Throttled.{is_below, none_running, lets_phase, limit_of, of_kind}
 use Rattle.throttles.proofs.Counts.{none-all}
 use Rattle.run_plan.specs.Plan.{Plan, node_at, count_of}
-use Rattle.sched_core.specs.declared.Record.{Record}
-use Rattle.sched_core.specs.declared.Record.TheVariants.{Launch}
+use Rattle.node_machine.specs.declared.Record.{Record}
+use Rattle.node_machine.specs.declared.Record.TheVariants.{Launch}
 use Rattle.sched_core.specs.declared.Choice.{Choice}
 use Rattle.sched_core.specs.declared.Choice.TheVariants as choices
 use Rattle.sched_core.specs.Run.{outstanding, is_nothing, is_open, may_launch, may_follow, launch_number}

@@ -17,8 +17,8 @@ use Rattle.node_machine.specs.Stand.{stand_before, closed, step_at, step, steps,
 use Rattle.node_machine.proofs.Paces.{steps-push, step-attempt, stand-attempt}
 use Rattle.node_machine.proofs.Trees.{got}
 use Rattle.run_plan.specs.Plan.{Plan, node_at, count_of, all_below}
-use Rattle.sched_core.specs.declared.Record.{Record}
-use Rattle.sched_core.specs.declared.Record.TheVariants.{Life, Launch, End, Finish}
+use Rattle.node_machine.specs.declared.Record.{Record}
+use Rattle.node_machine.specs.declared.Record.TheVariants.{Life, Launch, End, Finish}
 use Rattle.sched_core.specs.Run.{history, next, outstanding, without, is_met, has_abort_value, is_aborted, is_open, is_over, may_follow, may_launch, is_ready, is_final_ready, is_lawful}
 use Rattle.sched_core.specs.Core.{run_of, is_running, has_key_of}
 use Rattle.sched_core.specs.Bound.{phases_in, phases_from, phases_left, records_of, sum_below, may_go_on, node_records_left, records_left, phases_of_node, all_phases, has_no_life}

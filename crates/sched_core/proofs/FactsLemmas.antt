@@ -8,8 +8,8 @@ use Rattle.node_machine.specs.declared.Key.{Key}
 use Rattle.node_machine.specs.Story.{is_phase, outcome_in, phase_number}
 use Rattle.node_machine.proofs.Trees.{got}
 use Rattle.run_plan.specs.Plan.{Plan, count_of}
-use Rattle.sched_core.specs.declared.Record.{Record}
-use Rattle.sched_core.specs.declared.Record.TheVariants.{Life, Launch, End, Finish}
+use Rattle.node_machine.specs.declared.Record.{Record}
+use Rattle.node_machine.specs.declared.Record.TheVariants.{Life, Launch, End, Finish}
 use Rattle.sched_core.specs.Run.{history, outstanding, is_among, is_lawful}
 use Rattle.sched_core.specs.Notes.{first_ended}
 use Rattle.sched_core.proofs.Keys.{each_among}

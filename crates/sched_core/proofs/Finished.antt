@@ -9,8 +9,8 @@ use Rattle.node_machine.specs.declared.Key.{Key}
 use Rattle.node_machine.specs.declared.Course.{Course}
 use Rattle.node_machine.specs.Story.{Table, story, last_of, is_good, attempts_after, next_after, is_good_after, value_after, attempts_ended_after}
 use Rattle.node_machine.proofs.Beginnings.{Fits, whole-good, whole-phases, whole-count, whole-value, nil-next, nil-good, nil-count, nil-value}
-use Rattle.sched_core.specs.declared.Record.{Record}
-use Rattle.sched_core.specs.declared.Record.TheVariants.{Life, Launch, End, Finish}
+use Rattle.node_machine.specs.declared.Record.{Record}
+use Rattle.node_machine.specs.declared.Record.TheVariants.{Life, Launch, End, Finish}
 use Rattle.node_machine.specs.declared.State.TheVariants.{Done, Error, NotRun}
 use Rattle.run_plan.specs.Plan.{Plan, node_at, count_of, all_below, IsRankedBy}
 use Rattle.sched_core.specs.Run.{table_of, history, key_at, next, is_done, is_in_error, outstanding, is_aborted, may_follow, is_lawful, is_finished, may_launch, is_ready, is_final_ready, is_free, is_nothing, is_among}

@@ -9,8 +9,8 @@ use Rattle.node_machine.specs.Story.{next_after, may_end_with, is_that_phase, is
 use Rattle.node_machine.proofs.Trees.{got}
 use Rattle.node_machine.proofs.Paces.{may-go_on-push}
 use Rattle.run_plan.specs.Plan.{Plan, node_at, count_of}
-use Rattle.sched_core.specs.declared.Record.{Record}
-use Rattle.sched_core.specs.declared.Record.TheVariants.{Life, Launch, End, Finish}
+use Rattle.node_machine.specs.declared.Record.{Record}
+use Rattle.node_machine.specs.declared.Record.TheVariants.{Life, Launch, End, Finish}
 use Rattle.sched_core.specs.Run.{history, next, outstanding, without, is_same, is_among, is_next, is_free, is_aborted, may_follow, is_lawful, may_launch, is_ready, is_final_ready}
 use Rattle.sched_core.specs.Core.{has_key_of, is_running}
 use Rattle.sched_core.proofs.Keys.{same-eq, same-self, Each, each_among, each_without}

@@ -9,9 +9,9 @@ use Rattle.node_machine.proofs.Beginnings.{nil-value}
 use Rattle.throttles.specs.declared.Limits.{Limits}
 use Rattle.run_plan.specs.Plan.{Plan, node_at, count_of}
 use Rattle.node_machine.specs.NodeProgress.{NodeProgress}
-use Rattle.sched_core.specs.declared.Record.{Record}
+use Rattle.node_machine.specs.declared.Record.{Record}
 use Rattle.sched_core.specs.declared.Choice.TheVariants as choices
-use Rattle.sched_core.specs.declared.Record.TheVariants.{Life, Launch, End, Finish}
+use Rattle.node_machine.specs.declared.Record.TheVariants.{Life, Launch, End, Finish}
 use Rattle.sched_core.specs.Run.{next, is_met, has_abort_value, is_aborted, outstanding, without, is_among, is_next, is_free, is_nothing, is_open, is_ready, is_final_ready, may_launch, may_follow, is_lawful, job_launches, launch_number, exit_status}
 use Rattle.sched_core.specs.Core.{Shows, AreFresh, IsChoice, is_running, runs_after, aborted_after, jobs_after, launchable, first_launched}
 use Rattle.sched_core.proofs.Keys.{Each, each_among, each_without, same-self}

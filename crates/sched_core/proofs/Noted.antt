@@ -14,8 +14,8 @@ use Rattle.node_machine.proofs.Standing.{steps-next}
 use Rattle.node_machine.proofs.Trees.{got}
 use Rattle.node_machine.proofs.Paces.{steps-push}
 use Rattle.run_plan.specs.Plan.{Plan, node_at, count_of}
-use Rattle.sched_core.specs.declared.Record.{Record}
-use Rattle.sched_core.specs.declared.Record.TheVariants.{Life, Launch, End, Finish}
+use Rattle.node_machine.specs.declared.Record.{Record}
+use Rattle.node_machine.specs.declared.Record.TheVariants.{Life, Launch, End, Finish}
 use Rattle.sched_core.specs.declared.notes.AttemptNotes.{AttemptNotes}
 use Rattle.sched_core.specs.Run.{history, outstanding, without, is_same, is_aborted, is_lawful, may_follow}
 use Rattle.sched_core.specs.Core.{has_key_of}

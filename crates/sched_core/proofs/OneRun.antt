@@ -8,8 +8,8 @@ use Rattle.node_machine.specs.Story.{Table}
 use Rattle.node_machine.proofs.Beginnings.{masked, seen}
 use Rattle.throttles.specs.declared.Limits.{Limits}
 use Rattle.run_plan.specs.Plan.{Plan, node_at}
-use Rattle.sched_core.specs.declared.Record.{Record}
-use Rattle.sched_core.specs.declared.Record.TheVariants.{Life, Launch, End, Finish}
+use Rattle.node_machine.specs.declared.Record.{Record}
+use Rattle.node_machine.specs.declared.Record.TheVariants.{Life, Launch, End, Finish}
 use Rattle.sched_core.specs.declared.Choice.TheVariants as choices
 use Rattle.sched_core.specs.Run.{launch_number, is_open, is_over, may_follow, is_lawful, is_finished}
 use Rattle.sched_core.specs.Lives.{HasOutcomesOf}

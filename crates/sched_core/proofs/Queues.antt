@@ -20,8 +20,8 @@ use Rattle.throttles.specs.declared.Limits.{Limits}
 use Rattle.run_plan.specs.Plan.{Plan, node_at, count_of, all_below}
 use Rattle.run_plan.specs.Planned.{IsPlanned}
 use Rattle.run_plan.proofs.PlanFacts.{planned-count, parents-below, parents-are}
-use Rattle.sched_core.specs.declared.Record.{Record}
-use Rattle.sched_core.specs.declared.Record.TheVariants.{Life, Launch, End, Finish}
+use Rattle.node_machine.specs.declared.Record.{Record}
+use Rattle.node_machine.specs.declared.Record.TheVariants.{Life, Launch, End, Finish}
 use Rattle.sched_core.specs.Run.{history, key_at, next, is_done, outstanding, without, is_same, is_among, is_free, is_nothing, is_aborted, is_ready, is_final_ready, may_launch, is_lawful, may_follow}
 use Rattle.sched_core.specs.Core.{Shows, AreFresh, run_of, run_at, startable, IsBestBelow}
 use Rattle.sched_core.specs.Limits.{member_of, IsBetter}

@@ -16,8 +16,8 @@ use Rattle.run_plan.specs.declared.command.PhaseFacts.{PhaseFacts}
 use Rattle.run_plan.specs.Plan.{Plan, NodeSpec, node_at, count_of, IsRankedBy, at}
 use Rattle.run_plan.specs.Commands.{command_of, starts_child, is_sound, uses_whole_run, HaveSameEnds}
 use Rattle.run_plan.proofs.PlainCommands.{plain_command_same}
-use Rattle.sched_core.specs.declared.Record.{Record}
-use Rattle.sched_core.specs.declared.Record.TheVariants.{Launch}
+use Rattle.node_machine.specs.declared.Record.{Record}
+use Rattle.node_machine.specs.declared.Record.TheVariants.{Launch}
 use Rattle.sched_core.specs.Run.{history, is_lawful, may_follow}
 use Rattle.sched_core.specs.Fate.{Fate, is_done_state, without_attempts, told_by, fate_by, AreFates}
 use Rattle.sched_core.specs.Agree.{IsAlike, HaveSameCommands, Agree}

@@ -15,8 +15,8 @@ use Rattle.node_machine.proofs.Beginnings.{seen}
 use Rattle.node_machine.specs.NodeRun.{counted_at, started, stopped, ended_with}
 use Rattle.run_plan.specs.Plan.{Plan, node_at, count_of}
 use Rattle.node_machine.specs.NodeProgress.{NodeProgress}
-use Rattle.sched_core.specs.declared.Record.{Record}
-use Rattle.sched_core.specs.declared.Record.TheVariants.{Life, Launch, End, Finish}
+use Rattle.node_machine.specs.declared.Record.{Record}
+use Rattle.node_machine.specs.declared.Record.TheVariants.{Life, Launch, End, Finish}
 use Rattle.sched_core.specs.Run.{history, key_at, next, is_done, attempts_in, value_in, is_met, has_abort_value, is_aborted, outstanding, without, may_follow, is_lawful}
 use Rattle.sched_core.specs.Core.{Shows, run_of, run_at, is_running, has_key_of, aborted_in, runs_after, aborted_after, jobs_after}
 use Rattle.sched_core.proofs.Keys.{each_among}

@@ -8,8 +8,8 @@ use Rattle.node_machine.specs.declared.Key.{Key}
 use Rattle.node_machine.specs.Story.{outcome_in, attempts_after, next_after, is_good_after, may_end_with, last_of, is_good}
 use Rattle.node_machine.proofs.Beginnings.{Fits, fits-nil, fits-next}
 use Rattle.node_machine.proofs.Trees.{got}
-use Rattle.sched_core.specs.declared.Record.{Record}
-use Rattle.sched_core.specs.declared.Record.TheVariants.{Life, Launch, End, Finish}
+use Rattle.node_machine.specs.declared.Record.{Record}
+use Rattle.node_machine.specs.declared.Record.TheVariants.{Life, Launch, End, Finish}
 use Rattle.run_plan.specs.Plan.{Plan, node_at, count_of}
 use Rattle.sched_core.specs.Run.{history, key_at, next, is_done, outstanding, without, is_same, is_among, is_aborted, may_follow, is_lawful, may_launch, is_ready, is_final_ready}
 use Rattle.sched_core.proofs.Keys.{same-self, next-eq, all-mono, Each, each_among, each_without}

@@ -16,8 +16,8 @@ use Rattle.node_machine.specs.NodeRun.{ended_with}
 use Rattle.node_machine.specs.Stand.{next_of, stand_after}
 use Rattle.node_machine.proofs.Standing.{steps-next}
 use Rattle.run_plan.specs.Plan.{Plan, node_at, count_of, all_below}
-use Rattle.sched_core.specs.declared.Record.{Record}
-use Rattle.sched_core.specs.declared.Record.TheVariants.{Life, Launch, End, Finish}
+use Rattle.node_machine.specs.declared.Record.{Record}
+use Rattle.node_machine.specs.declared.Record.TheVariants.{Life, Launch, End, Finish}
 use Rattle.sched_core.specs.Run.{written, history, key_at, next, is_done, is_in_error, is_met, has_abort_value, is_aborted, outstanding, is_among, is_lawful, may_follow}
 use Rattle.sched_core.specs.Core.{Shows, Takes, run_at, aborted_in, has_abort_at, is_stuck_at, failed_after}
 use Rattle.sched_core.specs.Commands.{failed_in, dag_status_in, newest_launch, pre_value_of, facts_in}

@@ -11,8 +11,8 @@ use Rattle.throttles.proofs.Counts.{with-length, none-length, undo, one-there, s
 use Rattle.run_plan.specs.Plan.{Plan, node_at}
 use Rattle.run_plan.specs.Planned.{IsPlanned}
 use Rattle.run_plan.proofs.PlanFacts.{category-placed}
-use Rattle.sched_core.specs.declared.Record.{Record}
-use Rattle.sched_core.specs.declared.Record.TheVariants.{Life, Launch, End, Finish}
+use Rattle.node_machine.specs.declared.Record.{Record}
+use Rattle.node_machine.specs.declared.Record.TheVariants.{Life, Launch, End, Finish}
 use Rattle.sched_core.specs.Run.{outstanding, is_nothing, without, is_same, is_among, is_aborted, is_lawful, may_follow}
 use Rattle.sched_core.specs.Core.{has_key_of}
 use Rattle.sched_core.specs.Limits.{limits_of, running_in, throttled_in, throttled_after, IsThrottled, IsOfNode, IsCounted}

@@ -12,8 +12,8 @@ use Rattle.sched_core.specs.declared.Choice.{Choice}
 use Rattle.sched_core.specs.declared.Choice.TheVariants as choices
 use Rattle.sched_core.specs.declared.CoreFault.{CoreFault}
 use Rattle.sched_core.specs.declared.CoreFault.TheVariants.{NotLawful, Finished}
-use Rattle.sched_core.specs.declared.Record.{Record}
-use Rattle.sched_core.specs.declared.Record.TheVariants.{Life, Launch, End, Finish}
+use Rattle.node_machine.specs.declared.Record.{Record}
+use Rattle.node_machine.specs.declared.Record.TheVariants.{Life, Launch, End, Finish}
 use Rattle.sched_core.specs.Run.{history, next, is_done, outstanding, is_among, is_aborted, is_lawful, may_launch, is_nothing, job_launches, is_met, is_over, exit_status}
 
 -- the plan, the limits, the records, the newest first, and how many more need no memory

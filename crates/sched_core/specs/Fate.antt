@@ -3,7 +3,7 @@ use Rattle.std.specs.Prelude.{◌≡◌, ℕ, ◌<◌, ℤ, Bool, true, false, L
 use Rattle.std.specs.List.{list_all}
 use Rattle.node_machine.specs.declared.Ended.{Ended}
 use Rattle.node_machine.specs.Story.{Table, Attempt, story, phases_of, last_of, is_good, value_if_any}
-use Rattle.sched_core.specs.declared.Record.{Record}
+use Rattle.node_machine.specs.declared.Record.{Record}
 use Rattle.node_machine.specs.declared.State.{State}
 use Rattle.node_machine.specs.declared.State.TheVariants.{Done, Error, NotRun}
 use Rattle.run_plan.specs.Plan.{Plan, node_at, count_of}

@@ -7,8 +7,8 @@ use Rattle.splices.specs.declared.flat.CategoryLimit.{CategoryLimit}
 use Rattle.ready_queue.specs.declared.Member.{Member}
 use Rattle.ready_queue.specs.Queue.{ComesBefore}
 use Rattle.run_plan.specs.Plan.{Plan, node_at, count_of}
-use Rattle.sched_core.specs.declared.Record.{Record}
-use Rattle.sched_core.specs.declared.Record.TheVariants.{Life, Launch, End, Finish}
+use Rattle.node_machine.specs.declared.Record.{Record}
+use Rattle.node_machine.specs.declared.Record.TheVariants.{Life, Launch, End, Finish}
 use Rattle.sched_core.specs.Run.{outstanding}
 
 -- the limits of the categories that have one, by their places

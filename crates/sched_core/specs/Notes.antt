@@ -9,8 +9,8 @@ use Rattle.node_machine.specs.declared.Course.{Course}
 use Rattle.node_machine.specs.Story.{phase_number, value_of}
 use Rattle.run_plan.specs.declared.command.PhaseFacts.{PhaseFacts}
 use Rattle.run_plan.specs.Plan.{Plan, count_of}
-use Rattle.sched_core.specs.declared.Record.{Record}
-use Rattle.sched_core.specs.declared.Record.TheVariants.{Life, Launch, End, Finish}
+use Rattle.node_machine.specs.declared.Record.{Record}
+use Rattle.node_machine.specs.declared.Record.TheVariants.{Life, Launch, End, Finish}
 use Rattle.sched_core.specs.declared.notes.AttemptNotes.{AttemptNotes}
 use Rattle.sched_core.specs.Run.{is_same}
 use Rattle.sched_core.specs.Commands.{newest_launch, pre_value_of, failed_in}

@@ -6,8 +6,8 @@ use Rattle.node_machine.specs.NodeProgress.{NodeProgress}
 use Rattle.ready_queue.specs.declared.Member.{Member}
 use Rattle.ready_queue.specs.Queue.{Queue, IsOrdered}
 use Rattle.run_plan.specs.Plan.{Plan, node_at, count_of}
-use Rattle.sched_core.specs.declared.Record.{Record}
-use Rattle.sched_core.specs.declared.Record.TheVariants.{Life, Launch, End, Finish}
+use Rattle.node_machine.specs.declared.Record.{Record}
+use Rattle.node_machine.specs.declared.Record.TheVariants.{Life, Launch, End, Finish}
 use Rattle.sched_core.specs.Run.{is_ready}
 use Rattle.sched_core.specs.Core.{run_at}
 use Rattle.sched_core.specs.Limits.{member_of}

@@ -5,8 +5,8 @@ use Rattle.node_machine.specs.declared.Phase.{Phase}
 use Rattle.node_machine.specs.declared.Key.{Key}
 use Rattle.node_machine.specs.declared.Ended.{Ended}
 use Rattle.node_machine.specs.Story.{Table, is_set_to, phase_number, outcome_in, next_after, is_good_after, value_after, attempts_ended_after, is_possible, may_end_with}
-use Rattle.sched_core.specs.declared.Record.{Record}
-use Rattle.sched_core.specs.declared.Record.TheVariants.{Life, Launch, End, Finish}
+use Rattle.node_machine.specs.declared.Record.{Record}
+use Rattle.node_machine.specs.declared.Record.TheVariants.{Life, Launch, End, Finish}
 use Rattle.run_plan.specs.Plan.{Plan, node_at, count_of, all_below}
 
 -- A run's records as a journal writes them and a core lends them: the oldest first. What is written so, turned once more,

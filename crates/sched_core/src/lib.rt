@@ -15,26 +15,10 @@ mod notes;
 mod ready;
 mod scheduler;
 
-use node_machine::{Key, Outcome};
+use node_machine::{Key, Verdict};
 pub use scheduler::Core;
 use std::alloc::{AllocError, AllocFailed};
 use thiserror::Error;
-
-/// A record of a run.
-#[derive(Clone, Copy, Debug, PartialEq, Eq)]
-pub enum Record {
-    /// A manager begins, or goes on after another one stopped.
-    Life,
-    /// A phase is launched. Launches of jobs are numbered from 1, others have number 0.
-    Launch(Key, u64),
-    /// A phase ends.
-    End(Key, Outcome),
-    /// The run ends with this exit status.
-    Finish(Verdict),
-}
-
-/// The exit status of a run.
-pub type Verdict = u8;
 
 /// What is to be done next.
 #[derive(Clone, Copy, Debug, PartialEq, Eq)]

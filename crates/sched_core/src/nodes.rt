@@ -12,8 +12,8 @@ ghost use Rattle.throttles.specs.Throttled.{all_in};
 ghost use Rattle.sched_core.specs.Limits.{limits_of, throttled_in, throttled_after, IsOfNode, IsCounted};
 ghost use Rattle.sched_core.specs.Core.{AreFresh, run_at, aborted_in, has_abort_at, is_stuck_at, failed_after, runs_ended, runs_after, aborted_after, jobs_after};
 
-use crate::{CoreFault, Record};
-use node_machine::{Ended, Key, NodeRun, Outcome, Phase, State};
+use crate::CoreFault;
+use node_machine::{Ended, Key, NodeRun, Outcome, Phase, Record, State};
 use run_plan::{NodeSpec, Plan};
 use splices::CategoryLimit;
 use std::alloc::{AllocError, Global};

@@ -5,9 +5,8 @@ ghost use Rattle.run_plan.specs.Plan.{count_of};
 ghost use Rattle.sched_core.specs.Limits.{IsOfNode};
 ghost use Rattle.sched_core.specs.Notes.{AreNotes, no_notes, notes_at, notes_after, with_launch, with_end};
 
-use crate::Record;
 use crate::nodes::is_job;
-use node_machine::{Key, Outcome, Phase};
+use node_machine::{Key, Outcome, Phase, Record};
 use run_plan::Plan;
 use std::alloc::{AllocError, Global};
 

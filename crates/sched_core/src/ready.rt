@@ -9,9 +9,9 @@ ghost use Rattle.sched_core.specs.Core.{AreFresh};
 ghost use Rattle.sched_core.specs.Limits.{IsOfNode, member_of};
 ghost use Rattle.sched_core.specs.Queued.{done_at, waits, AreMembers, IsQueued, IsMore, IsAdded, IsRequeued};
 
+use crate::CoreFault;
 use crate::nodes::{is_done_at, run_of};
-use crate::{CoreFault, Record};
-use node_machine::NodeRun;
+use node_machine::{NodeRun, Record};
 use ready_queue::{Member, ReadyQueue};
 use run_plan::Plan;
 use std::alloc::Global;

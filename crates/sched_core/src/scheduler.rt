@@ -20,8 +20,8 @@ use crate::nodes::{
 };
 use crate::notes::{AttemptNotes, fresh_notes, note, notes_of};
 use crate::ready::{fresh_queue, parents_done_at, requeue};
-use crate::{Choice, CoreFault, Record};
-use node_machine::{Ended, Key, NodeRun, Outcome, State};
+use crate::{Choice, CoreFault};
+use node_machine::{Ended, Key, NodeRun, Outcome, Record, State};
 use ready_queue::{Member, ReadyQueue};
 use run_plan::{PhaseFacts, Plan};
 use std::alloc::Global;

@@ -6,7 +6,7 @@ use Rattle.node_machine.specs.declared.Key.{Key}
 use Rattle.node_machine.specs.declared.State.TheVariants as states
 use Rattle.node_machine.specs.Story.{Table}
 use Rattle.run_plan.specs.Plan.{Plan, node_at, count_of, IsRankedBy}
-use Rattle.sched_core.specs.declared.Record.{Record}
+use Rattle.node_machine.specs.declared.Record.{Record}
 use Rattle.sched_core.specs.Run.{next, is_done, outstanding, is_final_ready, is_aborted, is_finished, attempts_in, value_in}
 use Rattle.sched_core.specs.Fate.{Fate, AreFates, shown}
 use Rattle.sched_core.specs.Lives.{IsRunBy}

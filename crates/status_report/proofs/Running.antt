@@ -3,7 +3,7 @@ use Rattle.std.proofs.Common.{◌≡◌, ℕ, Bool, true, false, ◌||◌, List,
 use Rattle.std.proofs.lemmas.Bool.{false≢true}
 use Rattle.node_machine.specs.declared.Key.{Key}
 use Rattle.run_plan.specs.Plan.{Plan}
-use Rattle.sched_core.specs.declared.Record.{Record}
+use Rattle.node_machine.specs.declared.Record.{Record}
 use Rattle.sched_core.specs.Run.{next, outstanding, is_lawful}
 use Rattle.sched_core.specs.Core.{has_key_of, is_running}
 use Rattle.sched_core.proofs.Keys.{Each}

@@ -7,7 +7,7 @@ use Rattle.node_machine.specs.declared.Key.{Key}
 use Rattle.node_machine.specs.declared.State.{State}
 use Rattle.node_machine.specs.declared.State.TheVariants as state
 use Rattle.run_plan.specs.Plan.{Plan, node_at, count_of}
-use Rattle.sched_core.specs.declared.Record.{Record}
+use Rattle.node_machine.specs.declared.Record.{Record}
 use Rattle.sched_core.specs.Run.{next, is_done, outstanding, is_final_ready}
 use Rattle.status_report.specs.declared.status.Status.{Status}
 use Rattle.status_report.specs.declared.status.Status.TheVariants.{Done, Error, PreRun, Submitted, PostRun, Ready, NotReady}

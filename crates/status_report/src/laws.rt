@@ -3,7 +3,7 @@
 ghost use Rattle.std.specs.Prelude.{◌≡◌, ℕ, ◌<◌, true, List, is_some, IsTrue, IsFalse};
 ghost use Rattle.node_machine.specs.Story.{Table};
 ghost use Rattle.run_plan.specs.Plan.{Plan, count_of, IsRankedBy};
-ghost use Rattle.sched_core.specs.declared.Record.{Record};
+ghost use Rattle.node_machine.specs.declared.Record.{Record};
 ghost use Rattle.sched_core.specs.Run.{is_finished, is_aborted};
 ghost use Rattle.sched_core.specs.Fate.{Fate, AreFates, shown};
 ghost use Rattle.sched_core.specs.Lives.{IsRunBy};

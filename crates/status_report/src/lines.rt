@@ -5,7 +5,8 @@ ghost use Rattle.run_plan.specs.Plan.{count_of};
 ghost use Rattle.status_report.specs.Text.{status_word, status_line, node_line, reported, status_text_of, run_text};
 
 use crate::{Status, status_at};
-use sched_core::{Core, Verdict};
+use node_machine::Verdict;
+use sched_core::Core;
 use std::alloc::{AllocError, Global};
 
 fn status_word(status: Status) -> &'static str

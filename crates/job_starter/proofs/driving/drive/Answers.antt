@@ -1,6 +1,6 @@
 use Rattle.std.proofs.Common.{◌≡◌, ◌∙◌, ◌∷◌, true, refl, sym, ap, subst}
 use Rattle.run_plan.specs.Plan.{Plan}
-use Rattle.sched_core.specs.declared.Record.TheVariants.{Finish}
+use Rattle.node_machine.specs.declared.Record.TheVariants.{Finish}
 use Rattle.sched_core.specs.Run.{is_lawful, is_aborted}
 use Rattle.sched_core.proofs.Moves.{finish-follows}
 use Rattle.recovery.specs.Managed.{plan_of, past_of}

@@ -1,5 +1,5 @@
 use Rattle.std.proofs.Common.{inr, ◌∷◌}
-use Rattle.sched_core.specs.declared.Record.TheVariants.{Life}
+use Rattle.node_machine.specs.declared.Record.TheVariants.{Life}
 use Rattle.job_starter.proofs.Handing.{halted-hands, halted-adds}
 use Rattle.job_starter.proofs.laws.stops.Goals as goal
 

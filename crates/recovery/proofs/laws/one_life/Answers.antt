@@ -1,6 +1,6 @@
 use Rattle.std.proofs.Common.{◌∙◌, ◌++◌, List, inl, inr, refl, sym, ap, subst}
 use Rattle.run_plan.specs.Plan.{Plan}
-use Rattle.sched_core.specs.declared.Record.{Record}
+use Rattle.node_machine.specs.declared.Record.{Record}
 use Rattle.recovery.specs.Managed.{plan_of, past_of}
 use Rattle.recovery.specs.Chain.{HandsOver, span}
 use Rattle.recovery.proofs.laws.one_life.Goals as goal

@@ -1,7 +1,7 @@
 use Rattle.std.proofs.Common.{◌≡◌, ◌∙◌, ℕ, List, [], ◌∷◌, Ok, None, inl, inr, refl, arith}
 use Rattle.run_plan.specs.Plan.{Plan}
-use Rattle.sched_core.specs.declared.Record.{Record}
-use Rattle.sched_core.specs.declared.Record.TheVariants.{Life}
+use Rattle.node_machine.specs.declared.Record.{Record}
+use Rattle.node_machine.specs.declared.Record.TheVariants.{Life}
 use Rattle.event_journal.specs.Image.{Header, header_of, replay_of}
 use Rattle.recovery.specs.Managed.{Reads, read_of, WithOrWithout, ReadsBeforeOrAfter}
 use Rattle.recovery.specs.Recovery.{IsMomentOfBegin}

@@ -5,7 +5,7 @@ use Rattle.sched_core.specs.Run.{is_lawful}
 use Rattle.recovery.specs.Managed.{plan_of, past_of, disk_of}
 use Rattle.job_starter.specs.Drives.{limits_of}
 use Rattle.status_report.specs.Text.{run_text}
-use Rattle.sched_core.specs.declared.Record.{Record}
+use Rattle.node_machine.specs.declared.Record.{Record}
 use Rattle.job_starter.proofs.Handing.{driven, stopped, drives-adds}
 use Rattle.job_starter.proofs.Images.{one_call}
 use Rattle.job_starter.specs.Handed.{HandsAllButOne}

@@ -1,6 +1,6 @@
 use Rattle.std.proofs.Common.{◌≡◌, ◌∙◌, ◌+◌, ◌<◌, true, List, [], ◌∷◌, ◌++◌, length, reverse, take, drop, ap, sym, subst, arith}
 use Rattle.std.proofs.lemmas.List.{length-reverse, reverse-append}
-use Rattle.sched_core.specs.declared.Record.{Record}
+use Rattle.node_machine.specs.declared.Record.{Record}
 use Rattle.node_machine.specs.NodeProgress.{NodeProgress}
 use Rattle.sched_core.specs.Run.{may_follow}
 use Rattle.sched_core.specs.Core.{Progress, Takes, Shows, aborted_in, failed_after}
