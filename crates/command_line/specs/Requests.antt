@@ -1,0 +1,42 @@
+-- What the words of a command line ask for.
+use Rattle.std.specs.Prelude.{◌≡◌, ◌<◌, ℕ, List, Option, Some, None}
+use Rattle.std.specs.Option.{option_map}
+use Rattle.throttles.specs.declared.Limits.{Limits}
+use Rattle.command_line.specs.declared.request.RunOptions.{RunOptions}
+use Rattle.command_line.specs.declared.request.Request.{Request}
+use Rattle.command_line.specs.declared.request.Request.TheVariants.{Check, Run, Status, Audit, Rehearse}
+
+-- a command with its words: the path of the DAG file first
+pub data Asked : Type 0 where
+  checks : List ℕ → Asked
+  runs : List ℕ → RunOptions → Asked
+  tells_status : List ℕ → Asked
+  audits : List ℕ → Asked
+  rehearses : List ℕ → Option (List ℕ) → Limits → Asked
+
+-- what a request asks for
+abbrev pub asked_by : Request → Asked
+asked_by (Check dag) = checks dag.now
+asked_by (Run dag options) = runs dag.now options
+asked_by (Status dag) = tells_status dag.now
+asked_by (Audit dag) = audits dag.now
+asked_by (Rehearse dag outcomes limits) = rehearses dag.now (option_map (λ t. t.now) outcomes) limits
+
+-- no limits but that on all children
+abbrev pub no_limits : Limits
+no_limits = record { jobs = 0; pre = 0; post = 0; children = 1024 }
+
+-- limits that words may set: numbers of 16 bits, 0 for none; that on all children is fixed
+pub record AreLimits (limits : Limits) : Type 0 where
+  pub jobs : limits.jobs < 65536
+  pub pre : limits.pre < 65536
+  pub post : limits.post < 65536
+  pub children : limits.children ≡ 1024
+
+-- the limits under which something is to run
+abbrev pub limits_in : Asked → Option Limits
+limits_in (checks dag) = None
+limits_in (runs dag options) = Some options.limits
+limits_in (tells_status dag) = None
+limits_in (audits dag) = None
+limits_in (rehearses dag outcomes limits) = Some limits
