@@ -37,7 +37,7 @@ module _ (plan : Plan) (past : List Record) (key other : Key) (number : ℕ) whe
   unfolding is_aborted
   one-more lawful among follows =
       let ne = other-node lawful among follows in
-      λ j. record facts_in plan past key {
+      λ j. record (facts_in plan past key) {
         launch = if apart other key key.attempt ne (phase_number key.phase) j then number else newest_launch past key;
         job_launch = if apart other key key.attempt ne 1 j then number else newest_launch past (record key { phase = Job });
       }
