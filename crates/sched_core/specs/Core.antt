@@ -167,27 +167,6 @@ better_of plan None next = next
 better_of plan (Some best) None = Some best
 better_of plan (Some best) (Some next) = if int_lt (node_at plan best.node).priority (node_at plan next.node).priority then Some next else Some best
 
--- of these phases the one that was launched first, counting the launches since the last Life alone
-abbrev pub first_launched : List Key → List Record → Option Key
-first_launched keys [] = None
-first_launched keys (Life ∷ past) = None
-first_launched keys (Launch key number ∷ past) =
-    if is_some (first_launched keys past) || not (is_among key keys) then first_launched keys past
-    else Some key
-first_launched keys (End key outcome ∷ past) = first_launched keys past
-first_launched keys (Finish status ∷ past) = first_launched keys past
-
--- One life in which each record is what is to be done next under these limits: the launch of the phase that is chosen; where
--- none can be started, the end of the phase that was launched first; and the end of the run.
-abbrev pub GoesByChoice : Limits → Plan → List Record → Type 0
-GoesByChoice limits plan [] = Unit {0}
-GoesByChoice limits plan (Life ∷ past) = past ≡ []
-GoesByChoice limits plan (Launch key number ∷ past) = IsChoice limits plan past (choices.Start key) × GoesByChoice limits plan past
-GoesByChoice limits plan (End key outcome ∷ past) =
-    IsChoice limits plan past choices.Wait × (first_launched (outstanding plan past) past ≡ Some key)
-    × GoesByChoice limits plan past
-GoesByChoice limits plan (Finish status ∷ past) = IsChoice limits plan past (choices.Finish status) × GoesByChoice limits plan past
-
 -- one mark for each ordinary node: whether it is done
 pub record AreMarks (plan : Plan) (past : List Record) (marks : List Bool) : Type 0 where
   pub many : length marks ≡ count_of plan

@@ -9,7 +9,7 @@ ghost use Rattle.node_machine.specs.declared.Record.{Record};
 ghost use Rattle.sched_core.specs.declared.Choice.{Choice};
 ghost use Rattle.sched_core.specs.declared.Choice.TheVariants as choices;
 ghost use Rattle.throttles.specs.declared.Limits.{Limits};
-ghost use Rattle.sched_core.specs.Core.{IsChoice, GoesByChoice};
+ghost use Rattle.sched_core.specs.Core.{IsChoice};
 ghost use Rattle.sched_core.specs.Bound.{records_left, has_no_life, all_phases};
 ghost use Rattle.node_machine.specs.declared.Record.TheVariants.{Life, Launch, End, Finish};
 ghost use Rattle.node_machine.specs.declared.Phase.TheVariants.{Job};
@@ -168,11 +168,6 @@ pub fn choices()
         IsTrue (may_follow plan past (Launch key (launch_number past key))) }
     ensures finish { (limits : Limits) (plan : Plan) (past : List Record) (status : ℕ) → IsTrue (is_open past) →
         IsChoice limits plan past (choices.Finish status) → IsTrue (may_follow plan past (Finish status)) }
-    // So there is one finished run that goes by choice, at the outcomes of a table.
-    ensures run { (limits : Limits) (plan : Plan) (table : Table) (records other : List Record) →
-        IsTrue (is_finished plan records) → IsTrue (is_finished plan other) →
-        GoesByChoice limits plan records → GoesByChoice limits plan other →
-        HasOutcomesOf plan table records → HasOutcomesOf plan table other → records ≡ other }
 {}
 
 /// What is written begins with the oldest record, each newer one stands behind it, and read from the
