@@ -13,7 +13,8 @@ use Rattle.node_machine.specs.declared.Record.{Record}
 use Rattle.sched_core.specs.declared.Choice.TheVariants as choices
 use Rattle.node_machine.specs.declared.Record.TheVariants.{Life, Launch, End, Finish}
 use Rattle.sched_core.specs.Run.{next, is_met, has_abort_value, is_aborted, outstanding, without, is_among, is_next, is_free, is_nothing, is_open, is_ready, is_final_ready, may_launch, may_follow, is_lawful, job_launches, launch_number, exit_status}
-use Rattle.sched_core.specs.Core.{Shows, AreFresh, IsChoice, is_running, runs_after, aborted_after, jobs_after, launchable}
+use Rattle.sched_core.specs.Core.{Shows, AreFresh, is_running, runs_after, aborted_after, jobs_after}
+use Rattle.sched_core.specs.Choices.{IsChoice, launchable}
 use Rattle.sched_core.proofs.Keys.{Each, each_among, each_without, same-self}
 use Rattle.sched_core.proofs.Sound.{sound}
 use Rattle.sched_core.proofs.Held.{Within, outstanding-within, among-is, launched-within, end-within}
