@@ -91,7 +91,7 @@ edge_count_of dag = sum_by (λ node. length (parents_of dag node)) (range_with_l
 abbrev pub RisesAlong : (ℕ → ℕ) → List Edge → Type 0
 RisesAlong rank edges = (p v : ℕ) → IsParent edges p v → rank p < rank v
 
--- a graph as contracts see it: the flat DAG, and the ordinary nodes in an order with parents first
+-- a graph as contracts see it: the flat DAG, and the ordinary nodes in a topological order
 pub record Network : Type 0 where
   pub dag : Dag
   pub order : List ℕ
