@@ -1,6 +1,6 @@
 -- Launches behind a launch change nothing of what is known of it.
-use Rattle.std.proofs.Common.{◌≡◌, ℕ, Bool, true, false, ◌&&◌, ◌||◌, List, [], ◌∷◌, ◌++◌, refl, sym, ap, ◌∙◌, subst, ◌==◌, eq-eqb, eqb-true, if◌then◌else◌}
-use Rattle.std.proofs.lemmas.Bool.{and_parts, false≢true}
+use Rattle.std.proofs.Common.{◌≡◌, ℕ, Bool, true, false, ◌&&◌, ◌||◌, List, [], ◌∷◌, ◌++◌, refl, sym, ap, ◌∙◌, ◌==◌, eqb-true, if◌then◌else◌}
+use Rattle.std.proofs.lemmas.Bool.{and_parts, false≢true, false_from_ne_true}
 use Rattle.std.specs.List.{list_all}
 use Rattle.node_machine.specs.declared.Phase.TheVariants.{Job}
 use Rattle.node_machine.specs.declared.Key.{Key}
@@ -10,14 +10,10 @@ use Rattle.node_machine.specs.Story.{phase_number}
 use Rattle.run_plan.specs.Plan.{Plan}
 use Rattle.sched_core.specs.Run.{is_lawful, may_follow, is_among, is_same, is_aborted, outstanding}
 use Rattle.sched_core.specs.Core.{is_running}
-use Rattle.sched_core.specs.Commands.{facts_in, newest_launch, pre_value_of, dag_status_in, failed_in, is_launch}
+use Rattle.sched_core.specs.Commands.{facts_in, newest_launch, is_launch}
 use Rattle.sched_core.proofs.Keys.{same-self}
 use Rattle.sched_core.proofs.Sound.{sound}
 use Rattle.sched_core.proofs.Held.{among-is, launched-idle}
-
-false-unless : (b : Bool) → (b ≡ true → false ≡ true) → b ≡ false
-false-unless true no = sym (no refl)
-false-unless false no = refl
 
 -- a launch of one node's phase is no launch of another node's
 apart : (other key : Key) (attempt : ℕ) → (other.node == key.node) ≡ false → (phase : ℕ)
@@ -30,7 +26,7 @@ module _ (plan : Plan) (past : List Record) (key other : Key) (number : ℕ) whe
       → (other.node == key.node) ≡ false
   other-node lawful among follows =
       let runs : is_running plan past key.node ≡ true = (and_parts _ _ (sym (among-is plan past key (outstanding plan past) (sound plan past lawful).held) ∙ among)).0 in
-      false-unless _ (λ same. sym (launched-idle plan past other number lawful follows) ∙ ap (is_running plan past) (eqb-true other.node key.node same) ∙ runs)
+      false_from_ne_true _ (λ same. false≢true (sym (launched-idle plan past other number lawful follows) ∙ ap (is_running plan past) (eqb-true other.node key.node same) ∙ runs))
 
   one-more : is_lawful plan past ≡ true → is_among key (outstanding plan past) ≡ true → may_follow plan past (Launch other number) ≡ true
       → facts_in plan (Launch other number ∷ past) key ≡ facts_in plan past key
