@@ -1,16 +1,16 @@
 -- Ranks, cycles and ancestors.
 use Rattle.std.proofs.Common.{ℕ, ◌<◌, List, [], ◌∷◌, arith}
 use Rattle.splices.specs.declared.flat.Edge.{Edge}
-use Rattle.dag_graph.specs.Graph.{IsAncestor, direct, through, IsAcyclic, IsRankedBy, Leads, IsCycle}
+use Rattle.dag_graph.specs.Graph.{IsAncestor, direct, through, IsAcyclic, RisesAlong, Leads, IsCycle}
 
-lower : (rank : ℕ → ℕ) (edges : List Edge) (a v : ℕ) → IsRankedBy rank edges → IsAncestor edges a v → rank a < rank v
+lower : (rank : ℕ → ℕ) (edges : List Edge) (a v : ℕ) → RisesAlong rank edges → IsAncestor edges a v → rank a < rank v
 lower rank edges a v ranked (direct is) = ranked _ _ is
 lower rank edges a v ranked (through {a = b} {p = p} {v = w} more is) =
     let x : rank b < rank p = lower rank edges b p ranked more in
     let y : rank p < rank w = ranked p w is in
     omega arith
 
-pub ranked_acyclic : (rank : ℕ → ℕ) (edges : List Edge) → IsRankedBy rank edges → IsAcyclic edges
+pub ranked_acyclic : (rank : ℕ → ℕ) (edges : List Edge) → RisesAlong rank edges → IsAcyclic edges
 ranked_acyclic rank edges ranked = λ v self. let bad : rank v < rank v = lower rank edges v v ranked self in absurd (omega arith)
 
 leads_on : (edges : List Edge) (a x : ℕ) (xs : List ℕ) (end : ℕ) → IsAncestor edges a x → Leads edges x xs end → IsAncestor edges a end

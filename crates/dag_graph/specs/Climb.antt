@@ -1,4 +1,4 @@
--- A climb from nodes to their parents, which puts nodes into an order with parents first.
+-- A climb from nodes to their parents, which puts nodes into a topological order.
 use Rattle.std.specs.Prelude.{◌≡◌, ℕ, ◌+◌, ◌-◌, ◌<◌, ◌≤◌, Bool, true, false, not, List, [], ◌∷◌, ◌++◌, length, take, slice_set, slice_index, slice_index_or}
 use Rattle.std.specs.List.{Contains, count_by, sum_by}
 use Rattle.dag_graph.specs.Graph.{AreApart, rank_in}

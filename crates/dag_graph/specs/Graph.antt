@@ -87,11 +87,11 @@ name_of dag node = slice_index_or (names_of dag) node []
 abbrev pub edge_count_of : Dag → ℕ
 edge_count_of dag = sum_by (λ node. length (parents_of dag node)) (range_with_len 0 (length dag.nodes))
 
--- each parent has a lower rank than its child
-abbrev pub IsRankedBy : (ℕ → ℕ) → List Edge → Type 0
-IsRankedBy rank edges = (p v : ℕ) → IsParent edges p v → rank p < rank v
+-- the rank rises along each edge
+abbrev pub RisesAlong : (ℕ → ℕ) → List Edge → Type 0
+RisesAlong rank edges = (p v : ℕ) → IsParent edges p v → rank p < rank v
 
--- a graph as contracts see it: the flat DAG, and the ordinary nodes in an order with parents first
+-- a graph as contracts see it: the flat DAG, and the ordinary nodes in a topological order
 pub record Network : Type 0 where
   pub dag : Dag
   pub order : List ℕ

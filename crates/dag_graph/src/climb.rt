@@ -1,4 +1,4 @@
-//! An order with parents first, or a path that comes back.
+//! A topological order, or a path that comes back.
 //!
 //! From each node in turn the climb goes up to a parent that has no place in the order yet, and on
 //! from there. A node all of whose parents have a place gets the next one. A parent without a place

@@ -18,7 +18,7 @@ use splices::FlatDag;
 use std::alloc::Global;
 use std::marker::Model;
 
-/// A DAG none of whose nodes is its own ancestor, with its nodes in an order with parents first.
+/// A DAG none of whose nodes is its own ancestor, with its nodes in a topological order, parents first.
 ///
 /// Nodes go by their numbers: the ordinary ones from 0 in plan order, and then the FINAL node, which
 /// has neither parents nor children.

@@ -2,11 +2,11 @@
 
 ghost use Rattle.std.specs.Prelude.{ℕ, List};
 ghost use Rattle.splices.specs.declared.flat.Edge.{Edge};
-ghost use Rattle.dag_graph.specs.Graph.{IsAcyclic, IsCycle, IsRankedBy};
+ghost use Rattle.dag_graph.specs.Graph.{IsAcyclic, IsCycle, RisesAlong};
 
 /// Where each parent has a lower rank than its child, no node is its own ancestor.
 pub fn ranked_is_acyclic()
-    ensures { (rank : ℕ → ℕ) (edges : List Edge) → IsRankedBy rank edges → IsAcyclic edges }
+    ensures { (rank : ℕ → ℕ) (edges : List Edge) → RisesAlong rank edges → IsAcyclic edges }
 {}
 
 /// Where there is a cycle, a node is its own ancestor.

@@ -1,4 +1,4 @@
-//! The graph of a DAG: an order with parents first, or a cycle; parents, children and ancestors.
+//! The graph of a DAG: a topological order, or a cycle; parents, children and ancestors.
 #![tactic(auto)]
 
 mod climb;

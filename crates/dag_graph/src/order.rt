@@ -1,4 +1,4 @@
-//! The nodes in an order with parents first.
+//! The nodes in a topological order: parents first.
 
 ghost use Rattle.std.specs.Prelude.{◌≡◌, IfOk, IfErr};
 ghost use Rattle.dag_graph.specs.Graph.{IsOrderOf, all_parents_of};
@@ -11,7 +11,7 @@ use crate::numbers::Numbers;
 use splices::FlatDag;
 use std::alloc::Global;
 
-/// The ordinary nodes in an order with parents first, or the names of a cycle.
+/// The ordinary nodes in a topological order, or the names of a cycle.
 pub(crate) fn order_of(
     alloc: Global,
     dag: &FlatDag,

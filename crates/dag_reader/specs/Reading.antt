@@ -13,7 +13,7 @@ use Rattle.dag_reader.specs.declared.command.Macro.{Macro}
 use Rattle.dag_reader.specs.declared.command.DagFile.{DagFile}
 use Rattle.dag_reader.specs.declared.layout.LineKind.{LineKind}
 use Rattle.dag_reader.specs.Word.{PlacedText}
-pub use Rattle.dag_reader.specs.Results.{◌>>=◌}
+pub use Rattle.dag_reader.specs.Results.{◌>>=◌, Tells, Returns}
 use Rattle.dag_reader.specs.LineReader.{Left, first_left}
 use Rattle.dag_reader.specs.Keywords.{is_keyword, is_left_out, is_ignored, is_comment}
 use Rattle.dag_reader.specs.Lines.{text_len, ends_with_backslash}
@@ -31,14 +31,16 @@ abbrev pub Answers : {X Y : Type 0} → (X → Y) → Result X LineFault → Res
 Answers view (Ok x) read = read ≡ Ok (view x)
 Answers view (Err f) read = read ≡ Err f
 
--- and of one that needs memory, unless memory ran out
+-- and of one that needs memory
+abbrev pub fault_of : ReadFault → Option LineFault
+fault_of faults.Memory = None
+fault_of (faults.Line f) = Some f
+
 abbrev pub Fails : {Y : Type 0} → ReadFault → Result Y LineFault → Type 0
-Fails faults.Memory read = Unit {0}
-Fails (faults.Line f) read = read ≡ Err f
+Fails refusal read = Tells (fault_of refusal) read
 
 abbrev pub Gives : {X Y : Type 0} → (X → Y) → Result X ReadFault → Result Y LineFault → Type 0
-Gives view (Ok x) read = read ≡ Ok (view x)
-Gives view (Err e) read = Fails e read
+Gives view = Returns fault_of view
 
 -- one macro or more
 abbrev pub some_macros : List Macro → Span → Result (List Macro) LineFault

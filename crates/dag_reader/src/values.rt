@@ -54,7 +54,7 @@ impl<'a> Values<'a> {
     ghost use Rattle.dag_reader.specs.Blanks.{begun};
     ghost use Rattle.dag_reader.specs.Layouts.{nothing, bracket, put, bracket_of, layout};
     ghost use Rattle.dag_reader.specs.LayoutViews.{values_of, Leaves};
-    ghost use Rattle.dag_reader.specs.declared.layout.LineKind.TheVariants.{Job, Final, Splice};
+    ghost use Rattle.dag_reader.specs.declared.layout.LineKind.TheVariants.{Job, Script, Final, Splice};
 
     /// Nothing is said so far.
     pub(crate) fn new(alloc: Global) -> Values<'a>
@@ -173,12 +173,7 @@ impl<'a> Values<'a> {
                 parents: self.parents.take(alloc),
                 children: self.words.take(alloc),
             },
-            LineKind::Script => Command::Script {
-                kind: self.when,
-                node: self.node.to_target(alloc)?,
-                program: self.file.to_word(alloc)?,
-                arguments: self.words.take(alloc),
-            },
+            LineKind::Script => self.script(alloc)?,
             LineKind::Retry => Command::Retry {
                 node: self.node.to_target(alloc)?,
                 retries: self.count,
@@ -207,6 +202,17 @@ impl<'a> Values<'a> {
             },
             LineKind::Final => self.final_node(alloc)?,
             LineKind::Splice => self.splice(alloc)?,
+        })
+    }
+
+    fn script(&mut self, alloc: Global) -> Result<Command, AllocError>
+        ensures { IfOk result (λ c. c ≡ (layout Script).command (values_of self.old)) }
+    {
+        Ok(Command::Script {
+            kind: self.when,
+            node: self.node.to_target(alloc)?,
+            program: self.file.to_word(alloc)?,
+            arguments: self.words.take(alloc),
         })
     }
 

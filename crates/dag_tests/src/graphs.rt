@@ -54,7 +54,7 @@ static NAMES: [(&str, &str); 2] = [
     ),
 ];
 
-/// Each of these has one order with parents first.
+/// Each of these has one topological order.
 static ORDERS: [(&str, &str); 3] = [
     (
         "JOB C c\nJOB A a\nJOB B b\nPARENT B CHILD C\nPARENT A CHILD B C\n",

@@ -15,7 +15,7 @@ pub enum View {
     Links,
     /// Folders and options of the nodes.
     Options,
-    /// An order with parents first.
+    /// A topological order.
     Order,
     /// The ancestors of each node.
     Ancestors,

@@ -18,7 +18,7 @@ use Rattle.rescue_file.proofs.OpenedNames.{dag_fit}
 use Rattle.rescue_file.proofs.ReadBack.{read_again}
 use Rattle.run_plan.specs.declared.fault.PlanFault.{PlanFault}
 use Rattle.run_plan.specs.Plan.{Plan, Job, NodeSpec, no_node, node_at, count_of}
-use Rattle.run_plan.specs.Specs.{Sources, spec_of, specs_from, final_spec, plan_of, is_marked}
+use Rattle.run_plan.specs.Specs.{Sources, spec_of, specs_from, final_spec, plan_of, is_listed}
 use Rattle.run_plan.specs.Submitted.{◌>>=◌, first_fault, all_nodes, rescued_in, in_rescue, sources_of, plan_at}
 use Rattle.run_plan.proofs.PlanFacts.{count-is}
 use Rattle.node_machine.specs.declared.Record.{Record}
@@ -54,30 +54,30 @@ done-by dag one two number (node ∷ nodes) d (suc i) lt =
     (r.0, r.1 ∙ ap (λ (k : ℕ). r.0 || one.marked k) e, r.2 ∙ ap (λ (k : ℕ). r.0 || two.marked k) e)
 
 -- the numbers at which a mark stands
-marked-past : (f : ℕ → Bool) (n number node : ℕ) → node < number → is_marked (marked (range_with_len number n) (map f (range_with_len number n))) node ≡ false
+marked-past : (f : ℕ → Bool) (n number node : ℕ) → node < number → is_listed (marked (range_with_len number n) (map f (range_with_len number n))) node ≡ false
 marked-past f zero number node lt = refl
 marked-past f (suc n) number node lt = go (f number) (marked-past f n (number + 1) node (omega arith))
   where
-    go : (b : Bool) → is_marked (marked (range_with_len (number + 1) n) (map f (range_with_len (number + 1) n))) node ≡ false
-        → is_marked (if b then number ∷ marked (range_with_len (number + 1) n) (map f (range_with_len (number + 1) n)) else marked (range_with_len (number + 1) n) (map f (range_with_len (number + 1) n))) node ≡ false
+    go : (b : Bool) → is_listed (marked (range_with_len (number + 1) n) (map f (range_with_len (number + 1) n))) node ≡ false
+        → is_listed (if b then number ∷ marked (range_with_len (number + 1) n) (map f (range_with_len (number + 1) n)) else marked (range_with_len (number + 1) n) (map f (range_with_len (number + 1) n))) node ≡ false
     go true rest = λ j. ne_eqb number node (λ e. omega arith) j || rest j
     go false rest = rest
 
 marked-is : (f : ℕ → Bool) (n number node : ℕ) → number < node + 1 → node < number + n
-    → is_marked (marked (range_with_len number n) (map f (range_with_len number n))) node ≡ f node
+    → is_listed (marked (range_with_len number n) (map f (range_with_len number n))) node ≡ f node
 marked-is f zero number node low high = absurd (omega arith)
 marked-is f (suc n) number node low high = elim (cases_eq number node) [
   | inl same ↦ here same (f number) refl
   | inr other ↦ later other (f number) (marked-is f n (number + 1) node (omega arith) (omega arith))
 ]
   where
-    here : number ≡ node → (b : Bool) → f number ≡ b → is_marked (if b then number ∷ marked (range_with_len (number + 1) n) (map f (range_with_len (number + 1) n)) else marked (range_with_len (number + 1) n) (map f (range_with_len (number + 1) n))) node ≡ f node
-    here same true is = (λ j. eq-eqb number node same j || is_marked (marked (range_with_len (number + 1) n) (map f (range_with_len (number + 1) n))) node) ∙ sym is ∙ ap f same
+    here : number ≡ node → (b : Bool) → f number ≡ b → is_listed (if b then number ∷ marked (range_with_len (number + 1) n) (map f (range_with_len (number + 1) n)) else marked (range_with_len (number + 1) n) (map f (range_with_len (number + 1) n))) node ≡ f node
+    here same true is = (λ j. eq-eqb number node same j || is_listed (marked (range_with_len (number + 1) n) (map f (range_with_len (number + 1) n))) node) ∙ sym is ∙ ap f same
     here same false is = marked-past f n (number + 1) node (omega arith) ∙ sym is ∙ ap f same
 
-    later : (number ≡ node → ⊥) → (b : Bool) → is_marked (marked (range_with_len (number + 1) n) (map f (range_with_len (number + 1) n))) node ≡ f node
-        → is_marked (if b then number ∷ marked (range_with_len (number + 1) n) (map f (range_with_len (number + 1) n)) else marked (range_with_len (number + 1) n) (map f (range_with_len (number + 1) n))) node ≡ f node
-    later other true is = (λ j. ne_eqb number node other j || is_marked (marked (range_with_len (number + 1) n) (map f (range_with_len (number + 1) n))) node) ∙ is
+    later : (number ≡ node → ⊥) → (b : Bool) → is_listed (marked (range_with_len (number + 1) n) (map f (range_with_len (number + 1) n))) node ≡ f node
+        → is_listed (if b then number ∷ marked (range_with_len (number + 1) n) (map f (range_with_len (number + 1) n)) else marked (range_with_len (number + 1) n) (map f (range_with_len (number + 1) n))) node ≡ f node
+    later other true is = (λ j. ne_eqb number node other j || is_listed (marked (range_with_len (number + 1) n) (map f (range_with_len (number + 1) n))) node) ∙ is
     later other false is = is
 
 -- a plan that is made
@@ -149,9 +149,9 @@ module _ (set : Files) (top : List ℕ) (graph : Network) (opened : dag_at set t
       pub same-count : count_of again ≡ count_of plan
       same-count = ap count_of same-plan ∙ count-is graph (sources_of files said) next ∙ sym count
 
-      marks-are : (node : ℕ) → node < length graph.dag.nodes → is_marked said node ≡ is_done plan past node
+      marks-are : (node : ℕ) → node < length graph.dag.nodes → is_listed said node ≡ is_done plan past node
       marks-are node lt =
-          ap (λ (n : ℕ). is_marked (marked (range_with_len 0 (length graph.dag.nodes)) (map (is_done plan past) (range_with_len 0 n))) node) count
+          ap (λ (n : ℕ). is_listed (marked (range_with_len 0 (length graph.dag.nodes)) (map (is_done plan past) (range_with_len 0 n))) node) count
           ∙ marked-is (is_done plan past) (length graph.dag.nodes) 0 node (omega arith) (omega arith)
 
       pub same-done : (node : ℕ) → node < count_of again → (node_at again node).done ≡ is_done plan past node
@@ -160,13 +160,13 @@ module _ (set : Files) (top : List ℕ) (graph : Network) (opened : dag_at set t
           let d = unwrap_or (option_map (final_spec (sources_of files parts.1)) graph.dag.final_node) no_node in
           let r = done-by graph.dag (sources_of files parts.1) (sources_of files said) 0 graph.dag.nodes d node lt' in
           let zero-on : 0 + node ≡ node = omega arith in
-          let before : (node_at plan node).done ≡ (r.0 || is_marked parts.1 node) =
-          ap (λ (p : Plan). (node_at p node).done) is-made ∙ r.1 ∙ ap (λ (n : ℕ). r.0 || is_marked parts.1 n) zero-on in
+          let before : (node_at plan node).done ≡ (r.0 || is_listed parts.1 node) =
+          ap (λ (p : Plan). (node_at p node).done) is-made ∙ r.1 ∙ ap (λ (n : ℕ). r.0 || is_listed parts.1 n) zero-on in
           let good = is_good_after (node_at plan node).course (history past node) in
-          let done : is_done plan past node ≡ ((r.0 || is_marked parts.1 node) || good) = ap (λ (b : Bool). b || good) before in
-          ap (λ (p : Plan). (node_at p node).done) same-plan ∙ r.2 ∙ ap (λ (n : ℕ). r.0 || is_marked said n) zero-on
+          let done : is_done plan past node ≡ ((r.0 || is_listed parts.1 node) || good) = ap (λ (b : Bool). b || good) before in
+          ap (λ (p : Plan). (node_at p node).done) same-plan ∙ r.2 ∙ ap (λ (n : ℕ). r.0 || is_listed said n) zero-on
           ∙ ap (λ (b : Bool). r.0 || b) (marks-are node lt' ∙ done)
-          ∙ done-again r.0 (is_marked parts.1 node) good ∙ sym done
+          ∙ done-again r.0 (is_listed parts.1 node) good ∙ sym done
 
   pub rescued-by : (round : Round) → plan_at graph files rescue digest ≡ Ok round.plan → (again : Plan)
       → plan_at graph files (Some (rescue_text_for round.plan round.records)) next ≡ Ok again → IsRescuedBy round again

@@ -133,7 +133,7 @@ fn fill(
     Ok(())
 }
 
-/// The fates of all ordinary nodes, in an order with parents first.
+/// The fates of all ordinary nodes, in a topological order.
 fn fates_in_order(
     alloc: Global,
     plan: &Plan,

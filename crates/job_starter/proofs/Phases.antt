@@ -15,7 +15,7 @@ use Rattle.run_plan.specs.Commands.{starts_child}
 use Rattle.sched_core.specs.declared.Choice.TheVariants as choices
 use Rattle.node_machine.specs.declared.Record.{Record}
 use Rattle.sched_core.specs.Run.{history, is_open}
-use Rattle.sched_core.specs.Core.{IsChoice}
+use Rattle.sched_core.specs.Choices.{IsChoice}
 use Rattle.sched_core.proofs.Best.{chosen-follows}
 use Rattle.sched_core.proofs.Sound.{launch-held, next-parts}
 

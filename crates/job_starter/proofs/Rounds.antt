@@ -8,7 +8,7 @@ use Rattle.sched_core.specs.declared.Choice.{Choice}
 use Rattle.sched_core.specs.declared.Choice.TheVariants as choices
 use Rattle.node_machine.specs.declared.Record.{Record}
 use Rattle.sched_core.specs.Run.{is_open}
-use Rattle.sched_core.specs.Core.{IsChoice}
+use Rattle.sched_core.specs.Choices.{IsChoice}
 use Rattle.job_starter.specs.declared.Call.{Call}
 use Rattle.job_starter.specs.Calls.{running, TellsNoMore}
 use Rattle.job_starter.specs.Drives.{AreInStep, IsNearerEnd, IsHeld, IsStep, Drives, no_step, one_more, IsCutOff, IsHalted}

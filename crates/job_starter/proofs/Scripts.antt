@@ -14,7 +14,7 @@ use Rattle.sched_core.specs.declared.Choice.TheVariants as choices
 use Rattle.node_machine.specs.declared.Record.{Record}
 use Rattle.node_machine.specs.declared.Record.TheVariants.{End}
 use Rattle.sched_core.specs.Run.{outstanding}
-use Rattle.sched_core.specs.Core.{IsChoice}
+use Rattle.sched_core.specs.Choices.{IsChoice}
 use Rattle.sched_core.proofs.Best.{choice-one}
 use Rattle.job_starter.specs.declared.Call.{Call}
 use Rattle.job_starter.specs.Calls.{oldest}

@@ -14,7 +14,8 @@ use Rattle.sched_core.specs.declared.Choice.TheVariants as choices
 use Rattle.node_machine.specs.declared.Record.{Record}
 use Rattle.node_machine.specs.declared.Record.TheVariants.{End}
 use Rattle.sched_core.specs.Run.{history, is_open, is_over, may_follow, may_launch, is_lawful, is_nothing, is_among, is_same, outstanding}
-use Rattle.sched_core.specs.Core.{IsChoice, has_key_of, startable, nothing_launchable}
+use Rattle.sched_core.specs.Core.{has_key_of}
+use Rattle.sched_core.specs.Choices.{IsChoice, startable, nothing_launchable}
 use Rattle.sched_core.proofs.Keys.{same-eq}
 use Rattle.sched_core.proofs.Best.{chosen-follows, startable-parts}
 use Rattle.sched_core.proofs.Moves.{launchable-next}

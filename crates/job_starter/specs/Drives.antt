@@ -16,7 +16,7 @@ use Rattle.node_machine.specs.declared.Record.{Record}
 use Rattle.node_machine.specs.declared.Record.TheVariants.{Launch, End}
 use Rattle.sched_core.specs.Run.{outstanding, is_among, is_aborted, is_open, launch_number}
 use Rattle.sched_core.specs.Bound.{records_left}
-use Rattle.sched_core.specs.Core.{IsChoice, startable}
+use Rattle.sched_core.specs.Choices.{IsChoice, startable}
 use Rattle.sched_core.specs.Commands.{facts_in}
 use Rattle.recovery.specs.Managed.{Managed}
 use Rattle.job_starter.specs.declared.Call.{Call}

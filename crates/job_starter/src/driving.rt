@@ -6,7 +6,7 @@ ghost use Rattle.run_plan.specs.Plan.{node_at, count_of};
 ghost use Rattle.run_plan.specs.Commands.{starts_child};
 ghost use Rattle.sched_core.specs.Run.{is_among, is_aborted, is_over, is_open, is_nothing, outstanding, may_follow, table_of};
 ghost use Rattle.sched_core.specs.Fate.{AreFates, shown};
-ghost use Rattle.sched_core.specs.Core.{IsChoice};
+ghost use Rattle.sched_core.specs.Choices.{IsChoice};
 ghost use Rattle.recovery.specs.Managed.{plan_of, past_of};
 ghost use Rattle.job_starter.specs.Calls.{running, MayRun, TellsNoMore};
 ghost use Rattle.job_starter.specs.Drives.{limits_of, launch_of, AreInStep, IsNearerEnd, IsHandedOver, IsHeld, IsStep, final_verdict, Drives, IsCutOff, Starts, Kills, IsLaunched, IsHalted, IsStopped};

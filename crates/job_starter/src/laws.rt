@@ -10,7 +10,7 @@ ghost use Rattle.run_plan.specs.Plan.{Plan};
 ghost use Rattle.node_machine.specs.declared.Record.{Record};
 ghost use Rattle.node_machine.specs.declared.Record.TheVariants.{Life};
 ghost use Rattle.sched_core.specs.Lives.{HasOutcomesOf};
-ghost use Rattle.sched_core.specs.Core.{IsChoice};
+ghost use Rattle.sched_core.specs.Choices.{IsChoice};
 ghost use Rattle.sched_core.specs.declared.Choice.TheVariants as choices;
 ghost use Rattle.event_journal.specs.Image.{Header};
 ghost use Rattle.recovery.specs.Chain.{ReadsForInputs};

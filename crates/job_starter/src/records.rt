@@ -4,7 +4,7 @@ ghost use Rattle.node_machine.specs.Story.{is_possible, may_end_with};
 ghost use Rattle.run_plan.specs.Plan.{node_at, count_of};
 ghost use Rattle.run_plan.specs.Commands.{starts_child};
 ghost use Rattle.sched_core.specs.Run.{is_among, is_aborted, is_lawful, is_over, is_open, outstanding};
-ghost use Rattle.sched_core.specs.Core.{IsChoice};
+ghost use Rattle.sched_core.specs.Choices.{IsChoice};
 ghost use Rattle.recovery.specs.Managed.{plan_of, past_of, ReadsBeforeOrAfter};
 ghost use Rattle.job_starter.specs.Drives.{limits_of, launch_of, IsNearerEnd};
 ghost use Rattle.job_starter.specs.Causes.{IsDriveFault};

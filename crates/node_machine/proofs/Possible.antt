@@ -17,7 +17,7 @@ use Rattle.node_machine.specs.declared.outcomes.TableFault.{TableFault}
 use Rattle.node_machine.specs.Story.{is_possible}
 use Rattle.node_machine.specs.OutcomeTable.{Entry, is_of, outcome_at, SameOutcomes, HasPossibleOutcomes}
 use Rattle.node_machine.specs.OutcomesFile.{SayAll}
-use Rattle.node_machine.specs.OutcomesReading.{phase_in, ending_in, signal_of, signal_in, outcome_in, phased_in, entry_in, words_say, text_says, line_at}
+use Rattle.node_machine.specs.OutcomesReading.{phase_in, ending_in, signal_of, signal_in, spelled_outcome, phased_in, entry_in, words_say, text_says, line_at}
 
 abbrev some : {A : Type 0} → A → Option A
 some x = Some x
@@ -68,8 +68,8 @@ signal-possible (Some number) n o counted e =
     (λ other. absurd (let bad = other.1 in cc))
     (chosen (nat_le 1 number) _ _ (Some o) e)
 
-outcome-possible : (ws : List PlacedText) (o : Outcome) → outcome_in ws ≡ Some o → is_possible o ≡ true
-unfolding outcome_in signal_in
+outcome-possible : (ws : List PlacedText) (o : Outcome) → spelled_outcome ws ≡ Some o → is_possible o ≡ true
+unfolding spelled_outcome signal_in
 outcome-possible [] o e = absurd cc
 outcome-possible (w ∷ []) o e = ending-possible w o e
 outcome-possible (k ∷ n ∷ []) o e =
@@ -84,7 +84,7 @@ unfolding phased_in
 phased-possible name attempt [] entry e = absurd cc
 phased-possible name attempt (w ∷ ws) entry e =
     let p = chained _ (phase_in w) entry e in
-    let o = mapped _ (outcome_in ws) entry p.2 in
+    let o = mapped _ (spelled_outcome ws) entry p.2 in
     ap (λ (x : Entry). is_possible x.outcome) (sym o.2) ∙ outcome-possible ws o.0 o.1
 
 entry-possible : (name : PlacedText) (ws : List PlacedText) (entry : Entry) → entry_in name ws ≡ Some entry → is_possible entry.outcome ≡ true

@@ -37,11 +37,11 @@ signal_of (Some n) = if nat_le 1 n then Some (Signal n) else None
 unfoldable pub signal_in : PlacedText → PlacedText → Option Outcome
 signal_in k n = if is_keyword (codes "SIGNAL") k then signal_of (count 127 n.text) else None
 
-unfoldable pub outcome_in : List PlacedText → Option Outcome
-outcome_in [] = None
-outcome_in (c ∷ []) = ending_in c
-outcome_in (k ∷ n ∷ []) = signal_in k n
-outcome_in (k ∷ n ∷ w ∷ ws) = None
+unfoldable pub spelled_outcome : List PlacedText → Option Outcome
+spelled_outcome [] = None
+spelled_outcome (c ∷ []) = ending_in c
+spelled_outcome (k ∷ n ∷ []) = signal_in k n
+spelled_outcome (k ∷ n ∷ w ∷ ws) = None
 
 abbrev pub entry_with : PlacedText → ℕ → Phase → Outcome → Entry
 entry_with name attempt phase outcome =
@@ -51,7 +51,7 @@ entry_with name attempt phase outcome =
 unfoldable pub phased_in : PlacedText → ℕ → List PlacedText → Option Entry
 phased_in name attempt [] = None
 phased_in name attempt (w ∷ ws) =
-    option_and_then (λ phase. option_map (entry_with name attempt phase) (outcome_in ws)) (phase_in w)
+    option_and_then (λ phase. option_map (entry_with name attempt phase) (spelled_outcome ws)) (phase_in w)
 
 -- the entry whose name is the first word
 unfoldable pub entry_in : PlacedText → List PlacedText → Option Entry

@@ -10,7 +10,7 @@ ghost use Rattle.node_machine.specs.declared.outcomes.TableFault.TheVariants.{Ba
 ghost use Rattle.node_machine.specs.OutcomeTable.{Entry, SameOutcomes, HasPossibleOutcomes};
 ghost use Rattle.node_machine.specs.TableMaps.{entry_of};
 ghost use Rattle.node_machine.specs.OutcomesFile.{SayAll, IsFirstBad};
-ghost use Rattle.node_machine.specs.OutcomesReading.{phase_in, ending_in, signal_in, outcome_in};
+ghost use Rattle.node_machine.specs.OutcomesReading.{phase_in, ending_in, signal_in, spelled_outcome};
 ghost use Rattle.node_machine.specs.OutcomesReading.{entry_in, line_at, lines_at, IsFaultOf, IsLineFault};
 
 use crate::table::{NamedOutcome, Table};
@@ -154,7 +154,7 @@ fn phase(word: &Token<'_>) -> Option<Phase>
 
 /// How the phase ended, if the rest of the line spells it.
 fn read_outcome(line: &mut LineReader<'_>) -> Option<Outcome>
-    ensures { result ≡ outcome_in (left_of line.old).words }
+    ensures { result ≡ spelled_outcome (left_of line.old).words }
 {
     let first = line.next_word()?;
     let Some(second) = line.next_word() else {

@@ -17,8 +17,8 @@ ghost use Rattle.node_machine.specs.declared.Record.TheVariants.{Life};
 ghost use Rattle.event_journal.specs.Image.{Header, header_of, replay_of};
 ghost use Rattle.recovery.specs.Managed.{Managed, plan_of, past_of, read_of, WithOrWithout, ReadsBeforeOrAfter};
 ghost use Rattle.recovery.specs.Recovery.{IsMomentOfBegin, IsRecovered};
-ghost use Rattle.recovery.specs.Lives.{Span, AreLives};
-ghost use Rattle.recovery.specs.Chain.{Command, key_of, ManagerLife, IsLifeOf, AreManagerLives, HandsOver, Leaves, span, life_of};
+ghost use Rattle.recovery.specs.Lives.{LifeRecords, AreLives};
+ghost use Rattle.recovery.specs.Chain.{Command, key_of, ManagerLife, IsLifeOf, AreManagerLives, HandsOver, Leaves, life_records, life_of};
 
 use event_journal::Disk;
 
@@ -28,20 +28,20 @@ use event_journal::Disk;
 /// its parents, read from the table of outcomes; and so is each command that any of the lives handed
 /// over, where the texts of its node can be expanded and hold no word of the whole run.
 pub fn lives()
-    ensures spans { (plan : Plan) (lives : List ManagerLife) → AreManagerLives plan lives →
-        AreLives plan (map (λ life. life.span) lives) }
-    ensures grows { (plan : Plan) (last : Span) (before : List Span) →
-        AreLives plan (last ∷ before) → (earlier : Span) → Contains before earlier →
+    ensures by_records { (plan : Plan) (lives : List ManagerLife) → AreManagerLives plan lives →
+        AreLives plan (map (λ life. life.records) lives) }
+    ensures grows { (plan : Plan) (last : LifeRecords) (before : List LifeRecords) →
+        AreLives plan (last ∷ before) → (earlier : LifeRecords) → Contains before earlier →
         (more : List Record) × (last.held ≡ more ++ earlier.held) }
     ensures fates { (plan : Plan) (table : Table) (last : ManagerLife) (before : List ManagerLife) →
-        AreManagerLives plan (last ∷ before) → IsRunBy plan table last.span.held →
-        AreFates plan table (shown plan last.span.held) }
+        AreManagerLives plan (last ∷ before) → IsRunBy plan table last.records.held →
+        AreFates plan table (shown plan last.records.held) }
     ensures marks { (plan : Plan) (last : ManagerLife) (node : ℕ) →
-        is_done plan last.span.held node
-        ≡ is_done_state (shown plan last.span.held node).state }
+        is_done plan last.records.held node
+        ≡ is_done_state (shown plan last.records.held node).state }
     ensures commands { (plan : Plan) (table : Table) (last : ManagerLife)
         (before : List ManagerLife) →
-        AreManagerLives plan (last ∷ before) → IsRunBy plan table last.span.held →
+        AreManagerLives plan (last ∷ before) → IsRunBy plan table last.records.held →
         (life : ManagerLife) → Contains (last ∷ before) life →
         (key : Key) (command : CommandOrFault) → Contains life.handed (key, command) →
         is_sound (node_at plan key.node) ≡ true → uses_whole_run (node_at plan key.node) ≡ false →
@@ -55,17 +55,17 @@ pub fn one_life<D: Disk + Drop>()
         (handed : List Command) (left : List ℕ) → replay_of (D.seen disk) ≡ Ok None →
         past_of manager ≡ Life ∷ [] → past_of now ≡ own ++ past_of manager →
         IsTrue (is_lawful (plan_of now) (past_of now)) →
-        HandsOver (plan_of now) (span [] (past_of now)) handed →
+        HandsOver (plan_of now) (life_records [] (past_of now)) handed →
         Leaves (plan_of now) (past_of now) left →
-        IsLifeOf (plan_of now) (life_of (D.seen disk) (span [] (past_of now)) handed left) }
+        IsLifeOf (plan_of now) (life_of (D.seen disk) (life_records [] (past_of now)) handed left) }
     ensures recovered { (disk : D) (manager now : Managed D) (own : List Record)
         (handed : List Command) (left : List ℕ) → IsRecovered D.seen D.may_leave disk manager →
         plan_of now ≡ plan_of manager → past_of now ≡ own ++ past_of manager →
         IsTrue (is_lawful (plan_of now) (past_of now)) →
-        HandsOver (plan_of now) (span (past_of manager) (past_of now)) handed →
+        HandsOver (plan_of now) (life_records (past_of manager) (past_of now)) handed →
         Leaves (plan_of now) (past_of now) left →
         (past : List Record) × (past_of manager ≡ Life ∷ past)
-        × IsLifeOf (plan_of now) (life_of (D.seen disk) (span past (past_of now)) handed left) }
+        × IsLifeOf (plan_of now) (life_of (D.seen disk) (life_records past (past_of now)) handed left) }
 {}
 
 /// Whatever image a manager's call leaves when it is cut short, it is one that a life of the run
@@ -92,31 +92,31 @@ pub fn two_runs()
         IsRankedBy rank plan → IsRankedBy rank' plan' →
         (last last' : ManagerLife) (before before' : List ManagerLife) →
         AreManagerLives plan (last ∷ before) → AreManagerLives plan' (last' ∷ before') →
-        IsRunBy plan table last.span.held → IsRunBy plan' table' last'.span.held →
+        IsRunBy plan table last.records.held → IsRunBy plan' table' last'.records.held →
         (node node' : ℕ) → node < count_of plan → node' < count_of plan' →
         AgreeOnFates plan table plan' table' node node' →
-        shown plan last.span.held node ≡ shown plan' last'.span.held node' }
+        shown plan last.records.held node ≡ shown plan' last'.records.held node' }
     ensures marks { (plan plan' : Plan) (table table' : Table) (rank rank' : ℕ → ℕ) →
         IsRankedBy rank plan → IsRankedBy rank' plan' →
         (last last' : ManagerLife) (before before' : List ManagerLife) →
         AreManagerLives plan (last ∷ before) → AreManagerLives plan' (last' ∷ before') →
-        IsRunBy plan table last.span.held → IsRunBy plan' table' last'.span.held →
+        IsRunBy plan table last.records.held → IsRunBy plan' table' last'.records.held →
         (node node' : ℕ) → node < count_of plan → node' < count_of plan' →
         AgreeOnFates plan table plan' table' node node' →
-        is_done plan last.span.held node ≡ is_done plan' last'.span.held node' }
+        is_done plan last.records.held node ≡ is_done plan' last'.records.held node' }
     ensures commands { (plan plan' : Plan) (table table' : Table) (rank rank' : ℕ → ℕ) →
         IsRankedBy rank plan → IsRankedBy rank' plan' →
         (last last' : ManagerLife) (before before' : List ManagerLife) →
         AreManagerLives plan (last ∷ before) → AreManagerLives plan' (last' ∷ before') →
-        IsRunBy plan table last.span.held → IsRunBy plan' table' last'.span.held →
+        IsRunBy plan table last.records.held → IsRunBy plan' table' last'.records.held →
         (node node' : ℕ) → node < count_of plan → node' < count_of plan' →
         Agree plan table plan' table' node node' →
-        with_commands plan table node (shown plan last.span.held node).history
-        ≡ with_commands plan' table' node' (shown plan' last'.span.held node').history }
+        with_commands plan table node (shown plan last.records.held node).history
+        ≡ with_commands plan' table' node' (shown plan' last'.records.held node').history }
     ensures handed { (plan plan' : Plan) (table table' : Table) (last last' : ManagerLife)
         (before before' : List ManagerLife) →
         AreManagerLives plan (last ∷ before) → AreManagerLives plan' (last' ∷ before') →
-        IsRunBy plan table last.span.held → IsRunBy plan' table' last'.span.held →
+        IsRunBy plan table last.records.held → IsRunBy plan' table' last'.records.held →
         (node node' : ℕ) → Agree plan table plan' table' node node' →
         is_sound (node_at plan node) ≡ true → is_sound (node_at plan' node') ≡ true →
         (life life' : ManagerLife) → Contains (last ∷ before) life → Contains (last' ∷ before') life' →

@@ -3,10 +3,10 @@ ghost use Rattle.std.specs.Prelude.{◌≡◌, Ok};
 
 use crate::plans::{NO_LIMITS, ROOM, SLOTS};
 use event_journal::{Journal, JournalFault, MemDisk, Opened};
-use node_machine::{Record, Table};
+use node_machine::{Key, Record, Table};
 use recovery::{Manager, ManagerFault, Sealed};
 use run_plan::Plan;
-use sched_core::Choice;
+use sched_core::{Choice, Core};
 use std::alloc::Global;
 use std::process::Abort;
 use std::test::Fail;
@@ -68,6 +68,23 @@ fn end(rt: &impl Abort, alloc: Global, manager: &mut Manager<'_, MemDisk>) {
     }
 }
 
+// Of the phases that are outstanding the one that was launched first in this life.
+fn oldest(core: &Core<'_>) -> Option<Key> {
+    let mut oldest = None;
+    for entry in core.records() {
+        match entry {
+            Record::Life => oldest = None,
+            Record::Launch(key, _) => {
+                if oldest.is_none() && core.is_outstanding(key) {
+                    oldest = Some(*key);
+                }
+            }
+            _ => {}
+        }
+    }
+    oldest
+}
+
 // Adds a record by a table of outcomes, the phase that was launched first ending first; whether the
 // run goes on.
 fn step(
@@ -79,7 +96,7 @@ fn step(
 ) -> bool {
     match manager.core().choose() {
         Choice::Start(key) => manager.launch(key).is_ok(),
-        Choice::Wait => match manager.core().oldest() {
+        Choice::Wait => match oldest(manager.core()) {
             Some(key) => {
                 assert!(rt; key.node <= plan.count());
                 let name = plan.spec(key.node).name();

@@ -12,7 +12,7 @@ use Rattle.node_machine.specs.declared.Record.TheVariants.{Finish}
 use Rattle.sched_core.specs.declared.Choice.TheVariants as choices
 use Rattle.sched_core.specs.Run.{is_over, is_lawful, is_aborted, may_follow, exit_status, table_of}
 use Rattle.sched_core.specs.Fate.{AreFates, shown}
-use Rattle.sched_core.specs.Core.{IsChoice}
+use Rattle.sched_core.specs.Choices.{IsChoice}
 use Rattle.status_report.specs.Text.{run_text}
 use Rattle.job_starter.specs.declared.Call.{Call}
 use Rattle.job_starter.specs.Drives.{Drives, clean, IsStopped}

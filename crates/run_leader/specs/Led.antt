@@ -10,7 +10,7 @@ use Rattle.node_machine.specs.declared.Outcome.{Outcome}
 use Rattle.throttles.specs.declared.Limits.{Limits}
 use Rattle.node_machine.specs.declared.Record.TheVariants.{Finish}
 use Rattle.sched_core.specs.declared.Choice.TheVariants as choices
-use Rattle.sched_core.specs.Core.{IsChoice}
+use Rattle.sched_core.specs.Choices.{IsChoice}
 use Rattle.job_starter.specs.declared.Call.{Call}
 use Rattle.job_starter.specs.Drives.{Drives}
 

@@ -12,7 +12,7 @@ use Rattle.run_plan.specs.declared.fault.PlanFault.TheVariants.{MissingFile, InS
 use Rattle.run_plan.specs.PlanAnswers.{Fails}
 use Rattle.run_plan.specs.Plan.{Job, NodeSpec}
 use Rattle.run_plan.specs.Planned.{marked_sources}
-use Rattle.run_plan.specs.Specs.{spec_of, specs_from, final_spec, plan_of, is_marked}
+use Rattle.run_plan.specs.Specs.{spec_of, specs_from, final_spec, plan_of, is_listed}
 use Rattle.run_plan.specs.Submitted.{◌>>=◌, job_at, first_fault, all_nodes, rescued_in, sources_of, plan_at}
 
 -- A fault of the first part is that of the whole.
@@ -98,7 +98,7 @@ module _ (graph : Network) (files : Option Files) (rescue : Option (List ℕ)) (
 
   pub planned_at : (numbers : List ℕ) (marks : List Bool) (specs : List NodeSpec) (final_node : Option NodeSpec)
       → first_fault files graph.dag.nodes ≡ Ok tt → first_fault files (option_to_list graph.dag.final_node) ≡ Ok tt → rescued_in graph.dag rescue ≡ Ok numbers
-      → ((n : ℕ) → n < length graph.dag.nodes → slice_index_or marks n false ≡ is_marked numbers n)
+      → ((n : ℕ) → n < length graph.dag.nodes → slice_index_or marks n false ≡ is_listed numbers n)
       → specs ≡ specs_from graph.dag (marked_sources files marks) 0 graph.dag.nodes
       → final_node ≡ option_map (final_spec (marked_sources files [])) graph.dag.final_node
       → plan_at graph files rescue digest ≡ Ok (record { nodes = specs; final_node = final_node; graph = graph; digest = digest })
@@ -107,5 +107,5 @@ module _ (graph : Network) (files : Option Files) (rescue : Option (List ℕ)) (
       ap (λ (r : Result (Unit {0}) PlanFault). r >>= λ done. rescued_in graph.dag rescue >>= λ found. Ok (plan_of graph (sources_of files found) digest)) (no_fault none none_final)
       ∙ ap (λ (r : Result (List ℕ) PlanFault). r >>= λ found. Ok (plan_of graph (sources_of files found) digest)) rescued
       ∙ ap (λ (ss : List NodeSpec). Ok (record { nodes = ss; final_node = option_map (final_spec (marked_sources files [])) graph.dag.final_node; graph = graph; digest = digest }))
-      (sym (specs_are ∙ specs_same graph.dag (sources_of files []).job (λ n. slice_index_or marks n false) (is_marked numbers) 0 graph.dag.nodes (λ n small. same n (omega arith))))
+      (sym (specs_are ∙ specs_same graph.dag (sources_of files []).job (λ n. slice_index_or marks n false) (is_listed numbers) 0 graph.dag.nodes (λ n small. same n (omega arith))))
       ∙ ap (λ (f : Option NodeSpec). Ok (record { nodes = specs; final_node = f; graph = graph; digest = digest })) (sym final_is)

@@ -100,10 +100,10 @@ plan_of graph sources digest = record {
   digest = digest;
 }
 
--- the nodes with these numbers are marked
-abbrev pub is_marked : List ℕ → ℕ → Bool
-is_marked numbers number = list_any (λ n. n == number) numbers
+-- a node has one of these numbers
+abbrev pub is_listed : List ℕ → ℕ → Bool
+is_listed numbers number = list_any (λ n. n == number) numbers
 
 -- Where no submit file is read, a node's job is started by the path of its submit file.
 abbrev pub bare : List ℕ → Sources
-bare numbers = record { job = λ node. Program node.file; marked = is_marked numbers }
+bare numbers = record { job = λ node. Program node.file; marked = is_listed numbers }

@@ -23,7 +23,7 @@ use Rattle.run_plan.specs.declared.fault.PlanFault.TheVariants.{MissingFile, InS
 use Rattle.run_plan.specs.Plan.{Job, Program, Described, Plan}
 use Rattle.run_plan.specs.Commands.{scope_in, greatest, checked}
 use Rattle.run_plan.specs.Digest.{digest_of}
-use Rattle.run_plan.specs.Specs.{Sources, retries_of, is_marked, plan_of}
+use Rattle.run_plan.specs.Specs.{Sources, retries_of, is_listed, plan_of}
 
 infixl 10 ◌>>=◌
 abbrev pub ◌>>=◌ : {A B : Type 0} → Result A PlanFault → (A → Result B PlanFault) → Result B PlanFault
@@ -116,7 +116,7 @@ rescued_in dag None = Ok []
 rescued_in dag (Some bytes) = in_rescue (rescued_of dag bytes)
 
 abbrev pub sources_of : Option Files → List ℕ → Sources
-sources_of files numbers = record { job = λ node. job_or_program node (job_at files node); marked = is_marked numbers }
+sources_of files numbers = record { job = λ node. job_or_program node (job_at files node); marked = is_listed numbers }
 
 -- The plan of a graph, or the first fault: those of the nodes in plan order, then that of the rescue file.
 unfoldable pub plan_at : Network → Option Files → Option (List ℕ) → List ℕ → Result Plan PlanFault

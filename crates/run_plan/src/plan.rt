@@ -11,7 +11,7 @@ ghost use Rattle.run_plan.specs.Digest.{digest_of};
 ghost use Rattle.run_plan.specs.Plan.{node_at, count_of, has_parents_below, IsRankedBy};
 ghost use Rattle.run_plan.specs.PlanAnswers.{Gives, Fails};
 ghost use Rattle.run_plan.specs.Submitted.{plan_at, first_fault, rescued_in};
-ghost use Rattle.run_plan.specs.Specs.{specs_from, final_spec, is_marked};
+ghost use Rattle.run_plan.specs.Specs.{specs_from, final_spec, is_listed};
 ghost use Rattle.run_plan.specs.Planned.{IsPlanned, marked_sources};
 
 use crate::command::{ChildCommand, PhaseFacts};
@@ -307,7 +307,7 @@ fn marks_in(
     count: usize,
     rescued: &Result<Vec<u32>, PlanFault>,
 ) -> Result<Vec<bool>, AllocError>
-    ensures { IfOk result (λ marks. IfOk rescued.now (λ numbers. (n : ℕ) → n < count → slice_index_or marks.items n false ≡ is_marked numbers.items n)) }
+    ensures { IfOk result (λ marks. IfOk rescued.now (λ numbers. (n : ℕ) → n < count → slice_index_or marks.items n false ≡ is_listed numbers.items n)) }
 {
     match rescued {
         Ok(numbers) => marks_of(alloc, count, numbers.as_slice()),
@@ -317,7 +317,7 @@ fn marks_in(
 
 /// Which of this many numbers stand in a list.
 fn marks_of(alloc: Global, count: usize, numbers: &[u32]) -> Result<Vec<bool>, AllocError>
-    ensures { IfOk result (λ marks. (n : ℕ) → n < count → slice_index_or marks.items n false ≡ is_marked numbers.now n) }
+    ensures { IfOk result (λ marks. (n : ℕ) → n < count → slice_index_or marks.items n false ≡ is_listed numbers.now n) }
 {
     let mut marks = vec![in alloc; false; count]?;
     for number in numbers {

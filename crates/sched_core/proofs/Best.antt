@@ -15,7 +15,8 @@ use Rattle.node_machine.specs.declared.Record.TheVariants.{Launch}
 use Rattle.sched_core.specs.declared.Choice.{Choice}
 use Rattle.sched_core.specs.declared.Choice.TheVariants as choices
 use Rattle.sched_core.specs.Run.{outstanding, is_nothing, is_open, may_launch, may_follow, launch_number}
-use Rattle.sched_core.specs.Core.{launchable, nothing_launchable, if_let_in, startable, better_of, IsBestBelow, IsChoice}
+use Rattle.sched_core.specs.Core.{better_of, IsBestBelow}
+use Rattle.sched_core.specs.Choices.{launchable, nothing_launchable, if_let_in, startable, IsChoice}
 use Rattle.sched_core.specs.Limits.{limits_of, lets_in, IsBetter}
 use Rattle.sched_core.proofs.Sweeps.{all_below-from, all_below-not}
 use Rattle.sched_core.proofs.Leaf.{key-node}

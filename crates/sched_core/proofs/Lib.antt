@@ -19,7 +19,7 @@ pub mod Best
 pub mod Aborts
 mod FactsLemmas
 pub mod Alone
-mod OneRun
+mod Batches
 mod Noted
 mod Taking
 mod Members

@@ -13,7 +13,8 @@ use Rattle.node_machine.specs.declared.Record.{Record}
 use Rattle.sched_core.specs.declared.Choice.TheVariants as choices
 use Rattle.node_machine.specs.declared.Record.TheVariants.{Life, Launch, End, Finish}
 use Rattle.sched_core.specs.Run.{next, is_met, has_abort_value, is_aborted, outstanding, without, is_among, is_next, is_free, is_nothing, is_open, is_ready, is_final_ready, may_launch, may_follow, is_lawful, job_launches, launch_number, exit_status}
-use Rattle.sched_core.specs.Core.{Shows, AreFresh, IsChoice, is_running, runs_after, aborted_after, jobs_after, launchable, first_launched}
+use Rattle.sched_core.specs.Core.{Shows, AreFresh, is_running, runs_after, aborted_after, jobs_after}
+use Rattle.sched_core.specs.Choices.{IsChoice, launchable}
 use Rattle.sched_core.proofs.Keys.{Each, each_among, each_without, same-self}
 use Rattle.sched_core.proofs.Sound.{sound}
 use Rattle.sched_core.proofs.Held.{Within, outstanding-within, among-is, launched-within, end-within}
@@ -149,62 +150,3 @@ among-outside plan past key lawful lt = false_from_ne_true _ (λ h. let w : key.
 pub among-shown : (plan : Plan) (past : List Record) (key : Key) → is_lawful plan past ≡ true
     → (is_running plan past key.node && is_next (next plan past key.node) key) ≡ is_among key (outstanding plan past)
 among-shown plan past key lawful = sym (among-is plan past key (outstanding plan past) (sound plan past lawful).held)
-
--- a first launch is one of the keys
-pub first-among : (keys : List Key) (past : List Record) (first : Key) → first_launched keys past ≡ Some first → is_among first keys ≡ true
-first-among keys [] first h = absurd cc
-first-among keys (Life ∷ past) first h = absurd cc
-first-among keys (End key outcome ∷ past) first h = first-among keys past first h
-first-among keys (Finish status ∷ past) first h = first-among keys past first h
-first-among keys (Launch key number ∷ past) first h = go (first_launched keys past) refl (is_among key keys) refl (first-among keys past first)
-  where
-    go : (o : Option Key) → first_launched keys past ≡ o → (b : Bool) → is_among key keys ≡ b
-        → (first_launched keys past ≡ Some first → is_among first keys ≡ true) → is_among first keys ≡ true
-    go (Some k) o b a rest = rest ((λ j. if is_some (sym o j) || not (is_among key keys) then first_launched keys past else Some key) ∙ h)
-    go None o false a rest = rest ((λ j. if is_some (sym o j) || not (sym a j) then first_launched keys past else Some key) ∙ h)
-    go None o true a rest =
-        let same : Some key ≡ Some first = (λ j. if is_some (sym o j) || not (sym a j) then first_launched keys past else Some key) ∙ h in
-        let is : key ≡ first = cc in
-        subst (λ k. is_among k keys ≡ true) is a
-
--- where there is none, no outstanding phase is one of the keys
-none-among : (plan : Plan) (keys : List Key) (past : List Record) → first_launched keys past ≡ None → Each (λ key. is_among key keys ≡ false) (outstanding plan past)
-none-among plan keys [] h = tt
-none-among plan keys (Life ∷ past) h = tt
-none-among plan keys (Launch key number ∷ past) h = go (first_launched keys past) refl (is_among key keys) refl (none-among plan keys past)
-  where
-    go : (o : Option Key) → first_launched keys past ≡ o → (b : Bool) → is_among key keys ≡ b
-        → (first_launched keys past ≡ None → Each (λ k. is_among k keys ≡ false) (outstanding plan past))
-        → (is_among key keys ≡ false) × Each (λ k. is_among k keys ≡ false) (outstanding plan past)
-    go (Some k) o b a rest =
-        let bad : Some k ≡ None = sym o ∙ (λ j. if is_some (sym o j) || not (is_among key keys) then first_launched keys past else Some key) ∙ h in
-        absurd cc
-    go None o false a rest = (a, rest o)
-    go None o true a rest =
-        let bad : Some key ≡ None = (λ j. if is_some (sym o j) || not (sym a j) then first_launched keys past else Some key) ∙ h in
-        absurd cc
-none-among plan keys (Finish status ∷ past) h = none-among plan keys past h
-none-among plan keys (End key outcome ∷ past) h = go (is_aborted plan (End key outcome ∷ past) && not (is_aborted plan past)) (none-among plan keys past h)
-  where
-    go : (b : Bool) → Each (λ k. is_among k keys ≡ false) (outstanding plan past) → Each (λ k. is_among k keys ≡ false) (if b then [] else without key (outstanding plan past))
-    go true e = tt
-    go false e = each_without (λ k. is_among k keys ≡ false) (λ k. is_among k keys ≡ false) key (λ other s w. w) (outstanding plan past) e
-
--- so nothing is outstanding where none of what is outstanding was launched
-oldest-none : (plan : Plan) (past : List Record) → first_launched (outstanding plan past) past ≡ None → is_nothing (outstanding plan past) ≡ true
-oldest-none plan past h = go (outstanding plan past) (none-among plan (outstanding plan past) past h)
-  where
-    go : (keys : List Key) → Each (λ k. is_among k keys ≡ false) keys → is_nothing keys ≡ true
-    go [] e = refl
-    go (key ∷ keys) e = absurd (false≢true (sym e.0 ∙ (λ j. same-self key j || is_among key keys)))
-
--- what is answered as the first launch is outstanding, and where nothing is, nothing is outstanding
-pub first-some : (keys : List Key) (past : List Record) (answer : Option Key) → answer ≡ first_launched keys past
-    → IfSome answer (λ key. is_among key keys ≡ true)
-first-some keys past None e = tt
-first-some keys past (Some key) e = first-among keys past key (sym e)
-
-pub first-none : (plan : Plan) (past : List Record) (answer : Option Key) → answer ≡ first_launched (outstanding plan past) past
-    → IfNone answer (is_nothing (outstanding plan past) ≡ true)
-first-none plan past (Some key) e = tt
-first-none plan past None e = oldest-none plan past (sym e)

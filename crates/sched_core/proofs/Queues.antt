@@ -23,7 +23,8 @@ use Rattle.run_plan.proofs.PlanFacts.{planned-count, parents-below, parents-are}
 use Rattle.node_machine.specs.declared.Record.{Record}
 use Rattle.node_machine.specs.declared.Record.TheVariants.{Life, Launch, End, Finish}
 use Rattle.sched_core.specs.Run.{history, key_at, next, is_done, outstanding, without, is_same, is_among, is_free, is_nothing, is_aborted, is_ready, is_final_ready, may_launch, is_lawful, may_follow}
-use Rattle.sched_core.specs.Core.{Shows, AreFresh, run_of, run_at, startable, IsBestBelow}
+use Rattle.sched_core.specs.Core.{Shows, AreFresh, run_of, run_at, IsBestBelow}
+use Rattle.sched_core.specs.Choices.{startable}
 use Rattle.sched_core.specs.Limits.{member_of, IsBetter}
 use Rattle.sched_core.specs.Queued.{done_at, waits, AreMembers, IsQueued, AreWaiting, IsMore, IsAdded, IsRequeued}
 use Rattle.sched_core.proofs.Keys.{same-eq, same-self, Each}

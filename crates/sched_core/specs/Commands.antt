@@ -1,5 +1,5 @@
 -- The command of each phase of a run: by the outcomes of a table, and by the records.
-use Rattle.std.specs.Prelude.{ℕ, ℤ, negsuc, ◌==◌, List, [], ◌∷◌, if◌then◌else◌}
+use Rattle.std.specs.Prelude.{ℕ, ℤ, negsuc, Bool, true, false, ◌==◌, List, [], ◌∷◌, if◌then◌else◌}
 use Rattle.node_machine.specs.declared.Phase.{Phase}
 use Rattle.node_machine.specs.declared.Phase.TheVariants.{Pre, Job}
 use Rattle.node_machine.specs.declared.Outcome.{Outcome}
@@ -74,3 +74,9 @@ facts_in plan records key = record {
   dag_status = dag_status_in plan records;
   failed = failed_in plan records;
 }
+
+abbrev pub is_launch : Record → Bool
+is_launch (Launch key number) = true
+is_launch Life = false
+is_launch (End key outcome) = false
+is_launch (Finish status) = false

@@ -1,20 +1,19 @@
 -- A core as contracts see it, and what it keeps beside its records.
-use Rattle.std.specs.Prelude.{◌≡◌, ℕ, suc, ◌+◌, ◌<◌, Bool, true, false, not, ◌&&◌, ◌||◌, List, [], ◌∷◌, length, map, Option, Some, None, is_none, is_some, nat_lt, unwrap_or, slice_get, slice_set, IsTrue, IsFalse, int_lt, ◌==◌, if◌then◌else◌}
+use Rattle.std.specs.Prelude.{◌≡◌, ℕ, suc, ◌+◌, ◌<◌, Bool, true, false, not, ◌&&◌, ◌||◌, List, [], ◌∷◌, length, map, Option, Some, None, is_none, nat_lt, unwrap_or, slice_get, slice_set, IsTrue, int_lt, ◌==◌, if◌then◌else◌}
 use Rattle.node_machine.specs.declared.Key.{Key}
 use Rattle.node_machine.specs.Story.{phase_number}
 use Rattle.node_machine.specs.Stand.{stand_after, stand_before, next_of}
 use Rattle.node_machine.specs.NodeRun.{started, stopped, ended_with}
 use Rattle.throttles.specs.declared.Limits.{Limits}
-use Rattle.sched_core.specs.Limits.{lets_in, IsBetter}
+use Rattle.sched_core.specs.Limits.{IsBetter}
+use Rattle.sched_core.specs.Choices.{startable}
 use Rattle.run_plan.specs.Plan.{Plan, no_node, node_at, count_of, all_below}
 use Rattle.node_machine.specs.NodeProgress.{NodeProgress}
-use Rattle.sched_core.specs.declared.Choice.{Choice}
-use Rattle.sched_core.specs.declared.Choice.TheVariants as choices
 use Rattle.sched_core.specs.declared.CoreFault.{CoreFault}
 use Rattle.sched_core.specs.declared.CoreFault.TheVariants.{NotLawful, Finished}
 use Rattle.node_machine.specs.declared.Record.{Record}
 use Rattle.node_machine.specs.declared.Record.TheVariants.{Life, Launch, End, Finish}
-use Rattle.sched_core.specs.Run.{history, next, is_done, outstanding, is_among, is_aborted, is_lawful, may_launch, is_nothing, job_launches, is_met, is_over, exit_status}
+use Rattle.sched_core.specs.Run.{history, next, is_done, outstanding, is_aborted, is_lawful, job_launches, is_met, is_over}
 
 -- the plan, the limits, the records, the newest first, and how many more need no memory
 pub record Progress : Type 0 where
@@ -126,34 +125,6 @@ pub record AreFresh (plan : Plan) (runs : List NodeProgress) : Type 0 where
 abbrev pub fault_after : List Record → CoreFault
 fault_after past = if is_over past then Finished else NotLawful
 
--- a node's phase that may be launched
-abbrev pub launchable : Plan → List Record → ℕ → Option Key
-launchable plan past node = if may_launch plan past node then next plan past node else None
-
--- no phase of a node below n may be launched
-abbrev pub nothing_launchable : Plan → List Record → ℕ → Bool
-nothing_launchable plan past n = all_below (λ node. not (may_launch plan past node)) n
-
-abbrev pub if_let_in : Limits → Plan → List Record → Option Key → Option Key
-if_let_in limits plan past None = None
-if_let_in limits plan past (Some key) = if lets_in limits plan (outstanding plan past) key then Some key else None
-
--- a node's phase that may be launched and is let in
-abbrev pub startable : Limits → Plan → List Record → ℕ → Option Key
-startable limits plan past node = if_let_in limits plan past (launchable plan past node)
-
--- What is to be done next: of the phases that may be launched and are let in the one than whose node no other is better; else,
--- where something is outstanding, to wait; else, where nothing may be launched, to finish with the verdict.
-abbrev pub IsChoice : Limits → Plan → List Record → Choice → Type 0
-IsChoice limits plan past (choices.Start key) =
-    (startable limits plan past key.node ≡ Some key)
-    × ((node : ℕ) (other : Key) → startable limits plan past node ≡ Some other → IsBetter plan node key.node → ⊥)
-IsChoice limits plan past choices.Wait =
-    IsFalse (is_nothing (outstanding plan past)) × ((node : ℕ) → startable limits plan past node ≡ None)
-IsChoice limits plan past (choices.Finish status) =
-    IsTrue (nothing_launchable plan past (suc (count_of plan))) × IsTrue (is_nothing (outstanding plan past))
-    × (status ≡ exit_status plan past)
-
 -- of the nodes below a number the best whose phase may be launched and is let in, if there is one
 abbrev pub IsBestBelow : Limits → Plan → List Record → ℕ → Option Key → Type 0
 IsBestBelow limits plan past n None = (node : ℕ) → node < n → startable limits plan past node ≡ None
@@ -166,27 +137,6 @@ abbrev pub better_of : Plan → Option Key → Option Key → Option Key
 better_of plan None next = next
 better_of plan (Some best) None = Some best
 better_of plan (Some best) (Some next) = if int_lt (node_at plan best.node).priority (node_at plan next.node).priority then Some next else Some best
-
--- of these phases the one that was launched first, counting the launches since the last Life alone
-abbrev pub first_launched : List Key → List Record → Option Key
-first_launched keys [] = None
-first_launched keys (Life ∷ past) = None
-first_launched keys (Launch key number ∷ past) =
-    if is_some (first_launched keys past) || not (is_among key keys) then first_launched keys past
-    else Some key
-first_launched keys (End key outcome ∷ past) = first_launched keys past
-first_launched keys (Finish status ∷ past) = first_launched keys past
-
--- One life in which each record is what is to be done next under these limits: the launch of the phase that is chosen; where
--- none can be started, the end of the phase that was launched first; and the end of the run.
-abbrev pub GoesByChoice : Limits → Plan → List Record → Type 0
-GoesByChoice limits plan [] = Unit {0}
-GoesByChoice limits plan (Life ∷ past) = past ≡ []
-GoesByChoice limits plan (Launch key number ∷ past) = IsChoice limits plan past (choices.Start key) × GoesByChoice limits plan past
-GoesByChoice limits plan (End key outcome ∷ past) =
-    IsChoice limits plan past choices.Wait × (first_launched (outstanding plan past) past ≡ Some key)
-    × GoesByChoice limits plan past
-GoesByChoice limits plan (Finish status ∷ past) = IsChoice limits plan past (choices.Finish status) × GoesByChoice limits plan past
 
 -- one mark for each ordinary node: whether it is done
 pub record AreMarks (plan : Plan) (past : List Record) (marks : List Bool) : Type 0 where

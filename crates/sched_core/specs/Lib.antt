@@ -8,5 +8,6 @@ pub mod Limits
 pub mod Notes
 pub mod Queued
 pub mod Core
+pub mod Choices
 pub mod Bound
 pub mod Commands

@@ -9,7 +9,7 @@ ghost use Rattle.node_machine.specs.declared.Record.{Record};
 ghost use Rattle.sched_core.specs.declared.Choice.{Choice};
 ghost use Rattle.sched_core.specs.declared.Choice.TheVariants as choices;
 ghost use Rattle.throttles.specs.declared.Limits.{Limits};
-ghost use Rattle.sched_core.specs.Core.{IsChoice, GoesByChoice};
+ghost use Rattle.sched_core.specs.Choices.{IsChoice};
 ghost use Rattle.sched_core.specs.Bound.{records_left, has_no_life, all_phases};
 ghost use Rattle.node_machine.specs.declared.Record.TheVariants.{Life, Launch, End, Finish};
 ghost use Rattle.node_machine.specs.declared.Phase.TheVariants.{Job};
@@ -20,7 +20,7 @@ ghost use Rattle.run_plan.specs.Commands.{command_of, is_sound, uses_whole_run};
 ghost use Rattle.sched_core.specs.Run.{written, table_of, history, is_done, is_lawful, is_finished, is_aborted, is_launched, is_open, launch_number, may_follow};
 ghost use Rattle.sched_core.specs.Fate.{Fate, AreFates, final_fate, shown, is_done_state};
 ghost use Rattle.sched_core.specs.Agree.{AgreeOnFates, Agree};
-ghost use Rattle.sched_core.specs.Commands.{command_by, with_commands, facts_in};
+ghost use Rattle.sched_core.specs.Commands.{command_by, with_commands, facts_in, is_launch};
 ghost use Rattle.sched_core.specs.Lives.{HasOutcomesOf, IsRunBy, IsTurnOf};
 ghost use Rattle.sched_core.specs.Rounds.{Round, AreRounds, AreCalm, RoundsAgree, WasMarked, is_marked};
 ghost use Rattle.sched_core.specs.Example.{key, two_nodes, its_run, diamond, diamond_run, abort_plan, abort_run, noop_plan, noop_table, noop_run, plan_p, plan_q, first_fails, round_of};
@@ -83,6 +83,10 @@ pub fn launches()
         command_of (node_at plan key.node) key.attempt key.phase
         (facts_in plan (Launch key number ∷ past) key)
         ≡ command_by plan table key.node key.attempt key.phase }
+    // Launches behind it change nothing of what is known of a launch: several may be recorded, and then be handed over.
+    ensures together { (plan : Plan) (others past : List Record) (key : Key) (number : ℕ) →
+        IsTrue (is_lawful plan (others ++ Launch key number ∷ past)) → IsTrue (list_all is_launch others) →
+        facts_in plan (others ++ Launch key number ∷ past) key ≡ facts_in plan (Launch key number ∷ past) key }
 {}
 
 /// Whether a run meets an abort follows from the plan and the table: where one finished run meets
@@ -164,11 +168,6 @@ pub fn choices()
         IsTrue (may_follow plan past (Launch key (launch_number past key))) }
     ensures finish { (limits : Limits) (plan : Plan) (past : List Record) (status : ℕ) → IsTrue (is_open past) →
         IsChoice limits plan past (choices.Finish status) → IsTrue (may_follow plan past (Finish status)) }
-    // So there is one finished run that goes by choice, at the outcomes of a table.
-    ensures run { (limits : Limits) (plan : Plan) (table : Table) (records other : List Record) →
-        IsTrue (is_finished plan records) → IsTrue (is_finished plan other) →
-        GoesByChoice limits plan records → GoesByChoice limits plan other →
-        HasOutcomesOf plan table records → HasOutcomesOf plan table other → records ≡ other }
 {}
 
 /// What is written begins with the oldest record, each newer one stands behind it, and read from the

@@ -1,12 +1,13 @@
 //! The scheduler's core: a run of a plan as a lawful list of records.
 
-ghost use Rattle.std.specs.Prelude.{◌≡◌, ℕ, ◌+◌, ◌^◌, ◌<◌, ◌≤◌, List, ◌∷◌, [], ◌==◌, ◌&&◌, ◌||◌, ◌↔◌, not, suc, length, IsTrue, IsFalse, IsOk, IfOk, IfErr, IfSome, IfNone, OnOk, OnErr, is_some, is_none, nat_le, nat_lt, if◌then◌else◌};
+ghost use Rattle.std.specs.Prelude.{◌≡◌, ℕ, ◌+◌, ◌^◌, ◌<◌, ◌≤◌, List, ◌∷◌, [], ◌==◌, ◌&&◌, ◌||◌, ◌↔◌, not, suc, length, IsTrue, IsFalse, IsOk, IfOk, IfErr, IfSome, OnOk, OnErr, is_some, is_none, nat_le, nat_lt, if◌then◌else◌};
 ghost use Rattle.std.specs.List.{list_all};
 ghost use Rattle.node_machine.specs.Story.{may_end_with, phase_number};
 ghost use Rattle.run_plan.specs.Plan.{node_at, count_of, all_below};
 ghost use Rattle.sched_core.specs.Run.{written, history, next, is_done, is_in_error, attempts_in, value_in, has_abort_value, is_aborted, outstanding, is_among, is_free, is_nothing, is_ready, is_final_ready, may_launch, job_launches, launch_number, status_of_abort, exit_status, is_over, is_open, may_follow, is_lawful, needs_rescue};
 ghost use Rattle.sched_core.specs.Fate.{shown};
-ghost use Rattle.sched_core.specs.Core.{Progress, Shows, Takes, aborted_in, is_running, has_key_of, runs_after, aborted_after, jobs_after, fault_after, launchable, first_launched, startable, better_of, AreMarks, IsBestBelow, IsChoice};
+ghost use Rattle.sched_core.specs.Core.{Progress, Shows, Takes, aborted_in, is_running, has_key_of, runs_after, aborted_after, jobs_after, fault_after, better_of, AreMarks, IsBestBelow};
+ghost use Rattle.sched_core.specs.Choices.{launchable, startable, IsChoice};
 ghost use Rattle.sched_core.specs.Limits.{lets_in};
 ghost use Rattle.sched_core.specs.Queued.{AreWaiting};
 ghost use Rattle.sched_core.specs.Commands.{facts_in};
@@ -648,29 +649,5 @@ impl<'a> Core<'a> {
             marks.push(self.is_done(node))?;
         }
         Ok(marks)
-    }
-
-    /// The phase that is outstanding longest: of those that were launched in this life and are
-    /// outstanding, the one that was launched first. A launch that an earlier life lost does not
-    /// count. It takes no memory.
-    pub fn oldest(&self) -> Option<Key>
-        ensures first { result ≡ first_launched (outstanding self.now.plan self.now.past) self.now.past }
-        ensures some { IfSome result (λ key. IsTrue (is_among key (outstanding self.now.plan self.now.past))) }
-        ensures within { IfSome result (λ key. key.node ≤ count_of self.now.plan) }
-        ensures none { IfNone result (IsTrue (is_nothing (outstanding self.now.plan self.now.past))) }
-    {
-        let mut oldest = None;
-        for entry in self.records() {
-            match entry {
-                Record::Life => oldest = None,
-                Record::Launch(key, _) => {
-                    if oldest.is_none() && self.is_outstanding(key) {
-                        oldest = Some(*key);
-                    }
-                }
-                _ => {}
-            }
-        }
-        oldest
     }
 }

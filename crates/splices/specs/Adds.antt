@@ -1,6 +1,7 @@
 -- What opened files add to a draft of the DAG.
-use Rattle.std.specs.Prelude.{◌≡◌, ℕ, ◌≤◌, List, [], ◌++◌, length, Option, Result, Ok, Err}
+use Rattle.std.specs.Prelude.{◌≡◌, ℕ, ◌≤◌, List, [], ◌++◌, length, Option, Some, None, Result, Ok, Err}
 use Rattle.std.specs.List.{flat_map}
+use Rattle.dag_reader.specs.Results.{Tells, Returns}
 use Rattle.splices.specs.declared.part.Part.{Part}
 use Rattle.splices.specs.declared.open.Draft.{Draft}
 use Rattle.splices.specs.declared.open.Used.{Used}
@@ -43,14 +44,16 @@ pub record SameButEdges (inner new : Draft) : Type 0 where
   pub told : new.told ≡ inner.told
   pub used : new.used ≡ inner.used
 
--- what a call answers, unless memory ran out
+-- what a call answers
+abbrev pub fault_of : SpliceFault → Option DagFault
+fault_of faults.Memory = None
+fault_of (faults.Dag f) = Some f
+
 abbrev pub Fails : {Y : Type 0} → SpliceFault → Result Y DagFault → Type 0
-Fails faults.Memory read = Unit {0}
-Fails (faults.Dag f) read = read ≡ Err f
+Fails refusal read = Tells (fault_of refusal) read
 
 abbrev pub Gives : {X Y : Type 0} → (X → Y) → Result X SpliceFault → Result Y DagFault → Type 0
-Gives view (Ok x) read = read ≡ Ok (view x)
-Gives view (Err e) read = Fails e read
+Gives view = Returns fault_of view
 
 abbrev pub OpensTree : List ℕ → Result Found SpliceFault → Draft → Draft → Result Tree DagFault → Type 0
 OpensTree prefix (Ok found) old new read = (tree : Tree) × (read ≡ Ok tree) × AddsTree prefix old new tree

@@ -6,6 +6,7 @@ use Rattle.dag_reader.specs.declared.command.Command.{Command}
 use Rattle.dag_reader.specs.declared.command.Command.TheVariants.{Job, Splice, Final}
 use Rattle.dag_reader.specs.declared.fault.LineFault.{LineFault}
 use Rattle.dag_reader.specs.Word.{PlacedText}
+pub use Rattle.dag_reader.specs.Results.{◌>>=◌}
 use Rattle.dag_reader.specs.Reading.{text_at}
 use Rattle.splices.specs.declared.fault.DagFault.{DagFault}
 use Rattle.splices.specs.declared.open.Used.{Used}
@@ -13,11 +14,6 @@ use Rattle.splices.specs.declared.fault.DagFault.TheVariants.{MissingFile, InFil
 use Rattle.splices.specs.Paths.{join, dir_text}
 use Rattle.splices.specs.Nodes.{Declared, finals_in, job_names, final_names, splice_names, own_count}
 use Rattle.splices.specs.Forest.{Said, Forest, none, more, Tree}
-
-infixl 10 ◌>>=◌
-abbrev pub ◌>>=◌ : {A B : Type 0} → Result A DagFault → (A → Result B DagFault) → Result B DagFault
-(Ok x) >>= f = f x
-(Err e) >>= f = Err e
 
 -- the bytes of each file
 abbrev pub Files : Type 0

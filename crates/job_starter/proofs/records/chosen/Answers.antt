@@ -1,5 +1,6 @@
 use Rattle.std.proofs.Common.{subst}
-use Rattle.sched_core.specs.Core.{Progress, IsChoice}
+use Rattle.sched_core.specs.Core.{Progress}
+use Rattle.sched_core.specs.Choices.{IsChoice}
 use Rattle.job_starter.proofs.records.chosen.Goals as goal
 
 pub returns : goal.returns

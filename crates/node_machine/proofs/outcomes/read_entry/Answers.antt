@@ -6,7 +6,7 @@ use Rattle.dag_reader.specs.LineReader.{Left, left_of, word_of}
 use Rattle.node_machine.specs.declared.Phase.{Phase}
 use Rattle.node_machine.specs.declared.Outcome.{Outcome}
 use Rattle.node_machine.specs.TableMaps.{entry_of}
-use Rattle.node_machine.specs.OutcomesReading.{entry_with, entry_in, phased_in, phase_in, outcome_in}
+use Rattle.node_machine.specs.OutcomesReading.{entry_with, entry_in, phased_in, phase_in, spelled_outcome}
 use Rattle.node_machine.proofs.outcomes.read_entry.Goals as goal
 
 with_attempt : (name w : PlacedText) (old : List PlacedText) (ws : List PlacedText) (o : Option ℕ) → old ≡ w ∷ ws → o ≡ count 1000000 w.text
@@ -14,7 +14,7 @@ with_attempt : (name w : PlacedText) (old : List PlacedText) (ws : List PlacedTe
 unfolding entry_in
 with_attempt name w old ws o e f = ap (λ (x : Option ℕ). option_and_then (λ attempt. phased_in name attempt ws) x) f ∙ sym (ap (entry_in name) e)
 
-with_phase : (name : PlacedText) (attempt : ℕ) (w : PlacedText) (old : List PlacedText) (ws : List PlacedText) (o : Option Phase) (q : Option Outcome) → old ≡ w ∷ ws → o ≡ phase_in w → q ≡ outcome_in ws
+with_phase : (name : PlacedText) (attempt : ℕ) (w : PlacedText) (old : List PlacedText) (ws : List PlacedText) (o : Option Phase) (q : Option Outcome) → old ≡ w ∷ ws → o ≡ phase_in w → q ≡ spelled_outcome ws
     → option_and_then (λ phase. option_map (entry_with name attempt phase) q) o ≡ phased_in name attempt old
 unfolding phased_in
 with_phase name attempt w old ws o q e f g =

@@ -2,7 +2,7 @@ use Rattle.std.proofs.Common.{◌∙◌, ◌++◌, List, inl, inr, refl, sym, ap
 use Rattle.run_plan.specs.Plan.{Plan}
 use Rattle.node_machine.specs.declared.Record.{Record}
 use Rattle.recovery.specs.Managed.{plan_of, past_of}
-use Rattle.recovery.specs.Chain.{HandsOver, span}
+use Rattle.recovery.specs.Chain.{HandsOver, life_records}
 use Rattle.recovery.proofs.laws.one_life.Goals as goal
 
 pub returns-clause-begun : goal.returns-clause-begun
@@ -22,7 +22,7 @@ returns-clause-recovered g c disk manager now own handed left recovered plan_is 
     reads = inr (recovered.header, recovered.found, recovered.inputs ∙ ap (λ (p : Plan). p.digest) (sym plan_is));
     goes_on = inr (own, adds ∙ ap (λ (l : List Record). own ++ l) recovered.records);
     lawful = lawful;
-    hands_over = subst (λ (l : List Record). HandsOver (plan_of now) (span l (past_of now)) handed) recovered.records hands;
+    hands_over = subst (λ (l : List Record). HandsOver (plan_of now) (life_records l (past_of now)) handed) recovered.records hands;
     leaves = leaves;
   },
 )

@@ -10,21 +10,21 @@ use Rattle.recovery.proofs.laws.two_runs.Goals as goal
 
 pub returns-clause-fates : goal.returns-clause-fates
 returns-clause-fates c plan plan' table table' rank rank' ranked ranked' last last' before before' are are' run run' node node' ordinary ordinary' agree =
-    fates-agree plan table plan' table' rank rank' ranked ranked' (shown plan last.span.held) (shown plan' last'.span.held)
-    (table-fates plan table last.span.held run) (table-fates plan' table' last'.span.held run') node node' ordinary ordinary' agree
+    fates-agree plan table plan' table' rank rank' ranked ranked' (shown plan last.records.held) (shown plan' last'.records.held)
+    (table-fates plan table last.records.held run) (table-fates plan' table' last'.records.held run') node node' ordinary ordinary' agree
 
 pub returns-clause-commands : goal.returns-clause-commands
 returns-clause-commands c plan plan' table table' rank rank' ranked ranked' last last' before before' are are' run run' node node' ordinary ordinary' agree =
-    same-commands plan table plan' table' rank rank' ranked ranked' (shown plan last.span.held) (shown plan' last'.span.held)
-    (table-fates plan table last.span.held run) (table-fates plan' table' last'.span.held run') node node' ordinary ordinary' agree
+    same-commands plan table plan' table' rank rank' ranked ranked' (shown plan last.records.held) (shown plan' last'.records.held)
+    (table-fates plan table last.records.held run) (table-fates plan' table' last'.records.held run') node node' ordinary ordinary' agree
 
 pub returns-clause-marks : goal.returns-clause-marks
 returns-clause-marks c plan plan' table table' rank rank' ranked ranked' last last' before before' are are' run run' node node' ordinary ordinary' agree =
-    sym (state-done plan last.span.held node)
+    sym (state-done plan last.records.held node)
     ∙ ap (λ (f : Fate). is_done_state f.state)
-    (fates-agree plan table plan' table' rank rank' ranked ranked' (shown plan last.span.held) (shown plan' last'.span.held)
-    (table-fates plan table last.span.held run) (table-fates plan' table' last'.span.held run') node node' ordinary ordinary' agree)
-    ∙ state-done plan' last'.span.held node'
+    (fates-agree plan table plan' table' rank rank' ranked ranked' (shown plan last.records.held) (shown plan' last'.records.held)
+    (table-fates plan table last.records.held run) (table-fates plan' table' last'.records.held run') node node' ordinary ordinary' agree)
+    ∙ state-done plan' last'.records.held node'
 
 pub returns-clause-handed : goal.returns-clause-handed
 returns-clause-handed c plan plan' table table' last last' before before' are are' run run' node node' agree sound sound' life life' among among' attempt phase command command' has has' =

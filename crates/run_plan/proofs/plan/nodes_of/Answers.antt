@@ -4,7 +4,7 @@ use Rattle.splices.specs.Dag.{Dag}
 use Rattle.splices.specs.FileSet.{bytes_of}
 use Rattle.splices.specs.declared.file_set.FileSet.{FileSet}
 use Rattle.splices.specs.declared.flat.FlatNode.{FlatNode}
-use Rattle.run_plan.specs.Specs.{is_marked}
+use Rattle.run_plan.specs.Specs.{is_listed}
 use Rattle.run_plan.specs.declared.fault.PlanFault.{PlanFault}
 use Rattle.run_plan.proofs.PlanMade.{fails_nodes, fails_final, fails_rescue, planned_at}
 use Rattle.run_plan.proofs.plan.nodes_of.Goals as goal
@@ -21,7 +21,7 @@ returns-in_err-_numbers c = λ digest. search (rules, fails_rescue)
 pub returns : goal.returns
 returns c = λ digest.
     let nodes = c.nodes-count.ensures.are ∙ ap (λ (d : Dag). d.nodes) c.flat.ensures in
-    let marked = subst (λ (r : Result (Vec ℕ Global) PlanFault). IfOk r (λ numbers. (n : ℕ) → n < length c.nodes-count.result.now → slice_index_or c.in_ok-marks.marks.items n false ≡ is_marked numbers.items n))
+    let marked = subst (λ (r : Result (Vec ℕ Global) PlanFault). IfOk r (λ numbers. (n : ℕ) → n < length c.nodes-count.result.now → slice_index_or c.in_ok-marks.marks.items n false ≡ is_listed numbers.items n))
     c.in_ok-_numbers.was c.in_ok-marks.ensures in
     planned_at c.args.graph.now (option_map (λ (set : Bor FileSet). bytes_of set.now) c.args.files) (option_map (λ (b : Bor (List ℕ)). b.now) c.args.rescue) digest
     c.in_ok-_numbers._numbers.items c.as_slice.result.now c.in_ok-ordinary.ordinary.items c.in_ok-final_node.final_node

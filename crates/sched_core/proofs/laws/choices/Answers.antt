@@ -1,4 +1,3 @@
-use Rattle.sched_core.proofs.OneRun.{one-run}
 use Rattle.sched_core.proofs.Best.{choice-one, chosen-follows}
 use Rattle.sched_core.proofs.Moves.{finish-follows}
 use Rattle.sched_core.proofs.laws.choices.Goals as goal
@@ -11,6 +10,3 @@ returns-clause-start c limits plan past key is_open_now choice = chosen-follows 
 
 pub returns-clause-finish : goal.returns-clause-finish
 returns-clause-finish c limits plan past status is_open_now choice = finish-follows limits plan past status is_open_now choice
-
-pub returns-clause-run : goal.returns-clause-run
-returns-clause-run c = one-run

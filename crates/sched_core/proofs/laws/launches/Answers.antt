@@ -1,5 +1,6 @@
 use Rattle.sched_core.proofs.LivesLemmas.{launch-turn}
 use Rattle.sched_core.proofs.RunCommands.{launch-command}
+use Rattle.sched_core.proofs.Batches.{together}
 use Rattle.sched_core.proofs.laws.launches.Goals as goal
 
 pub returns-clause-turns : goal.returns-clause-turns
@@ -8,3 +9,6 @@ returns-clause-turns c plan table newer past key number lawful outcomes = launch
 pub returns-clause-commands : goal.returns-clause-commands
 returns-clause-commands c plan table newer past key number lawful outcomes sound plain =
     launch-command plan table newer past key number lawful outcomes sound plain
+
+pub returns-clause-together : goal.returns-clause-together
+returns-clause-together c plan others past key number lawful all = together plan others past key number lawful all

@@ -1,6 +1,7 @@
 use Rattle.std.proofs.Common.{◌≡◌, ◌∙◌, suc, ap, sym, subst}
 use Rattle.run_plan.specs.Plan.{Plan, count_of}
-use Rattle.sched_core.specs.Core.{IsBestBelow, startable, better_of}
+use Rattle.sched_core.specs.Core.{IsBestBelow, better_of}
+use Rattle.sched_core.specs.Choices.{startable}
 use Rattle.sched_core.proofs.Best.{best-step}
 use Rattle.sched_core.proofs.scheduler.Core.best.Goals as goal
 

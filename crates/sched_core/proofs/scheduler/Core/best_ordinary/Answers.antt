@@ -1,6 +1,6 @@
 use Rattle.std.proofs.Common.{pos, sym, arith}
 use Rattle.std.proofs.lemmas.List.{get_or_default}
-use Rattle.sched_core.specs.Core.{startable}
+use Rattle.sched_core.specs.Choices.{startable}
 use Rattle.sched_core.proofs.Queues.{waiting-node, step-test, none-best, first-best}
 use Rattle.sched_core.proofs.scheduler.Core.best_ordinary.Goals as goal
 

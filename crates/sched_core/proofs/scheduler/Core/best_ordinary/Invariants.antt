@@ -1,6 +1,6 @@
 use Rattle.std.proofs.Common.{◌≡◌, ◌<◌, ℕ, None, slice_index_or}
 use Rattle.ready_queue.specs.declared.Member.{Member}
-use Rattle.sched_core.specs.Core.{startable}
+use Rattle.sched_core.specs.Choices.{startable}
 use Rattle.sched_core.proofs.scheduler.Core.best_ordinary.Given as goal
 
 abbrev pub invariant-loop-member : goal.invariant-loop-member
