@@ -18,7 +18,7 @@ use Rattle.recovery.specs.Replay.{IsFirstForeign, IsReplayFault, foreign}
 use Rattle.recovery.specs.declared.fault.ManagerFault.TheVariants as manager
 use Rattle.fate_audit.specs.Fates.{AreFatesOf}
 use Rattle.fate_audit.specs.Shown.{AreShown}
-use Rattle.fate_audit.specs.Audit.{HasNoRecords, IsJournalOf, IsSound, IsAuditOf, IsAuditNo, no_journal, foreign_record, no_finish, had_abort, no_memory, no_of}
+use Rattle.fate_audit.specs.Audit.{HasNoRecords, IsJournalOf, AreSound, IsAuditOf, IsAuditNo, no_journal, foreign_record, no_finish, had_abort, no_memory, no_of}
 use Rattle.fate_audit.proofs.Lists.{shown-fates, only-list}
 use Rattle.fate_audit.specs.declared.fault.AuditNo.{AuditNo}
 use Rattle.fate_audit.specs.declared.fault.AuditNo.TheVariants.{NotAJournal, NotARun, Unfinished, Memory, Aborted}
@@ -104,7 +104,7 @@ module _ (plan : Plan) (bytes : List ℕ) where
       absurd (false≢true (sym going ∙ ap is_over (sym (same-past past other is is')) ∙ over-part plan other finished))
 
   -- the journal of a finished run without abort
-  pub sound-no : (cause : AuditNo) → IsSound plan bytes → IsAuditNo plan bytes cause → cause ≡ Memory
+  pub sound-no : (cause : AuditNo) → AreSound plan bytes → IsAuditNo plan bytes cause → cause ≡ Memory
   sound-no cause (past, sound) (no_journal none) = absurd (no-past none past sound.journal)
   sound-no cause (past, sound) (foreign_record found slot is first) = foreign-past found slot is first past sound.journal (lawful_part plan past sound.finished)
   sound-no cause (past, sound) (no_finish other is lawful going) = open-over other past is sound.journal going sound.finished
@@ -143,7 +143,7 @@ module _ (plan : Plan) (bytes : List ℕ) where
       only-list plan (table_of is.past) rank ranked fates other is.are_fates
       (subst (λ (past : List Record). AreFatesOf plan (table_of past) other) (same-past is.past is'.past is.sound.journal is'.sound.journal) is'.are_fates)
 
-  pub is-sound : (fates : List Fate) → IsAuditOf plan bytes fates → IsSound plan bytes
+  pub is-sound : (fates : List Fate) → IsAuditOf plan bytes fates → AreSound plan bytes
   is-sound fates is = (is.past, is.sound)
 
 -- what was read, of these records

@@ -33,8 +33,8 @@ pub record IsSoundJournal (plan : Plan) (bytes : List ℕ) (past : List Record) 
   pub calm : IsFalse (is_aborted plan past)
 
 -- the bytes are the journal of a finished run of this plan without abort
-abbrev pub IsSound : Plan → List ℕ → Type 0
-IsSound plan bytes = (past : List Record) × IsSoundJournal plan bytes past
+abbrev pub AreSound : Plan → List ℕ → Type 0
+AreSound plan bytes = (past : List Record) × IsSoundJournal plan bytes past
 
 -- the same, and these are the fates by the table of its endings
 pub record IsAuditOf (plan : Plan) (bytes : List ℕ) (fates : List Fate) : Type 0 where

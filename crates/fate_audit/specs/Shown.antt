@@ -33,9 +33,9 @@ abbrev pub with_ended : Fate → Ended → Fate
 with_ended fate ended = with_history fate (fate.history ++ ended ∷ [])
 
 -- fates with the phase of a node that a record ends; a number that is not among them changes nothing
-abbrev pub with_record : List Fate → Record → List Fate
-with_record fates (End key outcome) =
+abbrev pub with_ending : List Fate → Record → List Fate
+with_ending fates (End key outcome) =
     if nat_lt key.node (length fates) then slice_set fates key.node (with_ended (fate_at fates key.node) (ended_of key outcome)) else fates
-with_record fates Life = fates
-with_record fates (Launch key number) = fates
-with_record fates (Finish status) = fates
+with_ending fates Life = fates
+with_ending fates (Launch key number) = fates
+with_ending fates (Finish status) = fates

@@ -13,7 +13,7 @@ ghost use Rattle.sched_core.specs.Fate.{Fate, AreFates};
 ghost use Rattle.sched_core.specs.Rounds.{Round, IsRound, IsRescuedBy, AreRounds};
 ghost use Rattle.recovery.specs.Rescue.{rescue_text_for};
 ghost use Rattle.fate_audit.specs.Fates.{fate_at, AreFatesOf};
-ghost use Rattle.fate_audit.specs.Audit.{IsSound, IsAuditOf, IsAuditNo};
+ghost use Rattle.fate_audit.specs.Audit.{AreSound, IsAuditOf, IsAuditNo};
 ghost use Rattle.fate_audit.specs.declared.fault.AuditNo.{AuditNo};
 ghost use Rattle.fate_audit.specs.declared.fault.AuditNo.TheVariants.{Memory};
 
@@ -21,8 +21,8 @@ ghost use Rattle.fate_audit.specs.declared.fault.AuditNo.TheVariants.{Memory};
 /// run without abort, and then with one list of fates, or there is one cause why they aren't.
 pub fn one_answer()
     ensures sound { (plan : Plan) (bytes : List ℕ) (fates : List Fate) →
-        IsAuditOf plan bytes fates → IsSound plan bytes }
-    ensures apart { (plan : Plan) (bytes : List ℕ) (cause : AuditNo) → IsSound plan bytes →
+        IsAuditOf plan bytes fates → AreSound plan bytes }
+    ensures apart { (plan : Plan) (bytes : List ℕ) (cause : AuditNo) → AreSound plan bytes →
         IsAuditNo plan bytes cause → cause ≡ Memory }
     ensures fates { (plan : Plan) (rank : ℕ → ℕ) → IsRankedBy rank plan →
         (bytes : List ℕ) (fates other : List Fate) →
