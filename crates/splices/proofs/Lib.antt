@@ -1,6 +1,7 @@
 pub mod NameLists
 pub mod Positions
 pub mod LineLists
+pub mod Kept
 pub mod Limits
 pub mod MacroLists
 pub mod NodeSteps

@@ -4,6 +4,7 @@ pub mod Dag
 pub mod Nodes
 pub mod MacroKeys
 pub mod Settings
+pub mod Notices
 pub mod Warnings
 pub mod FileSet
 pub mod Forest
@@ -14,6 +15,7 @@ pub mod LineScope
 pub mod NameCheck
 pub mod Adds
 pub mod Opened
+pub mod NoticeSets
 pub mod NodeChanges
 pub mod OpenedFiles
 pub mod SaidFiles
