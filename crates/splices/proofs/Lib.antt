@@ -14,4 +14,6 @@ pub mod Trees
 pub mod Within
 pub mod Dags
 pub mod OpeningFiles
+pub mod DeclaredOnce
+pub mod Regulars
 pub mod Said

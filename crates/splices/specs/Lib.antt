@@ -18,5 +18,6 @@ pub mod Opened
 pub mod NoticeSets
 pub mod NodeChanges
 pub mod OpenedFiles
+pub mod Regular
 pub mod SaidFiles
 pub mod Library
