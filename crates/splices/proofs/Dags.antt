@@ -1,5 +1,5 @@
 -- The DAG of opened files.
-use Rattle.std.proofs.Common.{◌≡◌, ℕ, ◌+◌, ◌≤◌, List, [], length, Option, Some, None, Result, Ok, Err, sym, ap, subst, ◌∙◌, arith}
+use Rattle.std.proofs.Common.{◌≡◌, ℕ, ◌+◌, ◌≤◌, List, [], length, map, Option, Some, None, Result, Ok, Err, sym, ap, subst, ◌∙◌, arith}
 use Rattle.std.proofs.lemmas.List.{length-append}
 use Rattle.std.specs.List.{All, flat_map}
 use Rattle.splices.specs.declared.flat.FlatNode.{FlatNode}
@@ -11,6 +11,7 @@ use Rattle.splices.specs.declared.open.Used.{Used}
 use Rattle.splices.specs.Dag.{Dag, IsGroupBelow, IsWithin}
 use Rattle.splices.specs.Places.{edges_of}
 use Rattle.splices.specs.Nodes.{own_count, finals_in}
+use Rattle.splices.specs.Notices.{warning_of}
 use Rattle.splices.specs.Warnings.{Told}
 use Rattle.splices.specs.Forest.{Forest, none, more, Tree, opened_as, forest_files, tree_files, forest_count, job_nodes}
 use Rattle.splices.specs.Edges.{tree_count}
@@ -25,7 +26,7 @@ pub dag_fails : (top : List ℕ) (e : SpliceFault) (read : Result Tree DagFault)
 dag_fails top e read fails = fails_bind e read (λ tree. dag_unless top (files_fault (tree_files [] tree)) tree) fails
 
 abbrev pub drawn : List ℕ → Draft → Dag
-drawn top d = record { top = top; nodes = d.nodes.items; final_node = first_of d.finals.items; edges = edges_of d.edges.items; categories = d.told.limits; warnings = d.told.warnings }
+drawn top d = record { top = top; nodes = d.nodes.items; final_node = first_of d.finals.items; edges = edges_of d.edges.items; categories = d.told.limits; warnings = map warning_of d.told.notices }
 
 pub dag_faulty : (top : List ℕ) (found : Draft × Option DagFault) (fault : DagFault) (read : Result Tree DagFault) → OpensTop (Ok found) read → found.1 ≡ Some fault → dag_of top read ≡ Err fault
 dag_faulty top found fault read opened is =
@@ -40,7 +41,7 @@ dag_given top found read opened is =
     ∙ ap (λ (ns : List FlatNode). Ok (record (flat_of top tree) { nodes = ns })) (sym opened.2)
     ∙ ap (λ (ns : List FlatNode). Ok (record (flat_of top tree) { nodes = d.nodes.items; final_node = first_of ns })) (sym opened.3)
     ∙ ap (λ (es : List EdgeGroup). Ok (record (flat_of top tree) { nodes = d.nodes.items; final_node = first_of d.finals.items; edges = edges_of es })) (sym opened.4)
-    ∙ ap (λ (t : Told). Ok (record { top = top; nodes = d.nodes.items; final_node = first_of d.finals.items; edges = edges_of d.edges.items; categories = t.limits; warnings = t.warnings })) (sym opened.5)
+    ∙ ap (λ (t : Told). Ok (record { top = top; nodes = d.nodes.items; final_node = first_of d.finals.items; edges = edges_of d.edges.items; categories = t.limits; warnings = map warning_of t.notices })) (sym opened.5)
 
 count_le : (f : Forest) → forest_count f ≤ forest_declared f
 count_le none = omega arith

@@ -1,6 +1,7 @@
 pub mod NameLists
 pub mod Positions
 pub mod LineLists
+pub mod Kept
 pub mod Limits
 pub mod MacroLists
 pub mod NodeSteps
@@ -13,4 +14,6 @@ pub mod Trees
 pub mod Within
 pub mod Dags
 pub mod OpeningFiles
+pub mod DeclaredOnce
+pub mod Regulars
 pub mod Said

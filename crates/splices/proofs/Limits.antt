@@ -2,15 +2,14 @@
 use Rattle.std.proofs.Common.{◌≡◌, ℕ, zero, suc, ◌+◌, ◌<◌, Bool, true, false, not, cond, ◌||◌, ◌++◌, List, [], ◌∷◌, length, map, Some, None, get_or, nat_lt, refl, sym, ap, ◌∙◌, arith, position}
 use Rattle.std.proofs.lemmas.Bool.{or_parts, cond-true, cond-false}
 use Rattle.std.proofs.lemmas.Bool.Decides.{nat_tests}
-use Rattle.std.proofs.lemmas.List.{append-nil}
 use Rattle.std.proofs.lemmas.List.Quantifiers.{position-Some}
 use Rattle.std.proofs.lemmas.Slice.Eq.{bytes_eq-Decides}
 use Rattle.std.specs.Prelude.{find, slice_set}
 use Rattle.std.specs.List.{list_any, position_or_len}
 use Rattle.std.specs.Str.{bytes_eq}
 use Rattle.splices.specs.declared.flat.CategoryLimit.{CategoryLimit}
-use Rattle.splices.specs.declared.flat.DagWarning.{DagWarning}
-use Rattle.splices.specs.Warnings.{Told, with_limit, overridden, overridden_if, replaced_limit}
+use Rattle.splices.specs.Notices.{Notice, overridden, with_notice, with_notices}
+use Rattle.splices.specs.Warnings.{Told, with_limit, line_of_limit, overridden_if, replaced_limit}
 use Rattle.splices.proofs.NameLists.{any_map, position_map}
 
 abbrev pub has_name : List ℕ → CategoryLimit → Bool
@@ -48,17 +47,17 @@ pub none_replaced : (limits : List CategoryLimit) (limit : CategoryLimit) → li
 none_replaced [] limit e = refl
 none_replaced (other ∷ limits) limit e =
     let p = or_parts _ _ e in
-    ap overridden_if (cond-false (bytes_eq limit.name other.name) (Some other) (find (has_name limit.name) limits) p.0) ∙ none_replaced limits limit p.1
+    ap (overridden_if limit) (cond-false (bytes_eq limit.name other.name) (Some other) (find (has_name limit.name) limits) p.0) ∙ none_replaced limits limit p.1
 
-at_place : (limits : List CategoryLimit) (limit d : CategoryLimit) (k : ℕ) → k < length limits → has_name limit.name (get_or limits k d) ≡ true → ((j : ℕ) → j < k → has_name limit.name (get_or limits j d) ≡ false) → (with_limit limits limit ≡ slice_set limits k limit) × (replaced_limit limits limit ≡ overridden (get_or limits k d) ∷ [])
+at_place : (limits : List CategoryLimit) (limit d : CategoryLimit) (k : ℕ) → k < length limits → has_name limit.name (get_or limits k d) ≡ true → ((j : ℕ) → j < k → has_name limit.name (get_or limits j d) ≡ false) → (with_limit limits limit ≡ slice_set limits k limit) × (replaced_limit limits limit ≡ overridden (line_of_limit (get_or limits k d)) (line_of_limit limit) ∷ [])
 at_place [] limit d k lt e before = absurd (omega arith)
 at_place (other ∷ limits) limit d zero lt e before =
-    (cond-true (bytes_eq limit.name other.name) (limit ∷ limits) (other ∷ with_limit limits limit) e, ap overridden_if (cond-true (bytes_eq limit.name other.name) (Some other) (find (has_name limit.name) limits) e))
+    (cond-true (bytes_eq limit.name other.name) (limit ∷ limits) (other ∷ with_limit limits limit) e, ap (overridden_if limit) (cond-true (bytes_eq limit.name other.name) (Some other) (find (has_name limit.name) limits) e))
 at_place (other ∷ limits) limit d (suc k) lt e before =
     let no : bytes_eq limit.name other.name ≡ false = before 0 (omega arith) in
     let rest = at_place limits limit d k (omega arith) e (λ j l. before (suc j) (omega arith)) in (
       cond-false (bytes_eq limit.name other.name) (limit ∷ limits) (other ∷ with_limit limits limit) no ∙ ap (λ ls. other ∷ ls) rest.0,
-      ap overridden_if (cond-false (bytes_eq limit.name other.name) (Some other) (find (has_name limit.name) limits) no) ∙ rest.1,
+      ap (overridden_if limit) (cond-false (bytes_eq limit.name other.name) (Some other) (find (has_name limit.name) limits) no) ∙ rest.1,
     )
 
 same_names : (limits : List CategoryLimit) (limit d : CategoryLimit) (k : ℕ) → limit.name ≡ (get_or limits k d).name → map (λ (l : CategoryLimit). l.name) limits ≡ map (λ (l : CategoryLimit). l.name) (slice_set limits k limit)
@@ -75,18 +74,19 @@ pub names_stay : (names : List (List ℕ)) (limits : List CategoryLimit) (limit 
 names_stay names limits limit k are e =
     are ∙ same_names limits limit limit k ((bytes_eq-Decides _ _).0 (place_in names limits limit limit k are e).1)
 
-pub limit_replaced : (names : List (List ℕ)) (limits : List CategoryLimit) (warnings warnings' : List DagWarning) (limit old : CategoryLimit) (k : ℕ) → names ≡ map (λ (l : CategoryLimit). l.name) limits → Some k ≡ position (bytes_eq limit.name) names → old ≡ get_or limits k old → warnings' ≡ warnings ++ overridden old ∷ [] →
-    ◌≡◌ {A = Told} (record { limits = slice_set limits k limit; warnings = warnings' }) (record { limits = with_limit limits limit; warnings = warnings ++ replaced_limit limits limit })
-limit_replaced names limits warnings warnings' limit old k are e is more =
+pub limit_replaced : (names : List (List ℕ)) (limits : List CategoryLimit) (notices notices' : List Notice) (limit old : CategoryLimit) (k : ℕ) → names ≡ map (λ (l : CategoryLimit). l.name) limits → Some k ≡ position (bytes_eq limit.name) names → old ≡ get_or limits k old → notices' ≡ with_notice notices (overridden (line_of_limit old) (line_of_limit limit)) →
+    ◌≡◌ {A = Told} (record { limits = slice_set limits k limit; notices = notices' }) (record { limits = with_limit limits limit; notices = with_notices notices (replaced_limit limits limit) })
+limit_replaced names limits notices notices' limit old k are e is more =
     let q = place_in names limits limit old k are e in
     let r = at_place limits limit old k q.0 q.1 q.2 in
-    let w : warnings' ≡ warnings ++ replaced_limit limits limit = more ∙ ap (λ l. warnings ++ overridden l ∷ []) is ∙ ap (λ ws. warnings ++ ws) (sym r.1) in
-    λ i. record { limits = sym r.0 i; warnings = w i }
+    let w : notices' ≡ with_notices notices (replaced_limit limits limit) =
+    more ∙ ap (λ l. with_notice notices (overridden (line_of_limit l) (line_of_limit limit))) is ∙ ap (with_notices notices) (sym r.1) in
+    λ i. record { limits = sym r.0 i; notices = w i }
 
-pub limit_added : (names : List (List ℕ)) (limits limits' : List CategoryLimit) (warnings : List DagWarning) (limit : CategoryLimit) → names ≡ map (λ (l : CategoryLimit). l.name) limits → None ≡ position (bytes_eq limit.name) names → limits' ≡ limits ++ limit ∷ [] →
-    ◌≡◌ {A = Told} (record { limits = limits'; warnings = warnings }) (record { limits = with_limit limits limit; warnings = warnings ++ replaced_limit limits limit })
-limit_added names limits limits' warnings limit are e more =
+pub limit_added : (names : List (List ℕ)) (limits limits' : List CategoryLimit) (notices : List Notice) (limit : CategoryLimit) → names ≡ map (λ (l : CategoryLimit). l.name) limits → None ≡ position (bytes_eq limit.name) names → limits' ≡ limits ++ limit ∷ [] →
+    ◌≡◌ {A = Told} (record { limits = limits'; notices = notices }) (record { limits = with_limit limits limit; notices = with_notices notices (replaced_limit limits limit) })
+limit_added names limits limits' notices limit are e more =
     let no : list_any (has_name limit.name) limits ≡ false = sym (any_map (λ (l : CategoryLimit). l.name) (bytes_eq limit.name) limits) ∙ ap (list_any (bytes_eq limit.name)) (sym are) ∙ not_there (bytes_eq limit.name) names e in
     let l : limits' ≡ with_limit limits limit = more ∙ sym (new_limit limits limit no) in
-    let w : warnings ≡ warnings ++ replaced_limit limits limit = sym (ap (λ ws. warnings ++ ws) (none_replaced limits limit no) ∙ append-nil warnings) in
-    λ i. record { limits = l i; warnings = w i }
+    let w : notices ≡ with_notices notices (replaced_limit limits limit) = sym (ap (with_notices notices) (none_replaced limits limit no)) in
+    λ i. record { limits = l i; notices = w i }

@@ -13,14 +13,14 @@ use Rattle.splices.specs.Opening.{◌>>=◌, Files, Opener, in_file, says_at, ch
 use Rattle.splices.specs.OpenedFiles.{Spliced, splice_in, splices_in, splice_folder, splice_path, IsSaid, AreOpened, IsOpened}
 
 -- what stands before a last step that succeeds
-bound : {A B : Type 0} (r : Result A DagFault) (f : A → Result B DagFault) (b : B) → (r >>= f) ≡ Ok b → (a : A) × (r ≡ Ok a) × (f a ≡ Ok b)
+pub bound : {A B : Type 0} (r : Result A DagFault) (f : A → Result B DagFault) (b : B) → (r >>= f) ≡ Ok b → (a : A) × (r ≡ Ok a) × (f a ≡ Ok b)
 bound (Ok a) f b is = (a, refl, is)
 bound (Err e) f b is = absurd cc
 
-abbrev good : {A : Type 0} → A → Result A DagFault
+abbrev pub good : {A : Type 0} → A → Result A DagFault
 good x = Ok x
 
-given : {A : Type 0} (x y : A) → good x ≡ good y → x ≡ y
+pub given : {A : Type 0} (x y : A) → good x ≡ good y → x ≡ y
 given x y is = cc
 
 spelled : (path bytes : List ℕ) (r : Result (List Command) LineFault) (contents : List Command) → in_file path r ≡ Ok contents → r ≡ Ok contents
@@ -40,7 +40,7 @@ said files folder path contents (Some bytes) at is = record {
 abbrev Opens : Files → List (List ℕ) → List ℕ → List ℕ → Tree → Type 0
 Opens files above folder path tree = IsSaid files folder path tree.file × AreOpened files above folder (splices_in tree.file.commands) tree.inner
 
-entered : (opener : Opener) (used : Used) (above : List (List ℕ)) (folder path : List ℕ) (place : Option ℕ) (tree : Tree) → enter_at opener used above folder path place ≡ Ok tree → (place ≡ None) × (opener (with_splice used) (above ++ path ∷ []) folder path ≡ Ok tree)
+pub entered : (opener : Opener) (used : Used) (above : List (List ℕ)) (folder path : List ℕ) (place : Option ℕ) (tree : Tree) → enter_at opener used above folder path place ≡ Ok tree → (place ≡ None) × (opener (with_splice used) (above ++ path ∷ []) folder path ≡ Ok tree)
 entered opener used above folder path None tree is = (refl, is)
 entered opener used above folder path (Some k) tree is = absurd cc
 

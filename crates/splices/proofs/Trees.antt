@@ -225,11 +225,11 @@ top_fails files left above front path top used e is empty same fails =
     subst (λ (a : List (List ℕ)). Fails e (open_file files left used a [] top)) here fails
 
 pub top_opens : (files : Files) (left : ℕ) (above front : List (List ℕ)) (path top : List ℕ) (old new : Draft) (found : Found) (used : Used) → above ≡ front ++ path ∷ [] → front ≡ [] → path ≡ top
-    → old.nodes.items ≡ [] → old.finals.items ≡ [] → old.edges.items ≡ [] → old.told ≡ record { limits = []; warnings = [] } → old.used ≡ used
+    → old.nodes.items ≡ [] → old.finals.items ≡ [] → old.edges.items ≡ [] → old.told ≡ record { limits = []; notices = [] } → old.used ≡ used
     → OneTree (open_file files left) above [] top [] old new found
     → (tree : Tree) × (open_file files left used (top ∷ []) [] top ≡ Ok tree)
     × (new.nodes.items ≡ flat_map job_nodes (tree_files [] tree)) × (new.finals.items ≡ flat_map final_nodes (tree_files [] tree)) × (new.edges.items ≡ tree_edges 0 tree)
-    × (new.told ≡ tell_files (record { limits = []; warnings = [] }) (tree_files [] tree)) × (found.fault ≡ files_fault (tree_files [] tree))
+    × (new.told ≡ tell_files (record { limits = []; notices = [] }) (tree_files [] tree)) × (found.fault ≡ files_fault (tree_files [] tree))
     × (new.used ≡ with_forest (with_file used tree.file.commands) tree.inner)
 top_opens files left above front path top old new found used is empty same no_nodes no_finals no_edges no_told used_are (tree, opened, adds, part, fault) =
     let here : above ≡ top ∷ [] = is ∙ ap (λ (a : List (List ℕ)). a ++ path ∷ []) empty ∙ ap (λ (x : List ℕ). x ∷ []) same in (

@@ -73,7 +73,7 @@ OpensTop (Ok found) read = (tree : Tree) × (read ≡ Ok tree)
     × (found.0.nodes.items ≡ flat_map job_nodes (tree_files [] tree))
     × (found.0.finals.items ≡ flat_map final_nodes (tree_files [] tree))
     × (found.0.edges.items ≡ tree_edges 0 tree)
-    × (found.0.told ≡ tell_files (record { limits = []; warnings = [] }) (tree_files [] tree))
+    × (found.0.told ≡ tell_files (record { limits = []; notices = [] }) (tree_files [] tree))
     × (found.1 ≡ files_fault (tree_files [] tree))
     × (found.0.used ≡ with_forest (with_file (record { nodes = 0; splices = 0 }) tree.file.commands) tree.inner)
 OpensTop (Err e) read = Fails e read

@@ -4,6 +4,7 @@ pub mod Dag
 pub mod Nodes
 pub mod MacroKeys
 pub mod Settings
+pub mod Notices
 pub mod Warnings
 pub mod FileSet
 pub mod Forest
@@ -14,7 +15,9 @@ pub mod LineScope
 pub mod NameCheck
 pub mod Adds
 pub mod Opened
+pub mod NoticeSets
 pub mod NodeChanges
 pub mod OpenedFiles
+pub mod Regular
 pub mod SaidFiles
 pub mod Library

@@ -1,5 +1,5 @@
 -- The flat DAG of a set of files.
-use Rattle.std.specs.Prelude.{ℕ, List, [], ◌∷◌, Option, Some, None, Result, Ok, Err}
+use Rattle.std.specs.Prelude.{ℕ, List, [], ◌∷◌, map, Option, Some, None, Result, Ok, Err}
 use Rattle.std.specs.List.{flat_map}
 use Rattle.splices.specs.declared.fault.DagFault.{DagFault}
 use Rattle.splices.specs.Dag.{Dag}
@@ -7,6 +7,7 @@ use Rattle.splices.specs.Forest.{Tree, tree_files, job_nodes, final_nodes, tell_
 use Rattle.splices.specs.Edges.{tree_edges}
 use Rattle.splices.specs.Places.{edges_of}
 use Rattle.splices.specs.Faults.{files_fault}
+use Rattle.splices.specs.Notices.{warning_of}
 use Rattle.splices.specs.Warnings.{Told}
 use Rattle.splices.specs.Opening.{Files, opened_at, ◌>>=◌}
 
@@ -15,7 +16,7 @@ first_of [] = None
 first_of (x ∷ xs) = Some x
 
 abbrev pub nothing_told : Told
-nothing_told = record { limits = []; warnings = [] }
+nothing_told = record { limits = []; notices = [] }
 
 -- Plan order: the nodes of a file's JOB lines, then those of its splices in the order of the SPLICE lines. The FINAL node
 -- is that of the top file. Limits and warnings come in the order of opening.
@@ -26,7 +27,7 @@ flat_of top tree = record {
   final_node = first_of (flat_map final_nodes (tree_files [] tree));
   edges = edges_of (tree_edges 0 tree);
   categories = (tell_files nothing_told (tree_files [] tree)).limits;
-  warnings = (tell_files nothing_told (tree_files [] tree)).warnings;
+  warnings = map warning_of (tell_files nothing_told (tree_files [] tree)).notices;
 }
 
 -- once all files are open, the first name in them that can't stand where it does is the fault

@@ -6,15 +6,15 @@ use Rattle.dag_reader.specs.declared.command.Command.{Command}
 use Rattle.dag_reader.specs.declared.command.Command.TheVariants.{Script, Retry, PreSkip, Vars, Priority, Category, MaxJobs, AbortDagOn, Ignored}
 use Rattle.dag_reader.specs.declared.command.ScriptKind.{ScriptKind}
 use Rattle.dag_reader.specs.declared.command.ScriptKind.TheVariants.{Pre, Post}
+use Rattle.dag_reader.specs.declared.command.Target.{Target}
 use Rattle.dag_reader.specs.Word.{PlacedText}
 use Rattle.splices.specs.declared.flat.CategoryLimit.{CategoryLimit}
-use Rattle.splices.specs.declared.flat.DagWarning.{DagWarning}
-use Rattle.splices.specs.declared.flat.DagWarning.TheVariants as warnings
 use Rattle.splices.specs.declared.flat.MacroSetting.{MacroSetting}
 use Rattle.splices.specs.declared.flat.ScriptSetting.{ScriptSetting}
 use Rattle.splices.specs.declared.flat.Settings.{Settings}
 use Rattle.splices.specs.Nodes.{job_names, final_names, node_names}
-use Rattle.splices.specs.Settings.{full_category, is_for, is_namesake, macros_of, settings_at, target_of, with_macro}
+use Rattle.splices.specs.Notices.{Notice, Place, ignored, overridden, place, with_notice, with_notices}
+use Rattle.splices.specs.Settings.{full_category, is_for, is_namesake, line_of, macros_of, settings_at, target_of, with_macro}
 
 -- a line's number, where the setting is there
 abbrev pub line_if : {X : Type 0} → (X → ℕ) → Option X → List ℕ
@@ -61,35 +61,40 @@ abbrev pub with_limit : List CategoryLimit → CategoryLimit → List CategoryLi
 with_limit [] limit = limit ∷ []
 with_limit (other ∷ limits) limit = if bytes_eq limit.name other.name then limit ∷ limits else other ∷ with_limit limits limit
 
--- what is known behind some lines: the limits, and what the user is told
+-- what is known behind some lines: the limits, and what is told of lines
 pub record Told : Type 0 where
   pub limits : List CategoryLimit
-  pub warnings : List DagWarning
+  pub notices : List Notice
 
 -- what MAXJOBS says in the file of this path, whose names have this prefix
 abbrev pub limit_of : List ℕ → List ℕ → PlacedText → ℕ → CategoryLimit
 limit_of path prefix category n = record { name = full_category prefix category.text; limit = n; path = path; line = category.span.line }
 
-abbrev pub overridden : CategoryLimit → DagWarning
-overridden limit = warnings.Overridden limit.path limit.line
+abbrev pub line_of_limit : CategoryLimit → Place
+line_of_limit limit = place limit.path limit.line
 
--- the warning of the limit that a category has already
-abbrev pub overridden_if : Option CategoryLimit → List DagWarning
-overridden_if None = []
-overridden_if (Some other) = overridden other ∷ []
+-- a limit takes the place of the one that its category has already
+abbrev pub overridden_if : CategoryLimit → Option CategoryLimit → List Notice
+overridden_if limit None = []
+overridden_if limit (Some other) = overridden (line_of_limit other) (line_of_limit limit) ∷ []
 
-abbrev pub replaced_limit : List CategoryLimit → CategoryLimit → List DagWarning
-replaced_limit limits limit = overridden_if (find (λ other. bytes_eq limit.name other.name) limits)
+abbrev pub replaced_limit : List CategoryLimit → CategoryLimit → List Notice
+replaced_limit limits limit = overridden_if limit (find (λ other. bytes_eq limit.name other.name) limits)
 
 -- a category has a limit, in place of the one that it had
 abbrev pub tell_limit : Told → CategoryLimit → Told
-tell_limit told limit = record { limits = with_limit told.limits limit; warnings = told.warnings ++ replaced_limit told.limits limit }
+tell_limit told limit = record { limits = with_limit told.limits limit; notices = with_notices told.notices (replaced_limit told.limits limit) }
+
+-- the line of this target in the file of this path replaces the settings of these lines
+abbrev pub replaced_settings : List ℕ → Option Target → List ℕ → List Notice
+replaced_settings path None replaced = []
+replaced_settings path (Some target) replaced = map (λ line. overridden (place path line) (place path (line_of target))) replaced
 
 -- a line of the file of this path, whose names have this prefix, is told: it replaces the settings of these lines
 abbrev pub tell_line : List ℕ → List ℕ → Told → Command → List ℕ → Told
 tell_line path prefix told (MaxJobs category n) replaced = tell_limit told (limit_of path prefix category n)
-tell_line path prefix told (Ignored span) replaced = record told { warnings = told.warnings ++ warnings.Ignored path span.line ∷ [] }
-tell_line path prefix told c replaced = record told { warnings = told.warnings ++ map (λ line. warnings.Overridden path line) replaced }
+tell_line path prefix told (Ignored span) replaced = record told { notices = with_notice told.notices (ignored (place path span.line)) }
+tell_line path prefix told c replaced = record told { notices = with_notices told.notices (replaced_settings path (target_of c) replaced) }
 
 -- some lines of such a file, which has these lines, are told; the lines before them are these
 abbrev pub tell_lines : List ℕ → List ℕ → List Command → List Command → Told → List Command → Told

@@ -349,7 +349,7 @@ impl FlatDag {
         self.categories.as_slice()
     }
 
-    /// The warnings in the order of the files and of their lines.
+    /// What the user is told of lines, each notice once, in the order of the files and of their lines.
     pub fn warnings(&self) -> &[DagWarning]
         ensures { result.now ≡ self.now.warnings }
     {

@@ -13,6 +13,7 @@ mod library;
 mod name_table;
 mod names;
 mod nodes;
+mod notices;
 mod open;
 mod own_nodes;
 mod part;

@@ -13,6 +13,7 @@ ghost use Rattle.splices.specs.Forest.{inside};
 ghost use Rattle.splices.specs.Opening.{said_by, check_final, check_file, check_count, open_file, open_lines, open_line, with_file};
 ghost use Rattle.splices.specs.Adds.{Gives, AddsFiles, OpensTree, OpensForest, OpensTop, IsFew, SameButEdges};
 ghost use Rattle.splices.specs.Dag.{IsGroupBelow, IsWithin};
+ghost use Rattle.splices.specs.Notices.{warning_of};
 ghost use Rattle.splices.specs.Places.{edges_of};
 ghost use Rattle.splices.specs.Opened.{dag_at, first_of};
 
@@ -89,7 +90,7 @@ pub fn open_dag(alloc: Global, files: &FileSet, top: &str) -> Result<FlatDag, Sp
     let (draft, fault) = open_files(alloc, files, DEEPEST, top)?;
     match fault {
         Some(fault) => Err(SpliceFault::Dag(fault)),
-        None => Ok(draft.into_dag(Text::new(alloc, top)?)),
+        None => Ok(draft.into_dag(alloc, Text::new(alloc, top)?)?),
     }
 }
 
@@ -438,20 +439,20 @@ fn open_splice(
 
 impl Draft {
     /// The flat DAG of the draft, whose top file has this path.
-    fn into_dag(self, top: Text) -> FlatDag
-        requires within { IsWithin (record { top = top; nodes = self.nodes.items; final_node = first_of self.finals.items; edges = edges_of self.edges.items; categories = self.told.limits; warnings = self.told.warnings }) }
+    fn into_dag(self, alloc: Global, top: Text) -> Result<FlatDag, AllocError>
+        requires within { IsWithin (record { top = top; nodes = self.nodes.items; final_node = first_of self.finals.items; edges = edges_of self.edges.items; categories = self.told.limits; warnings = map warning_of self.told.notices }) }
         requires below { All (IsGroupBelow (length self.nodes.items)) self.edges.items }
-        ensures { result ≡ record { top = top; nodes = self.nodes.items; final_node = first_of self.finals.items; edges = edges_of self.edges.items; categories = self.told.limits; warnings = self.told.warnings } }
+        ensures { IfOk result (λ dag. dag ≡ record { top = top; nodes = self.nodes.items; final_node = first_of self.finals.items; edges = edges_of self.edges.items; categories = self.told.limits; warnings = map warning_of self.told.notices }) }
     {
+        let (categories, warnings) = self.told.into_parts(alloc)?;
         let mut finals = self.finals;
         let final_node = if finals.is_empty() {
             None
         } else {
             Some(finals.swap_remove(0))
         };
-        let (categories, warnings) = self.told.into_parts();
-        FlatDag::new(
+        Ok(FlatDag::new(
             top, self.nodes, final_node, self.edges, categories, warnings,
-        )
+        ))
     }
 }

@@ -1,22 +1,24 @@
-//! What is told of the files: the limits of categories, and the warnings.
+//! What is told of the files: the limits of categories, and the lines that are ignored or replaced.
 
-ghost use Rattle.std.specs.Prelude.{◌≡◌, [], ◌++◌, map, OnOk, IfOk};
-ghost use Rattle.splices.specs.declared.flat.DagWarning.TheVariants as warnings;
-ghost use Rattle.splices.specs.Warnings.{limit_of, tell_line, tell_limit};
+ghost use Rattle.std.specs.Prelude.{◌≡◌, [], map, OnOk, IfOk};
+ghost use Rattle.splices.specs.Notices.{warning_of, with_notices};
+ghost use Rattle.splices.specs.Settings.{target_of};
+ghost use Rattle.splices.specs.Warnings.{limit_of, replaced_settings, tell_line, tell_limit};
 
 use crate::flat::{CategoryLimit, DagWarning};
 use crate::name_table::NameTable;
-use crate::settings::full_category;
+use crate::notices::Notices;
+use crate::settings::{full_category, target_line, target_of};
 use dag_reader::{Command, Text, Word};
 use std::alloc::{AllocError, Global};
 use std::marker::Model;
 
-/// What is told of the files so far. A contract sees the limits and the warnings.
+/// What is told of the files so far. A contract sees the limits and the notices.
 #[derive(Drop)]
 pub(crate) struct Told {
     names: NameTable,
     limits: Vec<CategoryLimit>,
-    warnings: Vec<DagWarning>,
+    notices: Notices,
 }
 
 impl Model for Told {
@@ -25,7 +27,7 @@ impl Model for Told {
 
     ghost Value = { told.Told };
 
-    ghost view = { λ t. record { limits = t.limits.items; warnings = t.warnings.items } };
+    ghost view = { λ t. record { limits = t.limits.items; notices = t.notices } };
 
     ghost invariant = { λ t. t.names ≡ map (λ l. l.name) t.limits.items };
 }
@@ -33,36 +35,25 @@ impl Model for Told {
 impl Told {
     /// Nothing is told.
     pub(crate) fn new(alloc: Global) -> Told
-        ensures { result ≡ record { limits = []; warnings = [] } }
+        ensures { result ≡ record { limits = []; notices = [] } }
     {
         Told {
             names: NameTable::new(alloc),
             limits: Vec::new(alloc),
-            warnings: Vec::new(alloc),
+            notices: Notices::new(alloc),
         }
     }
 
     /// The limits of categories, and the warnings.
-    pub(crate) fn into_parts(self) -> (Vec<CategoryLimit>, Vec<DagWarning>)
-        ensures limits { result.0.items ≡ self.limits }
-        ensures warnings { result.1.items ≡ self.warnings }
-    {
-        (self.limits, self.warnings)
-    }
-
-    /// Tells of lines of a file whose settings are replaced.
-    fn tell_overridden(
-        &mut self,
+    pub(crate) fn into_parts(
+        self,
         alloc: Global,
-        path: &str,
-        lines: &[usize],
-    ) -> Result<(), AllocError>
-        ensures { OnOk result (self.new ≡ record self.old {
-          warnings = self.old.warnings
-              ++ map (λ line. warnings.Overridden path.now line) lines.now;
-        }) }
+    ) -> Result<(Vec<CategoryLimit>, Vec<DagWarning>), AllocError>
+        ensures limits { IfOk result (λ parts. parts.0.items ≡ self.limits) }
+        ensures warnings { IfOk result (λ parts. parts.1.items ≡ map warning_of self.notices) }
     {
-        push_overridden(alloc, path, lines, &mut self.warnings)
+        let warnings = self.notices.warnings(alloc)?;
+        Ok((self.limits, warnings))
     }
 
     /// Puts in the limit of a category: a later one takes the place of that there, and the user is
@@ -73,8 +64,9 @@ impl Told {
         match self.names.place_of(limit.name.as_str()) {
             Some(place) => {
                 let old = &self.limits[place];
-                let path = Text::new(alloc, old.path.as_str())?;
-                self.warnings.push(DagWarning::Overridden(path, old.line))?;
+                let path = limit.path.as_str();
+                self.notices
+                    .add_overridden(alloc, old.path.as_str(), old.line, path, limit.line)?;
                 self.limits[place] = limit;
             }
             None => {
@@ -84,6 +76,27 @@ impl Told {
             }
         }
         Ok(())
+    }
+
+    /// Tells of the lines of a file whose settings a line replaces.
+    fn tell_replaced(
+        &mut self,
+        alloc: Global,
+        path: &str,
+        command: &Command,
+        replaced: &[usize],
+    ) -> Result<(), AllocError>
+        ensures { OnOk result (self.new ≡ record self.old {
+          notices = with_notices self.old.notices
+              (replaced_settings path.now (target_of command.now) replaced.now);
+        }) }
+    {
+        match target_of(command) {
+            Some(target) => self
+                .notices
+                .add_replaced(alloc, path, replaced, target_line(target)),
+            None => Ok(()),
+        }
     }
 
     /// Tells of a line of a file, which replaces the settings of these lines.
@@ -103,12 +116,8 @@ impl Told {
                 let limit = CategoryLimit::new(alloc, path, prefix, category, *limit)?;
                 self.set_limit(alloc, limit)
             }
-            Command::Ignored(span) => {
-                let path = Text::new(alloc, path)?;
-                self.warnings.push(DagWarning::Ignored(path, span.line))?;
-                Ok(())
-            }
-            _ => self.tell_overridden(alloc, path, replaced),
+            Command::Ignored(span) => self.notices.add_ignored(alloc, path, span.line),
+            _ => self.tell_replaced(alloc, path, command, replaced),
         }
     }
 }
@@ -131,20 +140,4 @@ impl CategoryLimit {
             line: category.span().line,
         })
     }
-}
-
-fn push_overridden(
-    alloc: Global,
-    path: &str,
-    lines: &[usize],
-    told: &mut Vec<DagWarning>,
-) -> Result<(), AllocError>
-    ensures { OnOk result (told.new.items ≡ told.old.items
-        ++ map (λ line. warnings.Overridden path.now line) lines.now) }
-{
-    for line in lines {
-        let path = Text::new(alloc, path)?;
-        told.push(DagWarning::Overridden(path, *line))?;
-    }
-    Ok(())
 }

@@ -25,9 +25,9 @@ pub returns-in-Some : goal.returns-in-Some
 unfolding dag_at opened_at
 returns-in-Some c = dag_faulty c.args.top.now (c.in_ok-draft.draft, c.in_ok-draft.fault) c.in-Some.fault (opened_at (bytes_of c.args.files.now) c.args.top.now) c.in_ok-draft.ensures.opened c.in-Some.is
 
-pub returns-in_ok-new-in-None : goal.returns-in_ok-new-in-None
+pub returns-in_ok-into_dag-in-None : goal.returns-in_ok-into_dag-in-None
 unfolding dag_at opened_at
-returns-in_ok-new-in-None c =
+returns-in_ok-into_dag-in-None c =
     dag_given c.args.top.now (c.in_ok-draft.draft, c.in_ok-draft.fault) (opened_at (bytes_of c.args.files.now) c.args.top.now) c.in_ok-draft.ensures.opened c.in-None.is
     ∙ ap (λ (top : List ℕ). Ok (drawn top c.in_ok-draft.draft)) (sym c.in_ok-new-in-None.ensures)
-    ∙ ap (λ (d : Dag). Ok d) (sym c.into_dag.ensures)
+    ∙ ap (λ (d : Dag). Ok d) (sym c.in_ok-into_dag-in-None.ensures)
