@@ -1,2 +1,3 @@
 pub mod Ends
+mod Refusals
 mod Openings

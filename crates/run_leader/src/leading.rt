@@ -1,13 +1,14 @@
 //! A manager that leads its run to the end.
 
-ghost use Rattle.std.specs.Prelude.{◌≡◌, [], IsFalse, IfOk, OnOk, OnErr, string_bytes};
+ghost use Rattle.std.specs.Prelude.{◌≡◌, [], IsTrue, IsFalse, IfOk, IfErr, OnOk, OnErr, string_bytes};
 ghost use Rattle.recovery.specs.Managed.{plan_of, past_of};
-ghost use Rattle.recovery.specs.Seal.{IsSealOf, IsRescued};
+ghost use Rattle.recovery.specs.Seal.{IsSealOf, IsRescued, may_end, needs_rescue_now};
 ghost use Rattle.sched_core.specs.Run.{is_over};
 ghost use Rattle.job_starter.specs.Drives.{AreInStep, limits_of};
 ghost use Rattle.job_starter.specs.Calls.{running};
 ghost use Rattle.job_starter.specs.Handed.{HandsAll, HandsAllButOne};
 ghost use Rattle.job_starter.specs.Moments.{AtAnyMoment, IsMomentOfRun, StaysAcknowledged};
+ghost use Rattle.run_leader.specs.Causes.{IsSealFault, IsLeadFault};
 ghost use Rattle.run_leader.specs.Led.{GoOnFrom, IsLed, DrivesToEnd};
 
 use event_journal::Disk;
@@ -33,8 +34,12 @@ fn sealed<D: Disk + Drop, R: Disk + Drop>(
     manager: &Manager<'_, D>,
     rescue: R,
 ) -> Result<Sealed<R>, ManagerFault>
-    ensures { IfOk result (λ seal.
+    requires ends { IsTrue (may_end (plan_of manager.now) (past_of manager.now)) }
+    ensures sealed { IfOk result (λ seal.
         IsSealOf R.honest R.may_leave (plan_of manager.now) (past_of manager.now) seal) }
+    ensures refused { IfErr result (λ fault.
+        IsTrue (needs_rescue_now (plan_of manager.now) (past_of manager.now))
+        × IsSealFault R.faults R.capacity (plan_of manager.now) (past_of manager.now) rescue fault) }
 {
     if !manager.core().needs_rescue() {
         return manager.no_rescue();
@@ -49,8 +54,9 @@ fn sealed<D: Disk + Drop, R: Disk + Drop>(
 /// writes the rescue file on its disk where one is needed, and records the end.
 ///
 /// # Errors
-/// Those of the manager and of the starter. What was recorded stays, and a later manager goes on
-/// from there; no child runs when the call returns.
+/// Those of `drive`; `Manager` with `Memory` or the fault of the disk where the rescue file that the
+/// run needs can't be written, and with that of `Manager::finish`; `Memory` for the text. What was
+/// recorded stays, and a later manager goes on from there; no child runs when the call returns.
 pub fn lead<D: Disk + Drop, R: Disk + Drop, S: Starter>(
     alloc: Global,
     manager: &mut Manager<'_, D>,
@@ -83,6 +89,8 @@ pub fn lead<D: Disk + Drop, R: Disk + Drop, S: Starter>(
         (S.may_tell starter.old) (past_of manager.old) (S.told starter.old)) }
     ensures acknowledged { OnOk result
         (StaysAcknowledged D.honest D.seen D.may_leave manager.old manager.new) }
+    ensures refused { IfErr result (IsLeadFault D.faults D.capacity R.faults R.capacity
+        (S.faults starter.old) (S.faults starter.new) manager.new rescue) }
     // The rescue file that the run owes is on its disk.
     ensures rescued { IfOk result (λ led.
         IsRescued R.honest R.may_leave plan.now (past_of manager.new) led.rescue) }

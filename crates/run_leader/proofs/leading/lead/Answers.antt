@@ -1,7 +1,7 @@
 use Rattle.run_plan.specs.Plan.{Plan}
 use Rattle.std.proofs.Common.{◌≡◌, true, List, ap, sym, ◌∙◌, subst}
 use Rattle.sched_core.specs.Core.{Progress}
-use Rattle.sched_core.specs.Run.{is_lawful}
+use Rattle.sched_core.specs.Run.{is_lawful, is_over}
 use Rattle.recovery.specs.Managed.{plan_of, past_of, disk_of}
 use Rattle.job_starter.specs.Drives.{limits_of}
 use Rattle.status_report.specs.Text.{run_text}
@@ -10,6 +10,8 @@ use Rattle.job_starter.proofs.Handing.{driven, stopped, drives-adds}
 use Rattle.job_starter.proofs.Images.{one_call}
 use Rattle.job_starter.specs.Handed.{HandsAllButOne}
 use Rattle.run_leader.specs.Led.{GoOnFrom}
+use Rattle.run_leader.specs.Causes.{stopped as was_stopped, not_sealed, end_refused, no_memory_for_report}
+use Rattle.run_leader.proofs.Refusals.{ends-now, end-refused}
 use Rattle.run_leader.proofs.Ends.{led-by, stopped-adds, finished-adds, finished-hands, all-but-one, then_end, to-end}
 use Rattle.run_leader.proofs.leading.lead.Goals as goal
 
@@ -107,3 +109,20 @@ returns-in-Ok-run_text-clause-steps g c =
     to-end (limits_of c.args.manager.now) (plan_of c.args.manager.now) (plan_of c.drive.new.manager) c.in-Ok.ensures.plan (g.S.Starter.may_tell c.args.starter.now)
     (past_of c.args.manager.now) (past_of c.drive.new.manager) (past_of c.finish.new.self) (g.S.Starter.told c.args.starter.now) (g.S.Starter.told c.drive.new.starter)
     c.in-Ok.end.verdict c.in-Ok.ensures.steps c.in-Ok.ensures.over c.in-Ok-finish.ensures.past
+
+pub returns-in-Err-clause-refused : goal.returns-in-Err-clause-refused
+returns-in-Err-clause-refused g c = was_stopped c.in-Err.ensures.refused
+
+pub returns-in-Err-sealed-clause-refused : goal.returns-in-Err-sealed-clause-refused
+returns-in-Err-sealed-clause-refused g c = not_sealed c.in-Err-sealed.ensures.refused.0 c.in-Err-sealed.ensures.refused.1
+
+pub returns-in-Err-finish-clause-refused : goal.returns-in-Err-finish-clause-refused
+returns-in-Err-finish-clause-refused g c =
+    end_refused (end-refused g.D.Disk.faults g.D.Disk.capacity (plan_of c.drive.new.manager) (past_of c.drive.new.manager) _ _ c.finish.new.self
+    c.in-Err-finish.ensures.plan c.in-Err-finish.ensures.past_err
+    (ends-now (limits_of c.args.manager.now) (plan_of c.args.manager.now) (plan_of c.drive.new.manager) c.in-Ok.ensures.plan
+    (past_of c.drive.new.manager) c.in-Ok.end.verdict c.in-Ok.ensures.over c.in-Ok.ensures.ready)
+    c.in-Ok-sealed.ensures.sealed.count c.in-Err-finish.ensures.refused)
+
+pub returns-in-Err-run_text-clause-refused : goal.returns-in-Err-run_text-clause-refused
+returns-in-Err-run_text-clause-refused g c = no_memory_for_report (ap is_over c.in-Ok-finish.ensures.past)
