@@ -79,6 +79,12 @@ input_pairs() { { nodes 4096; lines 1 "PARENT$(numbered 0 2048 N) CHILD$(numbere
 input_pairs_again() { { nodes 4096; lines 20 "PARENT$(numbered 0 2048 N) CHILD$(numbered 2048 4096 N)"; } >t.dag; }
 input_names_again() { { nodes 2; lines 1 "PARENT$(words 10900 N0) CHILD$(words 10900 N1)"; } >t.dag; }
 
+# A splice of 4,095 nodes that a PARENT line names 30,000 times; the line twenty times.
+input_splice_again() {
+    { echo 'JOB T a.sub'; echo 'SPLICE S part.dag'; lines 20 "PARENT$(words 30000 S) CHILD T"; } >t.dag
+    nodes 4095 >part.dag
+}
+
 # A file of a megabyte that is opened 4,096 times: of comments, and of lines that set nothing.
 splices() { awk 'BEGIN { for (i = 0; i < 4096; i++) print "SPLICE S" i " part.dag" }' >t.dag; }
 input_splices() { splices; lines 16000 "# $(words 32 x)" >part.dag; }
@@ -113,6 +119,7 @@ row macros_of_all open
 row pairs closed
 row pairs_again closed
 row names_again closed
+row splice_again closed
 row splices closed
 row splices_of_lines open
 row long_name open

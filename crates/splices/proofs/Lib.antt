@@ -11,6 +11,8 @@ pub mod Marks
 pub mod Opened
 pub mod Own
 pub mod Trees
+pub mod ActingLines
+pub mod ActingTrees
 pub mod Within
 pub mod Dags
 pub mod OpeningFiles

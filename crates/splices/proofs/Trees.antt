@@ -28,10 +28,6 @@ use Rattle.splices.specs.Adds.{Fails, AddsFiles, AddsForest, AddsTree, SameButEd
 use Rattle.splices.proofs.Opened.{fails_bind, rest_at, files_more, used_is, nodes-length, own-length, adds_more, parts_more, fault_more, behind_more, behind_fails, open_deeper}
 use Rattle.splices.proofs.Own.{names-length}
 
--- what a file says, seen as another list
-pub said_too : (r : Result (List Command) DagFault) (x y : List Command) → r ≡ Ok x → y ≡ x → r ≡ Ok y
-said_too r x y is same = subst (λ (cs : List Command). r ≡ Ok cs) (sym same) is
-
 -- what opening left, of the lines before place i
 abbrev pub Front : Opener → Used → List (List ℕ) → List ℕ → List ℕ → List Command → ℕ → Result Forest DagFault → Draft → Draft → List Part → List Part → Option DagFault → Type 0
 Front opener used above folder prefix cs i all old new p q fault =

@@ -1,6 +1,6 @@
 -- The edges of opened files, in groups: each PARENT line is one. A node's number is its place among all nodes.
-use Rattle.std.specs.Prelude.{ℕ, ◌+◌, List, [], ◌∷◌, ◌++◌, Option, Some, None, position, slice_get}
-use Rattle.std.specs.List.{flat_map}
+use Rattle.std.specs.Prelude.{ℕ, ◌+◌, List, [], ◌∷◌, ◌++◌, Option, Some, None, position, slice_get, if◌then◌else◌}
+use Rattle.std.specs.List.{flat_map, list_any}
 use Rattle.std.specs.Str.{bytes_eq}
 use Rattle.dag_reader.specs.declared.command.Command.{Command}
 use Rattle.dag_reader.specs.declared.command.Command.TheVariants.{ParentChild}
@@ -45,8 +45,14 @@ job_or_splice side scope name None = splice_nodes side scope (position (bytes_eq
 abbrev pub stands_for : Side → Scope → PlacedText → List ℕ
 stands_for side scope w = job_or_splice side scope w.text (position (bytes_eq w.text) scope.jobs)
 
+-- of these words those whose text stands in no word before and is not seen yet
+abbrev pub unseen : List (List ℕ) → List PlacedText → List PlacedText
+unseen seen [] = []
+unseen seen (w ∷ ws) = if list_any (bytes_eq w.text) seen then unseen seen ws else w ∷ unseen (seen ++ w.text ∷ []) ws
+
+-- the nodes that names stand for, each name once
 abbrev pub all_stand_for : Side → Scope → List PlacedText → List ℕ
-all_stand_for side scope ws = flat_map (stands_for side scope) ws
+all_stand_for side scope ws = flat_map (stands_for side scope) (unseen [] ws)
 
 -- the edges of a line: each node that its parents stand for is a parent of each that its children stand for
 abbrev pub line_edges : Scope → Command → List EdgeGroup

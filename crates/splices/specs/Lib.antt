@@ -16,6 +16,7 @@ pub mod NameCheck
 pub mod Adds
 pub mod Opened
 pub mod NoticeSets
+pub mod Acting
 pub mod NodeChanges
 pub mod OpenedFiles
 pub mod Regular

@@ -175,7 +175,7 @@ pub struct EdgeGroup {
 impl EdgeGroup {
     ghost use Rattle.splices.specs.Places.{ends_of};
 
-    /// The numbers of the parents, or of the children, as often as the line names them.
+    /// The numbers of the parents, or of the children; a name that stands in the line again adds none.
     pub fn ends(&self, side: Side) -> &[usize]
         ensures { result.now ≡ ends_of side self.now }
     {

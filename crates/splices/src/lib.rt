@@ -1,6 +1,7 @@
 //! Opens the files of a DAG with their splices: nodes in plan order, edges and settings.
 #![tactic(auto)]
 
+mod acting;
 mod check;
 mod declare;
 mod edges;

@@ -8,6 +8,7 @@ ghost use Rattle.splices.specs.FileSet.{bytes_of};
 ghost use Rattle.splices.specs.SaidFiles.{AreSaid};
 ghost use Rattle.splices.specs.Opening.{says_at};
 
+use crate::acting::without_idle;
 use crate::fault::{DagFault, SpliceFault};
 use crate::file_set::FileSet;
 use dag_reader::{DagFile, ReadFault, Text, read_dag};
@@ -15,7 +16,7 @@ use indexmap::IndexMap;
 use std::alloc::{AllocError, Global};
 
 /// The files of a set, and what those say that are DAG files: each is read once, however often it
-/// is opened.
+/// is opened, and its lines that say nothing are not kept.
 #[derive(Drop)]
 pub(crate) struct Library<'a> {
     files: &'a FileSet,
@@ -45,7 +46,7 @@ impl FileRead<'_> {
 }
 
 impl<'a> Library<'a> {
-    ghost use Rattle.splices.specs.Library.{commands_in, files_in};
+    ghost use Rattle.splices.specs.Library.{files_in, Reads};
 
     /// The files of a set.
     pub(crate) fn new(alloc: Global, files: &'a FileSet) -> Result<Library<'a>, AllocError>
@@ -58,13 +59,16 @@ impl<'a> Library<'a> {
         Ok(Library { files, said })
     }
 
-    /// What the file of this path says.
+    /// What the file of this path says, without the lines that say nothing.
     pub(crate) fn read(&self, alloc: Global, path: &str) -> Result<FileRead<'_>, SpliceFault>
-        ensures { Gives commands_in result (says_at path.now (files_in self.now path.now)) }
+        ensures { Reads result (says_at path.now (files_in self.now path.now)) }
     {
         match self.said.get(path) {
             Some(file) => Ok(FileRead::Kept(file)),
-            None => Ok(FileRead::New(read_file(alloc, self.files, path)?)),
+            None => {
+                let file = read_file(alloc, self.files, path)?;
+                Ok(FileRead::New(without_idle(file)))
+            }
         }
     }
 }
@@ -80,7 +84,7 @@ fn keep(
     ensures { OnOk result (AreSaid (bytes_of files.now) (get_by_text said.new)) }
 {
     if let Ok(file) = read_file(alloc, files, path) {
-        said.insert(String::from_str(alloc, path)?, file)?;
+        said.insert(String::from_str(alloc, path)?, without_idle(file))?;
     }
     Ok(())
 }

@@ -14,7 +14,9 @@ use Rattle.splices.specs.Forest.{inside}
 use Rattle.splices.specs.Nodes.{job_names}
 use Rattle.splices.specs.Opening.{open_file, open_lines, with_splice}
 use Rattle.splices.proofs.Opened.{behind_done}
-use Rattle.splices.proofs.Trees.{said_too, forest_step, splice_opens, tree_fails, tree_opens, scope_fits}
+use Rattle.splices.proofs.Said.{said_acting}
+use Rattle.splices.proofs.ActingTrees.{acting_fails, acting_opens, acting_refused, read_acts}
+use Rattle.splices.proofs.Trees.{forest_step, splice_opens, scope_fits}
 use Rattle.splices.proofs.open.+opening.Goals as goal
 
 pub open_forest-loop-command-preserved : goal.open_forest-loop-command-preserved
@@ -57,13 +59,22 @@ open_splice-returns-clause-opened t c =
     c.in_ok-found.ensures.opened
     c.in_ok-push-2.ensures.items
 
+pub open_tree-returns-in_err-names-clause-opened :
+    goal.open_tree-returns-in_err-names-clause-opened
+open_tree-returns-in_err-names-clause-opened t c =
+    let p = err_from_is_err_and c.from_residual-in_err-names.result c.from_residual-in_err-names.ensures.1 in
+    let some : 0 < c.args.left = omega arith in
+    let said = said_acting _ _ c.in_ok-read.ensures in
+    rw (p.1, p.2) (acting_refused (files_in c.args.files.now) c.args.left c.args.draft.now.used c.args.above.now c.args.folder.now c.args.path.now said.0 (commands_of c.file-file.result.now) c.as_slice-lines.result.now c.in_err-names.field-0.0
+    (read_acts _ _ _ said.2 c.file-file.ensures) some said.1 c.as_slice-lines.ensures.value c.in_err-names.ensures.right)
+
 pub open_tree-returns-in_err-inner-clause-opened :
     goal.open_tree-returns-in_err-inner-clause-opened
 open_tree-returns-in_err-inner-clause-opened t c =
     let p = err_from_is_err_and c.from_residual-in_err-inner.result c.from_residual-in_err-inner.ensures.1 in
     let some : 0 < c.args.left = omega arith in
-    rw (p.1, p.2) (tree_fails (files_in c.args.files.now) c.args.left c.args.draft.now.used c.add_own.new.draft.used c.args.above.now c.args.folder.now c.args.path.now (commands_of c.file-file.result.now) c.as_slice-lines.result.now c.in_err-inner.field-0.0
-    some (said_too _ _ _ c.in_ok-read.ensures c.file-file.ensures) c.as_slice-lines.ensures.value c.in_ok-names.ensures.right c.in_ok-add_own.ensures.used c.in_err-inner.ensures.opened)
+    rw (p.1, p.2) (acting_fails (files_in c.args.files.now) c.args.left c.args.draft.now.used c.add_own.new.draft.used c.args.above.now c.args.folder.now c.args.path.now (said_acting _ _ c.in_ok-read.ensures).0 (commands_of c.file-file.result.now) c.as_slice-lines.result.now c.in_err-inner.field-0.0
+    (read_acts _ _ _ (said_acting _ _ c.in_ok-read.ensures).2 c.file-file.ensures) some (said_acting _ _ c.in_ok-read.ensures).1 c.as_slice-lines.ensures.value c.in_ok-names.ensures.right c.in_ok-add_own.ensures.used c.in_err-inner.ensures.opened)
 
 pub open_tree-close-requires-clause-names : goal.open_tree-close-requires-clause-names
 open_tree-close-requires-clause-names t c =
@@ -77,10 +88,10 @@ open_tree-returns-clause-opened t c =
     let some : 0 < c.args.left = omega arith in
     let opened = c.in_ok-inner.ensures.opened in
     let mid = c.add_own.new.draft in
-    tree_opens (files_in c.args.files.now) c.args.left c.args.above.now c.args.folder.now c.args.path.now c.args.prefix.now (commands_of c.file-file.result.now) c.as_slice-lines.result.now
+    acting_opens (files_in c.args.files.now) c.args.left c.args.above.now c.args.folder.now c.args.path.now c.args.prefix.now (said_acting _ _ c.in_ok-read.ensures).0 (commands_of c.file-file.result.now) c.as_slice-lines.result.now
     c.args.draft.now mid c.open_forest.new.draft c.close.new.draft c.as_slice-parts.result.now c.in_ok-names.names.jobs c.in_ok-names.names.finals c.in_ok-names.names.splices
     (length c.as_slice-first.result.now) (length c.as_slice-start.result.now) c.in_ok-close.field-0 _ c.in_ok-inner.inner
-    some (said_too _ _ _ c.in_ok-read.ensures c.file-file.ensures) c.as_slice-lines.ensures.value c.in_ok-names.ensures.right
+    (read_acts _ _ _ (said_acting _ _ c.in_ok-read.ensures).2 c.file-file.ensures) some (said_acting _ _ c.in_ok-read.ensures).1 c.as_slice-lines.ensures.value c.in_ok-names.ensures.right
     c.in_ok-names.ensures.jobs c.in_ok-names.ensures.finals c.in_ok-names.ensures.splices
     (ap (λ (ns : List FlatNode). length ns) c.as_slice-first.ensures.value) (ap (λ (es : List EdgeGroup). length es) c.as_slice-start.ensures.value)
     (record { files = c.in_ok-add_own.ensures.files; edges = ap (λ (v : Vec EdgeGroup Global). v.items) c.in_ok-add_own.ensures.edges; used = c.in_ok-add_own.ensures.used })
