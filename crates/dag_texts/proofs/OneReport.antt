@@ -1,5 +1,6 @@
 -- One report for each set of files and table.
-use Rattle.std.proofs.Common.{◌≡◌, ℕ, zero, suc, ◌+◌, ◌<◌, Bool, true, false, not, ◌&&◌, ◌||◌, is_some, List, [], ◌∷◌, ◌++◌, Option, Some, None, Result, Ok, Err, refl, sym, ap, ◌∙◌, subst, arith, if◌then◌else◌}
+use Rattle.std.proofs.Common.{◌≡◌, ℕ, zero, suc, ◌+◌, ◌<◌, Bool, true, false, not, ◌&&◌, ◌||◌, is_some, List, [], ◌∷◌, ◌++◌, map, Option, Some, None, Result, Ok, Err, refl, sym, ap, ◌∙◌, subst, arith, if◌then◌else◌}
+use Rattle.std.specs.List.{range_with_len}
 use Rattle.std.specs.Str.Lines.{lines}
 use Rattle.node_machine.specs.OutcomeTable.{Entry}
 use Rattle.node_machine.proofs.OutcomeLines as outcome_lines
@@ -22,13 +23,13 @@ use Rattle.sched_core.proofs.Aborts.{has_abort_fate, calm-fates, calm-shown}
 use Rattle.dag_texts.proofs.CalmReports.{report-is, status-is}
 use Rattle.sched_core.proofs.Matching.{fates-unique}
 use Rattle.sched_core.proofs.Sweeps.{all_below-same}
-use Rattle.dag_texts.specs.Rehearsal.{table_by}
+use Rattle.fate_audit.specs.Fates.{table_by}
 use Rattle.run_plan.specs.Submitted.{sources_of}
 use Rattle.run_plan.specs.Digest.{digest_of}
 use Rattle.status_report.specs.Text.{fate_line, fate_lines, reported, result_line}
 use Rattle.status_report.proofs.Finished.{same-lines}
-use Rattle.dag_texts.specs.Report.{marks_from, marked_text, fates_need_rescue, fated_report, warning_lines}
-use Rattle.dag_texts.specs.Rehearsed.{plan_by, HasEntries, status_of, IsRehearsalOf, MeetsNoAbort, IsFatedReport}
+use Rattle.dag_texts.specs.Report.{fated_rescue_text, fates_need_rescue, fated_report, warning_lines}
+use Rattle.dag_texts.specs.Rehearsed.{bare_plan_by, HasEntries, fated_status, IsRehearsalOf, MeetsNoAbort, IsFatedReport}
 
 abbrev dag_or : Dag → Result Dag DagFault → Dag
 dag_or d (Ok dag) = dag
@@ -41,7 +42,7 @@ one-list (Some text) entries other says says' =
 
 -- the same fates give the same marks
 same-marks : (fates other : ℕ → Fate) (number n : ℕ) → ((node : ℕ) → node < number + n → fates node ≡ other node)
-    → marks_from (λ node. is_done_state (fates node).state) number n ≡ marks_from (λ node. is_done_state (other node).state) number n
+    → map (λ node. is_done_state (fates node).state) (range_with_len number n) ≡ map (λ node. is_done_state (other node).state) (range_with_len number n)
 same-marks fates other number zero same = refl
 same-marks fates other number (suc n) same =
     λ j. is_done_state (same number (omega arith) j).state ∷ same-marks fates other (number + 1) n (λ node lt. same node (omega arith)) j
@@ -50,7 +51,7 @@ same-marks fates other number (suc n) same =
 pub calm-report : (files : Files) (path : List ℕ) (outcomes : Option (List ℕ)) (limits : Limits) (text warnings : List ℕ) (status : ℕ)
     (r : IsRehearsalOf files path outcomes limits text warnings status) → MeetsNoAbort files path outcomes limits text warnings status r → IsFatedReport files path outcomes text status
 calm-report files path outcomes limits text warnings status r calm =
-    let plan = plan_by r.dag r.order in
+    let plan = bare_plan_by r.dag r.order in
     let table = table_by plan r.entries in
     record {
       dag = r.dag;
@@ -77,20 +78,20 @@ module _ (files : Files) (path : List ℕ) (outcomes : Option (List ℕ)) (text 
 
   -- the two rehearse one plan, whatever the order
   abbrev plan : Plan
-  plan = plan_by a.dag a.order
+  plan = bare_plan_by a.dag a.order
 
   same-entries : b.entries ≡ a.entries
   same-entries = one-list outcomes b.entries a.entries b.has_entries a.has_entries
 
   other-fates : AreFates plan (table_by plan a.entries) b.fates
   other-fates =
-      subst (λ (d : Dag). AreFates (plan_by d a.order) (table_by (plan_by d a.order) a.entries) b.fates) same-dag
-      (subst (λ (es : List Entry). AreFates (plan_by b.dag a.order) (table_by (plan_by b.dag a.order) es) b.fates) same-entries b.are_fates)
+      subst (λ (d : Dag). AreFates (bare_plan_by d a.order) (table_by (bare_plan_by d a.order) a.entries) b.fates) same-dag
+      (subst (λ (es : List Entry). AreFates (bare_plan_by b.dag a.order) (table_by (bare_plan_by b.dag a.order) es) b.fates) same-entries b.are_fates)
 
   other-final : is_some a.dag.final_node ≡ true → b.fates (count_of plan) ≡ final_fate plan (table_by plan a.entries)
   other-final =
-      subst (λ (d : Dag). is_some d.final_node ≡ true → b.fates (count_of (plan_by d a.order)) ≡ final_fate (plan_by d a.order) (table_by (plan_by d a.order) a.entries)) same-dag
-      (subst (λ (es : List Entry). is_some b.dag.final_node ≡ true → b.fates (count_of (plan_by b.dag a.order)) ≡ final_fate (plan_by b.dag a.order) (table_by (plan_by b.dag a.order) es)) same-entries b.final_fate)
+      subst (λ (d : Dag). is_some d.final_node ≡ true → b.fates (count_of (bare_plan_by d a.order)) ≡ final_fate (bare_plan_by d a.order) (table_by (bare_plan_by d a.order) a.entries)) same-dag
+      (subst (λ (es : List Entry). is_some b.dag.final_node ≡ true → b.fates (count_of (bare_plan_by b.dag a.order)) ≡ final_fate (bare_plan_by b.dag a.order) (table_by (bare_plan_by b.dag a.order) es)) same-entries b.final_fate)
 
   same-fates : (node : ℕ) → node < count_of plan → a.fates node ≡ b.fates node
   same-fates node lt =
@@ -111,10 +112,10 @@ module _ (files : Files) (path : List ℕ) (outcomes : Option (List ℕ)) (text 
   ordinary-same = all_below-same (λ node. is_done_state (a.fates node).state) (λ node. is_done_state (b.fates node).state) (count_of plan)
       (λ node lt. ap (λ (f : Fate). is_done_state f.state) (same-fates node lt))
 
-  same-status : status_of plan a.fates ≡ status_of plan b.fates
+  same-status : fated_status plan a.fates ≡ fated_status plan b.fates
   same-status = go (is_some a.dag.final_node) refl
     where
-      go : (x : Bool) → is_some a.dag.final_node ≡ x → status_of plan a.fates ≡ status_of plan b.fates
+      go : (x : Bool) → is_some a.dag.final_node ≡ x → fated_status plan a.fates ≡ fated_status plan b.fates
       go true e =
           (λ j. if some-final a.dag.final_node e j then (if is_done_state (a.fates (count_of plan)).state then 0 else 1) else if all_below (λ node. is_done_state (a.fates node).state) (count_of plan) then 0 else 1)
           ∙ (λ j. if is_done_state (same-final e j).state then 0 else 1)
@@ -146,17 +147,17 @@ module _ (files : Files) (path : List ℕ) (outcomes : Option (List ℕ)) (text 
           ∙ same-lines plan a.fates b.fates (count_of plan) same-fates
           ∙ (λ j. fate_lines plan b.fates (if sym (none-final a.dag.final_node e) j then suc (count_of plan) else count_of plan))
 
-  same-text : marked_text plan (λ node. is_done_state (a.fates node).state) ≡ marked_text plan (λ node. is_done_state (b.fates node).state)
+  same-text : fated_rescue_text plan a.fates ≡ fated_rescue_text plan b.fates
   same-text = ap (λ (marks : List Bool). rescue_text_of (ordinary_names plan.graph.dag) marks) (same-marks a.fates b.fates 0 (count_of plan) (λ node lt. same-fates node (omega arith)))
 
   pub one-status : status ≡ verdict
-  one-status = a.status_is ∙ same-status ∙ ap (λ (d : Dag). status_of (plan_by d a.order) b.fates) (sym same-dag) ∙ sym b.status_is
+  one-status = a.status_is ∙ same-status ∙ ap (λ (d : Dag). fated_status (bare_plan_by d a.order) b.fates) (sym same-dag) ∙ sym b.status_is
 
   pub one-text : text ≡ other
   one-text =
       a.text_is
       ∙ (λ j. all-same j ++ (result_line (one-status j) ++ (if same-need j then same-text j else [])))
-      ∙ ap (λ (d : Dag). fated_report (plan_by d a.order) b.fates verdict) (sym same-dag) ∙ sym b.text_is
+      ∙ ap (λ (d : Dag). fated_report (bare_plan_by d a.order) b.fates verdict) (sym same-dag) ∙ sym b.text_is
 
 pub one-warnings : (files : Files) (path : List ℕ) (outcomes : Option (List ℕ)) (limits bounds : Limits) (text other warnings notes : List ℕ) (status verdict : ℕ)
     → IsRehearsalOf files path outcomes limits text warnings status → IsRehearsalOf files path outcomes bounds other notes verdict → warnings ≡ notes
@@ -168,9 +169,9 @@ pub one-calm : (files : Files) (path : List ℕ) (outcomes : Option (List ℕ)) 
     (a : IsRehearsalOf files path outcomes limits text warnings status) (b : IsRehearsalOf files path outcomes bounds other notes verdict)
     → MeetsNoAbort files path outcomes limits text warnings status a → MeetsNoAbort files path outcomes bounds other notes verdict b
 one-calm files path outcomes limits bounds text other warnings notes status verdict a b calm =
-    calm-fates (plan_by b.dag b.order) (table_by (plan_by b.dag b.order) b.entries) (rank_in b.order)
+    calm-fates (bare_plan_by b.dag b.order) (table_by (bare_plan_by b.dag b.order) b.entries) (rank_in b.order)
     (made-ranked (record { dag = b.dag; order = b.order }) (sources_of None []) (digest_of b.dag.top [] None) b.is_order)
-    (shown (plan_by a.dag a.order) a.past) fates-too calm-too b.past (lawful_part (plan_by b.dag b.order) b.past b.run.finished) b.run.outcomes
+    (shown (bare_plan_by a.dag a.order) a.past) fates-too calm-too b.past (lawful_part (bare_plan_by b.dag b.order) b.past b.run.finished) b.run.outcomes
   where
     same : a.dag ≡ b.dag
     same = ap (dag_or b.dag) (sym a.is_dag ∙ b.is_dag)
@@ -178,15 +179,15 @@ one-calm files path outcomes limits bounds text other warnings notes status verd
     entries : a.entries ≡ b.entries
     entries = one-list outcomes a.entries b.entries a.has_entries b.has_entries
 
-    fates : AreFates (plan_by a.dag a.order) (table_by (plan_by a.dag a.order) a.entries) (shown (plan_by a.dag a.order) a.past)
-    fates = table-fates (plan_by a.dag a.order) (table_by (plan_by a.dag a.order) a.entries) a.past (record { finished = a.run.finished; calm = calm; outcomes = a.run.outcomes })
+    fates : AreFates (bare_plan_by a.dag a.order) (table_by (bare_plan_by a.dag a.order) a.entries) (shown (bare_plan_by a.dag a.order) a.past)
+    fates = table-fates (bare_plan_by a.dag a.order) (table_by (bare_plan_by a.dag a.order) a.entries) a.past (record { finished = a.run.finished; calm = calm; outcomes = a.run.outcomes })
 
-    fates-too : AreFates (plan_by b.dag b.order) (table_by (plan_by b.dag b.order) b.entries) (shown (plan_by a.dag a.order) a.past)
+    fates-too : AreFates (bare_plan_by b.dag b.order) (table_by (bare_plan_by b.dag b.order) b.entries) (shown (bare_plan_by a.dag a.order) a.past)
     fates-too =
-        subst (λ (d : Dag). AreFates (plan_by d b.order) (table_by (plan_by d b.order) b.entries) (shown (plan_by a.dag a.order) a.past)) same
-        (subst (λ (es : List Entry). AreFates (plan_by a.dag b.order) (table_by (plan_by a.dag b.order) es) (shown (plan_by a.dag a.order) a.past)) entries fates)
+        subst (λ (d : Dag). AreFates (bare_plan_by d b.order) (table_by (bare_plan_by d b.order) b.entries) (shown (bare_plan_by a.dag a.order) a.past)) same
+        (subst (λ (es : List Entry). AreFates (bare_plan_by a.dag b.order) (table_by (bare_plan_by a.dag b.order) es) (shown (bare_plan_by a.dag a.order) a.past)) entries fates)
 
-    calm-too : (node : ℕ) → node < count_of (plan_by b.dag b.order) → has_abort_fate (plan_by b.dag b.order) (shown (plan_by a.dag a.order) a.past) node ≡ false
+    calm-too : (node : ℕ) → node < count_of (bare_plan_by b.dag b.order) → has_abort_fate (bare_plan_by b.dag b.order) (shown (bare_plan_by a.dag a.order) a.past) node ≡ false
     calm-too =
-        subst (λ (d : Dag). (node : ℕ) → node < count_of (plan_by d b.order) → has_abort_fate (plan_by d b.order) (shown (plan_by a.dag a.order) a.past) node ≡ false) same
-        (calm-shown (plan_by a.dag a.order) a.past calm)
+        subst (λ (d : Dag). (node : ℕ) → node < count_of (bare_plan_by d b.order) → has_abort_fate (bare_plan_by d b.order) (shown (bare_plan_by a.dag a.order) a.past) node ≡ false) same
+        (calm-shown (bare_plan_by a.dag a.order) a.past calm)

@@ -9,8 +9,8 @@ use Rattle.run_plan.specs.PlanAnswers.{Fails, is_memory}
 use Rattle.run_plan.specs.Submitted.{first_fault, all_nodes, plan_at, bare_plan}
 use Rattle.run_plan.specs.declared.fault.PlanFault.{PlanFault}
 use Rattle.run_plan.proofs.PlansWithoutRescue.{bare-made, built-fine, built-faulty, told-fault}
-use Rattle.dag_texts.specs.Checked.{IsCheckFault, in_plan}
-use Rattle.dag_texts.specs.Refusals.{IsPlanOf}
+use Rattle.dag_texts.specs.Checked.{IsCheckFault, not_sound, checking_had_no_memory, in_plan}
+use Rattle.dag_texts.specs.Planned.{IsPlanOf}
 use Rattle.dag_texts.specs.declared.fault.RunFault.TheVariants.{InPlan, Memory}
 
 -- a plan with no submit file read
@@ -49,5 +49,5 @@ module _ (files : Files) (path : List ℕ) (graph : Network) (digest : List ℕ)
   full-refused fault fails = go (is_memory fault) refl
     where
       go : (b : Bool) → is_memory fault ≡ b → IsCheckFault files path (if b then Memory else InPlan fault)
-      go true is = tt
-      go false is = (graph.dag, dag, acyclic, built-faulty graph files digest fault (told-fault fault (plan_at graph (Some files) None digest) fails is))
+      go true is = checking_had_no_memory
+      go false is = not_sound graph.dag fault dag acyclic (built-faulty graph files digest fault (told-fault fault (plan_at graph (Some files) None digest) fails is))

@@ -6,10 +6,11 @@ use Rattle.throttles.specs.declared.Limits.{Limits}
 use Rattle.splices.specs.Opening.{Files}
 use Rattle.run_plan.specs.Plan.{Plan}
 use Rattle.run_plan.specs.Submitted.{bare_plan}
-use Rattle.dag_texts.specs.Rehearsed.{HasEntries, IsRehearsalOf, IsOwed}
-use Rattle.dag_texts.specs.Refusals.{ReportsRun, IsPlanOf, IsTableFault}
+use Rattle.dag_texts.specs.Rehearsed.{HasEntries, IsRehearsalOf, IsRehearsalFault, rehearsing_had_no_memory}
+use Rattle.dag_texts.specs.Planned.{IsPlanOf}
+use Rattle.dag_texts.specs.Refusals.{ReportsRun}
 use Rattle.dag_texts.specs.declared.fault.RunFault.{RunFault}
-use Rattle.dag_texts.specs.declared.fault.RunFault.TheVariants.{InFiles, Cycle, InPlan, InTable, InRescue, NotThere, InManager, StartMemory, WaitFault, FileRefused, Memory}
+use Rattle.dag_texts.specs.declared.fault.RunFault.TheVariants.{Memory}
 use Rattle.dag_texts.specs.Report.{warning_lines}
 use Rattle.dag_texts.proofs.Rehearsals.{same-run}
 
@@ -37,20 +38,8 @@ pub answered : {A E : Type 0} (P R Q : A → Type 0) (result : Result A E) → (
 answered P R Q (Ok answer) more p r = more answer p r
 answered P R Q (Err fault) more p r = tt
 
--- Why a rehearsal is refused, once there is a plan.
-pub table-owed : (files : Files) (path : List ℕ) (outcomes : Option (List ℕ)) (plan : Plan) (fault : RunFault) → IsPlanOf files path plan → IsTableFault outcomes fault → IsOwed files path outcomes fault
-table-owed files path outcomes p (InFiles fault) is bad = absurd bad
-table-owed files path outcomes p (Cycle names) is bad = absurd bad
-table-owed files path outcomes p (InPlan fault) is bad = absurd bad
-table-owed files path outcomes p (InTable fault) is (text, said, number, at, first) = (p.graph.dag, is.is_dag, is.acyclic, text, said, number, at, first)
-table-owed files path outcomes p (InRescue file fault) is bad = absurd bad
-table-owed files path outcomes p (NotThere number) is bad = absurd bad
-table-owed files path outcomes p (InManager fault) is bad = absurd bad
-table-owed files path outcomes p StartMemory is bad = absurd bad
-table-owed files path outcomes p WaitFault is bad = absurd bad
-table-owed files path outcomes p (FileRefused refused) is bad = absurd bad
-table-owed files path outcomes p Memory is bad = tt
-
-pub memory-owed : {A : Type 0} (files : Files) (path : List ℕ) (outcomes : Option (List ℕ)) (result : Result A RunFault) → IfErr result (λ fault. fault ≡ Memory) → IfErr result (IsOwed files path outcomes)
-memory-owed files path outcomes (Ok answer) is = tt
-memory-owed files path outcomes (Err fault) is = subst (IsOwed files path outcomes) (sym is) tt
+-- want of memory may stop any rehearsal
+pub rehearsal-memory : {A : Type 0} (files : Files) (path : List ℕ) (outcomes : Option (List ℕ)) (result : Result A RunFault)
+    → IfErr result (λ fault. fault ≡ Memory) → IfErr result (IsRehearsalFault files path outcomes)
+rehearsal-memory files path outcomes (Ok answer) is = tt
+rehearsal-memory files path outcomes (Err fault) is = subst (IsRehearsalFault files path outcomes) (sym is) rehearsing_had_no_memory

@@ -1,5 +1,5 @@
 -- What `audit` prints.
-use Rattle.std.specs.Prelude.{◌≡◌, ◌≢◌, ℕ, List, ◌++◌, Option, codes}
+use Rattle.std.specs.Prelude.{◌≢◌, ℕ, List, ◌++◌, Option, codes}
 use Rattle.splices.specs.Opening.{Files}
 use Rattle.run_plan.specs.Plan.{Plan, count_of}
 use Rattle.sched_core.specs.Fate.{Fate}
@@ -8,8 +8,8 @@ use Rattle.fate_audit.specs.Fates.{fate_at}
 use Rattle.fate_audit.specs.Audit.{IsAuditOf, IsAuditNo, no_text}
 use Rattle.fate_audit.specs.declared.fault.AuditNo.{AuditNo}
 use Rattle.fate_audit.specs.declared.fault.AuditNo.TheVariants as audit_no
-use Rattle.dag_texts.specs.Planned.{IsPlanWith, IsPlanWithFault}
-use Rattle.dag_texts.specs.Report.{warning_lines}
+use Rattle.dag_texts.specs.Planned.{IsPlanWithFault}
+use Rattle.dag_texts.specs.Told.{IsToldOf}
 use Rattle.dag_texts.specs.Statused.{journal_bytes}
 use Rattle.dag_texts.specs.declared.fault.RunFault.{RunFault}
 use Rattle.dag_texts.specs.declared.fault.RunFault.TheVariants.{Memory}
@@ -28,11 +28,9 @@ pub data IsAuditText (plan : Plan) (bytes : List ℕ) : List ℕ → ℕ → Typ
   not_passed : (cause : AuditNo) → cause ≢ audit_no.Memory → IsAuditNo plan bytes cause → IsAuditText plan bytes (refused_text cause) 1
 
 -- The audit of a journal, by the plan of these files. One that is not there has no bytes, so none was begun.
-pub record IsAuditedAs (files : Files) (entries : List (List ℕ × List ℕ)) (path : List ℕ) (rescue journal : Option (List ℕ)) (text warnings : List ℕ) (status : ℕ) : Type 0 where
-  pub plan : Plan
-  pub planned : IsPlanWith files entries path rescue plan
-  pub says : IsAuditText plan (journal_bytes journal) text status
-  pub warnings_are : warnings ≡ warning_lines plan.graph.dag.warnings
+abbrev pub IsAuditedAs : Files → List (List ℕ × List ℕ) → List ℕ → Option (List ℕ) → Option (List ℕ) → List ℕ → List ℕ → ℕ → Type 0
+IsAuditedAs files entries path rescue journal text warnings status =
+    IsToldOf files entries path rescue (λ plan. IsAuditText plan (journal_bytes journal) text status) warnings
 
 -- why there is none: there is no plan, or memory ran out; a journal is no cause
 pub data IsAuditFault (files : Files) (entries : List (List ℕ × List ℕ)) (path : List ℕ) (rescue : Option (List ℕ)) : RunFault → Type 0 where

@@ -4,5 +4,6 @@ pub mod Rehearsed
 pub mod Refusals
 pub mod Checked
 pub mod Planned
+pub mod Told
 pub mod Statused
 pub mod Audited

@@ -4,16 +4,34 @@ use Rattle.splices.specs.Dag.{Dag}
 use Rattle.splices.specs.Opening.{Files}
 use Rattle.splices.specs.Opened.{dag_at}
 use Rattle.splices.specs.declared.fault.DagFault.{DagFault}
-use Rattle.dag_graph.specs.Graph.{Network, IsAcyclic}
+use Rattle.dag_graph.specs.Graph.{Network, IsAcyclic, IsOrderOf}
 use Rattle.dag_graph.specs.Cycles.{NamesCycle}
 use Rattle.run_plan.specs.Plan.{Plan}
 use Rattle.run_plan.specs.Digest.{digest_of}
-use Rattle.run_plan.specs.Submitted.{plan_at}
+use Rattle.run_plan.specs.Submitted.{plan_at, bare_plan}
 use Rattle.run_plan.specs.declared.fault.PlanFault.{PlanFault}
 use Rattle.run_plan.specs.declared.fault.PlanFault.TheVariants as plans
 use Rattle.rescue_file.specs.declared.fault.RescueFault.{RescueFault}
 use Rattle.dag_texts.specs.declared.fault.RunFault.{RunFault}
 use Rattle.dag_texts.specs.declared.fault.RunFault.TheVariants.{InFiles, Cycle, InPlan, InTable, InRescue, NotThere, InManager, StartMemory, WaitFault, FileRefused, Memory}
+
+-- the graph of the files of a path
+pub record IsGraphOf (files : Files) (path : List ℕ) (graph : Network) : Type 0 where
+  pub is_dag : dag_at files path ≡ Ok graph.dag
+  pub acyclic : IsAcyclic graph.dag.edges
+
+-- why the files of a path make no graph: opening them meets a fault; a node is its own ancestor; memory ran out
+pub data IsGraphFault (files : Files) (path : List ℕ) : RunFault → Type 0 where
+  not_opened : (fault : DagFault) → dag_at files path ≡ Err fault → IsGraphFault files path (InFiles fault)
+  cyclic : (dag : Dag) (names : List (List ℕ)) → dag_at files path ≡ Ok dag → NamesCycle dag names → IsGraphFault files path (Cycle names)
+  opening_had_no_memory : IsGraphFault files path Memory
+
+-- the plan of files, with no submit file read
+pub record IsPlanOf (files : Files) (path : List ℕ) (plan : Plan) : Type 0 where
+  pub is_dag : dag_at files path ≡ Ok plan.graph.dag
+  pub acyclic : IsAcyclic plan.graph.dag.edges
+  pub is_order : IsOrderOf plan.graph.dag plan.graph.order
+  pub made : plan ≡ bare_plan plan.graph
 
 -- the plan of a graph whose submit files stand in the set, with a rescue file, if there is one
 abbrev pub IsPlanBy : Files → List (List ℕ × List ℕ) → Option (List ℕ) → Network → Plan → Type 0
@@ -25,24 +43,17 @@ pub data IsPlanByFault (files : Files) (entries : List (List ℕ × List ℕ)) (
       IsPlanByFault files entries rescue graph (InPlan fault)
   planning_had_no_memory : IsPlanByFault files entries rescue graph Memory
 
--- the graph of the files of a path
-pub record IsGraphOf (files : Files) (path : List ℕ) (graph : Network) : Type 0 where
-  pub is_dag : dag_at files path ≡ Ok graph.dag
-  pub acyclic : IsAcyclic graph.dag.edges
-
 -- the plan of the files of a path
 pub record IsPlanWith (files : Files) (entries : List (List ℕ × List ℕ)) (path : List ℕ) (rescue : Option (List ℕ)) (plan : Plan) : Type 0 where
   pub graph : Network
   pub is_graph : IsGraphOf files path graph
   pub made : IsPlanBy files entries rescue graph plan
 
--- why there is none: opening them meets a fault, a node is its own ancestor, or the graph has no plan
+-- why there is none: the files make no graph, or it has no plan
 pub data IsPlanWithFault (files : Files) (entries : List (List ℕ × List ℕ)) (path : List ℕ) (rescue : Option (List ℕ)) : RunFault → Type 0 where
-  not_opened : (fault : DagFault) → dag_at files path ≡ Err fault → IsPlanWithFault files entries path rescue (InFiles fault)
-  cyclic : (dag : Dag) (names : List (List ℕ)) → dag_at files path ≡ Ok dag → NamesCycle dag names → IsPlanWithFault files entries path rescue (Cycle names)
+  has_no_graph : (fault : RunFault) → IsGraphFault files path fault → IsPlanWithFault files entries path rescue fault
   not_planned : (graph : Network) (fault : RunFault) → IsGraphOf files path graph → IsPlanByFault files entries rescue graph fault →
       IsPlanWithFault files entries path rescue fault
-  no_memory : IsPlanWithFault files entries path rescue Memory
 
 -- the fault of a line of the rescue file
 abbrev pub rescue_line : PlanFault → Option RescueFault

@@ -1,6 +1,5 @@
 -- Runs of a plan at the outcomes of a table.
 use Rattle.std.specs.Prelude.{List, [], ◌∷◌, IsTrue, IsFalse}
-use Rattle.node_machine.specs.Story.{Table}
 use Rattle.node_machine.specs.OutcomeTable.{Entry}
 use Rattle.throttles.specs.declared.Limits.{Limits}
 use Rattle.run_plan.specs.Plan.{Plan}
@@ -10,13 +9,9 @@ use Rattle.sched_core.specs.Run.{is_finished, is_aborted}
 use Rattle.sched_core.specs.Fate.{AreFates, shown}
 use Rattle.sched_core.specs.Lives.{HasOutcomesOf}
 use Rattle.job_starter.specs.declared.Call.{Call}
-use Rattle.job_starter.specs.Scripts.{scripted_outcome, IsScripted}
+use Rattle.job_starter.specs.Scripts.{IsScripted}
 use Rattle.run_leader.specs.Led.{DrivesToEnd}
-
--- the outcomes of a plan's nodes, by their names
-abbrev pub table_by : Plan → List Entry → Table
-table_by plan entries node attempt phase =
-    scripted_outcome plan entries (record { node = node; attempt = attempt; phase = phase })
+use Rattle.fate_audit.specs.Fates.{table_by}
 
 -- A whole run of one life under these limits, one step behind another, as with children, of which each ends as the table says,
 -- the one that was started first before the others. So it is finished, its endings are the table's, and without abort it shows

@@ -1,28 +1,29 @@
 -- What a rehearsal answers, by the bytes that it is given.
-use Rattle.std.specs.Prelude.{◌≡◌, ℕ, true, List, [], Option, Some, None, is_some, Ok, Err, IsFalse, if◌then◌else◌}
+use Rattle.std.specs.Prelude.{◌≡◌, ℕ, true, List, [], Option, Some, None, is_some, Ok, IsFalse, if◌then◌else◌}
 use Rattle.std.specs.Str.Lines.{lines}
 use Rattle.node_machine.specs.OutcomeTable.{Entry}
 use Rattle.node_machine.specs.OutcomesFile as outcomes_file
-use Rattle.node_machine.specs.declared.outcomes.TableFault.TheVariants as table
 use Rattle.splices.specs.Dag.{Dag}
 use Rattle.splices.specs.Opening.{Files}
 use Rattle.splices.specs.Opened.{dag_at}
 use Rattle.dag_graph.specs.Graph.{IsAcyclic, IsOrderOf}
-use Rattle.dag_graph.specs.Cycles.{NamesCycle}
 use Rattle.run_plan.specs.Plan.{Plan, count_of, all_below}
 use Rattle.run_plan.specs.Submitted.{bare_plan}
 use Rattle.node_machine.specs.declared.Record.{Record}
 use Rattle.sched_core.specs.Run.{is_aborted, exit_status}
 use Rattle.throttles.specs.declared.Limits.{Limits}
 use Rattle.sched_core.specs.Fate.{Fate, AreFates, final_fate, is_done_state}
-use Rattle.dag_texts.specs.Rehearsal.{table_by, IsRehearsed}
+use Rattle.dag_texts.specs.Planned.{IsGraphFault}
+use Rattle.dag_texts.specs.Refusals.{IsTableFault}
+use Rattle.fate_audit.specs.Fates.{table_by}
+use Rattle.dag_texts.specs.Rehearsal.{IsRehearsed}
 use Rattle.dag_texts.specs.Report.{report_of, fated_report, warning_lines}
 use Rattle.dag_texts.specs.declared.fault.RunFault.{RunFault}
-use Rattle.dag_texts.specs.declared.fault.RunFault.TheVariants.{InFiles, Cycle, InPlan, InTable, InRescue, NotThere, InManager, StartMemory, WaitFault, FileRefused, Memory}
+use Rattle.dag_texts.specs.declared.fault.RunFault.TheVariants.{Memory}
 
 -- the plan of a DAG, by an order of its nodes, with no submit file read
-abbrev pub plan_by : Dag → List ℕ → Plan
-plan_by dag order = bare_plan (record { dag = dag; order = order })
+abbrev pub bare_plan_by : Dag → List ℕ → Plan
+bare_plan_by dag order = bare_plan (record { dag = dag; order = order })
 
 -- the entries that a text of outcomes says; without a text there are none
 abbrev pub HasEntries : Option (List ℕ) → List Entry → Type 0
@@ -40,19 +41,19 @@ pub record IsRehearsalOf (files : Files) (path : List ℕ) (outcomes : Option (L
   pub is_dag : dag_at files path ≡ Ok dag
   pub is_order : IsOrderOf dag order
   pub has_entries : HasEntries outcomes entries
-  pub run : IsRehearsed limits (plan_by dag order) entries past
-  pub text_is : text ≡ report_of (plan_by dag order) past status
-  pub status_is : status ≡ exit_status (plan_by dag order) past
+  pub run : IsRehearsed limits (bare_plan_by dag order) entries past
+  pub text_is : text ≡ report_of (bare_plan_by dag order) past status
+  pub status_is : status ≡ exit_status (bare_plan_by dag order) past
   pub warnings_are : warnings ≡ warning_lines dag.warnings
 
 -- its run meets no abort
 abbrev pub MeetsNoAbort : (files : Files) (path : List ℕ) (outcomes : Option (List ℕ)) (limits : Limits) (text warnings : List ℕ) (status : ℕ)
     → IsRehearsalOf files path outcomes limits text warnings status → Type 0
-MeetsNoAbort files path outcomes limits text warnings status r = IsFalse (is_aborted (plan_by r.dag r.order) r.past)
+MeetsNoAbort files path outcomes limits text warnings status r = IsFalse (is_aborted (bare_plan_by r.dag r.order) r.past)
 
 -- the exit status of a run that shows these fates
-abbrev pub status_of : Plan → (ℕ → Fate) → ℕ
-status_of plan fates =
+abbrev pub fated_status : Plan → (ℕ → Fate) → ℕ
+fated_status plan fates =
     if is_some plan.final_node then (if is_done_state (fates (count_of plan)).state then 0 else 1)
     else if all_below (λ node. is_done_state (fates node).state) (count_of plan) then 0 else 1
 
@@ -65,38 +66,15 @@ pub record IsFatedReport (files : Files) (path : List ℕ) (outcomes : Option (L
   pub is_dag : dag_at files path ≡ Ok dag
   pub is_order : IsOrderOf dag order
   pub has_entries : HasEntries outcomes entries
-  pub are_fates : AreFates (plan_by dag order) (table_by (plan_by dag order) entries) fates
+  pub are_fates : AreFates (bare_plan_by dag order) (table_by (bare_plan_by dag order) entries) fates
   pub final_fate : is_some dag.final_node ≡ true
-      → fates (count_of (plan_by dag order)) ≡ final_fate (plan_by dag order) (table_by (plan_by dag order) entries)
-  pub text_is : text ≡ fated_report (plan_by dag order) fates status
-  pub status_is : status ≡ status_of (plan_by dag order) fates
+      → fates (count_of (bare_plan_by dag order)) ≡ final_fate (bare_plan_by dag order) (table_by (bare_plan_by dag order) entries)
+  pub text_is : text ≡ fated_report (bare_plan_by dag order) fates status
+  pub status_is : status ≡ fated_status (bare_plan_by dag order) fates
 
--- Why the files of a path make no graph: opening them meets a fault, or a node is its own ancestor.
-abbrev pub IsGraphFault : Files → List ℕ → RunFault → Type 0
-IsGraphFault files path (InFiles fault) = dag_at files path ≡ Err fault
-IsGraphFault files path (Cycle names) = (dag : Dag) × (dag_at files path ≡ Ok dag) × NamesCycle dag names
-IsGraphFault files path (InPlan fault) = ⊥
-IsGraphFault files path (InTable fault) = ⊥
-IsGraphFault files path (InRescue file fault) = ⊥
-IsGraphFault files path (NotThere number) = ⊥
-IsGraphFault files path (InManager fault) = ⊥
-IsGraphFault files path StartMemory = ⊥
-IsGraphFault files path WaitFault = ⊥
-IsGraphFault files path (FileRefused refused) = ⊥
-IsGraphFault files path Memory = Unit {0}
-
--- Why a rehearsal is refused: the files make no graph, a line of the table is bad, or memory ran out.
-abbrev pub IsOwed : Files → List ℕ → Option (List ℕ) → RunFault → Type 0
-IsOwed files path outcomes (InFiles fault) = dag_at files path ≡ Err fault
-IsOwed files path outcomes (Cycle names) = (dag : Dag) × (dag_at files path ≡ Ok dag) × NamesCycle dag names
-IsOwed files path outcomes (InPlan fault) = ⊥
-IsOwed files path outcomes (InTable fault) = (dag : Dag) × (dag_at files path ≡ Ok dag) × IsAcyclic dag.edges
-    × (text : List ℕ) × (outcomes ≡ Some text) × (number : ℕ) × (fault ≡ table.BadLine number)
-    × outcomes_file.IsFirstBad (lines text) number
-IsOwed files path outcomes (InRescue file fault) = ⊥
-IsOwed files path outcomes (NotThere number) = ⊥
-IsOwed files path outcomes (InManager fault) = ⊥
-IsOwed files path outcomes StartMemory = ⊥
-IsOwed files path outcomes WaitFault = ⊥
-IsOwed files path outcomes (FileRefused refused) = ⊥
-IsOwed files path outcomes Memory = Unit {0}
+-- Why a rehearsal is refused: the files make no graph; the text of outcomes is no table; or memory ran out.
+pub data IsRehearsalFault (files : Files) (path : List ℕ) (outcomes : Option (List ℕ)) : RunFault → Type 0 where
+  has_no_graph : (fault : RunFault) → IsGraphFault files path fault → IsRehearsalFault files path outcomes fault
+  has_no_table : (dag : Dag) (fault : RunFault) → dag_at files path ≡ Ok dag → IsAcyclic dag.edges → IsTableFault outcomes fault →
+      IsRehearsalFault files path outcomes fault
+  rehearsing_had_no_memory : IsRehearsalFault files path outcomes Memory

@@ -1,28 +1,20 @@
 -- The report of a run.
-use Rattle.std.specs.Prelude.{ℕ, zero, suc, ◌+◌, Bool, not, ◌||◌, ◌&&◌, List, [], ◌∷◌, ◌++◌, is_some, codes, if◌then◌else◌}
+use Rattle.std.specs.Prelude.{ℕ, Bool, not, ◌||◌, ◌&&◌, List, [], ◌++◌, map, is_some, codes, if◌then◌else◌}
 use Rattle.std.specs.Fmt.{decimal}
-use Rattle.std.specs.List.{flat_map}
+use Rattle.std.specs.List.{flat_map, range_with_len}
 use Rattle.run_plan.specs.Plan.{Plan, count_of, all_below}
 use Rattle.node_machine.specs.declared.Record.{Record}
-use Rattle.sched_core.specs.Run.{is_done, needs_rescue}
+use Rattle.sched_core.specs.Run.{needs_rescue}
 use Rattle.sched_core.specs.Fate.{Fate, is_done_state}
 use Rattle.rescue_file.specs.Written.{ordinary_names, rescue_text_of}
+use Rattle.recovery.specs.Rescue.{rescue_text_for}
 use Rattle.splices.specs.declared.flat.DagWarning.{DagWarning}
 use Rattle.splices.specs.declared.flat.DagWarning.TheVariants.{Ignored, Overridden}
 use Rattle.status_report.specs.Text.{reported, status_text_of, result_line, fate_lines}
 
--- a test of n nodes, the first of which has this number
-abbrev pub marks_from : (ℕ → Bool) → ℕ → ℕ → List Bool
-marks_from test number zero = []
-marks_from test number (suc n) = test number ∷ marks_from test (number + 1) n
-
--- the text of the rescue file: which ordinary nodes are done
-abbrev pub marked_text : Plan → (ℕ → Bool) → List ℕ
-marked_text plan test = rescue_text_of (ordinary_names plan.graph.dag) (marks_from test 0 (count_of plan))
-
 -- the text of the rescue file, where one is needed
 abbrev pub rescue_part : Plan → List Record → List ℕ
-rescue_part plan past = if needs_rescue plan past then marked_text plan (is_done plan past) else []
+rescue_part plan past = if needs_rescue plan past then rescue_text_for plan past else []
 
 -- the lines of all nodes in plan order, the exit status, and the text of the rescue file where one is needed
 abbrev pub report_of : Plan → List Record → ℕ → List ℕ
@@ -35,10 +27,15 @@ fates_need_rescue plan fates =
     not (all_below (λ node. is_done_state (fates node).state) (count_of plan))
     || (is_some plan.final_node && not (is_done_state (fates (count_of plan)).state))
 
+-- the text of the rescue file that marks the ordinary nodes which are done by these fates
+abbrev pub fated_rescue_text : Plan → (ℕ → Fate) → List ℕ
+fated_rescue_text plan fates =
+    rescue_text_of (ordinary_names plan.graph.dag) (map (λ node. is_done_state (fates node).state) (range_with_len 0 (count_of plan)))
+
 abbrev pub fated_report : Plan → (ℕ → Fate) → ℕ → List ℕ
 fated_report plan fates status =
     fate_lines plan fates (reported plan)
-    ++ (result_line status ++ (if fates_need_rescue plan fates then marked_text plan (λ node. is_done_state (fates node).state) else []))
+    ++ (result_line status ++ (if fates_need_rescue plan fates then fated_rescue_text plan fates else []))
 
 -- `warning: FILE:LINE ignored` and `warning: FILE:LINE overridden`
 abbrev pub warning_line : DagWarning → List ℕ

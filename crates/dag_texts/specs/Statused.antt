@@ -1,9 +1,9 @@
 -- What `status` prints.
-use Rattle.std.specs.Prelude.{◌≡◌, ℕ, List, [], reverse, Option, Some, None, Result, Ok, Err, IsTrue}
+use Rattle.std.specs.Prelude.{◌≡◌, ℕ, List, [], Option, Some, None, Result, Ok, Err, IsTrue}
 use Rattle.splices.specs.Opening.{Files}
 use Rattle.run_plan.specs.Plan.{Plan}
 use Rattle.node_machine.specs.declared.Record.{Record}
-use Rattle.sched_core.specs.Run.{is_lawful}
+use Rattle.sched_core.specs.Run.{written, is_lawful}
 use Rattle.event_journal.specs.declared.fault.JournalFault.{JournalFault}
 use Rattle.event_journal.specs.declared.fault.JournalFault.TheVariants as journal
 use Rattle.event_journal.specs.Image.{Found}
@@ -12,7 +12,7 @@ use Rattle.recovery.specs.Replay.{IsFirstForeign}
 use Rattle.recovery.specs.declared.fault.ManagerFault.TheVariants as manager
 use Rattle.status_report.specs.Text.{status_text_of}
 use Rattle.dag_texts.specs.Planned.{IsPlanWith, IsPlanWithFault}
-use Rattle.dag_texts.specs.Report.{warning_lines}
+use Rattle.dag_texts.specs.Told.{IsToldOf}
 use Rattle.dag_texts.specs.declared.fault.RunFault.{RunFault}
 use Rattle.dag_texts.specs.declared.fault.RunFault.TheVariants.{InManager, Memory}
 
@@ -31,10 +31,10 @@ records_read (Err fault) = None
 abbrev pub records_at : Plan → List ℕ → Option (List Record)
 records_at plan bytes = records_read (replay_for plan.digest bytes)
 
--- what is told of a journal in memory, whose disk fails for want of memory alone
+-- what is told of bytes that can't be read
 abbrev pub read_fault : JournalFault → RunFault
 read_fault journal.Memory = Memory
-read_fault journal.Device = Memory
+read_fault journal.Device = InManager (manager.Journal journal.Device)
 read_fault journal.DiskFull = InManager (manager.Journal journal.DiskFull)
 read_fault journal.NotAJournal = InManager (manager.Journal journal.NotAJournal)
 read_fault (journal.Version v) = InManager (manager.Journal (journal.Version v))
@@ -43,12 +43,13 @@ read_fault journal.SlotsFull = InManager (manager.Journal journal.SlotsFull)
 read_fault journal.Broken = InManager (manager.Journal journal.Broken)
 read_fault (journal.BadSlot slot) = InManager (manager.Journal (journal.BadSlot slot))
 
--- the status text of these records, which are lawful
-pub record IsStatusText (plan : Plan) (bytes text : List ℕ) : Type 0 where
-  pub records : List Record
-  pub are_records : records_at plan bytes ≡ Some records
-  pub lawful : IsTrue (is_lawful plan (reverse records))
-  pub text_is : text ≡ status_text_of plan (reverse records)
+-- The status text of the records of a journal that has these bytes, which are lawful; and the exit status.
+pub record IsStatusText (plan : Plan) (bytes text : List ℕ) (status : ℕ) : Type 0 where
+  pub past : List Record
+  pub are_records : records_at plan bytes ≡ Some (written past)
+  pub lawful : IsTrue (is_lawful plan past)
+  pub text_is : text ≡ status_text_of plan past
+  pub status_is : status ≡ 0
 
 -- Why there is none: the bytes are no journal of this plan; a record may not follow those before it; memory ran out.
 pub data IsRecordsFault (plan : Plan) (bytes : List ℕ) : RunFault → Type 0 where
@@ -58,12 +59,9 @@ pub data IsRecordsFault (plan : Plan) (bytes : List ℕ) : RunFault → Type 0 w
   reading_had_no_memory : IsRecordsFault plan bytes Memory
 
 -- the status text of the plan of these files, at the records of the journal
-pub record IsStatusOf (files : Files) (entries : List (List ℕ × List ℕ)) (path : List ℕ) (rescue journal : Option (List ℕ)) (text warnings : List ℕ) (status : ℕ) : Type 0 where
-  pub plan : Plan
-  pub planned : IsPlanWith files entries path rescue plan
-  pub says : IsStatusText plan (journal_bytes journal) text
-  pub warnings_are : warnings ≡ warning_lines plan.graph.dag.warnings
-  pub status_is : status ≡ 0
+abbrev pub IsStatusOf : Files → List (List ℕ × List ℕ) → List ℕ → Option (List ℕ) → Option (List ℕ) → List ℕ → List ℕ → ℕ → Type 0
+IsStatusOf files entries path rescue journal text warnings status =
+    IsToldOf files entries path rescue (λ plan. IsStatusText plan (journal_bytes journal) text status) warnings
 
 -- why it is refused: there is no plan, or its journal has no records of a run
 pub data IsStatusFault (files : Files) (entries : List (List ℕ × List ℕ)) (path : List ℕ) (rescue journal : Option (List ℕ)) : RunFault → Type 0 where

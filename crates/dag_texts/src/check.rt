@@ -4,7 +4,7 @@ ghost use Rattle.std.specs.Prelude.{◌≡◌, ◌++◌, OnOk, IfOk, IfErr, stri
 ghost use Rattle.splices.specs.FileSet.{bytes_of};
 ghost use Rattle.dag_texts.specs.Report.{warning_lines};
 ghost use Rattle.dag_texts.specs.declared.fault.RunFault.TheVariants.{Memory};
-ghost use Rattle.dag_texts.specs.Checked.{IsCheckOf, IsCheckFault, check_line, yes_or_no};
+ghost use Rattle.dag_texts.specs.Checked.{IsCheckOf, IsCheckFault, ok_line, yes_or_no};
 
 use crate::fault::RunFault;
 use crate::plans::full_plan_of;
@@ -36,7 +36,7 @@ pub fn check_text(alloc: Global, files: &FileSet, path: &str) -> Result<Answer, 
 
 /// The line of a plan, and the warnings of its files.
 fn answer_of(alloc: Global, plan: &Plan) -> Result<Answer, RunFault>
-    ensures text { IfOk result (λ answer. string_bytes answer.text ≡ check_line plan.now.graph.dag) }
+    ensures text { IfOk result (λ answer. string_bytes answer.text ≡ ok_line plan.now.graph.dag) }
     ensures warnings { IfOk result (λ answer. string_bytes answer.warnings ≡ warning_lines plan.now.graph.dag.warnings) }
     ensures status { IfOk result (λ answer. answer.status ≡ 0) }
     ensures err { IfErr result (λ fault. fault ≡ Memory) }
@@ -59,7 +59,7 @@ fn yes_or_no(graph: &Graph) -> &'static str
 }
 
 fn line_of(alloc: Global, graph: &Graph) -> Result<String, AllocError>
-    ensures { IfOk result (λ text. string_bytes text ≡ check_line graph.now.dag) }
+    ensures { IfOk result (λ text. string_bytes text ≡ ok_line graph.now.dag) }
 {
     let nodes = graph.flat().nodes().len();
     let edges = graph.edge_count();

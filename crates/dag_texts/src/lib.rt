@@ -17,5 +17,5 @@ pub use fault::RunFault;
 pub use plans::{graph_of, plan_by};
 pub use rehearsal::{Rehearsal, run_table};
 pub use report::rehearse_text;
-pub use statuses::{disk_of, status_of};
+pub use statuses::status_of;
 pub use warnings::{Answer, warning_text};

@@ -7,9 +7,7 @@ ghost use Rattle.splices.specs.Opened.{dag_at};
 ghost use Rattle.dag_graph.specs.Graph.{IsAcyclic};
 ghost use Rattle.run_plan.specs.Submitted.{first_fault, all_nodes};
 ghost use Rattle.dag_texts.specs.Checked.{IsCheckFault, in_plan};
-ghost use Rattle.dag_texts.specs.Rehearsed.{IsGraphFault};
-ghost use Rattle.dag_texts.specs.Planned.{IsGraphOf, IsPlanBy, IsPlanByFault, IsPlanWith, IsPlanWithFault};
-ghost use Rattle.dag_texts.specs.Refusals.{IsPlanOf, IsPlanFault};
+ghost use Rattle.dag_texts.specs.Planned.{IsGraphOf, IsGraphFault, IsPlanOf, IsPlanBy, IsPlanByFault, IsPlanWith, IsPlanWithFault};
 
 use crate::fault::RunFault;
 use dag_graph::{Graph, GraphFault};
@@ -30,8 +28,7 @@ fn dag_of(alloc: Global, files: &FileSet, path: &str) -> Result<FlatDag, RunFaul
 
 /// The graph of the files of this path.
 pub fn graph_of(alloc: Global, files: &FileSet, path: &str) -> Result<Graph, RunFault>
-    ensures graph { IfOk result (λ graph. dag_at (bytes_of files.now) path.now ≡ Ok graph.dag) }
-    ensures acyclic { IfOk result (λ graph. IsAcyclic graph.dag.edges) }
+    ensures graph { IfOk result (IsGraphOf (bytes_of files.now) path.now) }
     ensures refused { IfErr result (IsGraphFault (bytes_of files.now) path.now) }
 {
     let dag = dag_of(alloc, files, path)?;
@@ -45,12 +42,13 @@ pub fn graph_of(alloc: Global, files: &FileSet, path: &str) -> Result<Graph, Run
 /// The plan of the files of this path, with no submit file read.
 pub(crate) fn plan_of(alloc: Global, files: &FileSet, path: &str) -> Result<Plan, RunFault>
     ensures plan { IfOk result (IsPlanOf (bytes_of files.now) path.now) }
-    ensures refused { IfErr result (IsPlanFault (bytes_of files.now) path.now) }
+    ensures refused { IfErr result (IsGraphFault (bytes_of files.now) path.now) }
 {
     let graph = graph_of(alloc, files, path)?;
     let Ok(plan) = Plan::build_bare(alloc, graph, None) else {
         return Err(RunFault::Memory);
     };
+    // The order's clauses are what the proof needs of it: parents come before their children.
     let _order = plan.graph().order();
     Ok(plan)
 }

@@ -5,7 +5,7 @@ ghost use Rattle.std.specs.Option.{option_map};
 ghost use Rattle.node_machine.specs.OutcomeTable.{Entry, SameOutcomes, HasPossibleOutcomes};
 ghost use Rattle.splices.specs.FileSet.{bytes_of};
 ghost use Rattle.dag_texts.specs.Report.{rescue_part, warning_lines};
-ghost use Rattle.dag_texts.specs.Rehearsed.{HasEntries, IsRehearsalOf, IsOwed};
+ghost use Rattle.dag_texts.specs.Rehearsed.{HasEntries, IsRehearsalOf, IsRehearsalFault};
 ghost use Rattle.dag_texts.specs.Refusals.{ReportsRun, IsTableFault};
 ghost use Rattle.dag_texts.specs.declared.fault.RunFault.TheVariants.{Memory};
 
@@ -48,7 +48,7 @@ pub fn rehearse_text(
 
     // It is refused only where an input is, or for want of memory.
     ensures refused { IfErr result
-        (IsOwed (bytes_of files.now) path.now (option_map (λ b. b.now) outcomes.entry)) }
+        (IsRehearsalFault (bytes_of files.now) path.now (option_map (λ b. b.now) outcomes.entry)) }
 {
     let plan = plan_of(alloc, files, path)?;
     let table = table_of(alloc, outcomes)?;
@@ -93,7 +93,7 @@ fn table_of(alloc: Global, outcomes: Option<&[u8]>) -> Result<Table, RunFault>
         Some(bytes) => match read_table(alloc, bytes) {
             Ok(table) => Ok(table),
             Err(TableFault::Memory) => Err(RunFault::Memory),
-            Err(fault) => Err(RunFault::InTable(fault)),
+            Err(TableFault::BadLine(line)) => { Err(RunFault::InTable(TableFault::BadLine(line))) }
         },
     }
 }

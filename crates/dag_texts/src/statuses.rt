@@ -1,11 +1,9 @@
 //! The status of a run, by its journal.
 
-ghost use Rattle.std.specs.Prelude.{◌≡◌, Ok, Err, Some, reverse, IfOk, IfErr, string_bytes};
+ghost use Rattle.std.specs.Prelude.{◌≡◌, Some, IfOk, IfErr, string_bytes};
 ghost use Rattle.std.specs.Option.{option_map};
 ghost use Rattle.splices.specs.FileSet.{bytes_of, entries_of};
-ghost use Rattle.event_journal.specs.Memory.{disk_bytes};
-ghost use Rattle.event_journal.specs.Reading.{RefusedAs, replay_for};
-ghost use Rattle.event_journal.specs.Journal.{IsReadFault};
+ghost use Rattle.sched_core.specs.Run.{written};
 ghost use Rattle.dag_texts.specs.declared.fault.RunFault.TheVariants.{Memory};
 ghost use Rattle.dag_texts.specs.Report.{warning_lines};
 ghost use Rattle.dag_texts.specs.Statused.{journal_bytes, records_at, read_fault, IsStatusText, IsRecordsFault, IsStatusOf, IsStatusFault};
@@ -13,14 +11,14 @@ ghost use Rattle.dag_texts.specs.Statused.{journal_bytes, records_at, read_fault
 use crate::fault::RunFault;
 use crate::plans::plan_with;
 use crate::warnings::{Answer, warning_text};
-use event_journal::{Journal, JournalFault, MemDisk, Opened};
+use event_journal::{JournalFault, read_journal};
 use node_machine::Record;
 use recovery::{ManagerFault, replay};
 use run_plan::Plan;
 use sched_core::Core;
 use splices::FileSet;
 use status_report::status_text;
-use std::alloc::{AllocError, Global};
+use std::alloc::Global;
 
 /// The status of the run of the DAG file of this path whose journal has these bytes: a line for each
 /// node, in plan order. The DAG file, those of its splices and the submit files of its nodes stand in
@@ -60,9 +58,8 @@ pub(crate) fn bytes_in<'a>(journal: Option<&'a [u8]>) -> &'a [u8]
 
 /// The status of the run of a plan whose journal has these bytes.
 fn status_plan(alloc: Global, plan: &Plan, bytes: &[u8]) -> Result<Answer, RunFault>
-    ensures says { IfOk result (λ answer. IsStatusText plan.now bytes.now (string_bytes answer.text)) }
+    ensures says { IfOk result (λ answer. IsStatusText plan.now bytes.now (string_bytes answer.text) answer.status) }
     ensures warnings { IfOk result (λ answer. string_bytes answer.warnings ≡ warning_lines plan.now.graph.dag.warnings) }
-    ensures status { IfOk result (λ answer. answer.status ≡ 0) }
     ensures refused { IfErr result (IsRecordsFault plan.now bytes.now) }
 {
     let records = records_of(alloc, plan, bytes)?;
@@ -75,21 +72,12 @@ fn status_plan(alloc: Global, plan: &Plan, bytes: &[u8]) -> Result<Answer, RunFa
     })
 }
 
-/// A disk in memory of these bytes.
-pub fn disk_of(alloc: Global, bytes: &[u8]) -> Result<MemDisk, AllocError>
-    ensures { IfOk result (λ disk. disk_bytes disk ≡ bytes.now) }
-{
-    let mut copy = Vec::new(alloc);
-    copy.extend_from_slice(bytes)?;
-    Ok(MemDisk::of(alloc, copy, bytes.len()))
-}
-
-/// Why a journal in memory is refused: such a disk fails for want of memory alone.
+/// Why bytes that can't be read are refused.
 fn in_journal(fault: JournalFault) -> RunFault
     ensures { result ≡ read_fault fault }
 {
     match fault {
-        JournalFault::Memory | JournalFault::Device => RunFault::Memory,
+        JournalFault::Memory => RunFault::Memory,
         fault => RunFault::InManager(ManagerFault::Journal(fault)),
     }
 }
@@ -99,17 +87,10 @@ fn records_of(alloc: Global, plan: &Plan, bytes: &[u8]) -> Result<Vec<Record>, R
     ensures ok { IfOk result (λ records. records_at plan.now bytes.now ≡ Some records.items) }
     ensures refused { IfErr result (IsRecordsFault plan.now bytes.now) }
 {
-    let disk = disk_of(alloc, bytes)?;
-    match Journal::open(alloc, disk, plan.digest(), u32::MAX) {
-        Ok(Opened::Found(journal)) => {
-            let mut journal = journal;
-            match journal.records(alloc) {
-                Ok(records) => Ok(records),
-                Err(_) => Err(RunFault::Memory),
-            }
-        }
-        Ok(Opened::Fresh(_)) => Ok(Vec::new(alloc)),
-        Err((_disk, fault)) => Err(in_journal(fault)),
+    match read_journal(alloc, bytes, plan.digest()) {
+        Ok(Some(records)) => Ok(records),
+        Ok(None) => Ok(Vec::new(alloc)),
+        Err(fault) => Err(in_journal(fault)),
     }
 }
 
@@ -122,7 +103,7 @@ fn core_of<'a>(
 ) -> Result<Core<'a>, RunFault>
     requires { records_at plan.now bytes.now ≡ Some records.now }
     ensures plan { IfOk result (λ core. core.plan ≡ plan.now) }
-    ensures records { IfOk result (λ core. core.past ≡ reverse records.now) }
+    ensures records { IfOk result (λ core. records.now ≡ written core.past) }
     ensures refused { IfErr result (IsRecordsFault plan.now bytes.now) }
 {
     let _bytes = bytes;

@@ -1,5 +1,5 @@
 use Rattle.splices.specs.FileSet.{bytes_of}
-use Rattle.dag_texts.proofs.Checks.{is_check, memory_owed}
+use Rattle.dag_texts.proofs.Checks.{is_check, check-memory}
 use Rattle.dag_texts.proofs.check.check_text.Goals as goal
 
 pub returns-clause-checked : goal.returns-clause-checked
@@ -8,4 +8,4 @@ returns-clause-checked c =
     c.answer_of.ensures.text c.answer_of.ensures.warnings c.answer_of.ensures.status
 
 pub returns-clause-refused : goal.returns-clause-refused
-returns-clause-refused c = memory_owed (bytes_of c.args.files.now) c.args.path.now c.answer_of.result c.answer_of.ensures.err
+returns-clause-refused c = check-memory (bytes_of c.args.files.now) c.args.path.now c.answer_of.result c.answer_of.ensures.err

@@ -1,15 +1,22 @@
-use Rattle.dag_texts.specs.Statused.{IsRecordsFault, reading_had_no_memory}
-use Rattle.dag_texts.proofs.StatusFaults.{handed-on, owed-memory, read-fault}
+use Rattle.std.proofs.Common.{◌∙◌, List, ap, sym, subst, Some, None}
+use Rattle.std.specs.Option.{option_map}
+use Rattle.node_machine.specs.declared.Record.{Record}
+use Rattle.event_journal.specs.Reading.{FailsAs, replay_for}
+use Rattle.dag_texts.proofs.StatusFaults.{read-fault, read-records}
 use Rattle.dag_texts.proofs.statuses.records_of.Goals as goal
 
-pub returns-in_err-disk-clause-refused : goal.returns-in_err-disk-clause-refused
-returns-in_err-disk-clause-refused c =
-    handed-on (IsRecordsFault c.args.plan.now c.args.bytes.now) c.from_residual.result c.from_residual.ensures.1 (owed-memory c.args.plan.now c.args.bytes.now)
+pub returns-in-Ok-Some-clause-ok : goal.returns-in-Ok-Some-clause-ok
+returns-in-Ok-Some-clause-ok c =
+    read-records c.args.plan.now c.args.bytes.now _ (Some c.in-Ok-Some.records.items) c.digest.result.now c.digest.ensures c.in-Ok-Some.ensures.gives
+    (ap (option_map (λ v. v.items)) c.in-Ok-Some.field-0-is)
 
-pub returns-in-Ok-Found-clause-refused : goal.returns-in-Ok-Found-clause-refused
-returns-in-Ok-Found-clause-refused c = reading_had_no_memory
+pub returns-in-Ok-None-clause-ok : goal.returns-in-Ok-None-clause-ok
+returns-in-Ok-None-clause-ok c =
+    read-records c.args.plan.now c.args.bytes.now _ None c.digest.result.now c.digest.ensures c.in-Ok-None.ensures.gives
+    (ap (option_map (λ v. v.items)) c.in-Ok-None.field-0-is)
+    ∙ ap (λ (rs : List Record). Some rs) (sym c.new.ensures.items)
 
-pub returns-clause-refused : goal.returns-clause-refused
-returns-clause-refused c =
+pub returns-in-Err-clause-refused : goal.returns-in-Err-clause-refused
+returns-in-Err-clause-refused c =
     rw (c.in_journal.ensures) (read-fault c.args.plan.now c.args.bytes.now c.in-Err.fault
-    (rw (← c.in_ok-disk.ensures, ← c.digest.ensures) (c.in-Err.ensures.refused tt)))
+    (subst (λ d. FailsAs c.in-Err.fault (replay_for d c.args.bytes.now)) c.digest.ensures c.in-Err.ensures.refused))

@@ -1,4 +1,4 @@
-use Rattle.std.proofs.Common.{◌∙◌, ap, reverse}
+use Rattle.std.proofs.Common.{◌∙◌, sym}
 use Rattle.dag_texts.specs.Statused.{IsRecordsFault}
 use Rattle.dag_texts.proofs.StatusFaults.{handed-on, owed-memory, status-text}
 use Rattle.dag_texts.proofs.statuses.status_plan.Goals as goal
@@ -14,4 +14,4 @@ returns-in_err-warning_text-clause-refused c =
 pub returns-clause-says : goal.returns-clause-says
 returns-clause-says c =
     status-text c.args.plan.now c.args.bytes.now c.in_ok-records.records.items c.in_ok-core.core c.in_ok-records.ensures.ok c.in_ok-core.ensures.plan
-    (c.in_ok-core.ensures.records ∙ ap reverse c.deref.ensures.value) c.keeps_the_law.ensures _ c.in_ok-status_text.ensures
+    (sym c.deref.ensures.value ∙ c.in_ok-core.ensures.records) c.keeps_the_law.ensures _ c.in_ok-status_text.ensures
