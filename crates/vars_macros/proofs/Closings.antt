@@ -2,7 +2,7 @@
 use Rattle.std.proofs.Common.{◌≡◌, ◌∙◌, sym, ap, refl, ℕ, zero, suc, ◌+◌, ◌-◌, ◌≤◌, ◌<◌, nat_lt, ◌==◌, ◌&&◌, Bool, true, false, cond, Option, Some, None, option_map, List, [], ◌∷◌, length, take, drop, slice_get, arith, length-take, length-drop}
 use Rattle.std.proofs.lemmas.Bool.{ltb-true, ltb-false}
 use Rattle.std.proofs.lemmas.Bool.Decides.{nat_tests}
-use Rattle.std.proofs.lemmas.List.{drop-take}
+use Rattle.std.proofs.lemmas.List.{drop-take, drop-drop}
 use Rattle.std.proofs.lemmas.Option.{none-some}
 use Rattle.vars_macros.specs.Cut.{closing_from, closing, depth_after}
 use Rattle.vars_macros.specs.Pairs.{if_before, ArePairsOf, ArePairsIn}
@@ -109,3 +109,21 @@ pairs_in_first start n part pairs within are k opens =
     ∙ ap (λ (m : ℕ). if_before m (option_map (λ n. far + n) found)) end
     ∙ moved_before far left found
     ∙ ap (option_map (λ n. far + n)) (sym (closing_of_first left (drop (k + 1) part)) ∙ ap closing (sym cut))
+
+get_behind : (n : ℕ) (text : List ℕ) (k b : ℕ) → slice_get (drop n text) k ≡ Some b → slice_get text (n + k) ≡ Some b
+get_behind zero text k b is = let place : 0 + k ≡ k = omega arith in ap (slice_get text) place ∙ is
+get_behind (suc n) [] k b is = absurd cc
+get_behind (suc n) (c ∷ text) k b is = let place : suc n + k ≡ suc (n + k) = omega arith in ap (slice_get (c ∷ text)) place ∙ get_behind n text k b is
+
+-- The pairs of a part of a text are those of what is behind its first bytes.
+pub pairs_in_behind : (start n : ℕ) (part : List ℕ) (pairs : ℕ → Option ℕ) → n ≤ length part → ArePairsIn start part pairs → ArePairsIn (start + n) (drop n part) pairs
+pairs_in_behind start n part pairs within are k opens =
+    let end : start + n + length (drop n part) ≡ start + length part = omega (arith, within, length-drop n part) in
+    let place : start + n + k ≡ start + (n + k) = omega arith in
+    let far : start + (n + k) + 1 ≡ start + n + k + 1 = omega arith in
+    let more : n + k + 1 ≡ n + (k + 1) = omega arith in
+    let rest : drop (n + k + 1) part ≡ drop (k + 1) (drop n part) = ap (λ (m : ℕ). drop m part) more ∙ sym (drop-drop (k + 1) n part) in
+    ap (λ (m : ℕ). if_before m (pairs (start + n + k))) end ∙ ap (λ (m : ℕ). if_before (start + length part) (pairs m)) place
+    ∙ are (n + k) (get_behind n part k 40 opens)
+    ∙ ap (λ (f : ℕ). option_map (λ n. f + n) (closing (drop (n + k + 1) part))) far
+    ∙ ap (λ (t : List ℕ). option_map (λ m. start + n + k + 1 + m) (closing t)) rest

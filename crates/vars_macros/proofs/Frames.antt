@@ -1,68 +1,85 @@
 -- Suspended texts and the keys by which they are found.
-use Rattle.std.proofs.Common.{◌≡◌, ◌∙◌, sym, ap, refl, ℕ, Bool, true, false, cond, List, [], ◌∷◌, ◌++◌, ◌||◌, map, String, ⊎_elim, Option, Some, None, length, arith, ◌<◌}
-use Rattle.std.proofs.lemmas.Bool.{cases_Bool, both_ways, false_from_ne_true}
+use Rattle.std.proofs.Common.{◌≡◌, ◌∙◌, sym, ap, refl, ℕ, zero, suc, Bool, true, false, cond, List, [], ◌∷◌, ◌++◌, ◌||◌, map, Option, Some, None, length, arith, ◌<◌, nat_eq, eq-eqb}
+use Rattle.std.proofs.lemmas.Bool.{false≢true, eqb-true}
 use Rattle.std.proofs.lemmas.List.{map-append}
 use Rattle.std.proofs.lemmas.Slice.Eq.{bytes_eq-Decides}
+use Rattle.std.specs.HashMap.{get_by_text}
 use Rattle.std.specs.Map.{lookup}
 use Rattle.std.specs.Option.{is_some}
 use Rattle.std.specs.Str.{bytes_eq}
 use Rattle.std.specs.Prelude.{string_bytes}
-use Rattle.std.specs.Global.{Global}
+use Rattle.vars_macros.specs.contracts.key.KeyPartialEq.TheImpl.{eq-value}
+use Rattle.vars_macros.specs.Each.{Each}
 use Rattle.vars_macros.specs.Names.{lower, same_name, is_open}
-use Rattle.vars_macros.specs.Frames.{Frame, HasLowerKeys}
+use Rattle.vars_macros.specs.Frames.{Frame, HasKey}
 use Rattle.vars_macros.specs.Machine.{names_of}
+use Rattle.vars_macros.specs.NameTable.{IsKeyOf, number_in}
+use Rattle.vars_macros.specs.Numbering.{AreApart}
+use Rattle.vars_macros.specs.declared.key.Key.{Key}
+use Rattle.vars_macros.specs.declared.key.Key.TheVariants.{Numbered, Spelled}
 use Rattle.vars_macros.specs.declared.machine.Suspended.{Suspended}
+use Rattle.vars_macros.specs.declared.numbering.Names.{Names}
+use Rattle.vars_macros.proofs.Names.{same_lower, lower_same}
+use Rattle.vars_macros.proofs.NameTables.{numbered, spelled}
 
 abbrev pub suspended : List Frame → List Suspended
 suspended fs = map (λ (f : Frame). f.1) fs
-
-abbrev pub keys : List Frame → List (List ℕ)
-keys fs = map (λ (f : Frame). string_bytes f.0) fs
-
-abbrev pub lower_names : List Frame → List (List ℕ)
-lower_names fs = map (λ (f : Frame). lower f.1.name.now) fs
 
 -- one more at the end
 pub suspended_push : (fs : List Frame) (f : Frame) → suspended (fs ++ f ∷ []) ≡ suspended fs ++ f.1 ∷ []
 suspended_push fs f = map-append (λ (g : Frame). g.1) fs (f ∷ [])
 
-pub lower_push : (fs : List Frame) (f : Frame) → HasLowerKeys fs → string_bytes f.0 ≡ lower f.1.name.now → HasLowerKeys (fs ++ f ∷ [])
-lower_push fs f before is =
-    map-append (λ (g : Frame). string_bytes g.0) fs (f ∷ [])
-    ∙ ap (λ (k : List ℕ). keys fs ++ k ∷ []) is ∙ ap (λ (ks : List (List ℕ)). ks ++ lower f.1.name.now ∷ []) before
-    ∙ sym (map-append (λ (g : Frame). lower g.1.name.now) fs (f ∷ []))
+-- whether two keys are the same
+abbrev same_key : Key → Key → Bool
+same_key a b = (eq-value).it a b
 
--- the last less
-pub lower_pop : (fs : List Frame) (f : Frame) → HasLowerKeys (fs ++ f ∷ []) → HasLowerKeys fs
-lower_pop [] f h = refl
-lower_pop (g ∷ gs) f h =
-    let head : string_bytes g.0 ≡ lower g.1.name.now = cc in
-    let rest : keys (gs ++ f ∷ []) ≡ lower_names (gs ++ f ∷ []) = cc in
-    ap (λ (k : List ℕ). k ∷ keys gs) head ∙ ap (λ (ks : List (List ℕ)). lower g.1.name.now ∷ ks) (lower_pop gs f rest)
+either_way : (a b : Bool) → (a ≡ true → b ≡ true) → (b ≡ true → a ≡ true) → a ≡ b
+either_way true b there back = sym (there refl)
+either_way false true there back = back refl
+either_way false false there back = refl
 
-bytes_eq_symm : (a b : List ℕ) → bytes_eq a b ≡ bytes_eq b a
-bytes_eq_symm a b = ⊎_elim
-    (λ yes. yes ∙ sym ((bytes_eq-Decides b a).1 (sym ((bytes_eq-Decides a b).0 yes))))
-    (λ no. no ∙ sym (false_from_ne_true (bytes_eq b a) (λ t. both_ways (bytes_eq a b) no ((bytes_eq-Decides a b).1 (sym ((bytes_eq-Decides b a).0 t))))))
-    (cases_Bool (bytes_eq a b))
+-- Two names have the same key where they are the same in any case.
+key_same : (names : Names) (asked : List ℕ) (q : Key) (held : List ℕ) (k : Key) → AreApart (get_by_text names.numbers) (length names.last.items) →
+    IsKeyOf names asked q → IsKeyOf names held k → same_key q k ≡ same_name held asked
+key_same names asked (Numbered m) held (Numbered n) apart q_is k_is =
+    let is = numbered (lower asked) (number_in names (lower asked)) m [] q_is in
+    let held_is = numbered (lower held) (number_in names (lower held)) n [] k_is in
+    either_way (nat_eq m n) (same_name held asked)
+    (λ same. same_lower held asked (apart.apart (lower held) (lower asked) n held_is (is ∙ ap Some (eqb-true m n same))))
+    (λ same. let one : Some m ≡ Some n = sym is ∙ ap (number_in names) (sym (lower_same held asked same)) ∙ held_is in
+    let number : m ≡ n = cc in eq-eqb m n number)
+key_same names asked (Numbered m) held (Spelled k) apart q_is k_is =
+    let is = numbered (lower asked) (number_in names (lower asked)) m [] q_is in
+    let held_is = spelled (lower held) (number_in names (lower held)) (string_bytes k) k_is in
+    either_way false (same_name held asked)
+    (λ never. absurd (false≢true never))
+    (λ same. let one : Some m ≡ None = sym is ∙ ap (number_in names) (sym (lower_same held asked same)) ∙ held_is.0 in absurd cc)
+key_same names asked (Spelled q) held (Numbered n) apart q_is k_is =
+    let is = spelled (lower asked) (number_in names (lower asked)) (string_bytes q) q_is in
+    let held_is = numbered (lower held) (number_in names (lower held)) n [] k_is in
+    either_way false (same_name held asked)
+    (λ never. absurd (false≢true never))
+    (λ same. let one : None ≡ Some n = sym is.0 ∙ ap (number_in names) (sym (lower_same held asked same)) ∙ held_is in absurd cc)
+key_same names asked (Spelled q) held (Spelled k) apart q_is k_is =
+    let is = spelled (lower asked) (number_in names (lower asked)) (string_bytes q) q_is in
+    let held_is = spelled (lower held) (number_in names (lower held)) (string_bytes k) k_is in
+    either_way (bytes_eq (string_bytes q) (string_bytes k)) (same_name held asked)
+    (λ same. same_lower held asked (sym held_is.1 ∙ sym ((bytes_eq-Decides (string_bytes q) (string_bytes k)).0 same) ∙ is.1))
+    (λ same. (bytes_eq-Decides (string_bytes q) (string_bytes k)).1 (is.1 ∙ sym (lower_same held asked same) ∙ sym held_is.1))
 
 some_either : {X : Type 0} (b : Bool) (x : X) (o : Option X) → is_some (cond b (Some x) o) ≡ (b || is_some o)
 some_either true x o = refl
 some_either false x o = refl
 
 -- A name is open where its key is found.
-pub found_open : (fs : List Frame) (name : List ℕ) → HasLowerKeys fs →
-    is_some (lookup (λ (k : String Global). bytes_eq (lower name) (string_bytes k)) fs) ≡ is_open (names_of (suspended fs)) name
-unfolding same_name
-found_open [] name h = refl
-found_open (f ∷ fs) name h =
-    let head : string_bytes f.0 ≡ lower f.1.name.now = cc in
-    let rest : keys fs ≡ lower_names fs = cc in
-    let test : String Global → Bool = λ (k : String Global). bytes_eq (lower name) (string_bytes k) in
-    some_either (test f.0) f.1 (lookup test fs)
-    ∙ ap (λ (k : List ℕ). bytes_eq (lower name) k || is_some (lookup test fs)) head
-    ∙ ap (λ (b : Bool). b || is_some (lookup test fs)) (bytes_eq_symm (lower name) (lower f.1.name.now))
-    ∙ ap (λ (b : Bool). same_name f.1.name.now name || b) (found_open fs name rest)
+pub found_open : (names : Names) (fs : List Frame) (name : List ℕ) (key : Key) → AreApart (get_by_text names.numbers) (length names.last.items) →
+    Each (HasKey names) fs → IsKeyOf names name key →
+    is_some (lookup (λ (k : Key). (eq-value).it key k) fs) ≡ is_open (names_of (suspended fs)) name
+found_open names [] name key apart all is = refl
+found_open names (f ∷ fs) name key apart all is =
+    some_either (same_key key f.0) f.1 (lookup (same_key key) fs)
+    ∙ ap (λ (b : Bool). b || is_some (lookup (same_key key) fs)) (key_same names name key f.1.name.now f.0 apart is (all zero f refl).key)
+    ∙ ap (λ (b : Bool). same_name f.1.name.now name || b) (found_open names fs name key apart (λ k g at. all (suc k) g at) is)
 
 -- one more, as the table has it
 pub pushed : (old new : List Frame) (f : Frame) → new ≡ old ++ f ∷ [] → suspended new ≡ suspended old ++ f.1 ∷ []

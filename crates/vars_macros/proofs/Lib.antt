@@ -4,6 +4,9 @@ pub mod Cuts
 pub mod Closings
 pub mod Closers
 pub mod Places
+pub mod NameTables
+pub mod NamesIn
+pub mod Assigning
 pub mod Frames
 pub mod Stack
 pub mod Tally

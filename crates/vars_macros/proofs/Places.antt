@@ -3,6 +3,7 @@ use Rattle.std.proofs.Common.{◌≡◌, ◌∙◌, sym, ap, refl, ℕ, ◌<◌,
 use Rattle.std.proofs.lemmas.List.{get_or_push, get_or_append_left, length_push, length-map, map-append}
 use Rattle.std.proofs.lemmas.Option.{slice_get-get_or, slice_get-map}
 use Rattle.std.specs.Str.{bytes_eq}
+use Rattle.vars_macros.specs.NameTable.{IsGiven}
 use Rattle.vars_macros.specs.Names.{lower, same_name}
 use Rattle.vars_macros.specs.Meaning.{last_from, last_of}
 use Rattle.vars_macros.specs.Places.{macros_in, at_place, GivesLast}
@@ -20,10 +21,6 @@ get_push ms m = slice_get-get_or (ms ++ m ∷ []) (length ms) m (omega (arith, l
 get_before : (ms : List Macro) (m : Macro) (k : ℕ) → k < length ms → slice_get (ms ++ m ∷ []) k ≡ slice_get ms k
 get_before ms m k less =
     slice_get-get_or (ms ++ m ∷ []) k m (omega (arith, length_push ms m)) ∙ ap Some (get_or_append_left ms (m ∷ []) m k less) ∙ sym (slice_get-get_or ms k m less)
-
--- The table where a name gets the place of one assignment more.
-abbrev pub IsGiven : (before after : List ℕ → Option ℕ) → List ℕ → ℕ → Type 0
-IsGiven before after key place = (name : List ℕ) → after name ≡ cond (bytes_eq key name) (Some place) (before name)
 
 pub gives_push : (before after : List ℕ → Option ℕ) (ms : List Macro) (m : Macro) → GivesLast before ms → IsGiven before after (lower m.name) (length ms) → GivesLast after (ms ++ m ∷ [])
 unfolding same_name

@@ -1,13 +1,14 @@
 -- The texts that are gone on with later.
-use Rattle.std.specs.Prelude.{◌≡◌, List, map, String, string_bytes}
-use Rattle.std.specs.Global.{Global}
-use Rattle.vars_macros.specs.Names.{lower}
+use Rattle.vars_macros.specs.NameTable.{HaveSameNumbers, IsKeyOf}
+use Rattle.vars_macros.specs.declared.key.Key.{Key}
 use Rattle.vars_macros.specs.declared.machine.Suspended.{Suspended}
+use Rattle.vars_macros.specs.declared.numbering.Names.{Names}
 
 -- a key and a suspended text
 abbrev pub Frame : Type 0
-Frame = String Global × Suspended
+Frame = Key × Suspended
 
--- Each text is found by its name in lower case.
-abbrev pub HasLowerKeys : List Frame → Type 0
-HasLowerKeys frames = map (λ (f : Frame). string_bytes f.0) frames ≡ map (λ (f : Frame). lower f.1.name.now) frames
+-- The text is found by the key of its name, and its names have the numbers of this table.
+pub record HasKey (names : Names) (f : Frame) : Type 0 where
+  pub key : IsKeyOf names f.1.name.now f.0
+  pub numbers : HaveSameNumbers f.1.rest.names.now names

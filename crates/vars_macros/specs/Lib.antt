@@ -3,6 +3,10 @@ pub mod Names
 pub mod Cut
 pub mod Pieces
 pub mod Meaning
+pub mod Each
+pub mod Numbering
+pub mod NameTable
+pub mod NamePlaces
 pub mod Places
 pub mod Scopes
 pub mod Expansion

@@ -1,8 +1,11 @@
 //! One assignment.
 
 ghost use Rattle.std.specs.Prelude.{◌≡◌};
+ghost use Rattle.vars_macros.specs.NamePlaces.{AreNamesOf, name_at};
 ghost use Rattle.vars_macros.specs.Pairs.{ArePairsOf, closer_of};
 
+use crate::naming::NamePlaces;
+use crate::numbering::Names;
 use crate::pairs::Pairs;
 use crate::part::Part;
 use dag_reader::Text;
@@ -15,19 +18,23 @@ pub struct Macro {
     pub vars: bool,
 }
 
-/// An assignment, and the pairs of parentheses of its value.
+/// An assignment, and of its value the pairs of parentheses and the names.
 #[derive(Debug, Drop)]
 pub(crate) struct Assigned {
     pub(crate) one: Macro,
     pub(crate) pairs: Pairs,
+    pub(crate) places: NamePlaces,
     ghost paired: { ArePairsOf one.value (closer_of pairs) },
 }
 
 impl Assigned {
-    /// The value.
-    pub(crate) fn value(&self) -> Part<'_>
-        ensures { result.bytes.now ≡ self.now.one.value }
+    /// The value, whose names have these numbers.
+    pub(crate) fn value<'a>(&'a self, names: &'a Names) -> Part<'a>
+        requires { AreNamesOf names.now self.now.one.value (name_at self.now.places) }
+        ensures bytes { result.bytes.now ≡ self.now.one.value }
+        ensures names { result.names.now ≡ names.now }
     {
-        Part::whole(self.one.value.as_str().as_bytes(), &self.pairs)
+        let text = self.one.value.as_str().as_bytes();
+        Part::whole(text, &self.pairs, Some(&self.places), names)
     }
 }

@@ -7,6 +7,7 @@ ghost use Rattle.vars_macros.specs.Scopes.{scope_seen, IsTextScope};
 ghost use Rattle.vars_macros.specs.Expansion.{expansion};
 ghost use Rattle.vars_macros.specs.Answers.{Gives};
 ghost use Rattle.vars_macros.specs.Output.{expansion_of};
+ghost use Rattle.vars_macros.specs.Pairs.{ArePairsOf, closer_of};
 
 use crate::fault::MacroFault;
 use crate::machine::Machine;
@@ -77,20 +78,23 @@ fn expand_text(
     let mut retry = Buffer::new();
     let scope = macros.scope(retry.format(attempt.retry), launch.format(attempt.launch));
     let pairs = Pairs::of(alloc, text.as_bytes())?;
-    expand_in(alloc, Part::whole(text.as_bytes(), &pairs), vars, scope)
+    expand_in(alloc, text.as_bytes(), &pairs, vars, scope)
 }
 
-fn expand_in(
+fn expand_in<'a>(
     alloc: Global,
-    text: Part<'_>,
+    text: &'a [u8],
+    pairs: &'a Pairs,
     vars: bool,
-    scope: Scope<'_>,
+    scope: Scope<'a>,
 ) -> Result<Expanded, MacroFault>
-    requires text { IsUtf8 text.bytes.now }
+    requires text { IsUtf8 text.now }
+    requires pairs { ArePairsOf text.now (closer_of pairs.now) }
     requires scope { IsTextScope (scope_seen scope) }
-    ensures { Gives expansion_of result (expansion (scope_seen scope.entry) vars text.entry.bytes.now) }
+    ensures { Gives expansion_of result (expansion (scope_seen scope.entry) vars text.now) }
 {
-    let mut machine = Machine::new(alloc, scope, vars, text);
+    let part = Part::whole(text, pairs, None, scope.names);
+    let mut machine = Machine::new(alloc, scope, vars, part);
     let mut output = Output::new(alloc);
     while let Some(event) = machine.next()? {
         output.count(event)?;

@@ -1,19 +1,25 @@
 //! Goes over a text and the texts that its references stand for.
 
-ghost use Rattle.std.specs.Prelude.{◌≡◌, ◌++◌, [], IfOk};
-ghost use Rattle.vars_macros.specs.Frames.{HasLowerKeys};
+ghost use Rattle.std.specs.Prelude.{◌≡◌, ◌++◌, ℕ, List, [], IfOk};
+ghost use Rattle.vars_macros.specs.Each.{Each};
+ghost use Rattle.vars_macros.specs.Frames.{HasKey};
+ghost use Rattle.vars_macros.specs.NameTable.{HaveSameNumbers, IsKeyOf};
+ghost use Rattle.vars_macros.specs.Pieces.{IsNamedBy};
 
-use crate::cut::{Piece, first_piece, lawful_name, name_and_default};
+use crate::cut::{Naming, Piece, first_piece, reference_in};
 use crate::fault::MacroFault;
+use crate::key::{Key, key_of};
+use crate::meaning::{Meaning, stands_for};
+use crate::numbering::Names;
 use crate::part::Part;
-use crate::scope::{Meaning, Scope, stands_for};
+use crate::scope::Scope;
 use indexmap::IndexMap;
 use std::alloc::{AllocError, Global};
 
 /// A text that is gone on with when the name's expansion is done.
 #[derive(Drop)]
 pub(crate) struct Suspended<'a> {
-    name: &'a str,
+    name: &'a [u8],
     vars: bool,
     rest: Part<'a>,
 }
@@ -27,15 +33,16 @@ pub(crate) enum Event<'a> {
 }
 
 /// A text that is expanded, as far as it is left. The names whose expansions have begun and are not
-/// done stand in lower case in the table, the innermost last.
+/// done stand in the table by their keys, the innermost last.
 #[derive(Drop)]
 pub(crate) struct Machine<'a> {
     alloc: Global,
     scope: Scope<'a>,
     vars: bool,
     rest: Part<'a>,
-    stack: IndexMap<String, Suspended<'a>>,
-    ghost keys: { HasLowerKeys stack.entries },
+    stack: IndexMap<Key, Suspended<'a>>,
+    ghost numbers: { HaveSameNumbers rest.names.now scope.names.now },
+    ghost keys: { Each (HasKey scope.names.now) stack.entries },
 }
 
 impl<'a> Machine<'a> {
@@ -45,6 +52,7 @@ impl<'a> Machine<'a> {
 
     /// A text of which nothing is met yet.
     pub(crate) fn new(alloc: Global, scope: Scope<'a>, vars: bool, text: Part<'a>) -> Machine<'a>
+        requires { HaveSameNumbers text.names.now scope.names.now }
         ensures { left_in result ≡ events (scope_seen scope.entry) [] vars text.entry.bytes.now }
     {
         Machine {
@@ -77,7 +85,7 @@ impl<'a> Machine<'a> {
                     return Ok(Some(self.reference(inside, after)?));
                 }
                 Piece::Bad(fault) => {
-                    self.rest = Part::empty();
+                    self.rest = Part::empty(self.scope.names);
                     return Ok(Some(Event::Refused(fault)));
                 }
             }
@@ -86,21 +94,23 @@ impl<'a> Machine<'a> {
 
     /// Goes on behind a reference, or into what it stands for.
     fn reference(&mut self, inside: Part<'a>, after: Part<'a>) -> Result<Event<'a>, AllocError>
+        requires inside { HaveSameNumbers inside.names.now self.old.scope.names.now }
+        requires after { HaveSameNumbers after.names.now self.old.scope.names.now }
         ensures { IfOk result (λ met. left_at inside.entry.bytes.now after.entry.bytes.now self.old ≡ event_of met ++ left_in self.new) }
     {
-        let (name, default) = name_and_default(inside);
-        let Some(name) = lawful_name(name) else {
+        let Some(named) = reference_in(inside) else {
             self.rest = after;
             return Ok(Event::Refused(MacroFault::BadReference));
         };
-        match stands_for(self.alloc, self.scope, self.vars, name, default)? {
+        let name = named.name;
+        let key = key_by(self.alloc, self.scope.names, named.naming)?;
+        match stands_for(self.scope, self.vars, name, &key, named.default) {
             Meaning::Fixed { whole, text } => {
                 self.rest = after;
                 Ok(Event::Fixed { whole, text })
             }
             Meaning::Value { vars, text } => {
-                let key = name.to_ascii_lowercase(self.alloc)?;
-                if self.stack.contains_key(key.as_str()) {
+                if self.stack.contains_key(&key) {
                     self.rest = after;
                     return Ok(Event::Refused(MacroFault::Loop));
                 }
@@ -115,5 +125,15 @@ impl<'a> Machine<'a> {
                 Ok(Event::Opened)
             }
         }
+    }
+}
+
+/// The key of a name that is known so.
+fn key_by(alloc: Global, names: &Names, naming: Naming<'_>) -> Result<Key, AllocError>
+    ensures { (name : List ℕ) → IsNamedBy names.now name naming.entry → IfOk result (λ key. IsKeyOf names.now name key) }
+{
+    match naming {
+        Naming::Numbered(number) => Ok(Key::Numbered(number)),
+        Naming::Spelled(name) => key_of(alloc, names, name),
     }
 }

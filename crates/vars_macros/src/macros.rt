@@ -1,6 +1,6 @@
 //! What names stand for.
 
-ghost use Rattle.std.specs.Prelude.{◌≡◌, ◌++◌, ◌∷◌, ◌<◌, [], IsOk, IfOk, IfErr, OnOk, OnErr, vec_len, vec_capacity, option_copied, option_map};
+ghost use Rattle.std.specs.Prelude.{◌≡◌, ◌++◌, ◌∷◌, ◌<◌, [], IsOk, IfOk, IfErr, OnOk, OnErr, vec_len, vec_capacity, option_copied};
 ghost use Rattle.vars_macros.specs.Meaning.{last_of};
 ghost use Rattle.vars_macros.specs.Places.{macros_in};
 ghost use Rattle.vars_macros.specs.declared.assignment.Assigned.{Assigned};
@@ -8,21 +8,25 @@ ghost use Rattle.vars_macros.specs.declared.fault.MacroFault.TheVariants.{Memory
 
 use crate::assignment::{Assigned, Macro};
 use crate::fault::MacroFault;
+use crate::key::key_of;
+use crate::meaning::last_assigned;
+use crate::naming::NamePlaces;
+use crate::numbering::Names;
 use crate::pairs::Pairs;
 use dag_reader::Text;
-use indexmap::IndexMap;
-use std::alloc::{AllocError, AllocFailed, Global};
+use std::alloc::{AllocFailed, Global};
 use std::marker::Model;
 
 /// What the names of a node stand for: the node's name, and its assignments in the order in which
 /// they count.
 ///
-/// The last assignment of a name is found in a table, whatever their number is.
+/// The last assignment of a name is found in a table, whatever their number is. The table has each
+/// name that is assigned or that a value may refer to.
 #[derive(Debug)]
 pub struct Macros {
     pub(crate) job: Text,
-    assigned: Vec<Assigned>,
-    places: IndexMap<String, usize>,
+    pub(crate) assigned: Vec<Assigned>,
+    pub(crate) names: Names,
 }
 
 // Each function that lets a value go calls this; a derived drop stands in each, part by part.
@@ -31,16 +35,17 @@ impl Drop for Macros {
         let Macros {
             job: _,
             assigned: _,
-            places: _,
+            names: _,
         } = self;
     }
 }
 
 impl Model for Macros {
     ghost use Rattle.std.specs.Prelude.{◌≡◌, true};
-    ghost use Rattle.std.specs.HashMap.{get_by_text};
+    ghost use Rattle.vars_macros.specs.Each.{Each};
     ghost use Rattle.vars_macros.specs.Meaning.{NodeMacros};
-    ghost use Rattle.vars_macros.specs.Places.{macros_in, GivesLast};
+    ghost use Rattle.vars_macros.specs.NameTable.{place_in};
+    ghost use Rattle.vars_macros.specs.Places.{macros_in, GivesLast, HasPlaces};
     ghost use Rattle.vars_macros.specs.Texts.{are_texts};
 
     ghost Value = { NodeMacros };
@@ -48,7 +53,8 @@ impl Model for Macros {
     ghost view = { λ m. record { job = m.job; assigned = macros_in m.assigned.items } };
 
     ghost invariant = { λ m. (are_texts (macros_in m.assigned.items) ≡ true)
-        × GivesLast (get_by_text m.places) (macros_in m.assigned.items) };
+        × GivesLast (place_in m.names) (macros_in m.assigned.items)
+        × Each (HasPlaces m.names) m.assigned.items };
 }
 
 impl Macros {
@@ -65,7 +71,7 @@ impl Macros {
         Ok(Macros {
             job,
             assigned: Vec::new(alloc),
-            places: IndexMap::new(alloc),
+            names: Names::new(alloc),
         })
     }
 
@@ -94,8 +100,12 @@ impl Macros {
         let value = Text::new(alloc, value)?;
         let one = Macro { name, value, vars };
         self.assigned.reserve(1)?;
-        self.places.insert(key, self.assigned.len())?;
-        push(&mut self.assigned, Assigned { one, pairs })?;
+        let text = one.value.as_str().as_bytes();
+        let places = NamePlaces::of(alloc, text, &mut self.names)?;
+        let number = self.names.give(key)?;
+        let last = self.assigned.len();
+        push(&mut self.assigned, Assigned { one, pairs, places })?;
+        self.names.assign(number, last);
         Ok(())
     }
 
@@ -107,23 +117,9 @@ impl Macros {
         ensures last { IfOk result (λ found. option_copied found ≡ last_of self.now.assigned name.now) }
         ensures fault { IfErr result (λ fault. fault ≡ Memory) }
     {
-        match self.last_assigned(alloc, name)? {
+        let key = key_of(alloc, &self.names, name)?;
+        match last_assigned(self.assigned.as_slice(), &self.names, &key) {
             Some(found) => Ok(Some(&found.one)),
-            None => Ok(None),
-        }
-    }
-
-    /// The same with the pairs of its value.
-    pub(crate) fn last_assigned(
-        &self,
-        alloc: Global,
-        name: &str,
-    ) -> Result<Option<&Assigned>, AllocError>
-        ensures { IfOk result (λ found. option_map (λ (a : Assigned). a.one) (option_copied found) ≡ last_of self.now.assigned name.now) }
-    {
-        let key = name.to_ascii_lowercase(alloc)?;
-        match self.places.get(key.as_str()) {
-            Some(place) => Ok(Some(&self.assigned[*place])),
             None => Ok(None),
         }
     }
@@ -131,7 +127,8 @@ impl Macros {
 
 /// Puts an assignment behind all others.
 fn push(all: &mut Vec<Assigned>, last: Assigned) -> Result<(), AllocFailed<Assigned>>
-    ensures ok { OnOk result (macros_in all.new.items ≡ macros_in all.old.items ++ last.one ∷ []) }
+    ensures ok { OnOk result (all.new.items ≡ all.old.items ++ last ∷ []) }
+    ensures macros { OnOk result (macros_in all.new.items ≡ macros_in all.old.items ++ last.one ∷ []) }
     ensures room { vec_len all.old < vec_capacity all.old → IsOk result }
 {
     all.push(last)

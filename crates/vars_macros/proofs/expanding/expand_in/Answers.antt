@@ -11,12 +11,12 @@ use Rattle.vars_macros.proofs.expanding.expand_in.Goals as goal
 pub finish-requires : goal.finish-requires
 finish-requires c =
     let done : left_in c.loop-output.machine ≡ [] = rw c.in_default.is at c.in_ok-event.ensures in
-    expansion_text (scope_seen c.args.scope) c.args.vars c.args.text.bytes.now (finished (tally_of c.loop-output.output)) c.requires.scope c.requires.text
+    expansion_text (scope_seen c.args.scope) c.args.vars c.args.text.now (finished (tally_of c.loop-output.output)) c.requires.scope c.requires.text
     (sym c.loop-output.invariant ∙ ap (counted (tally_of c.loop-output.output)) done ∙ nothing_counts (tally_of c.loop-output.output))
 
 pub returns : goal.returns
 returns c =
     let done : left_in c.loop-output.machine ≡ [] = rw c.in_default.is at c.in_ok-event.ensures in
-    let is : expansion (scope_seen c.args.scope) c.args.vars c.args.text.bytes.now ≡ Ok (finished (tally_of c.loop-output.output)) =
+    let is : expansion (scope_seen c.args.scope) c.args.vars c.args.text.now ≡ Ok (finished (tally_of c.loop-output.output)) =
     sym c.loop-output.invariant ∙ ap (counted (tally_of c.loop-output.output)) done ∙ nothing_counts (tally_of c.loop-output.output) in
     subst (Gives expansion_of c.finish.result) (sym is) c.finish.ensures

@@ -1,32 +1,45 @@
-use Rattle.std.proofs.Common.{arith, ◌≡◌, ◌∙◌, sym, ap, subst, Bool, true, ℕ, List, ◌∷◌, [], ◌++◌, length, Some, cond}
+use Rattle.std.proofs.Common.{arith, ◌≡◌, ◌∙◌, sym, ap, subst, ℕ, List, length}
 use Rattle.std.proofs.lemmas.List.{length-map}
-use Rattle.std.proofs.lemmas.Map.Text.{hash_map_updates_text}
-use Rattle.std.specs.HashMap.{get_by_text}
 use Rattle.std.specs.Prelude.{string_bytes}
-use Rattle.std.specs.Str.{bytes_eq}
+use Rattle.std.specs.Str.{IsUtf8}
 use Rattle.vars_macros.specs.Names.{lower}
-use Rattle.vars_macros.specs.Places.{macros_in, GivesLast}
-use Rattle.vars_macros.specs.Texts.{are_texts}
+use Rattle.vars_macros.specs.NamePlaces.{AreNamesOf, name_at}
+use Rattle.vars_macros.specs.NameTable.{place_in, IsGiven}
+use Rattle.vars_macros.specs.Places.{macros_in}
 use Rattle.vars_macros.specs.declared.assignment.Assigned.{Assigned}
-use Rattle.vars_macros.specs.declared.assignment.Macro.{Macro}
-use Rattle.vars_macros.proofs.MacroTexts.{one_more}
-use Rattle.vars_macros.proofs.Places.{IsGiven, gives_push}
+use Rattle.vars_macros.proofs.Assigning.{known_kept, known_push}
+use Rattle.vars_macros.proofs.NamesIn.{names_kept}
+use Rattle.vars_macros.proofs.NameTables.{keeps_itself, keeps_on}
 use Rattle.vars_macros.proofs.macros.Macros.assign.Goals as goal
 
-abbrev the_macro : List ℕ → List ℕ → Bool → Macro
-the_macro name value vars = record { name = name; value = value; vars = vars }
+pub invariant_of-self : goal.invariant_of-self
+invariant_of-self c =
+    let names = c.self.inside.names in
+    known_kept names names c.self.inside.assigned.items c.reserve.new.self.items c.in_err-reserve.ensures.items (keeps_itself names) c.self.invariant
+
+pub invariant_of-self-in_err-places : goal.invariant_of-self-in_err-places
+invariant_of-self-in_err-places c =
+    known_kept c.self.inside.names c.of-2.new.names c.self.inside.assigned.items c.reserve.new.self.items c.in_ok-reserve.ensures.items c.in_err-places.ensures.keeps c.self.invariant
+
+pub invariant_of-self-in_err-number : goal.invariant_of-self-in_err-number
+invariant_of-self-in_err-number c =
+    known_kept c.self.inside.names c.give.new.self c.self.inside.assigned.items c.reserve.new.self.items c.in_ok-reserve.ensures.items
+    (keeps_on c.self.inside.names c.of-2.new.names c.give.new.self c.in_ok-places.ensures.keeps c.in_err-number.ensures.keeps) c.self.invariant
 
 pub invariant_of-self-2 : goal.invariant_of-self-2
 invariant_of-self-2 c =
+    let names = c.self.inside.names in
     let old = c.self.inside.assigned.items in
-    let one = the_macro c.args.name.now c.args.value.now c.args.vars in
-    let same : the_macro c.in_ok-name.name c.in_ok-value.value c.args.vars ≡ one =
-    ap (λ (name : List ℕ). the_macro name c.in_ok-value.value c.args.vars) c.in_ok-name.ensures ∙ ap (λ (value : List ℕ). the_macro c.args.name.now value c.args.vars) c.in_ok-value.ensures in
-    let all : macros_in c.push.new.all.items ≡ macros_in old ++ one ∷ [] =
-    c.in_ok-push.ensures.ok ∙ ap (λ (m : Macro). macros_in c.reserve.new.self.items ++ m ∷ []) same ∙ ap (λ (before : List Assigned). macros_in before ++ one ∷ []) c.in_ok-reserve.ensures.items in
-    let table : IsGiven (get_by_text c.self.inside.places) (get_by_text c.insert.new.self) (lower c.args.name.now) (length (macros_in old)) =
-    λ name. hash_map_updates_text (string_bytes c.in_ok-key.key) c.self.inside.places c.insert.new.self (Some c.len.result) c.in_ok-insert.ensures.updates name
-    ∙ ap (λ (key : List ℕ). cond (bytes_eq key name) (Some c.len.result) (get_by_text c.self.inside.places name)) c.in_ok-key.ensures.ok
-    ∙ ap (λ (n : ℕ). cond (bytes_eq (lower c.args.name.now) name) (Some n) (get_by_text c.self.inside.places name)) (c.len.ensures ∙ omega (arith, length-map old (λ (a : Assigned). a.one))) in
-    subst (λ (ms : List Macro). (are_texts ms ≡ true) × GivesLast (get_by_text c.insert.new.self) ms) (sym all)
-    (one_more (macros_in old) one c.self.invariant.0 c.utf8.value, gives_push (get_by_text c.self.inside.places) (get_by_text c.insert.new.self) (macros_in old) one c.self.invariant.1 table)
+    let keeps = keeps_on names c.of-2.new.names c.give.new.self c.in_ok-places.ensures.keeps c.in_ok-number.ensures.keeps in
+    let key : string_bytes c.in_ok-key.key ≡ lower c.in_ok-name.name = c.in_ok-key.ensures.ok ∙ ap lower (sym c.in_ok-name.ensures) in
+    let text : c.as_bytes-text.result.now ≡ c.in_ok-value.value = c.as_bytes-text.ensures.value ∙ c.as_str.ensures in
+    let places : AreNamesOf c.give.new.self c.in_ok-value.value (name_at c.in_ok-places.places) =
+    names_kept c.of-2.new.names c.give.new.self c.in_ok-value.value (name_at c.in_ok-places.places) c.in_ok-number.ensures.keeps
+    (subst (λ (t : List ℕ). AreNamesOf c.of-2.new.names t (name_at c.in_ok-places.places)) text c.in_ok-places.ensures.names) in
+    let at : c.len-last.result ≡ length (macros_in old) =
+    omega (arith, c.len-last.ensures, ap length c.in_ok-reserve.ensures.items, c.reserve.new.self.ok, length-map old (λ (a : Assigned). a.one)) in
+    let given : IsGiven (place_in c.give.new.self) (place_in c.assign.new.self) (lower c.in_ok-name.name) c.len-last.result =
+    subst (λ (k : List ℕ). IsGiven (place_in c.give.new.self) (place_in c.assign.new.self) k c.len-last.result) key
+    (c.assign.ensures.places (string_bytes c.in_ok-key.key) c.in_ok-number.ensures.given) in
+    known_push _ names c.give.new.self c.assign.new.self old c.reserve.new.self.items c.push.new.all.items c.len-last.result c.in_ok-reserve.ensures.items c.in_ok-push.ensures.ok at
+    keeps c.self.invariant (subst IsUtf8 (sym c.in_ok-value.ensures) c.utf8.value) places c.assign.ensures.numbers given
