@@ -39,9 +39,9 @@ pub data IsLeadFault {D R : Type 0} (failures capacity : D → ℕ) (rescue_fail
       IsLeadFault failures capacity rescue_failures rescue_capacity before now manager disk drives.Memory
 
 -- Why a round isn't run to its end: its manager refuses to begin, or to go on; or, begun, it isn't led to its end.
-pub data IsRoundFault {D R : Type 0} (failures capacity : D → ℕ) (honest : D → Type 0) (seen : D → List ℕ) (rescue_failures rescue_capacity : R → ℕ) (before now : ℕ) (plan : Plan) (slots : ℕ) (start : Start) (disk : D) (rescue : R) : DriveFault → Type 0 where
+pub data IsRoundRefusal {D R : Type 0} (failures capacity : D → ℕ) (honest : D → Type 0) (seen : D → List ℕ) (rescue_failures rescue_capacity : R → ℕ) (before now : ℕ) (plan : Plan) (slots : ℕ) (start : Start) (disk : D) (rescue : R) : DriveFault → Type 0 where
   not_opened : {fault : ManagerFault} → (left : D) → IsOpeningFault failures capacity honest seen plan slots start disk left fault →
-      IsRoundFault failures capacity honest seen rescue_failures rescue_capacity before now plan slots start disk rescue (drives.Manager fault)
+      IsRoundRefusal failures capacity honest seen rescue_failures rescue_capacity before now plan slots start disk rescue (drives.Manager fault)
   not_led : {fault : DriveFault} → (manager : Managed D) → plan_of manager ≡ plan →
       IsLeadFault failures capacity rescue_failures rescue_capacity before now manager rescue fault →
-      IsRoundFault failures capacity honest seen rescue_failures rescue_capacity before now plan slots start disk rescue fault
+      IsRoundRefusal failures capacity honest seen rescue_failures rescue_capacity before now plan slots start disk rescue fault

@@ -3,7 +3,7 @@ use Rattle.recovery.specs.Managed.{past_of}
 use Rattle.recovery.specs.Seal.{IsRescued}
 use Rattle.run_leader.specs.Led.{IsLed}
 use Rattle.run_leader.specs.Rounds.{IsRound}
-use Rattle.run_leader.specs.Causes.{IsLeadFault, IsRoundFault, not_opened, not_led}
+use Rattle.run_leader.specs.Causes.{IsLeadFault, IsRoundRefusal, not_opened, not_led}
 use Rattle.run_leader.proofs.Openings.{both, round-of}
 use Rattle.run_leader.proofs.Refusals.{of-fault}
 use Rattle.run_leader.proofs.rounds.run_round.Goals as goal
@@ -19,7 +19,7 @@ returns g c = record {
       c.lead.ensures.led c.lead.ensures.rescued;
   refused = of-fault
       (IsLeadFault g.D.Disk.faults g.D.Disk.capacity g.R.Disk.faults g.R.Disk.capacity (g.S.Starter.faults c.args.starter.now) (g.S.Starter.faults c.lead.new.starter) c.lead.new.manager c.args.rescue)
-      (IsRoundFault g.D.Disk.faults g.D.Disk.capacity g.D.Disk.honest g.D.Disk.seen g.R.Disk.faults g.R.Disk.capacity (g.S.Starter.faults c.args.starter.now) (g.S.Starter.faults c.lead.new.starter) c.args.plan.now 16777216 c.args.start c.args.disk c.args.rescue)
+      (IsRoundRefusal g.D.Disk.faults g.D.Disk.capacity g.D.Disk.honest g.D.Disk.seen g.R.Disk.faults g.R.Disk.capacity (g.S.Starter.faults c.args.starter.now) (g.S.Starter.faults c.lead.new.starter) c.args.plan.now 16777216 c.args.start c.args.disk c.args.rescue)
       c.lead.result (λ fault why. not_led c.lead.new.manager (c.lead.ensures.plan ∙ c.in-Ok.ensures.plan) why) c.lead.ensures.refused;
 }
 
