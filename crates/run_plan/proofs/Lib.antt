@@ -10,3 +10,4 @@ pub mod PlainCommands
 pub mod PlanCommands
 pub mod PlansWithoutRescue
 pub mod CategoryPlaces
+pub mod EqualFiles

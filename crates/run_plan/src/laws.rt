@@ -1,7 +1,10 @@
 //! Laws of the definitions alone. No program calls them.
 
-ghost use Rattle.std.specs.Prelude.{◌≡◌, ℕ, ◌≤◌, true, false, Ok};
+ghost use Rattle.std.specs.Prelude.{◌≡◌, ℕ, ◌≤◌, true, false, List, Option, Ok};
 ghost use Rattle.node_machine.specs.declared.Phase.{Phase};
+ghost use Rattle.splices.specs.FileSet.{bytes_of, entries_of};
+ghost use Rattle.splices.specs.declared.file_set.FileSet.{FileSet};
+ghost use Rattle.run_plan.specs.Digest.{digest_of};
 ghost use Rattle.run_plan.specs.declared.command.ChildCommand.{ChildCommand};
 ghost use Rattle.run_plan.specs.declared.command.PhaseFacts.{PhaseFacts};
 ghost use Rattle.run_plan.specs.Plan.{NodeSpec};
@@ -22,4 +25,10 @@ pub fn plain_commands()
         is_sound node ≡ true → uses_whole_run node ≡ false → attempt ≤ node.course.retries →
         HaveSameEnds phase facts other →
         command_of node attempt phase facts ≡ command_of node attempt phase other }
+{}
+
+/// Sets with the same files have one digest, in whatever order the files were added.
+pub fn equal_files()
+    ensures { (a b : FileSet) → ((name : List ℕ) → bytes_of a name ≡ bytes_of b name) → (top : List ℕ) (rescue : Option (List ℕ)) →
+        digest_of top (entries_of a) rescue ≡ digest_of top (entries_of b) rescue }
 {}

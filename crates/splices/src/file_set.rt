@@ -2,21 +2,24 @@
 
 ghost use Rattle.std.specs.Prelude.{◌≡◌, ◌≢◌, ℕ, List, None, Some, OnOk, OnErr};
 ghost use Rattle.std.specs.Option.{option_map};
+ghost use Rattle.std.specs.BTreeMap.{IsOrdered, keys};
+ghost use Rattle.std.specs.List.Sorted.{IsStrictlySortedBy-prop};
+ghost use Rattle.std.specs.Prelude.{string_cmp};
 
 use std::alloc::{AllocError, Global};
 use std::collections::BTreeMap;
 use std::collections::btree_map::Iter;
 
-/// Files by their names, in the order of the bytes of the names.
+/// Files by their names, in the order of the bytes of the names. So sets with the same files have
+/// them in the same order.
 #[derive(Drop)]
 pub struct FileSet {
     files: BTreeMap<String, Vec<u8>>,
+    ghost rising: { IsOrdered string_cmp files } by { IsStrictlySortedBy-prop string_cmp (keys files) },
 }
 
 impl FileSet {
     ghost use Rattle.splices.specs.FileSet.{bytes_of};
-    ghost use Rattle.std.specs.BTreeMap.{IsOrdered};
-    ghost use Rattle.std.specs.Prelude.{string_cmp};
 
     pub fn new(alloc: Global) -> FileSet
         ensures { (name : List ℕ) → bytes_of result name ≡ None }

@@ -1,4 +1,4 @@
-use Rattle.std.proofs.Common.{◌∙◌, ◌<◌, length, sym, ap, arith, subst}
+use Rattle.std.proofs.Common.{◌∙◌, sym, ap, arith}
 use Rattle.std.specs.Str.{bytes_eq}
 use Rattle.splices.specs.declared.flat.CategoryLimit.{CategoryLimit}
 use Rattle.run_plan.proofs.CategoryPlaces.{place-found, place-none}
