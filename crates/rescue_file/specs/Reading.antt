@@ -1,5 +1,5 @@
 -- Reading a rescue file line by line, up to the first fault.
-use Rattle.std.specs.Prelude.{◌≡◌, ℕ, ◌+◌, List, [], ◌∷◌, ◌++◌, length, Option, Some, None, position, Result, Ok, Err, nat_lt, codes, if◌then◌else◌}
+use Rattle.std.specs.Prelude.{ℕ, ◌+◌, List, [], ◌∷◌, ◌++◌, length, Option, Some, None, position, Result, Ok, Err, nat_lt, codes, if◌then◌else◌}
 use Rattle.std.specs.Option.{option_to_list}
 use Rattle.std.specs.Str.{bytes_eq}
 use Rattle.std.specs.Str.Lines.{lines}
@@ -8,11 +8,12 @@ use Rattle.dag_reader.specs.Word.{PlacedText}
 use Rattle.dag_reader.specs.Words.{words}
 use Rattle.dag_reader.specs.Keywords.{is_keyword, is_comment}
 use Rattle.dag_reader.specs.Reading.{text_of}
+pub use Rattle.dag_reader.specs.Results.{◌>>=◌}
+use Rattle.dag_reader.specs.Results.{Tells, Returns}
 use Rattle.splices.specs.Dag.{Dag}
 use Rattle.dag_graph.specs.Graph.{names_of}
-pub use Rattle.rescue_file.specs.Results.{◌>>=◌}
 use Rattle.rescue_file.specs.declared.fault.RescueFault.{RescueFault}
-use Rattle.rescue_file.specs.declared.fault.RescueFault.TheVariants.{BadLine, UnknownNode, FinalDone, NotThere, Memory}
+use Rattle.rescue_file.specs.declared.fault.RescueFault.TheVariants.{BadLine, UnknownNode, FinalDone, Memory}
 
 -- the name behind the keyword DONE, if it is the last word
 abbrev pub last_name : List PlacedText → Option (List ℕ)
@@ -72,14 +73,14 @@ lines_at dag number (line ∷ more) = do
 abbrev pub rescued_of : Dag → List ℕ → Result (List ℕ) RescueFault
 rescued_of dag bytes = lines_at dag 1 (lines bytes)
 
--- What a function returned, seen by view, is this answer, unless memory ran out.
+-- The fault that a refusal tells; for want of memory it tells none.
+abbrev pub told_fault : RescueFault → Option RescueFault
+told_fault Memory = None
+told_fault fault = Some fault
+
+-- what a function returned, seen by view, is this answer, unless memory ran out
 abbrev pub Fails : {Y : Type 0} → RescueFault → Result Y RescueFault → Type 0
-Fails (BadLine number) answer = answer ≡ Err (BadLine number)
-Fails (UnknownNode number) answer = answer ≡ Err (UnknownNode number)
-Fails (FinalDone number) answer = answer ≡ Err (FinalDone number)
-Fails (NotThere number) answer = answer ≡ Err (NotThere number)
-Fails Memory answer = Unit {0}
+Fails fault answer = Tells (told_fault fault) answer
 
 abbrev pub Gives : {X Y : Type 0} → (X → Y) → Result X RescueFault → Result Y RescueFault → Type 0
-Gives view (Ok x) answer = answer ≡ Ok (view x)
-Gives view (Err fault) answer = Fails fault answer
+Gives view = Returns told_fault view

@@ -4,6 +4,7 @@ use Rattle.std.specs.List.{list_any, list_all}
 use Rattle.node_machine.specs.declared.Phase.{Phase}
 use Rattle.node_machine.specs.declared.Phase.TheVariants.{Pre, Job, Post}
 use Rattle.splices.specs.Paths.{join}
+pub use Rattle.dag_reader.specs.Results.{◌>>=◌}
 use Rattle.vars_macros.specs.Symbols.{arguments}
 use Rattle.vars_macros.specs.Expansion.{Expansion, expansion}
 use Rattle.vars_macros.specs.Meaning.{Scope, last_of}
@@ -20,11 +21,6 @@ use Rattle.run_plan.specs.declared.job.Places.{Places}
 use Rattle.run_plan.specs.declared.job.JobFault.TheVariants.{InMacro, NoExecutable, BadUniverse}
 use Rattle.run_plan.specs.Plan as plans
 use Rattle.run_plan.specs.Plan.{NodeSpec, Orders, Program, Described}
-
-infixl 10 ◌>>=◌
-abbrev pub ◌>>=◌ : {A B : Type 0} → Result A JobFault → (A → Result B JobFault) → Result B JobFault
-(Ok x) >>= f = f x
-(Err e) >>= f = Err e
 
 abbrev pub in_macro : {A : Type 0} → Result A MacroFault → Result A JobFault
 in_macro (Ok x) = Ok x

@@ -1,9 +1,10 @@
 -- What the code answers of a job.
-use Rattle.std.specs.Prelude.{◌≡◌, Result, Ok, Err}
+use Rattle.std.specs.Prelude.{Option, Some, None, Result}
+use Rattle.dag_reader.specs.Results.{Tells, Returns}
 use Rattle.vars_macros.specs.declared.fault.MacroFault.{MacroFault}
 use Rattle.vars_macros.specs.declared.fault.MacroFault.TheVariants as macro
 use Rattle.run_plan.specs.declared.job.JobFault.{JobFault}
-use Rattle.run_plan.specs.declared.job.JobFault.TheVariants.{Memory, InMacro, NoExecutable, BadUniverse}
+use Rattle.run_plan.specs.declared.job.JobFault.TheVariants.{Memory, InMacro}
 
 abbrev pub fault_of : MacroFault → JobFault
 fault_of macro.Memory = Memory
@@ -13,13 +14,14 @@ fault_of macro.TooLong = InMacro macro.TooLong
 fault_of macro.BadQuote = InMacro macro.BadQuote
 fault_of macro.BadReference = InMacro macro.BadReference
 
--- What a function returned, seen by view, is this answer, unless memory ran out.
+-- The fault that a refusal tells; for want of memory it tells none.
+abbrev pub told_fault : JobFault → Option JobFault
+told_fault Memory = None
+told_fault fault = Some fault
+
+-- what a function returned, seen by view, is this answer, unless memory ran out
 abbrev pub Fails : {Y : Type 0} → JobFault → Result Y JobFault → Type 0
-Fails Memory answer = Unit {0}
-Fails (InMacro fault) answer = answer ≡ Err (InMacro fault)
-Fails NoExecutable answer = answer ≡ Err NoExecutable
-Fails BadUniverse answer = answer ≡ Err BadUniverse
+Fails fault answer = Tells (told_fault fault) answer
 
 abbrev pub Gives : {X Y : Type 0} → (X → Y) → Result X JobFault → Result Y JobFault → Type 0
-Gives view (Ok x) answer = answer ≡ Ok (view x)
-Gives view (Err fault) answer = Fails fault answer
+Gives view = Returns told_fault view

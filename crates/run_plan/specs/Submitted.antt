@@ -4,6 +4,7 @@ use Rattle.std.specs.Str.{is_utf8}
 use Rattle.dag_reader.specs.declared.command.Placement.{Placement}
 use Rattle.dag_reader.specs.declared.command.Placement.TheVariants.{Prepend, Append}
 use Rattle.dag_graph.specs.Graph.{Network}
+pub use Rattle.dag_reader.specs.Results.{◌>>=◌}
 use Rattle.splices.specs.Dag.{Dag}
 use Rattle.splices.specs.Opening.{Files}
 use Rattle.splices.specs.declared.flat.FlatNode.{FlatNode}
@@ -24,11 +25,6 @@ use Rattle.run_plan.specs.Plan.{Job, Program, Described, Plan}
 use Rattle.run_plan.specs.Commands.{scope_in, greatest, checked}
 use Rattle.run_plan.specs.Digest.{digest_of}
 use Rattle.run_plan.specs.Specs.{Sources, retries_of, is_listed, plan_of}
-
-infixl 10 ◌>>=◌
-abbrev pub ◌>>=◌ : {A B : Type 0} → Result A PlanFault → (A → Result B PlanFault) → Result B PlanFault
-(Ok x) >>= f = f x
-(Err e) >>= f = Err e
 
 abbrev pub fault_in : List ℕ → JobFault → PlanFault
 fault_in name job.Memory = Memory

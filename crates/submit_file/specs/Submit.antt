@@ -2,6 +2,8 @@
 use Rattle.std.specs.Prelude.{◌≡◌, ◌⊎◌, ℕ, Bool, true, false, List, [], ◌∷◌, ◌++◌, Option, Some, None, Result, Ok, Err, if◌then◌else◌}
 use Rattle.std.specs.Str.{IsUtf8}
 use Rattle.std.specs.Str.Lines.{lines}
+pub use Rattle.dag_reader.specs.Results.{◌>>=◌}
+use Rattle.dag_reader.specs.Results.{Tells, Returns}
 use Rattle.submit_file.specs.Lines.{Statement, statements}
 use Rattle.submit_file.specs.Forms.{Saying, Silent, Assigns, Queues, Wrong, line_says, is_word}
 use Rattle.submit_file.specs.declared.submit.Assignment.{Assignment}
@@ -63,11 +65,6 @@ with_line r number (Assigns name value) = Ok (with_assignment r name value)
 with_line r number Queues = Ok (record r { queued = true })
 with_line r number (Wrong fault) = Err (InLine number fault)
 
-infixl 10 ◌>>=◌
-abbrev pub ◌>>=◌ : {A B : Type 0} → Result A SubmitFault → (A → Result B SubmitFault) → Result B SubmitFault
-(Ok x) >>= f = f x
-(Err e) >>= f = Err e
-
 -- all lines, one after the other, and then the queue line must have stood
 unfoldable pub read_from : Reading → List Statement → Result (List Assignment) SubmitFault
 read_from r [] = if r.queued then Ok r.assigned else Err NoQueue
@@ -76,16 +73,17 @@ read_from r (s ∷ ss) = with_line r s.number (line_says r.queued s.text) >>= λ
 abbrev pub submit_of : List ℕ → Result (List Assignment) SubmitFault
 submit_of text = read_from nothing_read (statements 1 (lines text))
 
--- What a function returned, seen by view, is this answer, unless memory ran out.
+-- The fault that a refusal tells; for want of memory it tells none.
+abbrev pub told_fault : SubmitFault → Option SubmitFault
+told_fault Memory = None
+told_fault fault = Some fault
+
+-- what a function returned, seen by view, is this answer, unless memory ran out
 abbrev pub Fails : {Y : Type 0} → SubmitFault → Result Y SubmitFault → Type 0
-Fails Memory answer = Unit {0}
-Fails NotText answer = answer ≡ Err NotText
-Fails NoQueue answer = answer ≡ Err NoQueue
-Fails (InLine number fault) answer = answer ≡ Err (InLine number fault)
+Fails fault answer = Tells (told_fault fault) answer
 
 abbrev pub Gives : {X Y : Type 0} → (X → Y) → Result X SubmitFault → Result Y SubmitFault → Type 0
-Gives view (Ok x) answer = answer ≡ Ok (view x)
-Gives view (Err fault) answer = Fails fault answer
+Gives view = Returns told_fault view
 
 -- the value that was assigned to the name last
 abbrev pub last_from : Option (List ℕ) → List Assignment → List ℕ → Option (List ℕ)
