@@ -1,17 +1,27 @@
 //! What is told of a run by its journal, from the files that stand beside its DAG file.
 
-ghost use Rattle.std.specs.Prelude.{◌≡◌};
+ghost use Rattle.std.specs.Prelude.{◌≡◌, IfOk};
+ghost use Rattle.event_journal.specs.Memory.{disk_bytes};
 ghost use Rattle.dag_texts.specs.Planned.{in_line, named_by};
 
 use crate::beside::{LAST_NUMBER, Place, journal_path, rescue_path};
 use crate::loading::files_in;
 use dag_reader::Text;
-use dag_texts::{Answer, RunFault, audit_of, disk_of, status_of};
-use event_journal::{Journal, JournalFault};
+use dag_texts::{Answer, RunFault, audit_of, status_of};
+use event_journal::{Journal, JournalFault, MemDisk};
 use rescue_file::RescueFault;
 use run_plan::PlanFault;
-use std::alloc::Global;
+use std::alloc::{AllocError, Global};
 use std::rt::Files;
+
+/// A disk in memory of these bytes.
+fn disk_of(alloc: Global, bytes: &[u8]) -> Result<MemDisk, AllocError>
+    ensures { IfOk result (λ disk. disk_bytes disk ≡ bytes.now) }
+{
+    let mut copy = Vec::new(alloc);
+    copy.extend_from_slice(bytes)?;
+    Ok(MemDisk::of(alloc, copy, bytes.len()))
+}
 
 /// The number of the rescue file that the run of a journal read: 0 for none, where there is no
 /// journal, and where its bytes are none.
@@ -98,44 +108,37 @@ fn last_round<R: Files + AllocGlobal>(rt: &R, place: &Place<'_>) -> Result<LastR
     })
 }
 
-/// What a call answers, a fault in a line of the rescue file with its path.
-fn with_name(answer: Result<Answer, RunFault>, name: Option<Text>) -> Result<Answer, RunFault> {
+/// What is asked of a run's journal.
+#[derive(Clone, Copy, Debug, PartialEq, Eq)]
+pub(crate) enum Question {
+    /// Where each node stands.
+    Status,
+    /// Whether it is that of a finished run, and what its nodes came to.
+    Audit,
+}
+
+/// The answer for the DAG file of this path, seen from this folder, by its journal and the rescue file
+/// that the journal names.
+///
+/// # Errors
+/// As `last_round`, and then as `status_of` or `audit_of`, a fault in a line of the rescue file with
+/// its path.
+pub(crate) fn told_here<R: Files + AllocGlobal>(
+    rt: &R,
+    folder: &str,
+    top: &str,
+    question: Question,
+) -> Result<Answer, RunFault> {
+    let round = last_round(rt, &Place { folder, top })?;
+    let files = files_in(rt, folder, top)?;
+    let rescue = bytes_of(&round.rescue);
+    let journal = bytes_of(&round.journal);
+    let answer = match question {
+        Question::Status => status_of(rt.alloc(), &files, top, rescue, journal),
+        Question::Audit => audit_of(rt.alloc(), &files, top, rescue, journal),
+    };
     match answer {
         Ok(answer) => Ok(answer),
-        Err(fault) => Err(named(fault, name)),
+        Err(fault) => Err(named(fault, round.name)),
     }
-}
-
-/// The status of the DAG file of this path, seen from this folder, with its journal and the rescue
-/// file that the journal names.
-///
-/// # Errors
-/// As `last_round`, and then as `status_of`.
-pub(crate) fn status_here<R: Files + AllocGlobal>(
-    rt: &R,
-    folder: &str,
-    top: &str,
-) -> Result<Answer, RunFault> {
-    let round = last_round(rt, &Place { folder, top })?;
-    let files = files_in(rt, folder, top)?;
-    let journal = bytes_of(&round.journal);
-    let answer = status_of(rt.alloc(), &files, top, bytes_of(&round.rescue), journal);
-    with_name(answer, round.name)
-}
-
-/// The audit of the DAG file of this path, seen from this folder, with its journal and the rescue
-/// file that the journal names.
-///
-/// # Errors
-/// As `last_round`, and then as `audit_of`.
-pub(crate) fn audit_here<R: Files + AllocGlobal>(
-    rt: &R,
-    folder: &str,
-    top: &str,
-) -> Result<Answer, RunFault> {
-    let round = last_round(rt, &Place { folder, top })?;
-    let files = files_in(rt, folder, top)?;
-    let journal = bytes_of(&round.journal);
-    let answer = audit_of(rt.alloc(), &files, top, bytes_of(&round.rescue), journal);
-    with_name(answer, round.name)
 }

@@ -1,12 +1,10 @@
 //! The program's commands over the system's files and streams.
 
 use crate::beside::refused;
-use crate::by_journal::{audit_here, status_here};
+use crate::by_journal::{Question, told_here};
 use crate::loading::{Reading, files_of};
-use crate::request::{Request, read_words};
-use crate::runs::{RunOptions, run_dag};
-use clap::Error;
-use clap::error::ErrorKind;
+use crate::runs::run_dag;
+use command_line::{Request, RunOptions, WordsFault, read_words};
 use dag_texts::{Answer, RunFault, check_text, rehearse_text};
 use std::alloc::Global;
 use std::fs::File;
@@ -39,8 +37,8 @@ pub fn run<
 >(rt: &R, words: &[&str]) -> u8 {
     match read_words(rt.alloc(), words) {
         Ok(Request::Run { dag, options }) => finish(rt, run_here(rt, dag, &options)),
-        Ok(Request::Status { dag }) => finish(rt, status(rt, dag)),
-        Ok(Request::Audit { dag }) => finish(rt, audit(rt, dag)),
+        Ok(Request::Status { dag }) => finish(rt, told(rt, dag, Question::Status)),
+        Ok(Request::Audit { dag }) => finish(rt, told(rt, dag, Question::Audit)),
         Ok(Request::Check { dag }) => finish(rt, check(rt, dag)),
         Ok(
             Request::Rehearse {
@@ -49,16 +47,14 @@ pub fn run<
                 limits,
             },
         ) => finish(rt, rehearse(rt, dag, outcomes, limits)),
-        Err(error) => refuse_words(rt, &error),
+        Err(WordsFault::Told(text)) => refuse_words(rt, text.as_str()),
+        Err(WordsFault::Memory) => finish(rt, Err(RunFault::Memory)),
     }
 }
 
-/// Tells why the words are no request: want of memory as everywhere, else by clap's text.
-fn refuse_words<R: Print + Eprint>(rt: &R, error: &Error) -> u8 {
-    if error.kind() == ErrorKind::OutOfMemory {
-        return finish(rt, Err(RunFault::Memory));
-    }
-    let _ = eprint!(rt; "{error}");
+/// Tells why the words are no request.
+fn refuse_words<R: Eprint>(rt: &R, text: &str) -> u8 {
+    let _ = eprint!(rt; "{text}");
     REFUSED
 }
 
@@ -100,14 +96,13 @@ fn run_here<R: Files<File = File> + Processes + Clock + Env + AllocGlobal + Copy
     run_dag(*rt, folder.as_str(), dag, options)
 }
 
-fn status<R: Files + Env + AllocGlobal>(rt: &R, dag: &str) -> Result<Answer, RunFault> {
+fn told<R: Files + Env + AllocGlobal>(
+    rt: &R,
+    dag: &str,
+    question: Question,
+) -> Result<Answer, RunFault> {
     let folder = folder_now(rt)?;
-    status_here(rt, folder.as_str(), dag)
-}
-
-fn audit<R: Files + Env + AllocGlobal>(rt: &R, dag: &str) -> Result<Answer, RunFault> {
-    let folder = folder_now(rt)?;
-    audit_here(rt, folder.as_str(), dag)
+    told_here(rt, folder.as_str(), dag, question)
 }
 
 fn check<R: Files + Input + AllocGlobal>(rt: &R, dag: &str) -> Result<Answer, RunFault> {

@@ -10,6 +10,7 @@ use crate::beside::{Place, journal_path, rescue_path};
 use crate::by_journal::{bytes_of, named};
 use crate::loading::files_in;
 use crate::rounds::{Journaled, Round, disk_at, round_of, start_of};
+use command_line::RunOptions;
 use dag_graph::Graph;
 use dag_texts::{Answer, RunFault, graph_of, plan_by, warning_text};
 use job_starter::{DriveFault, LocalSystem, ProcessStarter};
@@ -23,15 +24,6 @@ use std::process::Processes;
 use std::rt::Files;
 use std::time::Clock;
 use throttles::Limits;
-
-/// How a run is to be done.
-#[derive(Clone, Copy, Debug, PartialEq, Eq)]
-pub struct RunOptions {
-    /// What may run at once.
-    pub limits: Limits,
-    /// Whether a new round reads the rescue file of the highest number.
-    pub autorescue: bool,
-}
 
 /// What a run prints, and its exit status.
 #[derive(Drop)]
