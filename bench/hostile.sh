@@ -121,8 +121,8 @@ row pairs_again closed
 row names_again closed
 row splice_again closed
 row splices closed
-row splices_of_lines open
-row long_name open
-row long_name_assigned open
+row splices_of_lines closed
+row long_name closed
+row long_name_assigned closed
 row joined_lines closed
 exit $over
