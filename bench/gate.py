@@ -1,0 +1,102 @@
+#!/usr/bin/env python3
+"""Measures what ./test costs, by crate: gate.py [COMMAND..], in place of ./test that command
+
+Run it in a fresh clone on a machine that does nothing else. It looks at the processes of the command twice a second, and prints
+the minutes by the clock and of processors in all, and for each crate: the processor seconds of its proofs (of a crate of tests:
+with its tests), those of the edits that are tried, the most memory that one process held, and when its first process began and its
+last one ended, in minutes. A process that lives less than half a second may be missed; the minutes in all are the system's own.
+"""
+
+import os
+import re
+import resource
+import subprocess
+import sys
+import time
+
+TICKS = os.sysconf("SC_CLK_TCK")
+TOP = os.path.dirname(os.path.dirname(os.path.abspath(__file__)))
+
+
+class Process:
+    """What was last seen of a process: its crate and whether it tries an edit, its seconds, its memory, its first and last moment."""
+
+    def __init__(self, begun):
+        self.crate, self.edit, self.seconds, self.bytes = None, False, 0.0, 0
+        self.begun = self.seen = begun
+
+    def look(self, folder, moment):
+        """Reads what /proc says of it now."""
+        with open(f"{folder}/stat") as stat:
+            fields = stat.read().rpartition(")")[2].split()
+        self.seconds, self.seen = (int(fields[11]) + int(fields[12])) / TICKS, moment
+        with open(f"{folder}/status") as status:
+            peak = re.search(r"VmHWM:\s+(\d+)", status.read())
+        self.bytes = max(self.bytes, 1024 * int(peak[1]) if peak else 0)
+        where = os.readlink(f"{folder}/cwd")
+        with open(f"{folder}/cmdline", "rb") as words:
+            named = re.search(rb"--crate-name\0(\w+)", words.read())
+        inside = re.match(re.escape(TOP) + r"/crates/(\w+)", where)
+        if named or inside:
+            self.crate = named[1].decode() if named else inside[1]
+            self.edit = inside is None
+
+
+def descendants(of):
+    """The numbers of a process's children, of their children and so on."""
+    parents = {}
+    for name in filter(str.isdigit, os.listdir("/proc")):
+        try:
+            with open(f"/proc/{name}/stat") as stat:
+                parents[int(name)] = int(stat.read().rpartition(")")[2].split()[1])
+        except OSError:
+            pass
+    found, above = [], {of}
+    while above:
+        above = {child for child, parent in parents.items() if parent in above}
+        found += above
+    return found
+
+
+def watch(running, start):
+    """Looks at the processes until the command ends, and gives what was seen of each."""
+    processes = {}
+    while running.poll() is None:
+        moment = time.monotonic() - start
+        for number in descendants(os.getpid()):
+            try:
+                with open(f"/proc/{number}/stat") as stat:
+                    key = number, stat.read().rpartition(")")[2].split()[19]
+                processes.setdefault(key, Process(moment)).look(f"/proc/{number}", moment)
+            except OSError:
+                pass
+        time.sleep(0.5)
+    return list(processes.values())
+
+
+def table(processes):
+    """Prints a row for each crate, in the order in which they begin."""
+    crates = {}
+    for process in processes:
+        if process.crate:
+            crates.setdefault(process.crate, []).append(process)
+    print("| Crate | Seconds | GB | Edits, seconds | Begins | Ends |\n|---|---|---|---|---|---|")
+    for crate, own in sorted(crates.items(), key=lambda item: min(it.begun for it in item[1])):
+        proofs, edits = (sum(it.seconds for it in own if it.edit == edit) for edit in (False, True))
+        memory, ends = max(it.bytes for it in own) / 1e9, max(it.seen for it in own) / 60
+        print(f"| {crate} | {proofs:.0f} | {memory:.1f} | {edits:.0f} | {min(it.begun for it in own) / 60:.1f} | {ends:.1f} |")
+
+
+def main():
+    start = time.monotonic()
+    with subprocess.Popen(sys.argv[1:] or ["./test"], cwd=TOP) as running:
+        processes = watch(running, start)
+    used = resource.getrusage(resource.RUSAGE_CHILDREN)
+    table(processes)
+    minutes, processors = (time.monotonic() - start) / 60, (used.ru_utime + used.ru_stime) / 60
+    print(f"{minutes:.1f} minutes by the clock, {processors:.1f} processor minutes")
+    return running.returncode
+
+
+if __name__ == "__main__":
+    sys.exit(main())
