@@ -1,10 +1,10 @@
 #!/usr/bin/env python3
 """Measures what ./test costs, by crate: gate.py [COMMAND..], in place of ./test that command
 
-Run it in a fresh clone on a machine that does nothing else. It looks at the processes of the command twice a second, and prints
+Run it in a fresh clone on a machine that does nothing else. It looks at the processes of the command once a second, and prints
 the minutes by the clock and of processors in all, and for each crate: the processor seconds of its proofs (of a crate of tests:
 with its tests), those of the edits that are tried, the most memory that one process held, and when its first process began and its
-last one ended, in minutes. A process that lives less than half a second may be missed; the minutes in all are the system's own.
+last one ended, in minutes. A process that lives less than a second may be missed; the minutes in all are the system's own.
 """
 
 import os
@@ -15,7 +15,7 @@ import sys
 import time
 
 TICKS = os.sysconf("SC_CLK_TCK")
-TOP = os.path.dirname(os.path.dirname(os.path.abspath(__file__)))
+TOP = os.path.dirname(os.path.dirname(os.path.realpath(__file__)))
 
 
 class Process:
@@ -70,7 +70,7 @@ def watch(running, start):
                 processes.setdefault(key, Process(moment)).look(f"/proc/{number}", moment)
             except OSError:
                 pass
-        time.sleep(0.5)
+        time.sleep(1)
     return list(processes.values())
 
 
