@@ -5,14 +5,14 @@
 #   read their file and say what they would run; dagrun reads its files, orders the graph and expands the texts of each job).
 # All nodes of a graph have one submit file; bench/plan.sh has one for each node.
 # The program refuses more than 4,096 nodes. So the large graphs are checked by a copy of it in a temporary folder whose bound
-# is 65,536: the two comparisons with it in `open_tree`, where MOST of crates/splices/src/open.rt stands, are changed in the copy
+# is 65,536: the two comparisons with it in `open_tree`, where MOST of crates/dag_opener/src/open.rt stands, are changed in the copy
 # of the object file, which is linked anew. That copy is for these times alone and nothing of it is proved; all its other code is
 # that of the program. (What `rt try` builds is a checked program, about 200 times slower, and without a proof rt builds no other.)
 . "$(dirname -- "${BASH_SOURCE[0]}")/common.sh"
 
 # raised PROGRAM: links the copy with the raised bound
 raised() {
-    local section=.text.splices::open::open_tree object=$work/raised.o kit start place length
+    local section=.text.dag_opener::open::open_tree object=$work/raised.o kit start place length
     kit=$(dirname -- "$(rt doc)")
     cp "$program.o" "$object"
     start=$((16#$(objdump -h -w "$object" | awk -v s="$section" '$2 == s { print $6 }')))

@@ -6,7 +6,7 @@ use Rattle.dag_graph.specs.Graph.{Network}
 use Rattle.run_plan.specs.Plan.{Plan}
 use Rattle.dag_main.specs.Runs.{IsPlannedRun, IsLedRun, IsRunOf}
 use Rattle.dag_texts.specs.Planned.{IsGraphOf}
-use Rattle.dag_texts.specs.Report.{warning_lines}
+use Rattle.dag_texts.specs.Warnings.{warning_lines}
 
 pub run-of : (path : List ℕ) (files : FileSet) (graph : Network) (plan : Plan) → IsGraphOf (bytes_of files) path graph
     → IsPlannedRun files graph plan → (text warnings : List ℕ) (status : ℕ) → IsLedRun plan text status

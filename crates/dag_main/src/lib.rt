@@ -11,5 +11,6 @@ mod runs;
 
 pub use command_line::{Request, RunOptions, WordsFault, read_words};
 pub use commands::run;
-pub use dag_texts::{Answer, RunFault, audit_of, check_text, rehearse_text, run_table, status_of};
+pub use dag_texts::{Answer, RunFault, audit_of, check_text, status_of};
+pub use rehearsal::{rehearse_text, run_table};
 pub use runs::run_dag;

@@ -1,9 +1,10 @@
 //! Rescue files: what is written, what is read, and their names.
 
 use dag_graph::Graph;
+use dag_opener::open_dag;
 use dag_reader::{Text, Texts};
 use rescue_file::{RescueFault, pick_number, read_rescue, rescue_name, rescue_text};
-use splices::{FileSet, open_dag};
+use splices::FileSet;
 use std::alloc::Global;
 use std::test::Fail;
 

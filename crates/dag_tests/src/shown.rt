@@ -3,8 +3,9 @@
 use crate::lines::{limits, settings};
 use crate::views::{ancestors, links, names, options, plan_text};
 use dag_graph::Graph;
+use dag_opener::open_dag;
 use run_plan::{Plan, PlanFault};
-use splices::{FileSet, FlatDag, open_dag};
+use splices::{FileSet, FlatDag};
 use std::alloc::{AllocError, Global};
 use std::process::Abort;
 

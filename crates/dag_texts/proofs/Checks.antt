@@ -6,7 +6,7 @@ use Rattle.splices.specs.Opened.{dag_at}
 use Rattle.dag_graph.specs.Graph.{IsAcyclic}
 use Rattle.run_plan.specs.Submitted.{first_fault, all_nodes}
 use Rattle.dag_texts.specs.Checked.{IsCheckOf, IsCheckFault, checking_had_no_memory, ok_line}
-use Rattle.dag_texts.specs.Report.{warning_lines}
+use Rattle.dag_texts.specs.Warnings.{warning_lines}
 use Rattle.dag_texts.specs.declared.fault.RunFault.{RunFault}
 use Rattle.dag_texts.specs.declared.fault.RunFault.TheVariants.{Memory}
 use Rattle.dag_texts.specs.declared.warnings.Answer.{Answer}

@@ -12,7 +12,7 @@ use Rattle.run_plan.specs.declared.fault.PlanFault.{PlanFault}
 use Rattle.dag_texts.specs.declared.fault.RunFault.{RunFault}
 use Rattle.dag_texts.specs.declared.fault.RunFault.TheVariants.{InPlan, Memory}
 use Rattle.dag_texts.specs.Planned.{IsGraphFault}
-use Rattle.dag_texts.specs.Report.{warning_lines}
+use Rattle.dag_texts.specs.Warnings.{warning_lines}
 
 abbrev pub yes_or_no : Option FlatNode → List ℕ
 yes_or_no None = codes "no"

@@ -1,7 +1,4 @@
-pub mod Rehearsal
-pub mod Report
-pub mod Rehearsed
-pub mod Refusals
+pub mod Warnings
 pub mod Checked
 pub mod Planned
 pub mod Told

@@ -6,7 +6,7 @@ ghost use Rattle.splices.specs.FileSet.{bytes_of, entries_of};
 ghost use Rattle.run_plan.specs.Plan.{count_of};
 ghost use Rattle.status_report.specs.Text.{fate_line};
 ghost use Rattle.dag_texts.specs.declared.fault.RunFault.TheVariants.{Memory};
-ghost use Rattle.dag_texts.specs.Report.{warning_lines};
+ghost use Rattle.dag_texts.specs.Warnings.{warning_lines};
 ghost use Rattle.dag_texts.specs.Audited.{passed_text, refused_text, IsAuditText, IsAuditedAs, IsAuditFault};
 
 use crate::fault::RunFault;

@@ -2,7 +2,7 @@
 
 ghost use Rattle.std.specs.Prelude.{◌≡◌, ◌++◌, OnOk, IfOk, IfErr, string_bytes};
 ghost use Rattle.splices.specs.FileSet.{bytes_of};
-ghost use Rattle.dag_texts.specs.Report.{warning_lines};
+ghost use Rattle.dag_texts.specs.Warnings.{warning_lines};
 ghost use Rattle.dag_texts.specs.declared.fault.RunFault.TheVariants.{Memory};
 ghost use Rattle.dag_texts.specs.Checked.{IsCheckOf, IsCheckFault, ok_line, yes_or_no};
 

@@ -1,21 +1,16 @@
-//! The commands of dagrun, each as a call over texts: what it answers, and why it is refused.
+//! The commands of dagrun that look at texts alone, each as a call: what it answers, and why it is refused.
 #![tactic(auto)]
 
 mod audits;
 mod check;
 mod fault;
-pub mod laws;
 mod plans;
-mod rehearsal;
-mod report;
 mod statuses;
 mod warnings;
 
 pub use audits::audit_of;
 pub use check::check_text;
 pub use fault::RunFault;
-pub use plans::{graph_of, plan_by};
-pub use rehearsal::{Rehearsal, run_table};
-pub use report::rehearse_text;
+pub use plans::{graph_of, plan_by, plan_of};
 pub use statuses::status_of;
 pub use warnings::{Answer, warning_text};

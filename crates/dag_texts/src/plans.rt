@@ -11,8 +11,9 @@ ghost use Rattle.dag_texts.specs.Planned.{IsGraphOf, IsGraphFault, IsPlanOf, IsP
 
 use crate::fault::RunFault;
 use dag_graph::{Graph, GraphFault};
+use dag_opener::open_dag;
 use run_plan::{Plan, PlanFault};
-use splices::{FileSet, FlatDag, SpliceFault, open_dag};
+use splices::{FileSet, FlatDag, SpliceFault};
 use std::alloc::Global;
 
 fn dag_of(alloc: Global, files: &FileSet, path: &str) -> Result<FlatDag, RunFault>
@@ -40,7 +41,7 @@ pub fn graph_of(alloc: Global, files: &FileSet, path: &str) -> Result<Graph, Run
 }
 
 /// The plan of the files of this path, with no submit file read.
-pub(crate) fn plan_of(alloc: Global, files: &FileSet, path: &str) -> Result<Plan, RunFault>
+pub fn plan_of(alloc: Global, files: &FileSet, path: &str) -> Result<Plan, RunFault>
     ensures plan { IfOk result (IsPlanOf (bytes_of files.now) path.now) }
     ensures refused { IfErr result (IsGraphFault (bytes_of files.now) path.now) }
 {

@@ -5,7 +5,7 @@ ghost use Rattle.std.specs.Option.{option_map};
 ghost use Rattle.splices.specs.FileSet.{bytes_of, entries_of};
 ghost use Rattle.sched_core.specs.Run.{written};
 ghost use Rattle.dag_texts.specs.declared.fault.RunFault.TheVariants.{Memory};
-ghost use Rattle.dag_texts.specs.Report.{warning_lines};
+ghost use Rattle.dag_texts.specs.Warnings.{warning_lines};
 ghost use Rattle.dag_texts.specs.Statused.{journal_bytes, records_at, read_fault, IsStatusText, IsRecordsFault, IsStatusOf, IsStatusFault};
 
 use crate::fault::RunFault;

@@ -1,7 +1,7 @@
 //! What commands print.
 
 ghost use Rattle.std.specs.Prelude.{◌≡◌, ◌++◌, OnOk, IfOk, string_bytes};
-ghost use Rattle.dag_texts.specs.Report.{warning_line, warning_lines};
+ghost use Rattle.dag_texts.specs.Warnings.{warning_line, warning_lines};
 
 use node_machine::Verdict;
 use splices::DagWarning;

@@ -6,19 +6,15 @@
 
 mod driving;
 pub mod laws;
-mod local;
 mod log;
-mod polling;
 mod records;
 mod refusals;
 mod scripted;
 mod starter;
 
 pub use driving::{DriveFault, RunEnd, drive, launch_round};
-pub use local::LocalSystem;
-pub use log::CallLog;
+pub use log::{CallLog, are_same, key_at};
 use node_machine::{Key, Outcome};
-pub use polling::ProcessStarter;
 pub use refusals::{no_answer, no_memory};
 use run_plan::ChildCommand;
 pub use scripted::{Script, ScriptedStarter};

@@ -3,9 +3,10 @@
 use crate::commands::{command_text, number_of};
 use crate::shown::{decimal, joined, plan_fault, yes_or_no};
 use dag_graph::Graph;
+use dag_opener::open_dag;
 use node_machine::Phase;
 use run_plan::{NodeSpec, Plan, PlanFault};
-use splices::{FileSet, open_dag};
+use splices::FileSet;
 use std::alloc::{AllocError, Global};
 use std::test::Fail;
 

@@ -1,8 +1,9 @@
 // Plans of the tests, and what they share.
 use dag_graph::Graph;
+use dag_opener::open_dag;
 use node_machine::{Key, Phase};
 use run_plan::{Plan, PlanFault};
-use splices::{FileSet, open_dag};
+use splices::FileSet;
 use std::alloc::Global;
 use std::test::Fail;
 use throttles::Limits;

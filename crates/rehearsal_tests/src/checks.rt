@@ -1,7 +1,8 @@
 //! What `check` answers.
 
 use crate::NO_LIMITS;
-use dag_texts::{check_text, rehearse_text};
+use dag_texts::check_text;
+use rehearsal::rehearse_text;
 use splices::FileSet;
 use std::alloc::Global;
 use std::test::Fail;

@@ -2,10 +2,11 @@
 
 use crate::NO_LIMITS;
 use dag_graph::Graph;
-use dag_texts::run_table;
+use dag_opener::open_dag;
 use node_machine::{Outcome, Phase, read_table};
+use rehearsal::run_table;
 use run_plan::{Plan, PlanFault};
-use splices::{FileSet, open_dag};
+use splices::FileSet;
 use std::alloc::Global;
 use std::process::Abort;
 use std::test::Fail;

@@ -3,12 +3,13 @@
 use crate::NO_LIMITS;
 use crate::cores::plan_of;
 use dag_graph::Graph;
-use dag_texts::run_table;
+use dag_opener::open_dag;
 use node_machine::{Key, Phase, Record, Table, read_table};
 use ready_queue::{Member, QueueFault, ReadyQueue};
+use rehearsal::run_table;
 use run_plan::Plan;
 use sched_core::{Choice, Core};
-use splices::{FileSet, open_dag};
+use splices::FileSet;
 use std::alloc::Global;
 use std::process::Abort;
 use std::test::Fail;

@@ -1,7 +1,7 @@
 //! What is refused, and the line that tells it.
 
 use crate::NO_LIMITS;
-use dag_texts::rehearse_text;
+use rehearsal::rehearse_text;
 use splices::FileSet;
 use std::alloc::Global;
 use std::process::Abort;

@@ -7,7 +7,7 @@ use Rattle.dag_reader.specs.declared.command.Command.TheVariants.{Splice}
 use Rattle.dag_reader.specs.declared.fault.LineFault.{LineFault}
 use Rattle.dag_reader.specs.Reading.{text_at}
 use Rattle.splices.specs.declared.fault.DagFault.{DagFault}
-use Rattle.splices.specs.declared.open.Used.{Used}
+use Rattle.splices.specs.declared.used.Used.{Used}
 use Rattle.splices.specs.Forest.{Said, Forest, none, more, Tree}
 use Rattle.splices.specs.Opening.{◌>>=◌, Files, Opener, in_file, says_at, check_file, with_file, with_forest, with_splice, said_by, joined, enter_at, open_line, open_lines, open_said, open_file, opened_at}
 use Rattle.splices.specs.OpenedFiles.{Spliced, splice_in, splices_in, splice_folder, splice_path, IsSaid, AreOpened, IsOpened}

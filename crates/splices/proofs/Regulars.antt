@@ -8,7 +8,7 @@ use Rattle.dag_reader.specs.declared.command.Command.{Command}
 use Rattle.dag_reader.specs.declared.command.Command.TheVariants.{Splice}
 use Rattle.splices.specs.declared.fault.DagFault.{DagFault}
 use Rattle.splices.specs.declared.fault.DagFault.TheVariants.{TooManyNodes}
-use Rattle.splices.specs.declared.open.Used.{Used}
+use Rattle.splices.specs.declared.used.Used.{Used}
 use Rattle.splices.specs.Dag.{Dag}
 use Rattle.splices.specs.Faults.{files_fault}
 use Rattle.splices.specs.Nodes.{Declared, finals_in, own_count}

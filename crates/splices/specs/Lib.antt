@@ -11,14 +11,6 @@ pub mod Forest
 pub mod Edges
 pub mod Faults
 pub mod Opening
-pub mod LineScope
-pub mod NameCheck
-pub mod Adds
 pub mod Opened
-pub mod NoticeSets
-pub mod Acting
-pub mod NodeChanges
 pub mod OpenedFiles
 pub mod Regular
-pub mod SaidFiles
-pub mod Library

@@ -9,7 +9,7 @@ use Rattle.dag_reader.specs.Word.{PlacedText}
 pub use Rattle.dag_reader.specs.Results.{◌>>=◌}
 use Rattle.dag_reader.specs.Reading.{text_at}
 use Rattle.splices.specs.declared.fault.DagFault.{DagFault}
-use Rattle.splices.specs.declared.open.Used.{Used}
+use Rattle.splices.specs.declared.used.Used.{Used}
 use Rattle.splices.specs.declared.fault.DagFault.TheVariants.{MissingFile, InFile, Loop, DuplicateName, TooDeep, TooManyNodes, FinalInSplice}
 use Rattle.splices.specs.Paths.{join, dir_text}
 use Rattle.splices.specs.Nodes.{Declared, finals_in, job_names, final_names, splice_names, own_count}

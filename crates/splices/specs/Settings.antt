@@ -29,6 +29,11 @@ full_category prefix name = if begins_with 43 name then name else prefix ++ name
 abbrev pub script_words : PlacedText → List PlacedText → List (List ℕ)
 script_words program arguments = program.text ∷ map (λ w. w.text) arguments
 
+-- the words of the script that a line says; none where it says none
+abbrev pub words_said : Command → List (List ℕ)
+words_said (Script kind target program arguments) = script_words program arguments
+words_said _ = []
+
 abbrev pub script_of : Target → PlacedText → List PlacedText → ScriptSetting
 script_of target program arguments = record { line = line_of target; words = script_words program arguments }
 

@@ -168,8 +168,8 @@ pub struct Edge {
 /// Edges: each of the parents is one of each of the children. A PARENT line says one group.
 #[derive(Debug, Drop)]
 pub struct EdgeGroup {
-    pub(crate) parents: Numbers,
-    pub(crate) children: Numbers,
+    pub parents: Numbers,
+    pub children: Numbers,
 }
 
 impl EdgeGroup {
@@ -195,7 +195,7 @@ pub enum Side {
 
 impl Side {
     /// The other side.
-    pub(crate) fn other(self) -> Side
+    pub fn other(self) -> Side
         ensures { result ≡ other_side self }
     {
         match self {
@@ -285,7 +285,8 @@ impl FlatDag {
     ghost use Rattle.splices.specs.Dag.{IsBelow, IsGroupBelow, IsWithin};
     ghost use Rattle.splices.specs.Places.{edges_of};
 
-    pub(crate) fn new(
+    /// The DAG of these nodes and edges: at most 4,096 nodes, and both ends of each edge among them.
+    pub fn new(
         top: Text,
         nodes: Vec<FlatNode>,
         final_node: Option<FlatNode>,

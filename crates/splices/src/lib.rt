@@ -1,27 +1,17 @@
-//! Opens the files of a DAG with their splices: nodes in plan order, edges and settings.
+//! What the files of a DAG with their splices say: nodes in plan order, edges and settings, and the rules by which files are
+//! opened. `dag_opener` opens them.
 #![tactic(auto)]
 
-mod acting;
-mod check;
-mod declare;
-mod edges;
-mod ends;
 mod fault;
 mod file_set;
 mod flat;
 pub mod laws;
-mod library;
 mod name_table;
-mod names;
-mod nodes;
-mod notices;
-mod open;
-mod own_nodes;
 mod part;
 mod paths;
 mod settings;
 mod shared;
-mod told;
+mod used;
 
 pub use fault::{DagFault, SpliceFault};
 pub use file_set::FileSet;
@@ -30,6 +20,9 @@ pub use flat::{
     MacroSetting, MacroSettings, PreSkipSetting, PrioritySetting, RetrySetting, ScriptSetting,
     Settings, Side,
 };
-pub use open::open_dag;
+pub use name_table::NameTable;
+pub use part::{Numbers, Part};
 pub use paths::path_in;
+pub use settings::{full_category, target_line};
 pub use shared::SharedTexts;
+pub use used::Used;

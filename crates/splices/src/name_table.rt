@@ -10,7 +10,7 @@ use std::marker::Model;
 
 /// Names, each of which has the number of its place. A contract sees the list of them.
 #[derive(Debug, Drop)]
-pub(crate) struct NameTable {
+pub struct NameTable {
     names: IndexSet<String>,
 }
 
@@ -24,7 +24,7 @@ impl Model for NameTable {
 
 impl NameTable {
     /// No names.
-    pub(crate) fn new(alloc: Global) -> NameTable
+    pub fn new(alloc: Global) -> NameTable
         ensures { result ≡ [] }
     {
         NameTable {
@@ -33,7 +33,7 @@ impl NameTable {
     }
 
     /// The place of a name, if it is there.
-    pub(crate) fn place_of(&self, name: &str) -> Option<usize>
+    pub fn place_of(&self, name: &str) -> Option<usize>
         ensures value { result ≡ position (bytes_eq name.now) self.now }
         ensures within { IfSome result (λ k. k < length self.now) }
     {
@@ -41,28 +41,28 @@ impl NameTable {
     }
 
     /// How many names there are.
-    pub(crate) fn len(&self) -> usize
+    pub fn len(&self) -> usize
         ensures { result ≡ length self.now }
     {
         self.names.len()
     }
 
     /// Whether there are none.
-    pub(crate) fn is_empty(&self) -> bool
+    pub fn is_empty(&self) -> bool
         ensures { result ≡ (length self.now == 0) }
     {
         self.names.is_empty()
     }
 
     /// Whether a name is there.
-    pub(crate) fn has(&self, name: &str) -> bool
+    pub fn has(&self, name: &str) -> bool
         ensures { result ≡ list_any (bytes_eq name.now) self.now }
     {
         self.names.contains(name)
     }
 
     /// Adds a name that is not there; it has the next place.
-    pub(crate) fn add(&mut self, alloc: Global, name: &str) -> Result<(), AllocError>
+    pub fn add(&mut self, alloc: Global, name: &str) -> Result<(), AllocError>
         requires { list_any (bytes_eq name.now) self.old ≡ false }
         ensures ok { OnOk result (self.new ≡ self.old ++ name.now ∷ []) }
         ensures err { OnErr result (self.new ≡ self.old) }

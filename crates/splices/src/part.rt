@@ -8,7 +8,7 @@ use std::marker::Model;
 
 /// Numbers of nodes.
 #[derive(Debug, Drop)]
-pub(crate) struct Numbers {
+pub struct Numbers {
     items: Vec<usize>,
 }
 
@@ -21,13 +21,15 @@ impl Model for Numbers {
 }
 
 impl Numbers {
-    pub(crate) fn as_slice(&self) -> &[usize]
+    /// The numbers as a slice.
+    pub fn as_slice(&self) -> &[usize]
         ensures { result.now ≡ self.now }
     {
         self.items.as_slice()
     }
 
-    pub(crate) fn new(alloc: Global) -> Numbers
+    /// No numbers.
+    pub fn new(alloc: Global) -> Numbers
         ensures { result ≡ [] }
     {
         Numbers {
@@ -35,7 +37,8 @@ impl Numbers {
         }
     }
 
-    pub(crate) fn push(&mut self, number: usize) -> Result<(), AllocError>
+    /// Puts a number behind the others; where memory is refused they stay as they were.
+    pub fn push(&mut self, number: usize) -> Result<(), AllocError>
         ensures ok { OnOk result (self.new ≡ self.old ++ number ∷ []) }
         ensures err { OnErr result (self.new ≡ self.old) }
     {
@@ -43,7 +46,8 @@ impl Numbers {
         Ok(())
     }
 
-    pub(crate) fn append(&mut self, numbers: &[usize]) -> Result<(), AllocError>
+    /// Puts numbers behind the others.
+    pub fn append(&mut self, numbers: &[usize]) -> Result<(), AllocError>
         ensures { OnOk result (self.new ≡ self.old ++ numbers.now) }
     {
         self.items.extend_from_slice(numbers)?;
@@ -53,16 +57,18 @@ impl Numbers {
 
 /// The nodes of a splice with no parent in it, those with no child in it, and how many it has.
 #[derive(Debug, Drop)]
-pub(crate) struct Part {
-    pub(crate) heads: Numbers,
-    pub(crate) tails: Numbers,
-    pub(crate) count: usize,
+pub struct Part {
+    pub heads: Numbers,
+    pub tails: Numbers,
+    pub count: usize,
 }
 
 impl Part {
     ghost use Rattle.splices.specs.Edges.{side_of};
 
-    pub(crate) fn side(&self, side: Side) -> &[usize]
+    /// The nodes that a splice stands for on this side of an edge: as a parent those with no child in
+    /// it, as a child those with no parent in it.
+    pub fn side(&self, side: Side) -> &[usize]
         ensures { result.now ≡ side_of side self.now }
     {
         match side {

@@ -1,10 +1,8 @@
 //! What a line sets for a node.
 
 ghost use Rattle.std.specs.Prelude.{◌≡◌, ◌∷◌, [], Some, find, map, IfOk, OnOk};
-ghost use Rattle.std.specs.Option.{option_map};
 ghost use Rattle.splices.specs.MacroKeys.{key_of};
-ghost use Rattle.splices.specs.NodeChanges.{words_said};
-ghost use Rattle.splices.specs.Settings.{full_category, is_namesake, line_of, macro_of, macros_of, no_settings, script_words, target_of, with_line, with_macro, with_macros, with_script};
+ghost use Rattle.splices.specs.Settings.{full_category, is_namesake, line_of, macro_of, macros_of, no_settings, with_line, with_macro, with_macros, with_script, words_said};
 ghost use Rattle.splices.specs.Warnings.{joined, line_if, replaced_by, replaced_in, script_setting};
 
 use crate::flat::{
@@ -12,12 +10,12 @@ use crate::flat::{
     RetrySetting, ScriptSetting, Settings,
 };
 use crate::shared::SharedTexts;
-use dag_reader::{Command, Macro, Placement, ScriptKind, Target, Text, Texts, Word};
+use dag_reader::{Command, Macro, Placement, ScriptKind, Target, Text};
 use std::alloc::{AllocError, Global};
 
 impl Settings {
     /// The settings of a node of which no line says anything.
-    pub(crate) fn new(alloc: Global) -> Settings
+    pub fn new(alloc: Global) -> Settings
         ensures { result ≡ no_settings }
     {
         Settings {
@@ -35,7 +33,7 @@ impl Settings {
     /// Puts in what a line says of the node, and adds the lines that it replaces to those there. The
     /// words of the script that it says, if it says one, are handed in, for all of its nodes share
     /// them.
-    pub(crate) fn set(
+    pub fn set(
         &mut self,
         alloc: Global,
         prefix: &str,
@@ -316,7 +314,7 @@ impl MacroSettings {
 }
 
 /// The number of the line that a target stands in.
-pub(crate) fn target_line(target: &Target) -> usize
+pub fn target_line(target: &Target) -> usize
     ensures { result ≡ line_of target.now }
 {
     match target {
@@ -325,56 +323,14 @@ pub(crate) fn target_line(target: &Target) -> usize
     }
 }
 
-/// The target of a setting.
-pub(crate) fn target_of(command: &Command) -> Option<&Target>
-    ensures { option_map (λ t. t.now) result ≡ target_of command.now }
-{
-    match command {
-        Command::Script { node, .. }
-        | Command::Retry { node, .. }
-        | Command::PreSkip { node, .. }
-        | Command::Vars { node, .. }
-        | Command::Priority { node, .. }
-        | Command::Category { node, .. }
-        | Command::AbortDagOn { node, .. } => Some(node),
-        _ => None,
-    }
-}
-
 /// A category's full name: prefixed like a node's, unless it begins with a plus.
-pub(crate) fn full_category(alloc: Global, prefix: &str, name: &str) -> Result<Text, AllocError>
+pub fn full_category(alloc: Global, prefix: &str, name: &str) -> Result<Text, AllocError>
     ensures { IfOk result (λ t. t ≡ full_category prefix.now name.now) }
 {
     match name.as_bytes() {
         [b'+', ..] => Text::new(alloc, name),
         _ => Text::joined(alloc, prefix, name),
     }
-}
-
-/// The words of the script that a line says, for all of its nodes; none where it says none.
-pub(crate) fn words_said(alloc: Global, command: &Command) -> Result<SharedTexts, AllocError>
-    ensures { IfOk result (λ words. words ≡ words_said command.now) }
-{
-    match command {
-        Command::Script {
-            program,
-            arguments,
-            ..
-        } => SharedTexts::new(alloc, script_words(alloc, program, arguments.as_slice())?),
-        _ => SharedTexts::new(alloc, Texts::new(alloc)),
-    }
-}
-
-/// The words of a script, of which the first is the program.
-fn script_words(alloc: Global, program: &Word, arguments: &[Word]) -> Result<Texts, AllocError>
-    ensures { IfOk result (λ words. words ≡ script_words program.now arguments.now) }
-{
-    let mut words = Texts::new(alloc);
-    words.push(Text::new(alloc, program.text())?)?;
-    for word in arguments {
-        words.push(Text::new(alloc, word.text())?)?;
-    }
-    Ok(words)
 }
 
 /// Adds a line that is not there yet.

@@ -1,7 +1,8 @@
 // Calls of a local system with one child.
 use dag_reader::{Text, Texts};
-use job_starter::{Killed, LocalSystem, Started, System};
+use job_starter::{Killed, Started, System};
 use node_machine::{Key, Outcome, Phase};
+use process_starter::LocalSystem;
 use run_plan::ChildCommand;
 use std::alloc::{AllocError, Global};
 use std::test::Fail;

@@ -1,9 +1,8 @@
 // A process starter over a system in memory with two running keys.
 use crate::children::shell;
-use job_starter::{
-    Call, CallLog, Killed, ProcessStarter, StartFault, Started, Starter, System, no_memory,
-};
+use job_starter::{Call, CallLog, Killed, StartFault, Started, Starter, System, no_memory};
 use node_machine::{Key, Outcome, Phase};
+use process_starter::ProcessStarter;
 use run_plan::ChildCommand;
 use std::test::Fail;
 

@@ -3,12 +3,13 @@ ghost use Rattle.std.specs.Prelude.{◌≡◌, [], IfOk, IsTrue};
 ghost use Rattle.job_starter.specs.Calls.{running};
 
 use dag_graph::Graph;
+use dag_opener::open_dag;
 use event_journal::MemDisk;
 use job_starter::{DriveFault, RunEnd, Starter, drive};
 use recovery::Manager;
 use run_plan::{Plan, PlanFault};
 use sched_core::Core;
-use splices::{FileSet, open_dag};
+use splices::FileSet;
 use std::alloc::Global;
 use std::test::Fail;
 use throttles::Limits;

@@ -1,6 +1,7 @@
 // Runs with children of the operating system.
 use crate::plans::{File, NO_LIMITS, plan_of, run};
-use job_starter::{LocalSystem, ProcessStarter, RunEnd};
+use job_starter::RunEnd;
+use process_starter::{LocalSystem, ProcessStarter};
 use std::test::Fail;
 use std::time::Duration;
 use std::{env, fs, thread};

@@ -1,7 +1,7 @@
 use Rattle.std.proofs.Common.{subst}
 use Rattle.splices.specs.FileSet.{bytes_of}
 use Rattle.splices.specs.Opened.{dag_at}
-use Rattle.splices.specs.Adds.{Fails}
+use Rattle.dag_opener.specs.Adds.{Fails}
 use Rattle.dag_texts.specs.Planned.{not_opened, opening_had_no_memory}
 use Rattle.dag_texts.proofs.plans.dag_of.Goals as goal
 

@@ -1,5 +1,5 @@
 use Rattle.std.proofs.Common.{◌≡◌, take, string_bytes}
-use Rattle.dag_texts.specs.Report.{warning_lines}
+use Rattle.dag_texts.specs.Warnings.{warning_lines}
 use Rattle.dag_texts.proofs.warnings.warning_text.Given as goal
 
 abbrev pub invariant-loop-warning : goal.invariant-loop-warning

@@ -1,0 +1,15 @@
+pub mod Positions
+pub mod LineLists
+pub mod Kept
+pub mod NodeSteps
+pub mod TellSteps
+pub mod Groups
+pub mod Marks
+pub mod Drafts
+pub mod OwnNodes
+pub mod Trees
+pub mod ActingLines
+pub mod ActingTrees
+pub mod Within
+pub mod Dags
+pub mod Said

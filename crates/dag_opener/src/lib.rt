@@ -1,0 +1,18 @@
+//! Opens the files of a DAG with their splices, as the rules of `splices` say.
+#![tactic(auto)]
+
+mod acting;
+mod check;
+mod declare;
+mod edges;
+mod ends;
+mod library;
+mod lines;
+mod names;
+mod nodes;
+mod notices;
+mod open;
+mod own_nodes;
+mod told;
+
+pub use open::open_dag;

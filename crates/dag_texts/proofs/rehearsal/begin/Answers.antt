@@ -1,7 +1,0 @@
-use Rattle.std.proofs.Common.{ap}
-use Rattle.event_journal.specs.Image.{replay_of}
-use Rattle.dag_texts.proofs.rehearsal.begin.Goals as goal
-
-pub begin-requires-clause-fresh : goal.begin-requires-clause-fresh
-unfolding replay_of
-begin-requires-clause-fresh c = λ honest. ap replay_of c.new-journal.ensures.bytes

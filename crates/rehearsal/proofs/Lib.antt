@@ -1,0 +1,5 @@
+pub mod Rehearsals
+pub mod Reports
+pub mod OneReport
+pub mod RescueParts
+pub mod CalmReports

@@ -1,0 +1,21 @@
+use Rattle.std.proofs.Common.{◌++◌, ◌∙◌, ap, refl}
+use Rattle.run_plan.specs.Plan.{Plan}
+use Rattle.sched_core.specs.Core.{Progress}
+use Rattle.recovery.specs.Managed.{past_of}
+use Rattle.rehearsal.specs.Report.{rescue_part}
+use Rattle.rehearsal.proofs.RescueParts.{whole-report}
+use Rattle.rehearsal.proofs.report.rehearse_plan.Goals as goal
+
+pub returns-clause-run : goal.returns-clause-run
+returns-clause-run c =
+    let run = c.in_ok-run.run' in
+    let past = past_of run.manager in
+    let printed = c.as_str.result.now in
+    record {
+      past = past;
+      run = c.in_ok-run.ensures.run;
+      text_is = whole-report c.args.plan.now past run.status printed (rescue_part c.args.plan.now past) _ (c.as_str.ensures.value ∙ c.in_ok-run.ensures.text) refl
+          (c.in_ok-with_rescue.ensures.ok ∙ ap (λ (p : Progress). printed ++ rescue_part p.plan p.past) c.core.ensures
+          ∙ ap (λ (p : Plan). printed ++ rescue_part p past) c.in_ok-run.ensures.plan);
+      status_is = c.in_ok-run.ensures.status;
+    }

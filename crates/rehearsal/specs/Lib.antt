@@ -1,0 +1,4 @@
+pub mod Rehearsal
+pub mod Report
+pub mod Rehearsed
+pub mod Refusals
