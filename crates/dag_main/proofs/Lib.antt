@@ -1,2 +1,1 @@
 mod RunPlans
-mod RunFaults

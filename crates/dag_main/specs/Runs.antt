@@ -1,22 +1,19 @@
 -- What `run` prints.
-use Rattle.std.specs.Prelude.{ℕ, List, ◌∷◌, Option, Some, None, String}
-use Rattle.std.specs.Global.{Global}
+use Rattle.std.specs.Prelude.{ℕ, List, ◌∷◌, Option, Some, None}
 use Rattle.splices.specs.FileSet.{bytes_of, entries_of}
 use Rattle.splices.specs.declared.file_set.FileSet.{FileSet}
 use Rattle.dag_graph.specs.Graph.{Network}
 use Rattle.run_plan.specs.Plan.{Plan}
 use Rattle.node_machine.specs.declared.Record.{Record}
 use Rattle.node_machine.specs.declared.Record.TheVariants.{Life}
-use Rattle.rescue_file.specs.Numbered.{IsNumber, rescue_name_of}
-use Rattle.event_journal.specs.declared.fault.JournalFault.{JournalFault}
-use Rattle.event_journal.specs.Journal.{IsReadFault}
+use Rattle.rescue_file.specs.Numbered.{rescue_name_of}
 use Rattle.recovery.specs.declared.fault.ManagerFault.{ManagerFault}
-use Rattle.recovery.specs.declared.fault.ManagerFault.TheVariants as manager
 use Rattle.run_leader.specs.Led.{IsLed}
+use Rattle.dag_files.specs.Beside.{IsFileFault, IsRoundFault}
 use Rattle.dag_texts.specs.Planned.{IsGraphOf, IsGraphFault, IsPlanBy, IsPlanByFault, in_line, named_by}
 use Rattle.dag_texts.specs.Told.{IsToldOf}
 use Rattle.dag_texts.specs.declared.fault.RunFault.{RunFault}
-use Rattle.dag_texts.specs.declared.fault.RunFault.TheVariants.{NotThere, InManager, StartMemory, WaitFault, FileRefused, Memory}
+use Rattle.dag_texts.specs.declared.fault.RunFault.TheVariants.{InManager, StartMemory, WaitFault, Memory}
 
 -- the plan of a graph and of the submit files of a set, with a rescue file or without one
 abbrev pub IsPlannedRun : FileSet → Network → Plan → Type 0
@@ -32,18 +29,6 @@ pub record IsRunOf (path text warnings : List ℕ) (status : ℕ) : Type 0 where
   pub files : FileSet
   pub rescue : Option (List ℕ)
   pub told : IsToldOf (bytes_of files) (entries_of files) path rescue (λ plan. IsLedRun plan text status) warnings
-
--- the system refuses a file, or memory ran out
-pub data IsFileFault : RunFault → Type 0 where
-  file_refused : (file : String Global) → IsFileFault (FileRefused file)
-  reading_had_no_memory : IsFileFault Memory
-
--- Why it is not told which round this is: the journal can't be read; its header has a number that no rescue file has; the system
--- refuses the folder; memory ran out.
-pub data IsRoundFault : RunFault → Type 0 where
-  journal_not_read : (fault : JournalFault) → IsReadFault fault → IsRoundFault (InManager (manager.Journal fault))
-  no_such_number : (number : ℕ) → ¬ (IsNumber number) → IsRoundFault (NotThere number)
-  folder_not_read : (fault : RunFault) → IsFileFault fault → IsRoundFault fault
 
 -- Why the round has no plan: the system refuses the rescue file; a submit file, a text of a job or a line of the rescue file has a
 -- fault, that of a line told with the name of the rescue file; memory ran out.

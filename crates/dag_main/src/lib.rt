@@ -2,11 +2,7 @@
 //! the words of the command line from command_line.
 #![tactic(auto)]
 
-mod beside;
-mod by_journal;
 mod commands;
-mod loading;
-mod rounds;
 mod runs;
 
 pub use command_line::{Request, RunOptions, WordsFault, read_words};

@@ -3,21 +3,22 @@
 ghost use Rattle.std.specs.Prelude.{◌≤◌, IfOk, IfErr, string_bytes};
 ghost use Rattle.splices.specs.FileSet.{bytes_of, entries_of};
 ghost use Rattle.event_journal.specs.Image.{IsRescueNumber};
+ghost use Rattle.run_leader.specs.Rounds.{IsNumbered};
 ghost use Rattle.dag_texts.specs.Planned.{IsPlanBy};
 ghost use Rattle.dag_main.specs.Runs.{IsPlannedRun, IsLedRun, IsRunOf, IsRoundPlanFault, IsStopFault, IsRunFault};
 
-use crate::beside::{Place, journal_path, rescue_path};
-use crate::by_journal::{bytes_of, named};
-use crate::loading::files_in;
-use crate::rounds::{Journaled, Round, disk_at, round_of, start_of};
 use command_line::RunOptions;
+use dag_files::{
+    Journaled, Place, Round, bytes_of, disk_at, files_in, journal_path, named, rescue_path,
+    round_of,
+};
 use dag_graph::Graph;
 use dag_texts::{Answer, RunFault, graph_of, plan_by, warning_text};
 use job_starter::DriveFault;
 use node_machine::Verdict;
 use process_starter::{LocalSystem, ProcessStarter};
 use recovery::ManagerFault;
-use run_leader::run_round;
+use run_leader::{Start, run_round};
 use run_plan::Plan;
 use splices::FileSet;
 use std::fs::File;
@@ -66,6 +67,20 @@ fn plan_of_round<R: Files<File = File> + AllocGlobal + Copy + Drop>(
     match plan_by(alloc, graph, files, bytes_of(&bytes)) {
         Ok(plan) => Ok(plan),
         Err(fault) => Err(named(fault, Some(path))),
+    }
+}
+
+/// How the manager of this round begins.
+fn start_of(round: &Round) -> Start
+    requires { IsRescueNumber round.now.next }
+    ensures { IsNumbered result }
+{
+    match round.journal {
+        Journaled::Nothing | Journaled::Finished => Start::Begin {
+            used: round.used,
+            next: round.next,
+        },
+        Journaled::Unfinished => Start::GoOn,
     }
 }
 

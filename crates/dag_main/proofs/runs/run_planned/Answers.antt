@@ -2,7 +2,7 @@ use Rattle.std.proofs.Common.{subst, sym}
 use Rattle.dag_main.specs.Runs.{IsStopFault, journal_not_renamed, leading_had_no_memory}
 use Rattle.dag_texts.specs.declared.fault.RunFault.TheVariants.{Memory}
 use Rattle.dag_texts.proofs.StatusFaults.{handed-on}
-use Rattle.dag_main.proofs.RunFaults.{by-fault}
+use Rattle.dag_files.proofs.RunFaults.{by-fault}
 use Rattle.dag_main.proofs.runs.run_planned.Goals as goal
 
 pub returns-in_err-put_journal_away-clause-refused : goal.returns-in_err-put_journal_away-clause-refused

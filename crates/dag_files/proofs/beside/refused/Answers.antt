@@ -1,5 +1,5 @@
-use Rattle.dag_main.specs.Runs.{file_refused, reading_had_no_memory}
-use Rattle.dag_main.proofs.beside.refused.Goals as goal
+use Rattle.dag_files.specs.Beside.{file_refused, reading_had_no_memory}
+use Rattle.dag_files.proofs.beside.refused.Goals as goal
 
 pub returns-then-eq : goal.returns-then-eq
 returns-then-eq c = reading_had_no_memory

@@ -1,5 +1,5 @@
-use Rattle.dag_main.specs.Runs.{file_refused, reading_had_no_memory}
-use Rattle.dag_main.proofs.beside.Place.taken.Goals as goal
+use Rattle.dag_files.specs.Beside.{file_refused, reading_had_no_memory}
+use Rattle.dag_files.proofs.beside.Place.taken.Goals as goal
 
 pub returns-in_default : goal.returns-in_default
 returns-in_default c = reading_had_no_memory

@@ -1,8 +1,8 @@
 use Rattle.std.proofs.Common.{sym, subst}
 use Rattle.dag_texts.specs.declared.fault.RunFault.TheVariants.{Memory}
-use Rattle.dag_main.specs.Runs.{IsFileFault, reading_had_no_memory, IsRoundFault, journal_not_read, folder_not_read}
-use Rattle.dag_main.proofs.RunFaults.{by-fault}
-use Rattle.dag_main.proofs.rounds.round_of.Goals as goal
+use Rattle.dag_files.specs.Beside.{IsFileFault, reading_had_no_memory, IsRoundFault, journal_not_read, folder_not_read}
+use Rattle.dag_files.proofs.RunFaults.{by-fault}
+use Rattle.dag_files.proofs.rounds.round_of.Goals as goal
 
 pub returns-in_err-journal_path-clause-refused : goal.returns-in_err-journal_path-clause-refused
 returns-in_err-journal_path-clause-refused g c =

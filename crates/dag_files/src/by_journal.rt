@@ -1,8 +1,12 @@
 //! What is told of a run by its journal, from the files that stand beside its DAG file.
 
-ghost use Rattle.std.specs.Prelude.{◌≡◌, IfOk};
+ghost use Rattle.std.specs.Prelude.{◌≡◌, ◌≤◌, IfOk, IfErr, option_map, string_bytes};
 ghost use Rattle.event_journal.specs.Memory.{disk_bytes};
+ghost use Rattle.splices.specs.FileSet.{bytes_of, entries_of};
 ghost use Rattle.dag_texts.specs.Planned.{in_line, named_by};
+ghost use Rattle.dag_texts.specs.declared.fault.RunFault.TheVariants.{Memory};
+ghost use Rattle.dag_files.specs.Beside.{IsRoundFault};
+ghost use Rattle.dag_files.specs.Asked.{IsTold, IsRefused, IsToldOfRun, IsToldFault};
 
 use crate::beside::{LAST_NUMBER, Place, journal_path, rescue_path};
 use crate::loading::files_in;
@@ -11,6 +15,7 @@ use dag_texts::{Answer, RunFault, audit_of, status_of};
 use event_journal::{Journal, JournalFault, MemDisk};
 use rescue_file::RescueFault;
 use run_plan::PlanFault;
+use splices::FileSet;
 use std::alloc::{AllocError, Global};
 use std::rt::Files;
 
@@ -25,7 +30,9 @@ fn disk_of(alloc: Global, bytes: &[u8]) -> Result<MemDisk, AllocError>
 
 /// The number of the rescue file that the run of a journal read: 0 for none, where there is no
 /// journal, and where its bytes are none.
-fn used_in(alloc: Global, journal: Option<&[u8]>) -> Result<u16, RunFault> {
+fn used_in(alloc: Global, journal: Option<&[u8]>) -> Result<u16, RunFault>
+    ensures { IfErr result (λ fault. fault ≡ Memory) }
+{
     let Some(bytes) = journal else {
         return Ok(0);
     };
@@ -39,7 +46,7 @@ fn used_in(alloc: Global, journal: Option<&[u8]>) -> Result<u16, RunFault> {
 }
 
 /// The bytes, where there are some.
-pub(crate) fn bytes_of(bytes: &Option<Vec<u8>>) -> Option<&[u8]> {
+pub fn bytes_of(bytes: &Option<Vec<u8>>) -> Option<&[u8]> {
     match bytes {
         Some(bytes) => Some(bytes.as_slice()),
         None => None,
@@ -47,7 +54,9 @@ pub(crate) fn bytes_of(bytes: &Option<Vec<u8>>) -> Option<&[u8]> {
 }
 
 /// The path of the rescue file that a run read, if it read one.
-fn used_path(alloc: Global, top: &str, used: u16) -> Result<Option<Text>, RunFault> {
+fn used_path(alloc: Global, top: &str, used: u16) -> Result<Option<Text>, RunFault>
+    ensures { IfErr result IsRoundFault }
+{
     if used == 0 {
         return Ok(None);
     }
@@ -58,7 +67,7 @@ fn used_path(alloc: Global, top: &str, used: u16) -> Result<Option<Text>, RunFau
 }
 
 /// A fault of a plan, with the path of the rescue file where it is that of a line there.
-pub(crate) fn named(fault: RunFault, rescue: Option<Text>) -> RunFault
+pub fn named(fault: RunFault, rescue: Option<Text>) -> RunFault
     ensures { result ≡ named_by (in_line fault) rescue fault }
 {
     match (in_line(&fault), rescue) {
@@ -92,7 +101,9 @@ struct LastRound {
 /// In this order: a journal that the system refuses to read, a number of a rescue file above 999 in
 /// its header, a rescue file that the system refuses to read. Where the header can't be read, no
 /// rescue file is.
-fn last_round<R: Files + AllocGlobal>(rt: &R, place: &Place<'_>) -> Result<LastRound, RunFault> {
+fn last_round<R: Files + AllocGlobal>(rt: &R, place: &Place<'_>) -> Result<LastRound, RunFault>
+    ensures { IfErr result IsRoundFault }
+{
     let alloc = rt.alloc();
     let journal = place.read(rt, journal_path(alloc, place.top)?.as_str())?;
     let used = used_in(alloc, bytes_of(&journal))?;
@@ -110,34 +121,60 @@ fn last_round<R: Files + AllocGlobal>(rt: &R, place: &Place<'_>) -> Result<LastR
 
 /// What is asked of a run's journal.
 #[derive(Clone, Copy, Debug, PartialEq, Eq)]
-pub(crate) enum Question {
+pub enum Question {
     /// Where each node stands.
     Status,
     /// Whether it is that of a finished run, and what its nodes came to.
     Audit,
 }
 
+/// What these files, bytes of a rescue file and bytes of a journal answer.
+///
+/// # Errors
+/// As `status_of` or `audit_of`.
+fn asked(
+    alloc: Global,
+    files: &FileSet,
+    top: &str,
+    rescue: Option<&[u8]>,
+    journal: Option<&[u8]>,
+    question: Question,
+) -> Result<Answer, RunFault>
+    ensures told { IfOk result (λ answer. IsTold question (bytes_of files.now) (entries_of files.now) top.now
+        (option_map (λ b. b.now) rescue.entry) (option_map (λ b. b.now) journal.entry)
+        (string_bytes answer.text) (string_bytes answer.warnings) answer.status) }
+    ensures refused { IfErr result (IsRefused question (bytes_of files.now) (entries_of files.now) top.now
+        (option_map (λ b. b.now) rescue.entry) (option_map (λ b. b.now) journal.entry)) }
+{
+    match question {
+        Question::Status => status_of(alloc, files, top, rescue, journal),
+        Question::Audit => audit_of(alloc, files, top, rescue, journal),
+    }
+}
+
 /// The answer for the DAG file of this path, seen from this folder, by its journal and the rescue file
 /// that the journal names.
 ///
 /// # Errors
-/// As `last_round`, and then as `status_of` or `audit_of`, a fault in a line of the rescue file with
-/// its path.
-pub(crate) fn told_here<R: Files + AllocGlobal>(
+/// In this order: a journal that the system refuses to read, a number of a rescue file above 999 in
+/// its header, a rescue file that the system refuses to read; then as `status_of` or `audit_of`, a
+/// fault in a line of the rescue file with its path. Where the header can't be read, no rescue file
+/// is. Want of memory may stand before any.
+pub fn told_here<R: Files + AllocGlobal>(
     rt: &R,
     folder: &str,
     top: &str,
     question: Question,
-) -> Result<Answer, RunFault> {
+) -> Result<Answer, RunFault>
+    ensures told { IfOk result (λ answer.
+        IsToldOfRun question top.now (string_bytes answer.text) (string_bytes answer.warnings) answer.status) }
+    ensures refused { IfErr result (IsToldFault question top.now) }
+{
     let round = last_round(rt, &Place { folder, top })?;
     let files = files_in(rt, folder, top)?;
     let rescue = bytes_of(&round.rescue);
     let journal = bytes_of(&round.journal);
-    let answer = match question {
-        Question::Status => status_of(rt.alloc(), &files, top, rescue, journal),
-        Question::Audit => audit_of(rt.alloc(), &files, top, rescue, journal),
-    };
-    match answer {
+    match asked(rt.alloc(), &files, top, rescue, journal, question) {
         Ok(answer) => Ok(answer),
         Err(fault) => Err(named(fault, round.name)),
     }

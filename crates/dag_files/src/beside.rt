@@ -2,8 +2,9 @@
 
 ghost use Rattle.std.specs.Prelude.{◌≡◌, ◌≤◌, IfOk, IfErr};
 ghost use Rattle.rescue_file.specs.Numbered.{IsNumber, rescue_name_of};
+ghost use Rattle.splices.specs.Paths.{join};
 ghost use Rattle.dag_texts.specs.declared.fault.RunFault.TheVariants.{Memory};
-ghost use Rattle.dag_main.specs.Runs.{IsFileFault};
+ghost use Rattle.dag_files.specs.Beside.{journal_name_of, IsFileFault};
 
 use dag_reader::Text;
 use dag_texts::RunFault;
@@ -16,17 +17,20 @@ use std::io::{self, ErrorKind};
 use std::rt::Files;
 
 /// The greatest number of a rescue file.
-pub(crate) const LAST_NUMBER: u16 = 999;
+pub const LAST_NUMBER: u16 = 999;
 
 /// A DAG file, and the folder from which its path is taken where it is relative.
 #[derive(Clone, Copy)]
-pub(crate) struct Place<'a> {
-    pub(crate) folder: &'a str,
-    pub(crate) top: &'a str,
+pub struct Place<'a> {
+    /// The folder: absolute, or empty for that of the process.
+    pub folder: &'a str,
+    /// The path of the DAG file.
+    pub top: &'a str,
 }
 
-/// What is told of the file of this path, which the system refuses.
-pub(crate) fn refused(alloc: Global, path: &str, error: &io::Error) -> RunFault
+/// What is told of the file of this path, which the system refuses: `Memory` for want of memory, or
+/// else `FileRefused` with the path.
+pub fn refused(alloc: Global, path: &str, error: &io::Error) -> RunFault
     ensures { IsFileFault result }
 {
     if error.kind() == ErrorKind::OutOfMemory {
@@ -38,8 +42,10 @@ pub(crate) fn refused(alloc: Global, path: &str, error: &io::Error) -> RunFault
     }
 }
 
-/// The path of the journal.
-pub(crate) fn journal_path(alloc: Global, top: &str) -> Result<Text, AllocError> {
+/// The path of the journal of this DAG file: its own, and `.journal`.
+pub fn journal_path(alloc: Global, top: &str) -> Result<Text, AllocError>
+    ensures { IfOk result (λ name. name ≡ journal_name_of top.now) }
+{
     Text::joined(alloc, top, ".journal")
 }
 
@@ -53,8 +59,12 @@ fn lock_path(alloc: Global, top: &str) -> Result<Text, AllocError> {
     Text::joined(alloc, top, ".lock")
 }
 
-/// The path of the rescue file of this number.
-pub(crate) fn rescue_path(alloc: Global, top: &str, number: u16) -> Result<Text, RunFault>
+/// The path of the rescue file of this number, which is from 1 to 999: that of the DAG file,
+/// `.rescue` and three digits.
+///
+/// # Errors
+/// `Memory` alone.
+pub fn rescue_path(alloc: Global, top: &str, number: u16) -> Result<Text, RunFault>
     requires { IsNumber number }
     ensures name { IfOk result (λ name. name ≡ rescue_name_of top.now number) }
     ensures err { IfErr result (λ fault. fault ≡ Memory) }
@@ -84,15 +94,17 @@ fn folder_of(path: &str) -> &str {
 
 impl<'a> Place<'a> {
     /// A path as seen from the folder.
-    pub(crate) fn at(&self, alloc: Global, path: &str) -> Result<Text, AllocError> {
+    pub fn at(&self, alloc: Global, path: &str) -> Result<Text, AllocError>
+        ensures { IfOk result (λ place. place ≡ join self.now.folder.now path.now) }
+    {
         path_in(alloc, self.folder, path)
     }
 
     /// The highest number of a rescue file that is there, 0 for none.
-    pub(crate) fn highest<R: Files + AllocGlobal + Clone + Drop>(
-        &self,
-        rt: &R,
-    ) -> Result<u16, RunFault>
+    ///
+    /// # Errors
+    /// `FileRefused` with the folder that the system refuses to list; `Memory`.
+    pub fn highest<R: Files + AllocGlobal + Clone + Drop>(&self, rt: &R) -> Result<u16, RunFault>
         ensures highest { IfOk result (λ number. number ≤ 999) }
         ensures refused { IfErr result IsFileFault }
     {
@@ -106,7 +118,10 @@ impl<'a> Place<'a> {
     }
 
     /// The bytes of the file of this path; none where it is missing.
-    pub(crate) fn read<R: Files + AllocGlobal>(
+    ///
+    /// # Errors
+    /// `FileRefused` with the path of a file that the system refuses to read; `Memory`.
+    pub fn read<R: Files + AllocGlobal>(
         &self,
         rt: &R,
         path: &str,
@@ -121,9 +136,13 @@ impl<'a> Place<'a> {
         }
     }
 
-    /// Locks the file beside the DAG file that is named for it, until the handle is let go or the
+    /// Locks the file beside the DAG file that is named for it, until the handle is dropped or the
     /// process ends; the file is made where it is missing.
-    pub(crate) fn lock<R: Files<File = File> + AllocGlobal>(&self, rt: &R) -> Result<File, RunFault>
+    ///
+    /// # Errors
+    /// `FileRefused` with the path of the lock, where the system refuses it or another process has
+    /// it; `Memory`.
+    pub fn lock<R: Files<File = File> + AllocGlobal>(&self, rt: &R) -> Result<File, RunFault>
         ensures { IfErr result IsFileFault }
     {
         let alloc = rt.alloc();
@@ -144,7 +163,7 @@ impl<'a> Place<'a> {
     }
 
     /// What is told where another manager runs the DAG.
-    pub(crate) fn taken(&self, alloc: Global) -> RunFault
+    pub fn taken(&self, alloc: Global) -> RunFault
         ensures { IsFileFault result }
     {
         let Ok(path) = lock_path(alloc, self.top) else {
@@ -158,7 +177,10 @@ impl<'a> Place<'a> {
 
     /// Gives the journal of a finished round its other name, in place of the one that has it, and
     /// syncs the folder.
-    pub(crate) fn put_journal_away<R: Files<File = File> + AllocGlobal>(
+    ///
+    /// # Errors
+    /// `FileRefused` with the journal's path, where the system refuses either; `Memory`.
+    pub fn put_journal_away<R: Files<File = File> + AllocGlobal>(
         &self,
         rt: &R,
     ) -> Result<(), RunFault>

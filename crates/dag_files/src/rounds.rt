@@ -2,21 +2,19 @@
 
 ghost use Rattle.std.specs.Prelude.{◌≡◌, ◌≤◌, IfOk, IfErr};
 ghost use Rattle.event_journal.specs.Image.{IsRescueNumber};
-ghost use Rattle.run_leader.specs.Rounds.{IsNumbered};
 ghost use Rattle.dag_texts.specs.declared.fault.RunFault.TheVariants.{Memory};
-ghost use Rattle.dag_main.specs.Runs.{IsRoundFault};
+ghost use Rattle.dag_files.specs.Beside.{IsRoundFault};
 
 use crate::beside::{LAST_NUMBER, Place, journal_path};
 use dag_texts::RunFault;
 use event_journal::{FileDisk, Journal, JournalFault, Peek};
 use recovery::ManagerFault;
-use run_leader::Start;
 use std::fs::File;
 use std::rt::Files;
 
 /// What is done with the journal of a DAG.
 #[derive(Clone, Copy, Debug, PartialEq, Eq)]
-pub(crate) enum Journaled {
+pub enum Journaled {
     /// There is none: one is made.
     Nothing,
     /// The one that is there is of a finished run: it is put away, and one is made.
@@ -25,13 +23,15 @@ pub(crate) enum Journaled {
     Unfinished,
 }
 
-/// A round: what is done with the journal, the number of the rescue file that is read, 0 for none,
-/// and of that which is written where one is needed.
+/// A round of a DAG.
 #[derive(Clone, Copy, Debug, PartialEq, Eq)]
-pub(crate) struct Round {
-    pub(crate) journal: Journaled,
-    pub(crate) used: u16,
-    pub(crate) next: u16,
+pub struct Round {
+    /// What is done with the journal.
+    pub journal: Journaled,
+    /// The number of the rescue file that is read, 0 for none.
+    pub used: u16,
+    /// The number of the rescue file that is written where one is needed.
+    pub next: u16,
 }
 
 /// The number behind the highest; 999 is written again.
@@ -45,8 +45,11 @@ fn number_after(highest: u16) -> u16
     }
 }
 
-/// The disk of the file of this path.
-pub(crate) fn disk_at<R: Files<File = File> + AllocGlobal + Copy + Drop>(
+/// The disk of the file of this path. Nothing is opened yet.
+///
+/// # Errors
+/// `Memory` alone.
+pub fn disk_at<R: Files<File = File> + AllocGlobal + Copy + Drop>(
     rt: R,
     place: &Place<'_>,
     path: &str,
@@ -63,7 +66,7 @@ pub(crate) fn disk_at<R: Files<File = File> + AllocGlobal + Copy + Drop>(
 /// # Errors
 /// A journal that can't be read; a number in the header of an unfinished one that no rescue file
 /// has, that of the file read first; a folder that can't be listed.
-pub(crate) fn round_of<R: Files<File = File> + AllocGlobal + Copy + Drop>(
+pub fn round_of<R: Files<File = File> + AllocGlobal + Copy + Drop>(
     rt: R,
     place: &Place<'_>,
     autorescue: bool,
@@ -104,18 +107,4 @@ fn unfinished(peek: &Peek) -> Result<Round, RunFault>
         used: peek.used,
         next: peek.next,
     })
-}
-
-/// How the manager of this round begins.
-pub(crate) fn start_of(round: &Round) -> Start
-    requires { IsRescueNumber round.now.next }
-    ensures { IsNumbered result }
-{
-    match round.journal {
-        Journaled::Nothing | Journaled::Finished => Start::Begin {
-            used: round.used,
-            next: round.next,
-        },
-        Journaled::Unfinished => Start::GoOn,
-    }
 }

@@ -24,15 +24,20 @@ enum Wanted {
 
 /// Which files are read beside those of splices.
 #[derive(Clone, Copy, PartialEq, Eq)]
-pub(crate) enum Reading {
+pub enum Reading {
+    /// The files of splices, and of theirs.
     SplicesAlone,
+    /// Those, and the submit files of nodes.
     SubmitFilesToo,
 }
 
 /// The DAG file of this path, `-` for standard input, with the files of its splices and of theirs,
 /// and, if asked for, the submit files of all nodes but NOOPs, each read once. A file that can't be
 /// read stays missing.
-pub(crate) fn files_of<R: Files + Input + AllocGlobal>(
+///
+/// # Errors
+/// `FileRefused` with `-` where standard input can't be read; `Memory`.
+pub fn files_of<R: Files + Input + AllocGlobal>(
     rt: &R,
     top: &str,
     reading: Reading,
@@ -43,11 +48,10 @@ pub(crate) fn files_of<R: Files + Input + AllocGlobal>(
 
 /// The files of a run: relative paths are taken from this folder, `-` is a path like others, and the
 /// submit files are read too.
-pub(crate) fn files_in<R: Files + AllocGlobal>(
-    rt: &R,
-    seat: &str,
-    top: &str,
-) -> Result<FileSet, RunFault>
+///
+/// # Errors
+/// `Memory` alone.
+pub fn files_in<R: Files + AllocGlobal>(rt: &R, seat: &str, top: &str) -> Result<FileSet, RunFault>
     ensures { IfErr result (λ fault. fault ≡ Memory) }
 {
     let bytes = read_file(rt, seat, top)?;

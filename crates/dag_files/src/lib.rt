@@ -1,0 +1,13 @@
+//! The files of a DAG on the system's disk: those that its lines name, and its journal, its rescue files and its lock,
+//! which stand beside it.
+#![tactic(auto)]
+
+mod beside;
+mod by_journal;
+mod loading;
+mod rounds;
+
+pub use beside::{LAST_NUMBER, Place, journal_path, refused, rescue_path};
+pub use by_journal::{Question, bytes_of, named, told_here};
+pub use loading::{Reading, files_in, files_of};
+pub use rounds::{Journaled, Round, disk_at, round_of};
