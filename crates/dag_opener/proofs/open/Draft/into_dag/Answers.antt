@@ -12,7 +12,12 @@ use Rattle.dag_opener.proofs.open.Draft.into_dag.Goals.{then-is_empty, else-is_e
 -- a DAG with the top file, the nodes and the edges of the draft
 abbrev with_parts : goal.Joined-is_empty → Option FlatNode → List CategoryLimit → List DagWarning → Dag
 with_parts c final limits warnings = record {
-  top = c.args.top; nodes = c.args.self.nodes.items; final_node = final; edges = edges_of c.args.self.edges.items; categories = limits; warnings = warnings;
+  top = c.args.top;
+  nodes = c.args.self.nodes.items;
+  final_node = final;
+  edges = edges_of c.args.self.edges.items;
+  categories = limits;
+  warnings = warnings;
 }
 
 -- its other parts are those of the draft
@@ -22,7 +27,7 @@ parts_are c =
     let limits = c.in_ok-categories.categories.items in
     let warnings = c.in_ok-categories.warnings.items in
     let final_is : c.if-is_empty.final_node ≡ first_of c.args.self.finals.items =
-        elim c.if-is_empty.branch [ then-is_empty w ↦ search rules | else-is_empty w ↦ search rules ] in
+    elim c.if-is_empty.branch [ then-is_empty w ↦ search rules | else-is_empty w ↦ search rules ] in
     ap (λ (f : Option FlatNode). with_parts c f limits warnings) final_is
     ∙ ap (λ (ls : List CategoryLimit). with_parts c (first_of c.args.self.finals.items) ls warnings) c.in_ok-categories.ensures.limits
     ∙ ap (λ (ws : List DagWarning). with_parts c (first_of c.args.self.finals.items) c.args.self.told.limits ws) c.in_ok-categories.ensures.warnings
