@@ -3,8 +3,6 @@ pub mod LineLists
 pub mod Kept
 pub mod NodeSteps
 pub mod TellSteps
-pub mod Groups
-pub mod Marks
 pub mod Drafts
 pub mod OwnNodes
 pub mod Trees

@@ -5,7 +5,6 @@ mod acting;
 mod check;
 mod declare;
 mod edges;
-mod ends;
 mod library;
 mod lines;
 mod names;

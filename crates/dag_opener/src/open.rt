@@ -20,26 +20,35 @@ ghost use Rattle.splices.specs.Opened.{dag_at, first_of};
 use crate::check::NameCheck;
 use crate::declare::{names_of, no_final};
 use crate::edges::LineScope;
-use crate::ends::free_nodes;
 use crate::library::Library;
 use crate::names::Names;
 use crate::nodes::dir_text;
 use crate::own_nodes::own_nodes;
 use crate::told::Told;
 use dag_reader::{Command, DagFile, Text, Texts};
-use splices::{
-    DagFault, EdgeGroup, FileSet, FlatDag, FlatNode, Part, Side, SpliceFault, Used, path_in,
-};
+use splices::{DagFault, EdgeGroup, FileSet, FlatDag, FlatNode, Part, SpliceFault, Used, path_in};
 use std::alloc::{AllocError, Global};
 
 /// The nodes and edges of the files that were opened, and what the user is told of them.
-#[derive(Drop)]
 pub(crate) struct Draft {
     pub(crate) nodes: Vec<FlatNode>,
     pub(crate) finals: Vec<FlatNode>,
     pub(crate) edges: Vec<EdgeGroup>,
     pub(crate) told: Told,
     pub(crate) used: Used,
+}
+
+// Each function that lets a value go calls this; a derived drop stands in each, part by part.
+impl Drop for Draft {
+    fn drop(self) {
+        let Draft {
+            nodes: _,
+            finals: _,
+            edges: _,
+            told: _,
+            used: _,
+        } = self;
+    }
 }
 
 /// A file that was opened with those of its splices: its part of the graph, and the first name in
@@ -318,12 +327,7 @@ fn part_of(alloc: Global, first: usize, start: usize, draft: &Draft) -> Result<P
     ensures { IfOk result (λ part. part ≡ part_of first (length draft.now.nodes.items - first) (drop start draft.now.edges.items)) }
 {
     let count = draft.nodes.as_slice().len() - first;
-    let edges = &draft.edges.as_slice()[start..];
-    Ok(Part {
-        heads: free_nodes(alloc, Side::Child, first, count, edges)?,
-        tails: free_nodes(alloc, Side::Parent, first, count, edges)?,
-        count,
-    })
+    part_ends::part_of(alloc, first, count, &draft.edges.as_slice()[start..])
 }
 
 /// The first name in a file's lines that can't stand where it does.
@@ -434,15 +438,19 @@ impl Draft {
         requires below { All (IsGroupBelow (length self.nodes.items)) self.edges.items }
         ensures { IfOk result (λ dag. dag ≡ record { top = top; nodes = self.nodes.items; final_node = first_of self.finals.items; edges = edges_of self.edges.items; categories = self.told.limits; warnings = map warning_of self.told.notices }) }
     {
-        let (categories, warnings) = self.told.into_parts(alloc)?;
-        let mut finals = self.finals;
+        let Draft {
+            nodes,
+            mut finals,
+            edges,
+            told,
+            used: _,
+        } = self;
+        let (categories, warnings) = told.into_parts(alloc)?;
         let final_node = if finals.is_empty() {
             None
         } else {
             Some(finals.swap_remove(0))
         };
-        Ok(FlatDag::new(
-            top, self.nodes, final_node, self.edges, categories, warnings,
-        ))
+        Ok(FlatDag::new(top, nodes, final_node, edges, categories, warnings))
     }
 }

@@ -13,11 +13,21 @@ use std::alloc::{AllocError, Global};
 use std::marker::Model;
 
 /// What is told of the files so far. A contract sees the limits and the notices.
-#[derive(Drop)]
 pub(crate) struct Told {
     names: NameTable,
     limits: Vec<CategoryLimit>,
     notices: Notices,
+}
+
+// Each function that lets a value go calls this; a derived drop stands in each, part by part.
+impl Drop for Told {
+    fn drop(self) {
+        let Told {
+            names: _,
+            limits: _,
+            notices: _,
+        } = self;
+    }
 }
 
 impl Model for Told {
@@ -51,8 +61,13 @@ impl Told {
         ensures limits { IfOk result (λ parts. parts.0.items ≡ self.limits) }
         ensures warnings { IfOk result (λ parts. parts.1.items ≡ map warning_of self.notices) }
     {
-        let warnings = self.notices.warnings(alloc)?;
-        Ok((self.limits, warnings))
+        let Told {
+            names: _,
+            limits,
+            notices,
+        } = self;
+        let warnings = notices.warnings(alloc)?;
+        Ok((limits, warnings))
     }
 
     /// Puts in the limit of a category: a later one takes the place of that there, and the user is

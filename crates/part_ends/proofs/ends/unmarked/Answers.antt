@@ -1,7 +1,7 @@
 use Rattle.std.proofs.Common.{◌∙◌, sym, ap, ◌+◌, ◌++◌, ◌∷◌, [], false, List, ℕ}
-use Rattle.dag_opener.proofs.Marks.{unmarked_step, marked_step}
-use Rattle.dag_opener.proofs.ends.unmarked.Goals as goal
-use Rattle.dag_opener.proofs.ends.unmarked.Goals.{then-not-marked+in_ok-push, else-not-marked}
+use Rattle.part_ends.proofs.Marks.{unmarked_step, marked_step}
+use Rattle.part_ends.proofs.ends.unmarked.Goals as goal
+use Rattle.part_ends.proofs.ends.unmarked.Goals.{then-not-marked+in_ok-push, else-not-marked}
 
 pub loop-k-preserved : goal.loop-k-preserved
 loop-k-preserved c =

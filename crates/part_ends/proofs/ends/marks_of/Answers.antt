@@ -2,9 +2,9 @@ use Rattle.std.proofs.Common.{◌∙◌, ◌+◌, take, sym, ap, subst, Bool, Ve
 use Rattle.std.specs.Prelude.{vec_len}
 use Rattle.splices.specs.Places.{AreMarks, edges_of, ends_of}
 use Rattle.splices.specs.declared.flat.Side.{Side}
-use Rattle.dag_opener.proofs.Groups.{some_if, none_if, marks_more, marks_same}
-use Rattle.dag_opener.proofs.ends.marks_of.Goals as goal
-use Rattle.dag_opener.proofs.ends.marks_of.Goals.{then-not-is_empty, else-not-is_empty}
+use Rattle.part_ends.proofs.Groups.{some_if, none_if, marks_more, marks_same}
+use Rattle.part_ends.proofs.ends.marks_of.Goals as goal
+use Rattle.part_ends.proofs.ends.marks_of.Goals.{then-not-is_empty, else-not-is_empty}
 
 pub loop-group-preserved : goal.loop-group-preserved
 loop-group-preserved c =

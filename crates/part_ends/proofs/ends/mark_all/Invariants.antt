@@ -1,6 +1,6 @@
 use Rattle.std.proofs.Common.{◌≡◌, ℕ, ◌+◌, ◌<◌, ◌||◌, ◌==◌, false, length, take, vec_len, slice_index_or}
 use Rattle.std.specs.List.{list_any}
-use Rattle.dag_opener.proofs.ends.mark_all.Given as goal
+use Rattle.part_ends.proofs.ends.mark_all.Given as goal
 
 abbrev pub invariant-loop-number : goal.invariant-loop-number
 invariant-loop-number l = record {

@@ -1,8 +1,8 @@
 use Rattle.std.proofs.Common.{◌≡◌, ◌∙◌, sym, ap, ℕ, List, subst}
 use Rattle.std.specs.Prelude.{IfOk}
 use Rattle.splices.specs.Places.{edges_of, free_of, AreMarks}
-use Rattle.dag_opener.proofs.Marks.{unmarked_is}
-use Rattle.dag_opener.proofs.ends.free_nodes.Goals as goal
+use Rattle.part_ends.proofs.Marks.{unmarked_is}
+use Rattle.part_ends.proofs.ends.free_nodes.Goals as goal
 
 pub returns : goal.returns
 returns c =
