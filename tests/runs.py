@@ -188,6 +188,57 @@ def endings(folder):
     same(folder.call("run", "x.dag"), (report, "", 1))
 
 
+def told_endings(folder):
+    """Each ending of a child: an exit code, or 256 and a signal."""
+    folder.shell("a", "read c < n; [ $c -lt 256 ] || kill -$((c-256)) $$; exit $c\n")
+    for code, value in ((0, 0), (1, 1), (7, 7), (125, 125), (255, 255), (265, -9), (271, -15)):
+        folder.write("n", f"{code}\n")
+        folder.write(f"{code}.dag", "JOB A a.sub\n")
+        state, result = ("ERROR", 1) if code else ("DONE", 0)
+        report = f"A {state} attempts=1 value={value}\nresult {result}\n"
+        same(folder.call("run", f"{code}.dag"), (report, "", result))
+
+
+def what_can_not_be_started(folder):
+    """No program, no input, no folder for the output, no folder."""
+    folder.echo("b")
+    for number, lines in enumerate(("/no/such", "/bin/echo\ninput = none", "/bin/echo\noutput = none/x", "/bin/echo\ninitialdir = none")):
+        folder.write("a.sub", f"executable = {lines}\nqueue\n")
+        folder.write(f"{number}.dag", "JOB A a.sub\nJOB B b.sub\nRETRY A 1\n")
+        report = "A ERROR attempts=2 value=-1001\nB DONE attempts=1 value=0\nresult 1\n"
+        same(folder.call("run", f"{number}.dag"), (report, "", 1))
+
+
+def an_abort_kills(folder):
+    """A leaves once B's file is there; B would take it away within two seconds."""
+    folder.shell("a", "i=0; while [ ! -e b ]; do i=$((i+1)); if [ $i -gt 200 ]; then exit 9; fi; sleep 0.05; done; exit 7\n")
+    folder.shell("b", ": > b; sleep 2; rm -f b\n")
+    folder.write("x.dag", "JOB A a.sub\nJOB B b.sub\nABORT-DAG-ON A 7\n")
+    same(folder.call("run", "x.dag"), ("A ERROR attempts=1 value=7\nB READY attempts=0 value=-\nresult 7\n", "", 7))
+    time.sleep(3)
+    same(folder.there("b"), True)
+
+
+def streams_and_environment(folder):
+    """A child finds the environment of the call and its job's, its folder and its streams, and no other open file."""
+    probe = 'echo "$GREETING"; cat /proc/$$/environ >environment; pwd; cat; echo to standard error >&2\n'
+    folder.write("probe.sh", probe + 'for i in 0 1 2 3 4 5 6 7 8 9; do if [ -e /proc/$$/fd/$i ]; then printf "$i "; fi; done\n')
+    environment = "environment = \"GREETING='two words'\"\n"
+    folder.write("a.sub", f"executable = /bin/sh\narguments = ../probe.sh\n{environment}initialdir = sub\ninput = in\noutput = out\nerror = out\nqueue\n")
+    folder.write("b.sub", "executable = /bin/cat\noutput = empty\nqueue\n")
+    os.mkdir(folder.at("sub"))
+    folder.write("sub/in", "hello\n")
+    folder.write("sub/out", "x" * 4000)
+    folder.write("empty", "x")
+    folder.write("x.dag", "JOB A a.sub\nJOB B b.sub\n")
+    own = {"PATH": os.environ["PATH"], "SOME": "thing else"}
+    done = subprocess.run([folder.program, "run", "x.dag"], cwd=folder.path, capture_output=True, timeout=60, env=own)
+    same((done.stdout, done.stderr), (b"A DONE attempts=1 value=0\nB DONE attempts=1 value=0\nresult 0\n", b""))
+    same(folder.read("sub/out").decode(), f"two words\n{os.path.realpath(folder.at('sub'))}\nhello\nto standard error\n0 1 2 ")
+    same(folder.read("sub/environment").decode(), "".join(f"{name}={text}\0" for name, text in (*own.items(), ("GREETING", "two words"))))
+    same(folder.read("empty"), b"")
+
+
 def two_wait_for_each_other(folder):
     gate = ': > "$1"; i=0; while [ ! -e "$2" ]; do i=$((i+1)); if [ $i -gt 40 ]; then rm -f "$1"; exit 9; fi; sleep 0.05; done; exit 0\n'
     folder.write("gate.sh", gate)
@@ -199,6 +250,8 @@ def two_wait_for_each_other(folder):
         os.remove(folder.at(name))
     both_fail = "A ERROR attempts=1 value=9\nB ERROR attempts=1 value=9\nresult 1\n"
     same(folder.call("run", "x.dag", "--maxjobs", "1"), (both_fail, "", 1))
+    folder.write("y.dag", "JOB A a.sub\nJOB B b.sub\nCATEGORY A c\nCATEGORY B c\nMAXJOBS c 1\n")
+    same(folder.call("run", "y.dag"), (both_fail, "", 1))
 
 
 def an_abort_and_final(folder):
@@ -640,6 +693,10 @@ ROWS = [
     without_the_rescue_file,
     a_program_that_is_not_there,
     endings,
+    told_endings,
+    what_can_not_be_started,
+    an_abort_kills,
+    streams_and_environment,
     two_wait_for_each_other,
     an_abort_and_final,
     a_first_life_of_four_records,

@@ -1,14 +1,10 @@
-//! Tests of the rehearsal, from the bytes of a DAG file and of a table of outcomes to the report.
+//! Tests of calls on a run by a table: its records, the core at its end, and what its launches are started with.
 #![tactic(auto)]
 
-#[cfg(test)]
-mod checks;
 #[cfg(test)]
 mod cores;
 #[cfg(test)]
 mod course;
-#[cfg(test)]
-mod refused;
 
 #[cfg(test)]
 use throttles::Limits;

@@ -1,4 +1,4 @@
-//! Tests of starters and of `drive`, with real children and without.
+//! Tests of starters and of `drive`: calls of a system with one child, and runs without.
 #![tactic(auto)]
 
 #[cfg(test)]
@@ -10,8 +10,4 @@ mod memory;
 #[cfg(test)]
 mod plans;
 #[cfg(test)]
-mod runs;
-#[cfg(test)]
 mod scripts;
-#[cfg(test)]
-mod streams;
