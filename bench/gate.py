@@ -4,7 +4,8 @@
 Run it in a fresh clone on a machine that does nothing else. It looks at the processes of the command once a second, and prints
 the minutes by the clock and of processors in all, and for each crate: the processor seconds of its proofs (of a crate of tests:
 with its tests), those of the edits that are tried, the most memory that one process held, and when its first process began and its
-last one ended, in minutes. A process that lives less than a second may be missed; the minutes in all are the system's own.
+last one ended, in minutes. A process that lives less than a second may be missed; the minutes in all are the system's own. On a
+rented machine the host may give its processors to others meanwhile: where it kept many minutes, the clock says nothing.
 """
 
 import os
@@ -87,14 +88,21 @@ def table(processes):
         print(f"| {crate} | {proofs:.0f} | {memory:.1f} | {edits:.0f} | {min(it.begun for it in own) / 60:.1f} | {ends:.1f} |")
 
 
+def kept_by_the_host():
+    """The minutes in which a processor had work since the machine began, and the host gave its time to others."""
+    with open("/proc/stat") as stat:
+        return int(stat.readline().split()[8]) / TICKS / 60
+
+
 def main():
-    start = time.monotonic()
+    start, kept = time.monotonic(), kept_by_the_host()
     with subprocess.Popen(sys.argv[1:] or ["./test"], cwd=TOP) as running:
         processes = watch(running, start)
     used = resource.getrusage(resource.RUSAGE_CHILDREN)
     table(processes)
     minutes, processors = (time.monotonic() - start) / 60, (used.ru_utime + used.ru_stime) / 60
-    print(f"{minutes:.1f} minutes by the clock, {processors:.1f} processor minutes")
+    kept = kept_by_the_host() - kept
+    print(f"{minutes:.1f} minutes by the clock, {processors:.1f} processor minutes, {kept:.1f} more kept by the host")
     return running.returncode
 
 
