@@ -1,12 +1,9 @@
-//! The commands of dagrun over the system's files. Those that are calls over texts come from dag_texts,
-//! the words of the command line from command_line.
+//! A run of a DAG file with children of the operating system. The program, dagrun, has it beside the calls over texts of
+//! dag_texts and the rehearsals of rehearsal.
 #![tactic(auto)]
 
-mod commands;
 mod runs;
 
-pub use command_line::{Request, RunOptions, WordsFault, read_words};
-pub use commands::run;
-pub use dag_texts::{Answer, RunFault, audit_of, check_text, status_of};
-pub use rehearsal::{rehearse_text, run_table};
+pub use command_line::RunOptions;
+pub use dag_texts::{Answer, RunFault};
 pub use runs::run_dag;

@@ -1,7 +1,9 @@
 //! dagrun: a workflow manager for job graphs on one machine.
 #![tactic(auto)]
 
-use dag_main::run;
+mod commands;
+
+use commands::run;
 use std::alloc::Global;
 use std::io::ErrorKind;
 use std::process::ExitCode;

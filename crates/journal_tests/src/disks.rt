@@ -96,15 +96,28 @@ fn many_records(rt: HostRuntime) -> Result<(), Fail> {
     Ok(())
 }
 
+// The file has these bytes.
+fn has_bytes(rt: &impl Abort, host: HostRuntime, name: &str, due: &[u8]) -> Result<(), Fail> {
+    let bytes = fs::read(&host, name)?;
+    assert_eq!(rt; bytes.as_slice(), due);
+    Ok(())
+}
+
+// The journal in this file has the records of one that fails once.
+fn has_records(rt: &impl Abort, host: HostRuntime, name: &str) -> Result<(), Fail> {
+    let alloc = host.alloc();
+    let records = records_on(alloc, FileDisk::at(host, String::from_str(alloc, name)?))?;
+    assert_eq!(rt; records.as_slice(), RECORDS.as_slice());
+    Ok(())
+}
+
 #[test]
 fn journal_in_a_file(rt: HostRuntime) -> Result<(), Fail> {
     let alloc = rt.alloc();
     let name = "journal_in_a_file.test";
     written(alloc, FileDisk::at(rt, String::from_str(alloc, name)?))?;
-    let bytes = fs::read(&rt, name)?;
-    assert_eq!(rt; bytes.as_slice(), FAILS_ONCE.as_slice());
-    let records = records_on(alloc, FileDisk::at(rt, String::from_str(alloc, name)?))?;
-    assert_eq!(rt; records.as_slice(), RECORDS.as_slice());
+    has_bytes(&rt, rt, name, FAILS_ONCE.as_slice())?;
+    has_records(&rt, rt, name)?;
     fs::remove_file(&rt, name)?;
     Ok(())
 }
@@ -131,17 +144,20 @@ fn file_in_a_missing_folder(rt: HostRuntime) -> Result<(), Fail> {
 }
 
 // A disk whose file is there and can't be opened: each call fails, and none reads as a missing file.
-fn never_opens<R: Files<File = File> + Drop>(rt: &impl Abort, alloc: Global, disk: FileDisk<R>) {
-    let mut disk = disk;
+fn never_opens<R: Files<File = File> + Drop>(
+    rt: &impl Abort,
+    alloc: Global,
+    disk: &mut FileDisk<R>,
+) {
     assert_eq!(rt; disk.size(), Err(DiskFault::Failed));
     assert!(rt; matches!(disk.read(alloc), Err(ReadFault::Failed)));
     assert_eq!(rt; disk.sync(), Err(DiskFault::Failed));
     assert_eq!(rt; disk.cut(0), Err(DiskFault::Failed));
     assert_eq!(rt; disk.write_at(0, b"x"), Err(DiskFault::Failed));
-    match Journal::peek(alloc, &mut disk) {
-        Err(fault) => assert_eq!(rt; fault, JournalFault::Device),
-        Ok(_) => panic!(rt; "a journal is read"),
-    }
+    assert_eq!(rt;
+        Journal::peek(alloc, disk).err(),
+        Some(JournalFault::Device)
+    );
 }
 
 #[test]
@@ -149,7 +165,8 @@ fn file_is_a_folder(rt: HostRuntime) -> Result<(), Fail> {
     let name = "file_is_a_folder.test";
     fs::create_dir(&rt, name)?;
     let alloc = rt.alloc();
-    never_opens(&rt, alloc, FileDisk::at(rt, String::from_str(alloc, name)?));
+    let mut disk = FileDisk::at(rt, String::from_str(alloc, name)?);
+    never_opens(&rt, alloc, &mut disk);
     fs::remove_dir_all(&rt, name)?;
     Ok(())
 }
@@ -160,23 +177,30 @@ fn file_within_a_file(rt: HostRuntime) -> Result<(), Fail> {
     fs::write(&rt, name, b"x")?;
     let alloc = rt.alloc();
     let path = String::from_str(alloc, "file_within_a_file.test/journal")?;
-    never_opens(&rt, alloc, FileDisk::at(rt, path));
-    let bytes = fs::read(&rt, name)?;
-    assert_eq!(rt; bytes.as_slice(), b"x".as_slice());
+    let mut disk = FileDisk::at(rt, path);
+    never_opens(&rt, alloc, &mut disk);
+    drop(disk);
+    has_bytes(&rt, rt, name, b"x")?;
     fs::remove_file(&rt, name)?;
+    Ok(())
+}
+
+// Cuts a file behind its gate.
+fn cut_file(rt: &impl Abort, host: HostRuntime, name: &str) -> Result<(), Fail> {
+    let alloc = host.alloc();
+    let mut disk = FileDisk::at(host, String::from_str(alloc, name)?);
+    assert_eq!(rt; disk.cut(65), Ok(()));
+    assert_eq!(rt; disk.size(), Ok(65));
+    let bytes = disk.read(alloc)?;
+    assert_eq!(rt; bytes.as_slice(), &FAILS_ONCE[..65]);
     Ok(())
 }
 
 #[test]
 fn file_is_cut(rt: HostRuntime) -> Result<(), Fail> {
-    let alloc = rt.alloc();
     let name = "file_is_cut.test";
     fs::write(&rt, name, FAILS_ONCE.as_slice())?;
-    let mut disk = FileDisk::at(rt, String::from_str(alloc, name)?);
-    assert_eq!(rt; disk.cut(65), Ok(()));
-    assert_eq!(rt; disk.size(), Ok(65));
-    let bytes = disk.read(alloc)?;
-    assert_eq!(rt; bytes.as_slice(), &FAILS_ONCE[..65]);
+    cut_file(&rt, rt, name)?;
     fs::remove_file(&rt, name)?;
     Ok(())
 }

@@ -3,6 +3,7 @@ use crate::lives::run;
 use crate::plans::{DIAMOND, PLAN_P, PLAN_Q, plan_of};
 use crate::runs::{LIVES, OUTCOMES, table_of};
 use fate_audit::{AuditNo, Fate, audit, predict};
+use node_machine::Table;
 use run_plan::Plan;
 use std::alloc::Global;
 use std::process::Abort;
@@ -13,20 +14,24 @@ const HEADER: usize = 64;
 
 const SLOT: usize = 32;
 
-// What each node comes to, with its phases that ended.
+// Adds what a node comes to, with its phases that ended.
+fn add_line(text: &mut String, name: &str, fate: &Fate) -> Result<(), Fail> {
+    let state = fate.state();
+    let attempts = fate.attempts();
+    let value = fate.value();
+    write!(text, "{name} {state:?} {attempts} {value:?}")?;
+    for ended in fate.history() {
+        let (attempt, phase, outcome) = (ended.attempt, ended.phase, ended.outcome);
+        write!(text, " {attempt} {phase:?} {outcome:?}")?;
+    }
+    text.push_str("\n")?;
+    Ok(())
+}
+
 fn lines_of(alloc: Global, plan: &Plan, fates: &[Fate]) -> Result<String, Fail> {
     let mut text = String::new(alloc);
     for (spec, fate) in plan.nodes().iter().zip(fates.iter()) {
-        let name = spec.name();
-        let state = fate.state();
-        let attempts = fate.attempts();
-        let value = fate.value();
-        write!(text, "{name} {state:?} {attempts} {value:?}")?;
-        for ended in fate.history() {
-            let (attempt, phase, outcome) = (ended.attempt, ended.phase, ended.outcome);
-            write!(text, " {attempt} {phase:?} {outcome:?}")?;
-        }
-        text.push_str("\n")?;
+        add_line(&mut text, spec.name(), fate)?;
     }
     Ok(text)
 }
@@ -39,6 +44,19 @@ fn audited(rt: &impl Abort, alloc: Global, plan: &Plan, bytes: &[u8]) -> Result<
         }
         Err(no) => panic!(rt; "audit no {no}"),
     }
+}
+
+// The journal's audit tells this.
+fn is_told(
+    rt: &impl Abort,
+    alloc: Global,
+    plan: &Plan,
+    bytes: &[u8],
+    due: &str,
+) -> Result<(), Fail> {
+    let text = audited(rt, alloc, plan, bytes)?;
+    assert_eq!(rt; text.as_str(), due);
+    Ok(())
 }
 
 const ALL_DONE: &str = "A Done 1 Some(0) 0 Job Exit(0)\nB Done 1 Some(0) 0 Job Exit(0)\n\
@@ -54,16 +72,20 @@ fn front_of(alloc: Global, bytes: &[u8], size: usize) -> Result<Vec<u8>, Fail> {
     Ok(front)
 }
 
-fn two_crashes_of(rt: &impl Abort, alloc: Global, plan: &Plan) -> Result<(), Fail> {
-    let table = table_of(rt, alloc, b"");
-    let disk = run(rt, alloc, plan, &table, &[3, 3, 100]);
-    let bytes = disk.bytes();
-    assert_eq!(rt; bytes.len(), HEADER + SLOT * 14 + 1);
-    assert_eq!(rt; audited(rt, alloc, plan, bytes)?.as_str(), ALL_DONE);
+// Eight of the records are of no finished run, and one letter is no journal.
+fn fronts_of(rt: &impl Abort, alloc: Global, plan: &Plan, bytes: &[u8]) -> Result<(), Fail> {
     let front = front_of(alloc, bytes, HEADER + SLOT * 8)?;
     assert_eq!(rt; audit(alloc, plan, &front).err(), Some(AuditNo::Unfinished));
     assert_eq!(rt; audit(alloc, plan, b"J").err(), Some(AuditNo::NotAJournal));
     Ok(())
+}
+
+fn two_crashes_of(rt: &impl Abort, alloc: Global, plan: &Plan) -> Result<(), Fail> {
+    let table = table_of(rt, alloc, b"");
+    let disk = run(rt, alloc, plan, &table, &[3, 3, 100]);
+    assert_eq!(rt; disk.bytes().len(), HEADER + SLOT * 14 + 1);
+    is_told(rt, alloc, plan, disk.bytes(), ALL_DONE)?;
+    fronts_of(rt, alloc, plan, disk.bytes())
 }
 
 #[test]
@@ -74,14 +96,26 @@ fn audit_of_two_crashes(rt: HostRuntime) -> Result<(), Fail> {
     answer
 }
 
+fn is_predicted(
+    rt: &impl Abort,
+    alloc: Global,
+    plan: &Plan,
+    table: &Table,
+    due: &str,
+) -> Result<(), Fail> {
+    let fates = predict(alloc, plan, table)?;
+    let text = lines_of(alloc, plan, &fates)?;
+    assert_eq!(rt; text.as_str(), due);
+    Ok(())
+}
+
 // The table says what each node comes to, and so does the journal of each run by it.
 fn agree(rt: &impl Abort, alloc: Global, plan: &Plan, due: &str) -> Result<(), Fail> {
     let table = table_of(rt, alloc, OUTCOMES);
-    let fates = predict(alloc, plan, &table)?;
-    assert_eq!(rt; lines_of(alloc, plan, &fates)?.as_str(), due);
+    is_predicted(rt, alloc, plan, &table, due)?;
     for lives in LIVES {
         let disk = run(rt, alloc, plan, &table, lives);
-        assert_eq!(rt; audited(rt, alloc, plan, disk.bytes())?.as_str(), due);
+        is_told(rt, alloc, plan, disk.bytes(), due)?;
     }
     Ok(())
 }

@@ -43,33 +43,36 @@ fn written(rt: &impl Abort, alloc: Global, plan: &Plan) -> Result<Vec<u8>, Fail>
 
 // The front of the journal with this value of the last gate: its records with the last one or
 // without, and Life behind them; or the slot is bad, where its gate is open and it is not whole.
-fn recovered(
-    rt: &impl Abort,
-    alloc: Global,
-    plan: &Plan,
-    front: Vec<u8>,
-    gate: u8,
-) -> Result<(), Fail> {
-    let size = front.len();
-    if size > ROOM {
-        return Ok(());
-    }
-    match life(alloc, MemDisk::of(alloc, front, ROOM), plan, SLOTS) {
+fn recovered(rt: &impl Abort, alloc: Global, plan: &Plan, disk: MemDisk, gate: u8) {
+    let size = disk.bytes().len();
+    let answer = life(alloc, disk, plan, SLOTS);
+    match &answer {
         Ok(manager) => {
-            let records = manager.core().records();
             assert!(rt; gate != OPEN || size == SIZE);
-            if gate == OPEN {
-                assert_eq!(rt; records, WITH_LAST.as_slice());
+            let due = if gate == OPEN {
+                WITH_LAST.as_slice()
             } else {
-                assert_eq!(rt; records, WITHOUT.as_slice());
-            }
+                WITHOUT.as_slice()
+            };
+            assert_eq!(rt; manager.core().records(), due);
         }
-        Err((_disk, fault)) => {
+        Err((_, fault)) => {
             assert!(rt; gate == OPEN && size < SIZE);
-            assert_eq!(rt; fault, ManagerFault::Journal(JournalFault::BadSlot(2)));
+            assert_eq!(rt; *fault, ManagerFault::Journal(JournalFault::BadSlot(2)));
         }
     }
-    Ok(())
+    drop(answer);
+}
+
+// A disk that holds so many bytes of a journal, and of these the last gate with this value.
+fn front_of(alloc: Global, bytes: &[u8], size: usize, gate: u8) -> Result<MemDisk, Fail> {
+    let mut front = Vec::new(alloc);
+    if GATE < size && size <= bytes.len() && size <= ROOM {
+        front.extend_from_slice(&bytes[..size])?;
+        front[GATE] = gate;
+        return Ok(MemDisk::of(alloc, front, ROOM));
+    }
+    Err(Fail::from("no such front"))
 }
 
 fn every_prefix(rt: &impl Abort, alloc: Global, plan: &Plan) -> Result<(), Fail> {
@@ -77,11 +80,8 @@ fn every_prefix(rt: &impl Abort, alloc: Global, plan: &Plan) -> Result<(), Fail>
     assert_eq!(rt; bytes.len(), SIZE);
     for size in GATE + 1..SIZE + 1 {
         for gate in 0..256u32 {
-            if size <= bytes.len() {
-                let mut front = Vec::from_slice(alloc, &bytes[..size])?;
-                front[GATE] = gate as u8;
-                recovered(rt, alloc, plan, front, gate as u8)?;
-            }
+            let disk = front_of(alloc, &bytes, size, gate as u8)?;
+            recovered(rt, alloc, plan, disk, gate as u8);
         }
     }
     Ok(())

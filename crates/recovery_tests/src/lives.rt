@@ -52,19 +52,29 @@ pub fn life<'a>(
     }
 }
 
+// Seals and finishes a run that owes a rescue file.
+fn end_with_rescue(rt: &impl Abort, alloc: Global, manager: &mut Manager<'_, MemDisk>) {
+    let seal = given(rt, manager.write_rescue(alloc, MemDisk::new(alloc, ROOM)));
+    let rescue = given(rt, manager.finish(seal));
+    assert!(rt; rescue.is_some());
+}
+
+// Seals and finishes a run that owes none.
+fn end_without(rt: &impl Abort, manager: &mut Manager<'_, MemDisk>) {
+    let seal: Result<Sealed<MemDisk>, ManagerFault> = manager.no_rescue();
+    let Ok(seal) = seal else {
+        panic!(rt; "no seal");
+    };
+    let rescue = given(rt, manager.finish(seal));
+    assert!(rt; rescue.is_none());
+}
+
 // Seals and finishes a run that may end.
 fn end(rt: &impl Abort, alloc: Global, manager: &mut Manager<'_, MemDisk>) {
     if manager.core().needs_rescue() {
-        let seal = given(rt, manager.write_rescue(alloc, MemDisk::new(alloc, ROOM)));
-        let rescue = given(rt, manager.finish(seal));
-        assert!(rt; rescue.is_some());
+        end_with_rescue(rt, alloc, manager);
     } else {
-        let seal: Result<Sealed<MemDisk>, ManagerFault> = manager.no_rescue();
-        let Ok(seal) = seal else {
-            panic!(rt; "no seal");
-        };
-        let rescue = given(rt, manager.finish(seal));
-        assert!(rt; rescue.is_none());
+        end_without(rt, manager);
     }
 }
 

@@ -19,21 +19,30 @@ const SLOTS_FULL: ManagerFault = ManagerFault::Journal(JournalFault::SlotsFull);
 
 const BROKEN: ManagerFault = ManagerFault::Journal(JournalFault::Broken);
 
-fn small_disks(rt: &impl Abort, alloc: Global, plan: &Plan) -> Result<(), Fail> {
-    let disk = refused(
-        rt,
-        life(alloc, MemDisk::new(alloc, 65), plan, SLOTS),
-        DISK_FULL,
-    );
-    assert!(rt; records_on(alloc, plan, disk)?.is_empty());
+fn no_room_for_life(rt: &impl Abort, alloc: Global, plan: &Plan) -> Result<(), Fail> {
+    let small = life(alloc, MemDisk::new(alloc, 65), plan, SLOTS);
+    let records = records_on(alloc, plan, refused(rt, small, DISK_FULL))?;
+    assert!(rt; records.is_empty());
+    Ok(())
+}
+
+fn no_room_for_a_launch(rt: &impl Abort, alloc: Global, plan: &Plan) {
     let mut manager = given(rt, life(alloc, MemDisk::new(alloc, 97), plan, SLOTS));
     assert_eq!(rt; manager.launch(job(0)), Err(DISK_FULL));
     assert_eq!(rt; manager.launch(job(0)), Err(BROKEN));
-    let _disk = manager.into_disk();
+    drop(manager);
+}
+
+fn no_slot_for_a_launch(rt: &impl Abort, alloc: Global, plan: &Plan) {
     let mut manager = given(rt, life(alloc, MemDisk::new(alloc, ROOM), plan, 1));
     assert_eq!(rt; manager.launch(job(0)), Err(SLOTS_FULL));
     assert_eq!(rt; manager.into_disk().bytes().len(), 97);
-    Ok(())
+}
+
+fn small_disks(rt: &impl Abort, alloc: Global, plan: &Plan) -> Result<(), Fail> {
+    no_room_for_a_launch(rt, alloc, plan);
+    no_slot_for_a_launch(rt, alloc, plan);
+    no_room_for_life(rt, alloc, plan)
 }
 
 #[test]
@@ -93,17 +102,28 @@ fn a_stale_seal_is_refused(rt: HostRuntime) -> Result<(), Fail> {
     Ok(())
 }
 
-// A run that goes on is not sealed, and what may not follow is told.
+// A run that goes on is not sealed.
+fn not_sealed(rt: &impl Abort, alloc: Global, manager: &mut Manager<'_, MemDisk>) {
+    let sealed = manager.write_rescue(alloc, MemDisk::new(alloc, ROOM));
+    let rescue = refused(rt, sealed, ManagerFault::NotLawful);
+    drop(rescue);
+    let sealed: Result<Sealed<MemDisk>, ManagerFault> = manager.no_rescue();
+    assert!(rt; sealed.is_err());
+    drop(sealed);
+}
+
+// What may not follow is told.
 fn out_of_place(rt: &impl Abort, alloc: Global, plan: &Plan) {
     let unlawful = ManagerFault::NotLawful;
     let mut manager = given(rt, life(alloc, MemDisk::new(alloc, ROOM), plan, SLOTS));
     assert_eq!(rt; manager.launch(job(1)), Err(unlawful));
     assert_eq!(rt; manager.record_end(job(0), Outcome::Exit(0)), Err(unlawful));
-    let sealed = manager.write_rescue(alloc, MemDisk::new(alloc, ROOM));
-    let _rescue = refused(rt, sealed, unlawful);
-    let sealed: Result<Sealed<MemDisk>, ManagerFault> = manager.no_rescue();
-    assert!(rt; sealed.is_err());
-    let _disk = manager.into_disk();
+    not_sealed(rt, alloc, &mut manager);
+    drop(manager);
+}
+
+// A record that may not follow those before it is found by a replay.
+fn foreign(rt: &impl Abort, alloc: Global, plan: &Plan) {
     let records = [
         Record::Life,
         Record::Launch(job(0), 1),
@@ -117,6 +137,7 @@ fn out_of_place(rt: &impl Abort, alloc: Global, plan: &Plan) {
 fn out_of_place_is_refused(rt: HostRuntime) -> Result<(), Fail> {
     let plan = plan_of(rt.alloc(), DIAMOND)?;
     out_of_place(&rt, rt.alloc(), &plan);
+    foreign(&rt, rt.alloc(), &plan);
     drop(plan);
     Ok(())
 }

@@ -4,6 +4,7 @@ use crate::plans::{DIAMOND, PLAN_P, PLAN_Q, job, plan_of};
 use node_machine::{Key, Outcome, Phase, Record, State, Table, read_table};
 use recovery::replay;
 use run_plan::Plan;
+use sched_core::Core;
 use std::alloc::Global;
 use std::process::Abort;
 use std::test::Fail;
@@ -59,11 +60,20 @@ pub fn table_of(rt: &impl Abort, alloc: Global, text: &[u8]) -> Table {
     table
 }
 
-fn two_crashes_of(rt: &impl Abort, alloc: Global, plan: &Plan) -> Result<(), Fail> {
-    let table = table_of(rt, alloc, b"");
-    let records = records_on(alloc, plan, run(rt, alloc, plan, &table, &[3, 3, 100]))?;
-    assert_eq!(rt; records.as_slice(), TWO_CRASHES.as_slice());
-    // What the first two lives recorded.
+// The records of a run by a table whose lives stop after so many records each.
+fn records_by(
+    rt: &impl Abort,
+    alloc: Global,
+    plan: &Plan,
+    outcomes: &[u8],
+    lives: &[u32],
+) -> Result<Vec<Record>, Fail> {
+    let table = table_of(rt, alloc, outcomes);
+    records_on(alloc, plan, run(rt, alloc, plan, &table, lives))
+}
+
+// What the first two lives recorded.
+fn two_lives_of(rt: &impl Abort, alloc: Global, plan: &Plan) -> Result<(), Fail> {
     let core = replay(alloc, plan, &TWO_CRASHES[..8])?;
     let states = [State::Done, State::Done, State::NotRun, State::NotRun];
     assert_eq!(rt; plan.count(), 4);
@@ -72,6 +82,12 @@ fn two_crashes_of(rt: &impl Abort, alloc: Global, plan: &Plan) -> Result<(), Fai
     }
     assert!(rt; core.is_outstanding(&job(2)));
     Ok(())
+}
+
+fn two_crashes_of(rt: &impl Abort, alloc: Global, plan: &Plan) -> Result<(), Fail> {
+    let records = records_by(rt, alloc, plan, b"", &[3, 3, 100])?;
+    assert_eq!(rt; records.as_slice(), TWO_CRASHES.as_slice());
+    two_lives_of(rt, alloc, plan)
 }
 
 #[test]
@@ -85,12 +101,9 @@ fn two_crashes(rt: HostRuntime) -> Result<(), Fail> {
 pub static OUTCOMES: &[u8] =
     b"B 0 JOB 1\nX 0 JOB 1\nX 1 JOB 1\nX 2 JOB 1\nY 0 JOB 2\nZ 0 JOB signal 6\n";
 
-// What each node shows at the end of a run whose lives stop after so many records each.
-fn shown(rt: &impl Abort, alloc: Global, plan: &Plan, lives: &[u32]) -> Result<String, Fail> {
-    let table = table_of(rt, alloc, OUTCOMES);
-    let records = records_on(alloc, plan, run(rt, alloc, plan, &table, lives))?;
-    let core = replay(alloc, plan, &records)?;
-    assert!(rt; core.is_over());
+// What each node shows.
+fn nodes_of(alloc: Global, core: &Core<'_>) -> Result<String, Fail> {
+    let plan = core.plan();
     let mut text = String::new(alloc);
     for node in 0..plan.count() {
         let name = plan.spec(node).name();
@@ -100,6 +113,14 @@ fn shown(rt: &impl Abort, alloc: Global, plan: &Plan, lives: &[u32]) -> Result<S
         write!(text, "{name} {state:?} {attempts} {value:?}\n")?;
     }
     Ok(text)
+}
+
+// What each node shows at the end of a run whose lives stop after so many records each.
+fn shown(rt: &impl Abort, alloc: Global, plan: &Plan, lives: &[u32]) -> Result<String, Fail> {
+    let records = records_by(rt, alloc, plan, OUTCOMES, lives)?;
+    let core = replay(alloc, plan, &records)?;
+    assert!(rt; core.is_over());
+    nodes_of(alloc, &core)
 }
 
 // How many records each life adds: without a crash, and with one to three.

@@ -6,6 +6,7 @@ use dag_opener::open_dag;
 use node_machine::{Outcome, Phase, read_table};
 use rehearsal::run_table;
 use run_plan::{Plan, PlanFault};
+use sched_core::Core;
 use splices::FileSet;
 use std::alloc::Global;
 use std::process::Abort;
@@ -28,32 +29,39 @@ fn fault_of(refused: (Graph, PlanFault)) -> Fail {
     Fail::from(fault)
 }
 
-/// The history of B and the marks, where the job of B exits with 1 and then with 2.
-fn told(rt: &impl Abort, alloc: Global, plan: &Plan) -> Result<(), Fail> {
+/// The history of B, whose job exits with 1 and then with 2.
+fn told_history(rt: &impl Abort, alloc: Global, core: &Core<'_>) {
+    let Ok(history) = core.history(alloc, 1) else {
+        panic!(rt; "no history");
+    };
+    assert_eq!(rt; history.len(), 2);
+    assert!(rt; history[1].attempt == 1 && history[1].phase == Phase::Job);
+    assert!(rt; history[1].outcome == Outcome::Exit(2));
+}
+
+fn told_marks(rt: &impl Abort, alloc: Global, core: &Core<'_>) {
+    let Ok(marks) = core.marks(alloc) else {
+        panic!(rt; "no marks");
+    };
+    assert_eq!(rt; marks.as_slice(), [true, false, false].as_slice());
+}
+
+fn told(rt: &impl Abort, alloc: Global, plan: &Plan) {
     let Ok(table) = read_table(alloc, b"B 0 JOB 1\nB 1 JOB 2\n") else {
         panic!(rt; "no table");
     };
     let Ok(run) = run_table(alloc, plan, &table, NO_LIMITS) else {
         panic!(rt; "no run");
     };
-    let Ok(history) = run.core().history(alloc, 1) else {
-        panic!(rt; "no history");
-    };
-    assert_eq!(rt; history.len(), 2);
-    assert!(rt; history[1].attempt == 1 && history[1].phase == Phase::Job);
-    assert!(rt; history[1].outcome == Outcome::Exit(2));
-    let Ok(marks) = run.core().marks(alloc) else {
-        panic!(rt; "no marks");
-    };
-    assert_eq!(rt; marks.as_slice(), [true, false, false].as_slice());
-    Ok(())
+    told_history(rt, alloc, run.core());
+    told_marks(rt, alloc, run.core());
 }
 
 #[test]
 fn history_and_marks(rt: HostRuntime) -> Result<(), Fail> {
     let text = "JOB A a\nJOB B b\nJOB C c\nRETRY B 1\nPARENT A CHILD B\nPARENT B CHILD C\n";
     let plan = plan_of(rt.alloc(), text)?;
-    let answer = told(&rt, rt.alloc(), &plan);
+    told(&rt, rt.alloc(), &plan);
     drop(plan);
-    answer
+    Ok(())
 }

@@ -20,34 +20,30 @@ const ONE_JOB: Limits = Limits {
     ..NO_LIMITS
 };
 
+/// Adds the node of a job's launch, and in brackets that of its ending.
+fn add_job(text: &mut String, entry: &Record) -> Result<(), Fail> {
+    match entry {
+        Record::Launch(key, _) if key.phase == Phase::Job => write!(text, "{} ", key.node)?,
+        Record::End(key, _) if key.phase == Phase::Job => write!(text, "({}) ", key.node)?,
+        _ => {}
+    }
+    Ok(())
+}
+
+fn jobs_in(alloc: Global, records: &[Record]) -> Result<String, Fail> {
+    let mut text = String::new(alloc);
+    for entry in records {
+        add_job(&mut text, entry)?;
+    }
+    Ok(text)
+}
+
 /// The nodes of the launches in their order, as a text of their numbers.
 fn launches(rt: &impl Abort, alloc: Global, plan: &Plan, limits: Limits) -> Result<String, Fail> {
     let Ok(run) = run_table(alloc, plan, &Table::empty(alloc), limits) else {
         panic!(rt; "no run");
     };
-    let mut text = String::new(alloc);
-    for entry in run.core().records() {
-        match entry {
-            Record::Launch(
-                Key {
-                    node,
-                    phase: Phase::Job,
-                    ..
-                },
-                _,
-            ) => write!(text, "{node} ")?,
-            Record::End(
-                Key {
-                    node,
-                    phase: Phase::Job,
-                    ..
-                },
-                _,
-            ) => write!(text, "({node}) ")?,
-            _ => {}
-        }
-    }
-    Ok(text)
+    jobs_in(alloc, run.core().records())
 }
 
 /// Jobs A, B and C with priorities -1, 5 and 0: launches, and in brackets endings.
@@ -92,9 +88,7 @@ fn member(node: u32, priority: i32) -> Member {
 }
 
 /// Best first: by priority, then in plan order.
-#[test]
-fn queue(rt: HostRuntime) -> Result<(), Fail> {
-    let mut queue = ReadyQueue::new(rt.alloc());
+fn best_first(rt: &impl Abort, queue: &mut ReadyQueue) -> Result<(), Fail> {
     queue.reserve(4)?;
     queue.add(member(2, 0))?;
     queue.add(member(0, 0))?;
@@ -108,6 +102,12 @@ fn queue(rt: HostRuntime) -> Result<(), Fail> {
     queue.remove(member(0, 0))?;
     assert_eq!(rt; queue.members().len(), 2);
     Ok(())
+}
+
+#[test]
+fn queue(rt: HostRuntime) -> Result<(), Fail> {
+    let mut queue = ReadyQueue::new(rt.alloc());
+    best_first(&rt, &mut queue)
 }
 
 #[test]
@@ -167,25 +167,50 @@ fn add(core: &mut Core<'_>, entry: Record) -> Result<(), Fail> {
     Ok(())
 }
 
-/// The outputs of the jobs in the order of their launches, one job at a time.
-fn outputs(alloc: Global, plan: &Plan, table: &Table) -> Result<String, Fail> {
-    let mut core = Core::new(alloc, plan, ONE_JOB)?;
-    add(&mut core, Record::Life)?;
-    let mut text = String::new(alloc);
+/// Launches what is chosen, adds the output of its job, and ends it as the table says; whether
+/// anything was chosen.
+fn launch_next(
+    alloc: Global,
+    core: &mut Core<'_>,
+    plan: &Plan,
+    table: &Table,
+    text: &mut String,
+) -> Result<bool, Fail> {
+    let Choice::Start(key) = core.choose() else {
+        return Ok(false);
+    };
+    let number = core.next_launch();
+    add(core, Record::Launch(key, number))?;
+    let output = output_at(alloc, core, &key)?;
+    write!(text, "{output} ")?;
+    if key.node <= plan.count() {
+        let outcome = table.get(plan.spec(key.node).name(), key.attempt, key.phase);
+        add(core, Record::End(key, outcome))?;
+    }
+    Ok(true)
+}
+
+fn add_outputs(
+    alloc: Global,
+    core: &mut Core<'_>,
+    plan: &Plan,
+    table: &Table,
+    text: &mut String,
+) -> Result<(), Fail> {
     for _ in 0..16 {
-        let Choice::Start(key) = core.choose() else {
+        if !launch_next(alloc, core, plan, table, text)? {
             break;
-        };
-        let number = core.next_launch();
-        add(&mut core, Record::Launch(key, number))?;
-        let output = output_at(alloc, &core, &key)?;
-        text.push_str(output.as_str())?;
-        text.push_str(" ")?;
-        if key.node <= plan.count() {
-            let outcome = table.get(plan.spec(key.node).name(), key.attempt, key.phase);
-            add(&mut core, Record::End(key, outcome))?;
         }
     }
+    Ok(())
+}
+
+/// The outputs of the jobs in the order of their launches, one job at a time.
+fn outputs(alloc: Global, plan: &Plan, table: &Table) -> Result<String, Fail> {
+    let mut text = String::new(alloc);
+    let mut core = Core::new(alloc, plan, ONE_JOB)?;
+    add(&mut core, Record::Life)?;
+    add_outputs(alloc, &mut core, plan, table, &mut text)?;
     Ok(text)
 }
 

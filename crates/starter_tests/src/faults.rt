@@ -118,6 +118,32 @@ fn copied(alloc: Global, records: &[Record]) -> Result<Vec<Record>, Fail> {
     Ok(copy)
 }
 
+// Leads a run to its end, or to what stops it: its report.
+fn led(
+    alloc: Global,
+    manager: &mut Manager<'_, FuseDisk<MemDisk>>,
+    plan: &Plan,
+    table: &Table,
+    stop: &Stop,
+) -> Option<String>
+    requires plan { plan_of manager.old ≡ plan.now }
+    requires life { IsNewLife (past_of manager.old) }
+    requires table { HasPossibleOutcomes table.now }
+{
+    let script = Script {
+        places: Vec::new(alloc),
+        failing_start: stop.failing_start,
+        failing_wait: stop.failing_wait,
+        lets_go: false,
+    };
+    let mut starter = ScriptedStarter::new(alloc, plan, table, script);
+    let rescue = FuseDisk::new(MemDisk::new(alloc, ROOM), stop.rescue);
+    match lead(alloc, manager, plan, &mut starter, rescue) {
+        Ok(led) => Some(led.text),
+        Err(_) => None,
+    }
+}
+
 fn live(alloc: Global, disk: MemDisk, plan: &Plan, table: &Table, stop: &Stop) -> Result<Life, Fail>
     requires { HasPossibleOutcomes table.now }
 {
@@ -131,20 +157,12 @@ fn live(alloc: Global, disk: MemDisk, plan: &Plan, table: &Table, stop: &Stop) -
             });
         }
     };
-    let script = Script {
-        places: Vec::new(alloc),
-        failing_start: stop.failing_start,
-        failing_wait: stop.failing_wait,
-        lets_go: false,
-    };
-    let mut starter = ScriptedStarter::new(alloc, plan, table, script);
-    let rescue = FuseDisk::new(MemDisk::new(alloc, ROOM), stop.rescue);
-    let answer = lead(alloc, &mut manager, plan, &mut starter, rescue);
+    let text = led(alloc, &mut manager, plan, table, stop);
     let records = copied(alloc, manager.core().records())?;
     Ok(Life {
         disk: manager.into_disk().into_disk(),
         records,
-        text: answer.ok().map(|led| led.text),
+        text,
     })
 }
 
@@ -163,6 +181,35 @@ fn read_back(alloc: Global, plan: &Plan, disk: MemDisk) -> Result<(MemDisk, Vec<
 
 fn is_finished(records: &[Record]) -> bool {
     matches!(records.last(), Some(Record::Finish(_)))
+}
+
+// The report of a run whose end had been recorded.
+fn replayed(alloc: Global, plan: &Plan, records: &[Record]) -> Result<String, Fail> {
+    let core = replay(alloc, plan, records)?;
+    Ok(run_text(alloc, &core, core.verdict())?)
+}
+
+// The report of a run that was stopped, which nothing stops now.
+fn gone_on(
+    rt: &impl Abort,
+    alloc: Global,
+    plan: &Plan,
+    table: &Table,
+    disk: MemDisk,
+    acknowledged: &[Record],
+) -> Result<String, Fail>
+    requires { HasPossibleOutcomes table.now }
+{
+    let Life {
+        disk: _,
+        records,
+        text,
+    } = live(alloc, disk, plan, table, &NOTHING)?;
+    assert!(rt; records.starts_with(acknowledged));
+    match text {
+        Some(text) => Ok(text),
+        None => panic!(rt; "taken up again it is stopped"),
+    }
 }
 
 // The report of a run that was stopped, once it is taken up again: replayed where its end had been
@@ -184,19 +231,30 @@ fn taken_up(
     let (disk, records) = read_back(alloc, plan, disk)?;
     assert!(rt; records.starts_with(&acknowledged));
     if is_finished(&records) {
-        let core = replay(alloc, plan, &records)?;
-        return Ok(run_text(alloc, &core, core.verdict())?);
+        return replayed(alloc, plan, &records);
     }
-    let Life {
-        disk: _,
-        records,
-        text,
-    } = live(alloc, disk, plan, table, &NOTHING)?;
-    assert!(rt; records.starts_with(&acknowledged));
-    match text {
-        Some(text) => Ok(text),
-        None => panic!(rt; "taken up again it is stopped"),
+    gone_on(rt, alloc, plan, table, disk, &acknowledged)
+}
+
+// Stops a run so, and takes it up again; whether it was stopped.
+fn is_stopped(
+    rt: &impl Abort,
+    alloc: Global,
+    plan: &Plan,
+    table: &Table,
+    stop: &Stop,
+    due: &str,
+) -> Result<bool, Fail>
+    requires { HasPossibleOutcomes table.now }
+{
+    let life = live(alloc, MemDisk::new(alloc, ROOM), plan, table, stop)?;
+    if let Some(text) = &life.text {
+        assert_eq!(rt; text.as_str(), due);
+        return Ok(false);
     }
+    let text = taken_up(rt, alloc, plan, table, life)?;
+    assert_eq!(rt; text.as_str(), due);
+    Ok(true)
 }
 
 // Stops a run at the call of each number in turn, until it isn't stopped; how often it was.
@@ -211,14 +269,9 @@ fn stops(
     requires { HasPossibleOutcomes table.now }
 {
     for number in 0..1000u64 {
-        let disk = MemDisk::new(alloc, ROOM);
-        let life = live(alloc, disk, plan, table, &stop_of(kind, number))?;
-        if let Some(text) = &life.text {
-            assert_eq!(rt; text.as_str(), due);
+        if !is_stopped(rt, alloc, plan, table, &stop_of(kind, number), due)? {
             return Ok(number);
         }
-        let text = taken_up(rt, alloc, plan, table, life)?;
-        assert_eq!(rt; text.as_str(), due);
     }
     panic!(rt; "it is stopped a thousand times");
 }

@@ -4,6 +4,8 @@ use job_starter::{Call, CallLog, Killed, StartFault, Started, Starter, System, n
 use node_machine::{Key, Outcome, Phase};
 use process_starter::ProcessStarter;
 use run_plan::ChildCommand;
+use std::alloc::Global;
+use std::process::Abort;
 use std::test::Fail;
 
 /// A system whose children exit with 0: the one of a node once it is asked for;
@@ -81,24 +83,35 @@ static FIRST: [(Option<u32>, Key, Outcome); 2] = [
     (None, A, Outcome::Exit(7)),
 ];
 
+fn told_first(
+    rt: &impl Abort,
+    alloc: Global,
+    command: &ChildCommand,
+    tells: Option<u32>,
+) -> Result<(Key, Outcome), StartFault> {
+    let mut starter = ProcessStarter::new(MemorySystem {
+        log: CallLog::new(alloc),
+        tells,
+        faults: 0,
+    });
+    let Started::Running = starter.start(A, command)? else {
+        panic!(rt; "not started");
+    };
+    let Started::Running = starter.start(B, command)? else {
+        panic!(rt; "not started");
+    };
+    let told = starter.wait_any()?;
+    assert_eq!(rt; starter.running().len(), 1);
+    Ok(told)
+}
+
 #[test]
 fn two_running_keys(rt: HostRuntime) -> Result<(), Fail> {
-    let alloc = rt.alloc();
+    let command = shell(rt.alloc(), "exit 0")?;
     for (tells, key, outcome) in FIRST {
-        let mut starter = ProcessStarter::new(MemorySystem {
-            log: CallLog::new(alloc),
-            tells,
-            faults: 0,
-        });
-        let command = shell(alloc, "exit 0")?;
-        let Started::Running = starter.start(A, &command)? else {
-            panic!(rt; "not started");
-        };
-        let Started::Running = starter.start(B, &command)? else {
-            panic!(rt; "not started");
-        };
-        assert_eq!(rt; starter.wait_any(), Ok((key, outcome)));
-        assert_eq!(rt; starter.running().len(), 1);
+        let told = told_first(&rt, rt.alloc(), &command, tells);
+        assert_eq!(rt; told, Ok((key, outcome)));
     }
+    drop(command);
     Ok(())
 }

@@ -159,36 +159,56 @@ fn add_calls(text: &mut String, calls: &[Call]) -> Result<(), Fail> {
     Ok(())
 }
 
-fn shown(alloc: Global, plan: &Plan, table: &Table, row: &Row) -> Result<String, Fail>
-    requires { HasPossibleOutcomes table.now }
-{
+fn script_of(alloc: Global, row: &Row) -> Result<Script, Fail> {
     let mut places = Vec::new(alloc);
     for place in row.places {
         places.push(*place)?;
     }
-    let script = Script {
+    Ok(Script {
         places,
         failing_start: row.failing_start,
         failing_wait: row.failing_wait,
         lets_go: row.lets_go,
-    };
-    let mut starter = ScriptedStarter::new(alloc, plan, table, script);
-    let (end, nodes) = run(alloc, plan, row.limits, &mut starter)?;
+    })
+}
+
+// The text of how a run ended, of the calls, and of what the nodes came to.
+fn told(
+    alloc: Global,
+    end: Result<RunEnd, DriveFault>,
+    calls: &[Call],
+    nodes: &str,
+) -> Result<String, Fail> {
     let mut text = String::new(alloc);
     add_end(&mut text, end)?;
-    add_calls(&mut text, starter.calls())?;
-    text.push_str(nodes.as_str())?;
+    add_calls(&mut text, calls)?;
+    text.push_str(nodes)?;
     Ok(text)
+}
+
+fn shown(alloc: Global, plan: &Plan, table: &Table, row: &Row) -> Result<String, Fail>
+    requires { HasPossibleOutcomes table.now }
+{
+    let mut starter = ScriptedStarter::new(alloc, plan, table, script_of(alloc, row)?);
+    let (end, nodes) = run(alloc, plan, row.limits, &mut starter)?;
+    told(alloc, end, starter.calls(), nodes.as_str())
+}
+
+fn shown_by(alloc: Global, table: &Table, row: &Row) -> Result<String, Fail>
+    requires { HasPossibleOutcomes table.now }
+{
+    let plan = plan_of(alloc, row.dag, &SUBMITS)?;
+    let text = shown(alloc, &plan, table, row);
+    drop(plan);
+    text
 }
 
 fn shows(rt: &impl Abort, alloc: Global, row: &Row) -> Result<(), Fail> {
     let Ok(table) = read_table(alloc, row.table.as_bytes()) else {
         panic!(rt; "no table");
     };
-    let plan = plan_of(alloc, row.dag, &SUBMITS)?;
-    let text = shown(alloc, &plan, &table, row);
-    drop(plan);
-    assert_eq!(rt; text?.as_str(), row.due);
+    let text = shown_by(alloc, &table, row)?;
+    assert_eq!(rt; text.as_str(), row.due);
     Ok(())
 }
 

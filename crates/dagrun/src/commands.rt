@@ -1,8 +1,8 @@
 //! The program's commands over the system's files and streams.
 
-use crate::runs::run_dag;
 use command_line::{Request, RunOptions, WordsFault, read_words};
 use dag_files::{Question, Reading, files_of, refused, told_here};
+use dag_main::run_dag;
 use dag_texts::{Answer, RunFault, check_text};
 use rehearsal::rehearse_text;
 use std::alloc::Global;
