@@ -6,6 +6,7 @@ use dag_reader::{Text, Texts};
 use rescue_file::{RescueFault, pick_number, read_rescue, rescue_name, rescue_text};
 use splices::FileSet;
 use std::alloc::Global;
+use std::process::Abort;
 use std::test::Fail;
 
 /// A diamond and a FINAL node.
@@ -47,17 +48,19 @@ static WRITTEN: [([bool; 4], &str); 3] = [
     ),
 ];
 
+fn are_written(rt: &impl Abort, alloc: Global, graph: &Graph) -> Result<(), Fail> {
+    assert_eq!(rt; graph.flat().nodes().len(), 4);
+    for (marks, due) in &WRITTEN {
+        let text = rescue_text(alloc, graph, marks)?;
+        assert_eq!(rt; text.as_str(), *due);
+    }
+    Ok(())
+}
+
 #[test]
 fn texts(rt: HostRuntime) -> Result<(), Fail> {
     let graph = graph_of(rt.alloc(), DIAMOND)?;
-    for (marks, due) in &WRITTEN {
-        if graph.flat().nodes().len() == marks.len() {
-            let text = rescue_text(rt.alloc(), &graph, marks)?;
-            assert_eq!(rt; text.as_str(), *due);
-        }
-    }
-    assert_eq!(rt; graph.flat().nodes().len(), 4);
-    Ok(())
+    are_written(&rt, rt.alloc(), &graph)
 }
 
 /// The text of a rescue file of the diamond, and the numbers of the nodes or the fault.
@@ -96,31 +99,64 @@ fn read(alloc: Global, bytes: &[u8], graph: &Graph) -> Result<String, Fail> {
     }
 }
 
+fn is_read(
+    rt: &impl Abort,
+    alloc: Global,
+    graph: &Graph,
+    bytes: &[u8],
+    due: &str,
+) -> Result<(), Fail> {
+    let got = read(alloc, bytes, graph)?;
+    assert!(rt; got.as_str() == due, "{got}, not {due}");
+    Ok(())
+}
+
+fn are_read(rt: &impl Abort, alloc: Global, graph: &Graph) -> Result<(), Fail> {
+    for (text, due) in &READ {
+        is_read(rt, alloc, graph, text.as_bytes(), due)?;
+    }
+    is_read(
+        rt,
+        alloc,
+        graph,
+        b"# \xff\n",
+        "E1 BadLine x.dag.rescue001:1",
+    )
+}
+
 #[test]
 fn lines(rt: HostRuntime) -> Result<(), Fail> {
     let graph = graph_of(rt.alloc(), DIAMOND)?;
-    for (text, due) in &READ {
-        let got = read(rt.alloc(), text.as_bytes(), &graph)?;
-        assert!(rt; got.as_str() == *due, "{text}: {got}");
-    }
-    let got = read(rt.alloc(), b"# \xff\n", &graph)?;
-    assert_eq!(rt; got.as_str(), "E1 BadLine x.dag.rescue001:1");
-    Ok(())
+    are_read(&rt, rt.alloc(), &graph)
+}
+
+/// The nodes Y+A and Y+B of a splice, and behind them A.
+fn spliced(alloc: Global) -> Result<Graph, Fail> {
+    let mut files = FileSet::new(alloc);
+    files.add(alloc, "x.dag", b"SPLICE Y y.dag\nJOB A a\n")?;
+    files.add(alloc, "y.dag", b"JOB A a\nJOB B b\n")?;
+    Ok(Graph::build(alloc, open_dag(alloc, &files, "x.dag")?)?)
 }
 
 /// A splice's nodes go by their full names.
 #[test]
 fn full_names(rt: HostRuntime) -> Result<(), Fail> {
     let alloc = rt.alloc();
-    let mut files = FileSet::new(alloc);
-    files.add(alloc, "x.dag", b"SPLICE Y y.dag\nJOB A a\n")?;
-    files.add(alloc, "y.dag", b"JOB A a\nJOB B b\n")?;
-    let graph = Graph::build(alloc, open_dag(alloc, &files, "x.dag")?)?;
-    let got = read(alloc, b"DONE Y+B\nDONE A\nDONE Y+A\n", &graph)?;
-    assert_eq!(rt; got.as_str(), "[2, 0, 1]");
-    let got = read(alloc, b"DONE B\n", &graph)?;
-    assert_eq!(rt; got.as_str(), "E2 UnknownNode x.dag.rescue001:1");
-    Ok(())
+    let graph = spliced(alloc)?;
+    is_read(
+        &rt,
+        alloc,
+        &graph,
+        b"DONE Y+B\nDONE A\nDONE Y+A\n",
+        "[2, 0, 1]",
+    )?;
+    is_read(
+        &rt,
+        alloc,
+        &graph,
+        b"DONE B\n",
+        "E2 UnknownNode x.dag.rescue001:1",
+    )
 }
 
 static NAMES: [(u16, &str); 8] = [
@@ -134,13 +170,17 @@ static NAMES: [(u16, &str); 8] = [
     (65_535, "E4 NotThere 65535"),
 ];
 
+fn named(alloc: Global, number: u16) -> Result<String, Fail> {
+    match rescue_name(alloc, "x.dag", number) {
+        Ok(name) => Ok(format!(in alloc; "{name}")?),
+        Err(fault) => shown_fault(alloc, fault),
+    }
+}
+
 #[test]
 fn names(rt: HostRuntime) -> Result<(), Fail> {
     for (number, due) in &NAMES {
-        let got = match rescue_name(rt.alloc(), "x.dag", *number) {
-            Ok(name) => format!(in rt.alloc(); "{name}")?,
-            Err(fault) => shown_fault(rt.alloc(), fault)?,
-        };
+        let got = named(rt.alloc(), *number)?;
         assert_eq!(rt; got.as_str(), *due);
     }
     let memory = RescueFault::Memory;
@@ -164,13 +204,18 @@ static PICKED: [(&str, u16); 8] = [
     ),
 ];
 
+fn texts_of(alloc: Global, list: &str) -> Result<Texts, Fail> {
+    let mut names = Texts::new(alloc);
+    for name in list.split('|') {
+        names.push(Text::new(alloc, name)?)?;
+    }
+    Ok(names)
+}
+
 #[test]
 fn picked_numbers(rt: HostRuntime) -> Result<(), Fail> {
     for (list, due) in &PICKED {
-        let mut names = Texts::new(rt.alloc());
-        for name in list.split('|') {
-            names.push(Text::new(rt.alloc(), name)?)?;
-        }
+        let names = texts_of(rt.alloc(), list)?;
         let got = pick_number(names.as_slice(), "x.dag");
         assert!(rt; got == *due, "{list}: {got}");
     }

@@ -10,7 +10,8 @@ use ends::free_nodes;
 use splices::{EdgeGroup, Part, Side};
 use std::alloc::{AllocError, Global};
 
-/// The part of a graph that has `count` nodes from the number `first` on, and these edges.
+/// The part of a graph that has `count` nodes from the number `first` on, and these edges. The number
+/// behind its last node, `first + count`, is below 2^64.
 ///
 /// Its heads are the nodes with no parent in it, and its tails those with no child in it, each in
 /// plan order: in a PARENT line a splice stands for its tails, in a CHILD line for its heads, as the
