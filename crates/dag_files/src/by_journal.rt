@@ -46,7 +46,9 @@ fn used_in(alloc: Global, journal: Option<&[u8]>) -> Result<u16, RunFault>
 }
 
 /// The bytes, where there are some.
-pub fn bytes_of(bytes: &Option<Vec<u8>>) -> Option<&[u8]> {
+pub fn bytes_of(bytes: &Option<Vec<u8>>) -> Option<&[u8]>
+    ensures { option_map (λ b. b.now) result ≡ option_map (λ v. v.items) bytes.now }
+{
     match bytes {
         Some(bytes) => Some(bytes.as_slice()),
         None => None,

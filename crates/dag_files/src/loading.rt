@@ -2,6 +2,7 @@
 
 ghost use Rattle.std.specs.Prelude.{◌≡◌, IfErr};
 ghost use Rattle.dag_texts.specs.declared.fault.RunFault.TheVariants.{Memory};
+ghost use Rattle.dag_files.specs.Beside.{IsFileFault};
 
 use dag_reader::{Command, ReadFault, Text, Word, read_dag};
 use dag_texts::RunFault;
@@ -41,7 +42,9 @@ pub fn files_of<R: Files + Input + AllocGlobal>(
     rt: &R,
     top: &str,
     reading: Reading,
-) -> Result<FileSet, RunFault> {
+) -> Result<FileSet, RunFault>
+    ensures refused { IfErr result IsFileFault }
+{
     let bytes = read_top(rt, top)?;
     files_from(rt, "", top, bytes, reading)
 }
@@ -201,10 +204,9 @@ fn dir_text(dir: &Option<Word>) -> &str {
 }
 
 /// The bytes of the DAG file, or of standard input where its path is `-`.
-fn read_top<R: Files + Input + AllocGlobal>(
-    rt: &R,
-    path: &str,
-) -> Result<Option<Vec<u8>>, RunFault> {
+fn read_top<R: Files + Input + AllocGlobal>(rt: &R, path: &str) -> Result<Option<Vec<u8>>, RunFault>
+    ensures { IfErr result IsFileFault }
+{
     if path == "-" {
         return Ok(Some(read_input(rt)?));
     }
@@ -227,7 +229,9 @@ fn read_file<R: Files + AllocGlobal>(
     }
 }
 
-fn read_input<R: Input + AllocGlobal>(rt: &R) -> Result<Vec<u8>, RunFault> {
+fn read_input<R: Input + AllocGlobal>(rt: &R) -> Result<Vec<u8>, RunFault>
+    ensures { IfErr result IsFileFault }
+{
     let mut bytes = Vec::new(rt.alloc());
     match rt.reader().read_to_end(&mut bytes) {
         Ok(_) => Ok(bytes),
