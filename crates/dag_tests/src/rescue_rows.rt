@@ -130,7 +130,7 @@ fn lines(rt: HostRuntime) -> Result<(), Fail> {
     are_read(&rt, rt.alloc(), &graph)
 }
 
-/// The nodes Y+A and Y+B of a splice, and behind them A.
+/// Node A, and behind it the nodes Y+A and Y+B of a splice.
 fn spliced(alloc: Global) -> Result<Graph, Fail> {
     let mut files = FileSet::new(alloc);
     files.add(alloc, "x.dag", b"SPLICE Y y.dag\nJOB A a\n")?;
