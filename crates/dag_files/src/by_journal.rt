@@ -1,7 +1,7 @@
 //! What is told of a run by its journal, from the files that stand beside its DAG file.
 
 ghost use Rattle.std.specs.Prelude.{◌≡◌, ◌≤◌, IfOk, IfErr, option_map, string_bytes};
-ghost use Rattle.event_journal.specs.Memory.{disk_bytes};
+ghost use Rattle.journal_disks.specs.Memory.{disk_bytes};
 ghost use Rattle.splices.specs.FileSet.{bytes_of, entries_of};
 ghost use Rattle.dag_texts.specs.Planned.{in_line, named_by};
 ghost use Rattle.dag_texts.specs.declared.fault.RunFault.TheVariants.{Memory};
@@ -12,7 +12,8 @@ use crate::beside::{LAST_NUMBER, Place, journal_path, rescue_path};
 use crate::loading::files_in;
 use dag_reader::Text;
 use dag_texts::{Answer, RunFault, audit_of, status_of};
-use event_journal::{Journal, JournalFault, MemDisk};
+use event_journal::{Journal, JournalFault};
+use journal_disks::MemDisk;
 use rescue_file::RescueFault;
 use run_plan::PlanFault;
 use splices::FileSet;

@@ -7,7 +7,8 @@ ghost use Rattle.dag_files.specs.Beside.{IsRoundFault};
 
 use crate::beside::{LAST_NUMBER, Place, journal_path};
 use dag_texts::RunFault;
-use event_journal::{FileDisk, Journal, JournalFault, Peek};
+use event_journal::{Journal, JournalFault, Peek};
+use journal_disks::FileDisk;
 use recovery::ManagerFault;
 use std::fs::File;
 use std::rt::Files;

@@ -15,8 +15,9 @@ use dag_files::{
 use dag_graph::Graph;
 use dag_texts::{Answer, RunFault, graph_of, plan_by, warning_text};
 use job_starter::DriveFault;
+use local_system::LocalSystem;
 use node_machine::Verdict;
-use process_starter::{LocalSystem, ProcessStarter};
+use process_starter::ProcessStarter;
 use recovery::ManagerFault;
 use run_leader::{Start, run_round};
 use run_plan::Plan;

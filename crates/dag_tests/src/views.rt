@@ -3,7 +3,8 @@
 use crate::shown::add;
 use dag_graph::Graph;
 use node_machine::Course;
-use run_plan::{NodeSpec, Plan};
+use node_specs::NodeSpec;
+use run_plan::Plan;
 use splices::{FlatDag, FlatNode};
 use std::alloc::{AllocError, Global};
 

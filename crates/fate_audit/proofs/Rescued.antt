@@ -17,8 +17,10 @@ use Rattle.rescue_file.specs.Reading.{rescued_of}
 use Rattle.rescue_file.proofs.OpenedNames.{dag_fit}
 use Rattle.rescue_file.proofs.ReadBack.{read_again}
 use Rattle.run_plan.specs.declared.fault.PlanFault.{PlanFault}
-use Rattle.run_plan.specs.Plan.{Plan, Job, NodeSpec, no_node, node_at, count_of}
-use Rattle.run_plan.specs.Specs.{Sources, spec_of, specs_from, final_spec, plan_of, is_listed}
+use Rattle.node_specs.specs.Node.{Job, NodeSpec, no_node}
+use Rattle.run_plan.specs.Plan.{Plan, node_at, count_of}
+use Rattle.node_specs.specs.Specs.{spec_of}
+use Rattle.run_plan.specs.Specs.{Sources, specs_from, final_spec, plan_of, is_listed}
 use Rattle.run_plan.specs.Submitted.{◌>>=◌, first_fault, all_nodes, rescued_in, in_rescue, sources_of, plan_at}
 use Rattle.run_plan.proofs.PlanFacts.{count-is}
 use Rattle.node_machine.specs.declared.Record.{Record}

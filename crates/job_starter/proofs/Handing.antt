@@ -4,10 +4,10 @@ use Rattle.std.proofs.lemmas.List.{append-nil, append_assoc}
 use Rattle.node_machine.specs.declared.Key.{Key}
 use Rattle.node_machine.specs.declared.Outcome.{Outcome}
 use Rattle.node_machine.specs.declared.Outcome.TheVariants.{Exit, NoStart}
-use Rattle.run_plan.specs.declared.command.ChildCommand.{ChildCommand}
+use Rattle.node_specs.specs.declared.command.ChildCommand.{ChildCommand}
 use Rattle.throttles.specs.declared.Limits.{Limits}
 use Rattle.run_plan.specs.Plan.{Plan, node_at}
-use Rattle.run_plan.specs.Commands.{CommandOrFault, command_of, starts_child}
+use Rattle.node_specs.specs.Commands.{CommandOrFault, command_of, starts_child}
 use Rattle.node_machine.specs.declared.Record.{Record}
 use Rattle.node_machine.specs.declared.Record.TheVariants.{End}
 use Rattle.sched_core.specs.Commands.{facts_in}

@@ -10,8 +10,9 @@ use Rattle.node_machine.specs.declared.Ended.{Ended}
 use Rattle.node_machine.specs.declared.Course.{Course}
 use Rattle.node_machine.specs.Story.{ended, decided_by, with_job, with_pre, attempt, attempts_from, is_last, skips, is_exit_0, is_noop_job, value_of, ends_with, phases_of, story, attempts_after, outcome_in, has_ended, first_to_come, next_after}
 use Rattle.throttles.specs.declared.Limits.{Limits}
-use Rattle.run_plan.specs.Plan.{Plan, NodeSpec, node_at}
-use Rattle.run_plan.specs.Commands.{starts_child}
+use Rattle.node_specs.specs.Node.{NodeSpec}
+use Rattle.run_plan.specs.Plan.{Plan, node_at}
+use Rattle.node_specs.specs.Commands.{starts_child}
 use Rattle.sched_core.specs.declared.Choice.TheVariants as choices
 use Rattle.node_machine.specs.declared.Record.{Record}
 use Rattle.sched_core.specs.Run.{history, is_open}

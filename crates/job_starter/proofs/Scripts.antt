@@ -9,7 +9,7 @@ use Rattle.node_machine.specs.Story.{is_noop_job}
 use Rattle.node_machine.specs.OutcomeTable.{Entry}
 use Rattle.throttles.specs.declared.Limits.{Limits}
 use Rattle.run_plan.specs.Plan.{Plan, node_at}
-use Rattle.run_plan.specs.Commands.{starts_child}
+use Rattle.node_specs.specs.Commands.{starts_child}
 use Rattle.sched_core.specs.declared.Choice.TheVariants as choices
 use Rattle.node_machine.specs.declared.Record.{Record}
 use Rattle.node_machine.specs.declared.Record.TheVariants.{End}

@@ -8,8 +8,9 @@ use Rattle.node_machine.specs.declared.Phase.TheVariants.{Pre, Job, Post}
 use Rattle.node_machine.specs.declared.Outcome.{Outcome}
 use Rattle.node_machine.specs.Story.{is_possible, may_end_with, is_exit_0}
 use Rattle.throttles.specs.declared.Limits.{Limits}
-use Rattle.run_plan.specs.Plan.{Plan, NodeSpec, node_at, count_of}
-use Rattle.run_plan.specs.Commands.{starts_child}
+use Rattle.node_specs.specs.Node.{NodeSpec}
+use Rattle.run_plan.specs.Plan.{Plan, node_at, count_of}
+use Rattle.node_specs.specs.Commands.{starts_child}
 use Rattle.sched_core.specs.declared.Choice.TheVariants as choices
 use Rattle.node_machine.specs.declared.Record.{Record}
 use Rattle.node_machine.specs.declared.Record.TheVariants.{End}

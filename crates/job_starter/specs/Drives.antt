@@ -7,9 +7,9 @@ use Rattle.node_machine.specs.declared.Outcome.{Outcome}
 use Rattle.node_machine.specs.declared.Outcome.TheVariants.{Exit, NoStart}
 use Rattle.node_machine.specs.Story.{is_noop_job}
 use Rattle.throttles.specs.declared.Limits.{Limits}
-use Rattle.run_plan.specs.declared.command.ChildCommand.{ChildCommand}
+use Rattle.node_specs.specs.declared.command.ChildCommand.{ChildCommand}
 use Rattle.run_plan.specs.Plan.{Plan, node_at}
-use Rattle.run_plan.specs.Commands.{command_of, starts_child}
+use Rattle.node_specs.specs.Commands.{command_of, starts_child}
 use Rattle.sched_core.specs.declared.Choice.{Choice}
 use Rattle.sched_core.specs.declared.Choice.TheVariants as choices
 use Rattle.node_machine.specs.declared.Record.{Record}

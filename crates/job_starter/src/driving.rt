@@ -3,7 +3,7 @@ ghost use Rattle.std.specs.Prelude.{◌≡◌, ℕ, [], ◌∷◌, ◌≤◌, �
 ghost use Rattle.node_machine.specs.Story.{is_possible, may_end_with};
 ghost use Rattle.node_machine.specs.declared.Outcome.TheVariants.{NoStart};
 ghost use Rattle.run_plan.specs.Plan.{node_at, count_of};
-ghost use Rattle.run_plan.specs.Commands.{starts_child};
+ghost use Rattle.node_specs.specs.Commands.{starts_child};
 ghost use Rattle.sched_core.specs.Run.{is_among, is_aborted, is_over, is_open, is_nothing, outstanding, may_follow, table_of};
 ghost use Rattle.sched_core.specs.Fate.{AreFates, shown};
 ghost use Rattle.sched_core.specs.Choices.{IsChoice};

@@ -2,7 +2,7 @@
 ghost use Rattle.std.specs.Prelude.{◌≡◌, ℕ, ◌∷◌, ◌≤◌, ◌&&◌, not, IsTrue, IsFalse, IfErr, OnOk, OnErr};
 ghost use Rattle.node_machine.specs.Story.{is_possible, may_end_with};
 ghost use Rattle.run_plan.specs.Plan.{node_at, count_of};
-ghost use Rattle.run_plan.specs.Commands.{starts_child};
+ghost use Rattle.node_specs.specs.Commands.{starts_child};
 ghost use Rattle.sched_core.specs.Run.{is_among, is_aborted, is_lawful, is_over, is_open, outstanding};
 ghost use Rattle.sched_core.specs.Choices.{IsChoice};
 ghost use Rattle.recovery.specs.Managed.{plan_of, past_of, ReadsBeforeOrAfter};

@@ -12,7 +12,8 @@ use crate::log::{CallLog, key_at};
 use crate::refusals::{no_answer, no_memory, raise};
 use crate::{Call, Killed, StartFault, Started, Starter};
 use node_machine::{Key, Outcome, Table};
-use run_plan::{ChildCommand, Plan};
+use node_specs::ChildCommand;
+use run_plan::Plan;
 use std::alloc::Global;
 
 /// Which calls are made to fail, each by its number from 0, and where the next child ends.
@@ -31,7 +32,6 @@ pub struct Script {
 }
 
 /// A starter whose children end as a table says.
-#[derive(Drop)]
 pub struct ScriptedStarter<'a> {
     plan: &'a Plan,
     table: &'a Table,
@@ -41,6 +41,21 @@ pub struct ScriptedStarter<'a> {
     waits: u64,
     faults: u64,
     ghost possible: { HasPossibleOutcomes table.now },
+}
+
+// Each function that lets a value go calls this; a derived drop stands in each, part by part.
+impl Drop for ScriptedStarter<'_> {
+    fn drop(self) {
+        let ScriptedStarter {
+            plan: _,
+            table: _,
+            script: _,
+            log: _,
+            starts: _,
+            waits: _,
+            faults: _,
+        } = self;
+    }
 }
 
 /// What comes of the start of a child that ends so.

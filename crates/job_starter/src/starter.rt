@@ -10,7 +10,7 @@ ghost use Rattle.job_starter.specs.Causes.{IsStartFault, IsAskFault, IsWaitFault
 
 use crate::{Call, Killed, StartFault, Started};
 use node_machine::{Key, Outcome};
-use run_plan::ChildCommand;
+use node_specs::ChildCommand;
 
 /// Children that are started and waited for, of which whichever ends first is told.
 ///

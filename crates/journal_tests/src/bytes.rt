@@ -2,7 +2,8 @@
 ghost use Rattle.std.specs.Prelude.{◌≡◌, ◌≤◌, ◌<◌, IfOk, length, vec_len};
 
 use crate::runs::{FAILS_ONCE, JOB, RECORDS, SIZE, records_on, written};
-use event_journal::{Journal, JournalFault, MemDisk, Peek, decode_record, encode_record, has_slot};
+use event_journal::{Journal, JournalFault, Peek, decode_record, encode_record, has_slot};
+use journal_disks::MemDisk;
 use node_machine::{Outcome, Record};
 use std::alloc::{AllocError, Global};
 use std::process::Abort;

@@ -2,9 +2,8 @@
 ghost use Rattle.std.specs.Prelude.{◌≤◌, ◌<◌};
 
 use crate::runs::{FAILS_ONCE, RECORDS, add, add_and_fail, add_many, begin, records_on, written};
-use event_journal::{
-    Disk, DiskFault, FileDisk, Fuse, FuseDisk, Journal, JournalFault, MemDisk, ReadFault,
-};
+use event_journal::{Disk, DiskFault, Journal, JournalFault, ReadFault};
+use journal_disks::{FileDisk, Fuse, FuseDisk, MemDisk};
 use node_machine::Record;
 use std::alloc::Global;
 use std::fs;

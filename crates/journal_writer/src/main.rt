@@ -7,7 +7,8 @@ ghost use Rattle.event_journal.specs.Slot.{has_slot};
 ghost use Rattle.event_journal.specs.Journal.{journal_disk, is_broken, IsSettled};
 
 use anyhow::{Result, bail};
-use event_journal::{Disk, FileDisk, Journal, JournalFault, Opened};
+use event_journal::{Disk, Journal, JournalFault, Opened};
+use journal_disks::FileDisk;
 use node_machine::{Key, Phase, Record};
 use std::alloc::Global;
 use std::env;

@@ -1,14 +1,15 @@
 //! The commands of plans, as texts.
 
 ghost use Rattle.std.specs.Prelude.{◌≡◌, ◌≤◌, IfOk};
-ghost use Rattle.run_plan.specs.Commands.{starts_child};
+ghost use Rattle.node_specs.specs.Commands.{starts_child};
 ghost use Rattle.run_plan.specs.Plan.{count_of};
 
 use crate::shown::joined;
 use crate::words::barred;
 use dag_reader::Text;
 use node_machine::{Key, Phase};
-use run_plan::{ChildCommand, NodeSpec, PhaseFacts, Plan};
+use node_specs::{ChildCommand, NodeSpec, PhaseFacts};
+use run_plan::Plan;
 use std::alloc::{AllocError, Global};
 use std::test::Fail;
 

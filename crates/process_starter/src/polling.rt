@@ -7,7 +7,7 @@ ghost use Rattle.job_starter.specs.Causes.{IsAskFault};
 
 use job_starter::{Call, Killed, StartFault, Started, Starter, System, key_at};
 use node_machine::{Key, Outcome};
-use run_plan::ChildCommand;
+use node_specs::ChildCommand;
 
 /// Rounds of questions before a blocking wait for the oldest child.
 const ROUNDS: u32 = 1 << 20;

@@ -6,7 +6,7 @@ ghost use Rattle.node_machine.specs.declared.Key.{Key};
 ghost use Rattle.node_machine.specs.declared.Phase.{Phase};
 ghost use Rattle.node_machine.specs.Story.{Table};
 ghost use Rattle.run_plan.specs.Plan.{Plan, node_at, count_of, IsRankedBy};
-ghost use Rattle.run_plan.specs.Commands.{CommandOrFault, is_sound, uses_whole_run};
+ghost use Rattle.node_specs.specs.Commands.{CommandOrFault, is_sound, uses_whole_run};
 ghost use Rattle.sched_core.specs.Run.{is_done, is_lawful};
 ghost use Rattle.sched_core.specs.Fate.{AreFates, shown, is_done_state};
 ghost use Rattle.sched_core.specs.Agree.{AgreeOnFates, Agree};

@@ -1,7 +1,8 @@
 // Recoveries of each image that a crash may leave of a last slot.
 use crate::lives::{given, life};
 use crate::plans::{ROOM, SLOTS, job, plan_of};
-use event_journal::{JournalFault, MemDisk};
+use event_journal::JournalFault;
+use journal_disks::MemDisk;
 use node_machine::{Key, Outcome, Phase, Record};
 use recovery::ManagerFault;
 use run_plan::Plan;

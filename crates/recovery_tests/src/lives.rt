@@ -2,7 +2,8 @@
 ghost use Rattle.std.specs.Prelude.{◌≡◌, Ok};
 
 use crate::plans::{NO_LIMITS, ROOM, SLOTS};
-use event_journal::{Journal, JournalFault, MemDisk, Opened};
+use event_journal::{Journal, JournalFault, Opened};
+use journal_disks::MemDisk;
 use node_machine::{Key, Record, Table};
 use recovery::{Manager, ManagerFault, Sealed};
 use run_plan::Plan;

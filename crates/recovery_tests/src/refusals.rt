@@ -5,7 +5,8 @@ ghost use Rattle.recovery.specs.Seal.{sealed_count};
 
 use crate::lives::{given, life, records_on, refused};
 use crate::plans::{DIAMOND, ROOM, SLOTS, job, plan_of};
-use event_journal::{JournalFault, MemDisk};
+use event_journal::JournalFault;
+use journal_disks::MemDisk;
 use node_machine::{Outcome, Record};
 use recovery::{Manager, ManagerFault, Sealed, replay};
 use run_plan::Plan;

@@ -10,8 +10,8 @@ ghost use Rattle.rehearsal.specs.Rehearsal.{IsRehearsed};
 ghost use Rattle.dag_texts.specs.declared.fault.RunFault.TheVariants.{Memory};
 
 use dag_texts::RunFault;
-use event_journal::MemDisk;
 use job_starter::{Script, ScriptedStarter};
+use journal_disks::MemDisk;
 use node_machine::{Record, Table, Verdict};
 use recovery::Manager;
 use run_leader::lead;

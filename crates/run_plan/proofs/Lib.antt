@@ -1,13 +1,8 @@
-pub mod Binds
-pub mod Scripts
 pub mod DigestText
 pub mod SubmitReads
 pub mod PlanFacts
 pub mod PlanMade
 pub mod PlanSound
-pub mod CommandsExist
-pub mod PlainCommands
 pub mod PlanCommands
 pub mod PlansWithoutRescue
-pub mod CategoryPlaces
 pub mod EqualFiles

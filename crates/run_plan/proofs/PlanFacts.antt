@@ -15,9 +15,11 @@ use Rattle.splices.specs.declared.flat.CategorySetting.{CategorySetting}
 use Rattle.std.specs.Str.{bytes_eq}
 use Rattle.dag_graph.specs.Graph.{Network, IsParent, IsOrderOf, is_edge, rank_in, parents_of}
 use Rattle.dag_graph.proofs.Told.{any_edge}
-use Rattle.run_plan.specs.Plan.{Plan, Job, NodeSpec, no_node, node_at, count_of, has_parents_below, IsRankedBy}
+use Rattle.node_specs.specs.Node.{Job, NodeSpec, no_node}
+use Rattle.run_plan.specs.Plan.{Plan, node_at, count_of, has_parents_below, IsRankedBy}
 use Rattle.run_plan.specs.Planned.{IsPlanned}
-use Rattle.run_plan.specs.Specs.{Sources, place_of, spec_of, specs_from, final_spec, plan_of}
+use Rattle.node_specs.specs.Specs.{place_of, spec_of}
+use Rattle.run_plan.specs.Specs.{Sources, specs_from, final_spec, plan_of}
 
 pub specs-length : (dag : Dag) (sources : Sources) (number : ℕ) (nodes : List FlatNode) → length (specs_from dag sources number nodes) ≡ length nodes
 specs-length dag sources number [] = refl

@@ -10,9 +10,10 @@ use Rattle.dag_graph.specs.Graph.{Network, parents_of}
 use Rattle.run_plan.specs.declared.fault.PlanFault.{PlanFault}
 use Rattle.run_plan.specs.declared.fault.PlanFault.TheVariants.{MissingFile, InSubmit, InMacro, NoExecutable, BadUniverse, InRescue, Memory}
 use Rattle.run_plan.specs.PlanAnswers.{Fails}
-use Rattle.run_plan.specs.Plan.{Job, NodeSpec}
+use Rattle.node_specs.specs.Node.{Job, NodeSpec}
 use Rattle.run_plan.specs.Planned.{marked_sources}
-use Rattle.run_plan.specs.Specs.{spec_of, specs_from, final_spec, plan_of, is_listed}
+use Rattle.node_specs.specs.Specs.{spec_of}
+use Rattle.run_plan.specs.Specs.{specs_from, final_spec, plan_of, is_listed}
 use Rattle.run_plan.specs.Submitted.{◌>>=◌, job_at, first_fault, all_nodes, rescued_in, sources_of, plan_at}
 
 -- A fault of the first part is that of the whole.

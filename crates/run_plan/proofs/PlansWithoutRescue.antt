@@ -5,7 +5,8 @@ use Rattle.splices.specs.declared.flat.FlatNode.{FlatNode}
 use Rattle.dag_graph.specs.Graph.{Network}
 use Rattle.run_plan.specs.declared.fault.PlanFault.{PlanFault}
 use Rattle.run_plan.specs.declared.fault.PlanFault.TheVariants.{MissingFile, InSubmit, InMacro, NoExecutable, BadUniverse, InRescue, Memory}
-use Rattle.run_plan.specs.Plan.{Plan, Program}
+use Rattle.node_specs.specs.Node.{Program}
+use Rattle.run_plan.specs.Plan.{Plan}
 use Rattle.run_plan.specs.Specs.{plan_of}
 use Rattle.run_plan.specs.PlanAnswers.{Fails, is_memory}
 use Rattle.run_plan.specs.Submitted.{◌>>=◌, job_at, first_fault, all_nodes, rescued_in, sources_of, plan_at}

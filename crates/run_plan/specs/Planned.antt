@@ -1,6 +1,6 @@
 -- What each plan keeps.
 use Rattle.std.specs.Prelude.{◌≡◌, ℕ, Bool, true, false, List, [], slice_index_or, Option}
-use Rattle.run_plan.specs.Commands.{is_sound}
+use Rattle.node_specs.specs.Commands.{is_sound}
 use Rattle.run_plan.specs.Plan.{Plan, node_at}
 use Rattle.run_plan.specs.Specs.{Sources, plan_of}
 use Rattle.run_plan.specs.Submitted.{sources_of}

@@ -17,14 +17,16 @@ use Rattle.vars_macros.specs.declared.assignment.Macro.{Macro}
 use Rattle.vars_macros.specs.declared.expanding.Attempt.{Attempt}
 use Rattle.rescue_file.specs.Reading.{rescued_of}
 use Rattle.rescue_file.specs.declared.fault.RescueFault.{RescueFault}
-use Rattle.run_plan.specs.declared.job.JobFault.{JobFault}
-use Rattle.run_plan.specs.declared.job.JobFault.TheVariants as job
+use Rattle.node_specs.specs.declared.job.JobFault.{JobFault}
+use Rattle.node_specs.specs.declared.job.JobFault.TheVariants as job
 use Rattle.run_plan.specs.declared.fault.PlanFault.{PlanFault}
 use Rattle.run_plan.specs.declared.fault.PlanFault.TheVariants.{MissingFile, InSubmit, InMacro, NoExecutable, BadUniverse, InRescue, Memory}
-use Rattle.run_plan.specs.Plan.{Job, Program, Described, Plan}
-use Rattle.run_plan.specs.Commands.{scope_in, greatest, checked}
+use Rattle.node_specs.specs.Node.{Job, Program, Described}
+use Rattle.run_plan.specs.Plan.{Plan}
+use Rattle.node_specs.specs.Commands.{scope_in, greatest, checked}
 use Rattle.run_plan.specs.Digest.{digest_of}
-use Rattle.run_plan.specs.Specs.{Sources, retries_of, is_listed, plan_of}
+use Rattle.node_specs.specs.Specs.{retries_of}
+use Rattle.run_plan.specs.Specs.{Sources, is_listed, plan_of}
 
 abbrev pub fault_in : List ℕ → JobFault → PlanFault
 fault_in name job.Memory = Memory

@@ -6,7 +6,7 @@ ghost use Rattle.splices.specs.FileSet.{bytes_of, entries_of};
 ghost use Rattle.dag_graph.specs.Graph.{rank_in};
 ghost use Rattle.rescue_file.specs.declared.fault.RescueFault.TheVariants as rescue;
 ghost use Rattle.run_plan.specs.declared.fault.PlanFault.TheVariants.{Memory, InRescue};
-ghost use Rattle.run_plan.specs.Commands.{command_of, is_sound, starts_child, uses_whole_run};
+ghost use Rattle.node_specs.specs.Commands.{command_of, is_sound, starts_child, uses_whole_run};
 ghost use Rattle.run_plan.specs.Digest.{digest_of};
 ghost use Rattle.run_plan.specs.Plan.{node_at, count_of, has_parents_below, IsRankedBy};
 ghost use Rattle.run_plan.specs.PlanAnswers.{Gives, Fails};
@@ -14,13 +14,12 @@ ghost use Rattle.run_plan.specs.Submitted.{plan_at, first_fault, rescued_in};
 ghost use Rattle.run_plan.specs.Specs.{specs_from, final_spec, is_listed};
 ghost use Rattle.run_plan.specs.Planned.{IsPlanned, marked_sources};
 
-use crate::command::{ChildCommand, PhaseFacts};
 use crate::digest::digest_of;
 use crate::fault::PlanFault;
-use crate::spec::NodeSpec;
 use crate::submitted::{fault_in, job_at};
 use dag_graph::Graph;
 use node_machine::Key;
+use node_specs::{ChildCommand, NodeSpec, PhaseFacts};
 use rescue_file::{RescueFault, read_rescue};
 use splices::{FileSet, FlatNode};
 use std::alloc::{AllocError, Global};
@@ -51,7 +50,8 @@ impl Drop for Plan {
 
 impl Model for Plan {
     ghost use Rattle.std.specs.Prelude.{◌≡◌};
-    ghost use Rattle.run_plan.specs.Plan.{Plan as PlanValue, no_node};
+    ghost use Rattle.node_specs.specs.Node.{no_node};
+    ghost use Rattle.run_plan.specs.Plan.{Plan as PlanValue};
     ghost use Rattle.run_plan.specs.Planned.{IsPlanned};
 
     ghost Value = { PlanValue };
@@ -196,7 +196,7 @@ impl Plan {
         ensures parents { IsTrue (has_parents_below (count_of self.now) (node_at self.now node)) }
         // Its category is one of those that have a limit.
         ensures category { IfSome (node_at self.now node).category (λ place. place < length self.now.graph.dag.categories) }
-        // Each of its phases has a command in each attempt that is allowed (`laws::commands_exist`).
+        // Each of its phases has a command in each attempt that is allowed (`node_specs::laws::commands_exist`).
         ensures sound { IsTrue (is_sound (node_at self.now node)) }
     {
         let index = node as usize;

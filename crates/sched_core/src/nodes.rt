@@ -14,7 +14,8 @@ ghost use Rattle.sched_core.specs.Core.{AreFresh, run_at, aborted_in, has_abort_
 
 use crate::CoreFault;
 use node_machine::{Ended, Key, NodeRun, Outcome, Phase, Record, State};
-use run_plan::{NodeSpec, Plan};
+use node_specs::NodeSpec;
+use run_plan::Plan;
 use splices::CategoryLimit;
 use std::alloc::{AllocError, Global};
 use throttles::{Limits, Throttles};

@@ -23,14 +23,14 @@ use crate::notes::{AttemptNotes, fresh_notes, note, notes_of};
 use crate::ready::{fresh_queue, parents_done_at, requeue};
 use crate::{Choice, CoreFault};
 use node_machine::{Ended, Key, NodeRun, Outcome, Record, State};
+use node_specs::PhaseFacts;
 use ready_queue::{Member, ReadyQueue};
-use run_plan::{PhaseFacts, Plan};
+use run_plan::Plan;
 use std::alloc::Global;
 use std::marker::Model;
 use throttles::{Limits, Throttles};
 
 /// A run of a plan: its records, and where each node stands.
-#[derive(Drop)]
 pub struct Core<'a> {
     plan: &'a Plan,
     records: Vec<Record>,
@@ -41,6 +41,23 @@ pub struct Core<'a> {
     notes: Vec<AttemptNotes>,
     failed: u32,
     queue: ReadyQueue,
+}
+
+// Each function that lets a value go calls this; a derived drop stands in each, part by part.
+impl Drop for Core<'_> {
+    fn drop(self) {
+        let Core {
+            plan: _,
+            records: _,
+            runs: _,
+            aborted: _,
+            jobs: _,
+            throttles: _,
+            notes: _,
+            failed: _,
+            queue: _,
+        } = self;
+    }
 }
 
 impl<'a> Model for Core<'a> {

@@ -1,9 +1,9 @@
 // Calls of a local system with one child.
 use dag_reader::{Text, Texts};
 use job_starter::{Killed, Started, System};
+use local_system::LocalSystem;
 use node_machine::{Key, Outcome, Phase};
-use process_starter::LocalSystem;
-use run_plan::ChildCommand;
+use node_specs::ChildCommand;
 use std::alloc::{AllocError, Global};
 use std::test::Fail;
 

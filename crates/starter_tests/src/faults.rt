@@ -5,8 +5,9 @@ ghost use Rattle.recovery.specs.Managed.{plan_of, past_of};
 ghost use Rattle.recovery.specs.Recovery.{IsNewLife};
 
 use crate::plans::{File, NO_LIMITS, plan_of};
-use event_journal::{Fuse, FuseDisk, Journal, MemDisk, Opened};
+use event_journal::{Journal, Opened};
 use job_starter::{Script, ScriptedStarter};
+use journal_disks::{Fuse, FuseDisk, MemDisk};
 use node_machine::{Record, Table, read_table};
 use recovery::{Manager, ManagerFault, replay};
 use run_leader::lead;

@@ -2,8 +2,8 @@
 use crate::children::shell;
 use job_starter::{Call, CallLog, Killed, StartFault, Started, Starter, System, no_memory};
 use node_machine::{Key, Outcome, Phase};
+use node_specs::ChildCommand;
 use process_starter::ProcessStarter;
-use run_plan::ChildCommand;
 use std::alloc::Global;
 use std::process::Abort;
 use std::test::Fail;

@@ -4,8 +4,8 @@ ghost use Rattle.job_starter.specs.Calls.{running};
 
 use dag_graph::Graph;
 use dag_opener::open_dag;
-use event_journal::MemDisk;
 use job_starter::{DriveFault, RunEnd, Starter, drive};
+use journal_disks::MemDisk;
 use recovery::Manager;
 use run_plan::{Plan, PlanFault};
 use sched_core::Core;

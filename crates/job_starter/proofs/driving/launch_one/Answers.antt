@@ -1,7 +1,7 @@
 use Rattle.std.proofs.Common.{rules, ◌≡◌, refl, sym, ◌∙◌, subst, true, false}
 use Rattle.event_journal.proofs.Moments.{on_ok}
 use Rattle.run_plan.specs.Plan.{Plan, node_at}
-use Rattle.run_plan.specs.Commands.{starts_child}
+use Rattle.node_specs.specs.Commands.{starts_child}
 use Rattle.sched_core.specs.Run.{is_lawful}
 use Rattle.recovery.specs.Managed.{past_of}
 use Rattle.job_starter.specs.Drives.{clean, none_started}

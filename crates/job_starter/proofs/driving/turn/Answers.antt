@@ -3,7 +3,7 @@ use Rattle.std.specs.List.{list_all}
 use Rattle.std.proofs.lemmas.Bool.{and_parts, not-true}
 use Rattle.node_machine.specs.declared.Key.{Key}
 use Rattle.run_plan.specs.Plan.{Plan, node_at}
-use Rattle.run_plan.specs.Commands.{starts_child}
+use Rattle.node_specs.specs.Commands.{starts_child}
 use Rattle.sched_core.specs.Run.{is_aborted}
 use Rattle.recovery.specs.Managed.{plan_of, past_of}
 use Rattle.job_starter.specs.Drives.{no_step}

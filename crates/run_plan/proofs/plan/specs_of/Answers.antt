@@ -6,7 +6,7 @@ use Rattle.splices.specs.FileSet.{bytes_of}
 use Rattle.splices.specs.declared.file_set.FileSet.{FileSet}
 use Rattle.splices.specs.declared.flat.FlatNode.{FlatNode}
 use Rattle.splices.specs.declared.flat.CategoryLimit.{CategoryLimit}
-use Rattle.run_plan.specs.Specs.{spec_of}
+use Rattle.node_specs.specs.Specs.{spec_of}
 use Rattle.run_plan.specs.PlanAnswers.{Fails}
 use Rattle.run_plan.specs.Planned.{marked_sources}
 use Rattle.run_plan.specs.Submitted.{job_at, job_or_program, first_fault}

@@ -1,5 +1,6 @@
 use Rattle.std.proofs.Common.{◌≡◌, ◌∙◌, ◌≤◌, List, length, sym, ap, subst, arith, true}
-use Rattle.run_plan.specs.Plan.{Plan, NodeSpec, node_at, count_of}
+use Rattle.node_specs.specs.Node.{NodeSpec}
+use Rattle.run_plan.specs.Plan.{Plan, node_at, count_of}
 use Rattle.sched_core.specs.Core.{Progress}
 use Rattle.sched_core.specs.Run.{is_among, outstanding}
 use Rattle.sched_core.specs.Notes.{noted_facts, notes_at}

@@ -1,0 +1,5 @@
+pub mod Node
+pub mod Jobs
+pub mod JobAnswers
+pub mod Commands
+pub mod Specs

@@ -1,0 +1,17 @@
+//! What the files say of a node, and the commands that start the children of its phases.
+//!
+//! The rules are those of the HTCondor manual, DAGMan workflows and condor_submit, as
+//! docs/MANUAL.md states them.
+#![tactic(auto)]
+
+mod command;
+mod job;
+pub mod laws;
+mod orders;
+mod script;
+mod spec;
+
+pub use command::{ChildCommand, PhaseFacts};
+pub use job::{JobFault, check_universe, job_command};
+pub use orders::{Job, Source};
+pub use spec::{NodeSpec, retries_of};

@@ -1,5 +1,0 @@
-use Rattle.run_plan.proofs.CommandsExist.{each_command_exists}
-use Rattle.run_plan.proofs.laws.commands_exist.Goals as goal
-
-pub returns : goal.returns
-returns c = each_command_exists
