@@ -4,7 +4,7 @@ use Rattle.std.specs.Global.{Global}
 use Rattle.rescue_file.specs.Numbered.{IsNumber}
 use Rattle.event_journal.specs.declared.fault.JournalFault.{JournalFault}
 use Rattle.event_journal.specs.Journal.{IsReadFault}
-use Rattle.recovery.specs.declared.fault.ManagerFault.TheVariants as manager
+use Rattle.run_manager.specs.declared.fault.ManagerFault.TheVariants as manager
 use Rattle.dag_texts.specs.declared.fault.RunFault.{RunFault}
 use Rattle.dag_texts.specs.declared.fault.RunFault.TheVariants.{NotThere, InManager, FileRefused, Memory}
 

@@ -9,7 +9,7 @@ use crate::beside::{LAST_NUMBER, Place, journal_path};
 use dag_texts::RunFault;
 use event_journal::{Journal, JournalFault, Peek};
 use journal_disks::FileDisk;
-use recovery::ManagerFault;
+use run_manager::ManagerFault;
 use std::fs::File;
 use std::rt::Files;
 

@@ -7,7 +7,7 @@ use Rattle.run_plan.specs.Plan.{Plan}
 use Rattle.node_machine.specs.declared.Record.{Record}
 use Rattle.node_machine.specs.declared.Record.TheVariants.{Life}
 use Rattle.rescue_file.specs.Numbered.{rescue_name_of}
-use Rattle.recovery.specs.declared.fault.ManagerFault.{ManagerFault}
+use Rattle.run_manager.specs.declared.fault.ManagerFault.{ManagerFault}
 use Rattle.run_leader.specs.Led.{IsLed}
 use Rattle.dag_files.specs.Beside.{IsFileFault, IsRoundFault}
 use Rattle.dag_texts.specs.Planned.{IsGraphOf, IsGraphFault, IsPlanBy, IsPlanByFault, in_line, named_by}

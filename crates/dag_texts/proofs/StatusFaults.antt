@@ -17,7 +17,7 @@ use Rattle.event_journal.specs.declared.fault.JournalFault.{JournalFault}
 use Rattle.event_journal.specs.declared.fault.JournalFault.TheVariants as journal
 use Rattle.event_journal.specs.Reading.{FailsAs, ReadsRecords, replay_for}
 use Rattle.recovery.specs.Replay.{IsReplayFault, foreign}
-use Rattle.recovery.specs.declared.fault.ManagerFault.TheVariants as manager
+use Rattle.run_manager.specs.declared.fault.ManagerFault.TheVariants as manager
 use Rattle.dag_texts.specs.Checked.{in_plan}
 use Rattle.dag_texts.specs.Planned.{IsPlanByFault, has_plan_fault, planning_had_no_memory}
 use Rattle.dag_texts.specs.Statused.{records_read, records_at, read_fault, IsStatusText, IsRecordsFault, no_journal, foreign_record, reading_had_no_memory}

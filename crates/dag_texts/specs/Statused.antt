@@ -9,7 +9,7 @@ use Rattle.event_journal.specs.declared.fault.JournalFault.TheVariants as journa
 use Rattle.event_journal.specs.Image.{Found}
 use Rattle.event_journal.specs.Reading.{replay_for}
 use Rattle.recovery.specs.Replay.{IsFirstForeign}
-use Rattle.recovery.specs.declared.fault.ManagerFault.TheVariants as manager
+use Rattle.run_manager.specs.declared.fault.ManagerFault.TheVariants as manager
 use Rattle.status_report.specs.Text.{status_text_of}
 use Rattle.dag_texts.specs.Planned.{IsPlanWith, IsPlanWithFault}
 use Rattle.dag_texts.specs.Told.{IsToldOf}

@@ -5,8 +5,8 @@ ghost use Rattle.dag_texts.specs.declared.fault.RunFault.TheVariants.{Memory};
 
 use dag_reader::{Text, Texts};
 use node_machine::TableFault;
-use recovery::ManagerFault;
 use rescue_file::RescueFault;
+use run_manager::ManagerFault;
 use run_plan::PlanFault;
 use splices::DagFault;
 use std::alloc::{AllocError, AllocFailed};

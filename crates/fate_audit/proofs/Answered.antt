@@ -15,7 +15,7 @@ use Rattle.event_journal.specs.Image.{Header, Found}
 use Rattle.event_journal.specs.Reading.{FailsAs, ReadsRecords, replay_for}
 use Rattle.event_journal.specs.declared.fault.JournalFault.TheVariants as journal
 use Rattle.recovery.specs.Replay.{IsFirstForeign, IsReplayFault, foreign}
-use Rattle.recovery.specs.declared.fault.ManagerFault.TheVariants as manager
+use Rattle.run_manager.specs.declared.fault.ManagerFault.TheVariants as manager
 use Rattle.fate_audit.specs.Fates.{AreFatesOf}
 use Rattle.fate_audit.specs.Shown.{AreShown}
 use Rattle.fate_audit.specs.Audit.{HasNoRecords, IsJournalOf, AreSound, IsAuditOf, IsAuditNo, no_journal, foreign_record, no_finish, had_abort, no_memory, no_of}

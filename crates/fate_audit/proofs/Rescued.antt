@@ -26,7 +26,7 @@ use Rattle.run_plan.proofs.PlanFacts.{count-is}
 use Rattle.node_machine.specs.declared.Record.{Record}
 use Rattle.sched_core.specs.Run.{history, is_done, needs_rescue}
 use Rattle.sched_core.specs.Rounds.{Round, IsRound, IsRescuedBy, AreRounds}
-use Rattle.recovery.specs.Rescue.{marks_of, rescue_text_for}
+use Rattle.run_manager.specs.Rescue.{marks_of, rescue_text_for}
 
 -- a part of a node's specification that no mark changes
 abbrev IsUnmarked : {X : Type 0} → (NodeSpec → X) → Type 0

@@ -9,7 +9,7 @@ use Rattle.event_journal.specs.declared.fault.JournalFault.{JournalFault}
 use Rattle.event_journal.specs.declared.fault.JournalFault.TheVariants as journal
 use Rattle.event_journal.specs.Image.{Header, Found}
 use Rattle.event_journal.specs.Reading.{replay_for}
-use Rattle.recovery.specs.Managed.{read_of}
+use Rattle.run_manager.specs.Managed.{read_of}
 use Rattle.recovery.specs.Replay.{IsFirstForeign}
 use Rattle.fate_audit.specs.Fates.{AreFatesOf}
 use Rattle.fate_audit.specs.declared.fault.AuditNo.{AuditNo}

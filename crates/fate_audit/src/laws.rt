@@ -11,7 +11,7 @@ ghost use Rattle.node_machine.specs.declared.Record.{Record};
 ghost use Rattle.sched_core.specs.Run.{needs_rescue};
 ghost use Rattle.sched_core.specs.Fate.{Fate, AreFates};
 ghost use Rattle.sched_core.specs.Rounds.{Round, IsRound, IsRescuedBy, AreRounds};
-ghost use Rattle.recovery.specs.Rescue.{rescue_text_for};
+ghost use Rattle.run_manager.specs.Rescue.{rescue_text_for};
 ghost use Rattle.fate_audit.specs.Fates.{fate_at, AreFatesOf};
 ghost use Rattle.fate_audit.specs.Audit.{AreSound, IsAuditOf, IsAuditNo};
 ghost use Rattle.fate_audit.specs.declared.fault.AuditNo.{AuditNo};

@@ -11,7 +11,7 @@ use Rattle.node_specs.specs.Commands.{CommandOrFault, command_of, starts_child}
 use Rattle.node_machine.specs.declared.Record.{Record}
 use Rattle.node_machine.specs.declared.Record.TheVariants.{End}
 use Rattle.sched_core.specs.Commands.{facts_in}
-use Rattle.recovery.specs.Chain.{commands_in}
+use Rattle.run_manager.specs.Chain.{commands_in}
 use Rattle.job_starter.specs.declared.Call.{Call}
 use Rattle.job_starter.specs.declared.Call.TheVariants as calls
 use Rattle.job_starter.specs.declared.Started.TheVariants.{NotStarted}

@@ -25,8 +25,8 @@ use Rattle.sched_core.proofs.Bounds.{launch-lowers, end-lowers}
 use Rattle.sched_core.proofs.Held.{launch-within, launched-within, launched-idle, histories-are}
 use Rattle.sched_core.proofs.Sound.{launch-held, next-parts}
 use Rattle.sched_core.proofs.Turns.{turn-allowed}
-use Rattle.recovery.specs.declared.fault.ManagerFault.{ManagerFault}
-use Rattle.recovery.specs.Managed.{Managed, plan_of, past_of, is_begun, IsRefusal}
+use Rattle.run_manager.specs.declared.fault.ManagerFault.{ManagerFault}
+use Rattle.run_manager.specs.Managed.{Managed, plan_of, past_of, is_begun, IsRefusal}
 use Rattle.job_starter.specs.declared.driving.DriveFault.{DriveFault}
 use Rattle.job_starter.proofs.Counting.{rises-before, rises-on}
 use Rattle.job_starter.specs.Causes.{IsRecordRefused, IsDriveFault, no_memory_for_child, no_ending_told, no_memory_for_command, record_refused}

@@ -3,8 +3,8 @@ use Rattle.std.specs.Prelude.{◌≡◌, ℕ, List, [], IsTrue}
 use Rattle.node_machine.specs.declared.Record.{Record}
 use Rattle.sched_core.specs.Run.{may_follow}
 use Rattle.event_journal.specs.declared.journal.Journal.{Journal}
-use Rattle.recovery.specs.Managed.{Managed, plan_of, past_of, IsRefusal}
-use Rattle.recovery.specs.declared.fault.ManagerFault.{ManagerFault}
+use Rattle.run_manager.specs.Managed.{Managed, plan_of, past_of, IsRefusal}
+use Rattle.run_manager.specs.declared.fault.ManagerFault.{ManagerFault}
 use Rattle.job_starter.specs.declared.Call.{Call}
 use Rattle.job_starter.specs.declared.StartFault.{StartFault}
 use Rattle.job_starter.specs.declared.StartFault.TheVariants as starts

@@ -18,7 +18,7 @@ use Rattle.sched_core.specs.Run.{outstanding, is_among, is_aborted, is_open, lau
 use Rattle.sched_core.specs.Bound.{records_left}
 use Rattle.sched_core.specs.Choices.{IsChoice, startable}
 use Rattle.sched_core.specs.Commands.{facts_in}
-use Rattle.recovery.specs.Managed.{Managed}
+use Rattle.run_manager.specs.Managed.{Managed}
 use Rattle.job_starter.specs.declared.Call.{Call}
 use Rattle.job_starter.specs.declared.Call.TheVariants as calls
 use Rattle.job_starter.specs.declared.Started.{Started}

@@ -1,5 +1,4 @@
 pub mod Calls
-pub mod Told
 pub mod Scripts
 pub mod Drives
 pub mod Moments

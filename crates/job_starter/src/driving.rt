@@ -7,20 +7,20 @@ ghost use Rattle.node_specs.specs.Commands.{starts_child};
 ghost use Rattle.sched_core.specs.Run.{is_among, is_aborted, is_over, is_open, is_nothing, outstanding, may_follow, table_of};
 ghost use Rattle.sched_core.specs.Fate.{AreFates, shown};
 ghost use Rattle.sched_core.specs.Choices.{IsChoice};
-ghost use Rattle.recovery.specs.Managed.{plan_of, past_of};
+ghost use Rattle.run_manager.specs.Managed.{plan_of, past_of};
 ghost use Rattle.job_starter.specs.Calls.{running, MayRun, TellsNoMore};
 ghost use Rattle.job_starter.specs.Drives.{limits_of, launch_of, AreInStep, IsNearerEnd, IsHandedOver, IsHeld, IsStep, final_verdict, Drives, IsCutOff, Starts, Kills, IsLaunched, IsHalted, IsStopped};
 ghost use Rattle.job_starter.specs.Causes.{IsDriveFault};
 ghost use Rattle.job_starter.specs.Moments.{IsMomentOfRun, AtAnyMoment, StaysAcknowledged, KeepsDisk};
 
-use crate::log::key_at;
+use crate::keys::key_at;
 use crate::records::{
     chosen, goes_on, is_aborted, keeps_the_law, record_end, record_launch, starts_child,
 };
 use crate::{Started, Starter};
 use event_journal::Disk;
 use node_machine::{Key, Outcome, Record, Verdict};
-use recovery::{Manager, ManagerFault};
+use run_manager::{Manager, ManagerFault};
 use run_plan::Plan;
 use sched_core::Choice;
 use std::alloc::Global;

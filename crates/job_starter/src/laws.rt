@@ -13,7 +13,7 @@ ghost use Rattle.sched_core.specs.Lives.{HasOutcomesOf};
 ghost use Rattle.sched_core.specs.Choices.{IsChoice};
 ghost use Rattle.sched_core.specs.declared.Choice.TheVariants as choices;
 ghost use Rattle.event_journal.specs.Image.{Header};
-ghost use Rattle.recovery.specs.Chain.{ReadsForInputs};
+ghost use Rattle.run_manager.specs.Chain.{ReadsForInputs};
 ghost use Rattle.job_starter.specs.declared.Call.{Call};
 ghost use Rattle.job_starter.specs.Calls.{running};
 ghost use Rattle.job_starter.specs.Drives.{AreInStep, Drives, IsHalted, IsStopped};

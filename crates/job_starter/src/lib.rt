@@ -5,19 +5,15 @@
 #![tactic(auto)]
 
 mod driving;
+mod keys;
 pub mod laws;
-mod log;
 mod records;
-mod refusals;
-mod scripted;
 mod starter;
 
 pub use driving::{DriveFault, RunEnd, drive, launch_round};
-pub use log::{CallLog, are_same, key_at};
+pub use keys::{are_same, key_at};
 use node_machine::{Key, Outcome};
 use node_specs::ChildCommand;
-pub use refusals::{no_answer, no_memory};
-pub use scripted::{Script, ScriptedStarter};
 pub use starter::{Starter, System};
 use std::snapshot::Snapshot;
 use thiserror::Error;

@@ -5,7 +5,7 @@ ghost use Rattle.run_plan.specs.Plan.{node_at, count_of};
 ghost use Rattle.node_specs.specs.Commands.{starts_child};
 ghost use Rattle.sched_core.specs.Run.{is_among, is_aborted, is_lawful, is_over, is_open, outstanding};
 ghost use Rattle.sched_core.specs.Choices.{IsChoice};
-ghost use Rattle.recovery.specs.Managed.{plan_of, past_of, ReadsBeforeOrAfter};
+ghost use Rattle.run_manager.specs.Managed.{plan_of, past_of, ReadsBeforeOrAfter};
 ghost use Rattle.job_starter.specs.Drives.{limits_of, launch_of, IsNearerEnd};
 ghost use Rattle.job_starter.specs.Causes.{IsDriveFault};
 ghost use Rattle.job_starter.specs.Moments.{AtAnyMoment, StaysAcknowledged, KeepsDisk};
@@ -13,7 +13,7 @@ ghost use Rattle.job_starter.specs.Moments.{AtAnyMoment, StaysAcknowledged, Keep
 use crate::DriveFault;
 use event_journal::Disk;
 use node_machine::{Key, Outcome, Phase, Record};
-use recovery::Manager;
+use run_manager::Manager;
 use sched_core::Choice;
 
 /// The records of a manager are lawful at every moment.

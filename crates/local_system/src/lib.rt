@@ -11,11 +11,10 @@ ghost use Rattle.job_starter.specs.Calls.{running, Rises, TellsNoMore};
 ghost use Rattle.job_starter.specs.Causes.{IsStartFault, IsAskFault};
 
 use dag_reader::Text;
-use job_starter::{
-    Call, CallLog, Killed, StartFault, Started, System, are_same, no_answer, no_memory,
-};
+use job_starter::{Call, Killed, StartFault, Started, System, are_same};
 use node_machine::{Key, Outcome};
 use node_specs::ChildCommand;
+use scripted_starter::{CallLog, no_answer, no_memory};
 use splices::path_in;
 use std::alloc::{AllocError, Global};
 use std::fs::File;

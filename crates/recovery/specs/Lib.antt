@@ -1,9 +1,3 @@
-pub mod Chain
 pub mod Example
-pub mod Faults
-pub mod Lives
-pub mod Managed
 pub mod Recovery
 pub mod Replay
-pub mod Rescue
-pub mod Seal

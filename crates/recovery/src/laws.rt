@@ -15,10 +15,10 @@ ghost use Rattle.sched_core.specs.Lives.{IsRunBy};
 ghost use Rattle.node_machine.specs.declared.Record.{Record};
 ghost use Rattle.node_machine.specs.declared.Record.TheVariants.{Life};
 ghost use Rattle.event_journal.specs.Image.{Header, header_of, replay_of};
-ghost use Rattle.recovery.specs.Managed.{Managed, plan_of, past_of, read_of, WithOrWithout, ReadsBeforeOrAfter};
+ghost use Rattle.run_manager.specs.Managed.{Managed, plan_of, past_of, read_of, WithOrWithout, ReadsBeforeOrAfter};
 ghost use Rattle.recovery.specs.Recovery.{IsMomentOfBegin, IsRecovered};
-ghost use Rattle.recovery.specs.Lives.{LifeRecords, AreLives};
-ghost use Rattle.recovery.specs.Chain.{Command, key_of, ManagerLife, IsLifeOf, AreManagerLives, HandsOver, Leaves, life_records, life_of};
+ghost use Rattle.run_manager.specs.Lives.{LifeRecords, AreLives};
+ghost use Rattle.run_manager.specs.Chain.{Command, key_of, ManagerLife, IsLifeOf, AreManagerLives, HandsOver, Leaves, life_records, life_of};
 
 use event_journal::Disk;
 

@@ -1,18 +1,14 @@
-//! The manager of a run: a core and a journal that agree, over crashes and recoveries.
+//! How a manager begins, with a run or by going on with one after a crash, and what holds of all the
+//! lives of a run.
 //!
 //! The rules are those of the HTCondor manual, DAGMan workflows, "DAG recovery" and "The rescue
 //! DAG", as docs/MANUAL.md states them.
 #![tactic(auto)]
 
-mod calls;
 pub mod examples;
-mod fault;
 pub mod laws;
-mod manager;
+mod opening;
 mod replays;
-mod seal;
 
-pub use fault::ManagerFault;
-pub use manager::Manager;
+pub use opening::{begin, recover};
 pub use replays::replay;
-pub use seal::Sealed;

@@ -4,7 +4,7 @@ use crate::plans::{ROOM, SLOTS, job, plan_of};
 use event_journal::JournalFault;
 use journal_disks::MemDisk;
 use node_machine::{Key, Outcome, Phase, Record};
-use recovery::ManagerFault;
+use run_manager::ManagerFault;
 use run_plan::Plan;
 use std::alloc::Global;
 use std::process::Abort;

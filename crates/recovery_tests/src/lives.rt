@@ -5,7 +5,8 @@ use crate::plans::{NO_LIMITS, ROOM, SLOTS};
 use event_journal::{Journal, JournalFault, Opened};
 use journal_disks::MemDisk;
 use node_machine::{Key, Record, Table};
-use recovery::{Manager, ManagerFault, Sealed};
+use recovery::{begin, recover};
+use run_manager::{Manager, ManagerFault, Sealed};
 use run_plan::Plan;
 use sched_core::{Choice, Core};
 use std::alloc::Global;
@@ -46,9 +47,9 @@ pub fn life<'a>(
 ) -> Result<Manager<'a, MemDisk>, (MemDisk, ManagerFault)> {
     let mut disk = disk;
     match Journal::peek(alloc, &mut disk) {
-        Ok(None) => Manager::begin(alloc, disk, plan, 0, 1, slots, NO_LIMITS),
-        Ok(Some(_)) => Manager::recover(alloc, disk, plan, slots, NO_LIMITS),
-        Err(JournalFault::BadSlot(_)) => Manager::recover(alloc, disk, plan, slots, NO_LIMITS),
+        Ok(None) => begin(alloc, disk, plan, 0, 1, slots, NO_LIMITS),
+        Ok(Some(_)) => recover(alloc, disk, plan, slots, NO_LIMITS),
+        Err(JournalFault::BadSlot(_)) => recover(alloc, disk, plan, slots, NO_LIMITS),
         Err(fault) => Err((disk, ManagerFault::Journal(fault))),
     }
 }

@@ -1,14 +1,15 @@
 // Refusals of a manager.
 ghost use Rattle.std.specs.Prelude.{◌≡◌, length};
-ghost use Rattle.recovery.specs.Managed.{past_of};
-ghost use Rattle.recovery.specs.Seal.{sealed_count};
+ghost use Rattle.run_manager.specs.Managed.{past_of};
+ghost use Rattle.run_manager.specs.Seal.{sealed_count};
 
 use crate::lives::{given, life, records_on, refused};
 use crate::plans::{DIAMOND, ROOM, SLOTS, job, plan_of};
 use event_journal::JournalFault;
 use journal_disks::MemDisk;
 use node_machine::{Outcome, Record};
-use recovery::{Manager, ManagerFault, Sealed, replay};
+use recovery::replay;
+use run_manager::{Manager, ManagerFault, Sealed};
 use run_plan::Plan;
 use std::alloc::Global;
 use std::process::Abort;

@@ -7,7 +7,7 @@ use Rattle.sched_core.specs.Run.{is_done, is_in_error, is_aborted, is_finished, 
 use Rattle.sched_core.specs.Fate.{shown, is_done_state}
 use Rattle.sched_core.proofs.Finished.{state-done, final-error}
 use Rattle.sched_core.proofs.Sweeps.{all_below-same}
-use Rattle.recovery.specs.Rescue.{rescue_text_for}
+use Rattle.run_manager.specs.Rescue.{rescue_text_for}
 use Rattle.rescue_file.specs.Written.{ordinary_names, rescue_text_of}
 use Rattle.status_report.proofs.Finished.{all-lines}
 use Rattle.status_report.specs.Text.{result_line}

@@ -3,7 +3,7 @@ use Rattle.std.proofs.Common.{◌≡◌, ℕ, true, false, List, [], sym, ◌∙
 use Rattle.run_plan.specs.Plan.{Plan}
 use Rattle.node_machine.specs.declared.Record.{Record}
 use Rattle.sched_core.specs.Run.{needs_rescue}
-use Rattle.recovery.specs.Rescue.{rescue_text_for}
+use Rattle.run_manager.specs.Rescue.{rescue_text_for}
 use Rattle.status_report.specs.Text.{status_text_of, result_line, run_text}
 use Rattle.rehearsal.specs.Report.{rescue_part, report_of}
 

@@ -6,7 +6,7 @@ use Rattle.node_machine.specs.declared.Record.{Record}
 use Rattle.sched_core.specs.Run.{needs_rescue}
 use Rattle.sched_core.specs.Fate.{Fate, is_done_state}
 use Rattle.rescue_file.specs.Written.{ordinary_names, rescue_text_of}
-use Rattle.recovery.specs.Rescue.{rescue_text_for}
+use Rattle.run_manager.specs.Rescue.{rescue_text_for}
 use Rattle.status_report.specs.Text.{reported, status_text_of, result_line, fate_lines}
 
 -- the text of the rescue file, where one is needed

@@ -3,20 +3,21 @@
 ghost use Rattle.std.specs.Prelude.{◌≡◌, [], ◌∷◌, IfOk, IfErr, string_bytes};
 ghost use Rattle.node_machine.specs.OutcomeTable.{HasPossibleOutcomes};
 ghost use Rattle.sched_core.specs.Run.{exit_status};
-ghost use Rattle.recovery.specs.Managed.{plan_of, past_of};
+ghost use Rattle.run_manager.specs.Managed.{plan_of, past_of};
 ghost use Rattle.job_starter.specs.Drives.{limits_of};
 ghost use Rattle.status_report.specs.Text.{run_text};
 ghost use Rattle.rehearsal.specs.Rehearsal.{IsRehearsed};
 ghost use Rattle.dag_texts.specs.declared.fault.RunFault.TheVariants.{Memory};
 
 use dag_texts::RunFault;
-use job_starter::{Script, ScriptedStarter};
 use journal_disks::MemDisk;
 use node_machine::{Record, Table, Verdict};
-use recovery::Manager;
+use recovery::begin;
 use run_leader::lead;
+use run_manager::Manager;
 use run_plan::Plan;
 use sched_core::Core;
+use scripted_starter::{Script, ScriptedStarter};
 use std::alloc::Global;
 use throttles::Limits;
 
@@ -59,7 +60,7 @@ fn begin<'a>(
     ensures err { IfErr result (λ fault. fault ≡ Memory) }
 {
     let journal = MemDisk::new(alloc, usize::MAX);
-    match Manager::begin(alloc, journal, plan, 0, 1, u32::MAX, limits) {
+    match begin(alloc, journal, plan, 0, 1, u32::MAX, limits) {
         Ok(manager) => Ok(manager),
         Err((_journal, _fault)) => Err(RunFault::Memory),
     }

@@ -1,5 +1,5 @@
 -- A run that is led to its end.
-use Rattle.recovery.specs.Chain.{commands_in}
+use Rattle.run_manager.specs.Chain.{commands_in}
 use Rattle.std.proofs.Common.{arith, ◌≡◌, ◌&&◌, ℕ, true, false, List, [], ◌∷◌, ◌++◌, refl, sym, ap, ◌∙◌, subst}
 use Rattle.std.proofs.lemmas.Bool.{and_from}
 use Rattle.std.proofs.lemmas.List.{append-nil}
@@ -22,7 +22,7 @@ use Rattle.job_starter.proofs.Images.{at_moment}
 use Rattle.event_journal.specs.Disk.{LeavesOnly}
 use Rattle.event_journal.specs.Image.{Header}
 use Rattle.event_journal.proofs.Moments as moments
-use Rattle.recovery.specs.Managed.{ReadsBeforeOrAfter}
+use Rattle.run_manager.specs.Managed.{ReadsBeforeOrAfter}
 use Rattle.job_starter.proofs.Handing.{drives-adds, halted-adds}
 use Rattle.run_leader.specs.Led.{GoOnFrom, IsLed, DrivesToEnd}
 

@@ -3,10 +3,10 @@ use Rattle.std.proofs.Common.{ℕ, List, [], ◌∷◌, Option, Result, Ok, Err,
 use Rattle.std.specs.Prelude.{IfOk}
 use Rattle.run_plan.specs.Plan.{Plan}
 use Rattle.node_machine.specs.declared.Record.{Record}
-use Rattle.recovery.specs.Managed.{Managed, past_of}
+use Rattle.run_manager.specs.Managed.{Managed, past_of}
 use Rattle.recovery.specs.Recovery.{IsNewLife}
-use Rattle.recovery.specs.Chain.{ReadsForInputs}
-use Rattle.recovery.specs.Seal.{IsRescued}
+use Rattle.run_manager.specs.Chain.{ReadsForInputs}
+use Rattle.run_manager.specs.Seal.{IsRescued}
 use Rattle.run_leader.specs.Led.{IsLed}
 use Rattle.run_leader.specs.Rounds.{BeginsOn, IsRound}
 

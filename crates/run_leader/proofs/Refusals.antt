@@ -10,9 +10,9 @@ use Rattle.sched_core.specs.Run.{is_over, is_open, may_follow, exit_status, need
 use Rattle.sched_core.specs.declared.Choice.TheVariants as choices
 use Rattle.sched_core.specs.Choices.{IsChoice}
 use Rattle.event_journal.specs.declared.journal.Journal.{Journal}
-use Rattle.recovery.specs.Managed.{Managed, plan_of, past_of, IsRefusal}
-use Rattle.recovery.specs.Seal.{IsFinishFault, IsRescueFault, run_over, not_now, no_memory, disk_failed, disk_full, may_end, needs_rescue_now}
-use Rattle.recovery.specs.declared.fault.ManagerFault.{ManagerFault}
+use Rattle.run_manager.specs.Managed.{Managed, plan_of, past_of, IsRefusal}
+use Rattle.run_manager.specs.Seal.{IsFinishFault, IsRescueFault, run_over, not_now, no_memory, disk_failed, disk_full, may_end, needs_rescue_now}
+use Rattle.run_manager.specs.declared.fault.ManagerFault.{ManagerFault}
 use Rattle.job_starter.specs.Causes.{IsRecordRefused}
 use Rattle.run_leader.specs.Causes.{IsSealFault, text_had_no_memory, rescue_failed, rescue_had_no_room}
 

@@ -5,11 +5,11 @@ use Rattle.node_machine.specs.declared.Record.{Record}
 use Rattle.sched_core.specs.Run.{is_over}
 use Rattle.event_journal.specs.Disk.{Rises}
 use Rattle.event_journal.specs.declared.fault.JournalFault.TheVariants as journal
-use Rattle.recovery.specs.Managed.{Managed, plan_of, past_of}
-use Rattle.recovery.specs.Seal.{needs_rescue_now}
-use Rattle.recovery.specs.Rescue.{rescue_text_for}
-use Rattle.recovery.specs.declared.fault.ManagerFault.{ManagerFault}
-use Rattle.recovery.specs.declared.fault.ManagerFault.TheVariants as faults
+use Rattle.run_manager.specs.Managed.{Managed, plan_of, past_of}
+use Rattle.run_manager.specs.Seal.{needs_rescue_now}
+use Rattle.run_manager.specs.Rescue.{rescue_text_for}
+use Rattle.run_manager.specs.declared.fault.ManagerFault.{ManagerFault}
+use Rattle.run_manager.specs.declared.fault.ManagerFault.TheVariants as faults
 use Rattle.job_starter.specs.Causes.{IsDriveFault, IsRecordRefused}
 use Rattle.job_starter.specs.declared.driving.DriveFault.{DriveFault}
 use Rattle.job_starter.specs.declared.driving.DriveFault.TheVariants as drives

@@ -7,10 +7,10 @@ use Rattle.sched_core.specs.Run.{is_lawful}
 use Rattle.event_journal.specs.Image.{Header, header_of, IsRescueNumber, replay_of}
 use Rattle.event_journal.specs.Reading.{replay_for}
 use Rattle.recovery.specs.Recovery.{IsMomentOfBegin, IsMomentOfRecovery, IsBeginFault, IsRecoveryFault}
-use Rattle.recovery.specs.declared.fault.ManagerFault.{ManagerFault}
-use Rattle.recovery.specs.Managed.{Managed, past_of, IsAcknowledged}
-use Rattle.recovery.specs.Chain.{ReadsForInputs}
-use Rattle.recovery.specs.Seal.{IsRescued}
+use Rattle.run_manager.specs.declared.fault.ManagerFault.{ManagerFault}
+use Rattle.run_manager.specs.Managed.{Managed, past_of, IsAcknowledged}
+use Rattle.run_manager.specs.Chain.{ReadsForInputs}
+use Rattle.run_manager.specs.Seal.{IsRescued}
 use Rattle.run_leader.specs.Led.{IsLed}
 use Rattle.run_leader.specs.declared.rounds.Start.{Start}
 use Rattle.run_leader.specs.declared.rounds.Start.TheVariants.{Begin, GoOn}

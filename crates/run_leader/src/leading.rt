@@ -1,8 +1,8 @@
 //! A manager that leads its run to the end.
 
 ghost use Rattle.std.specs.Prelude.{◌≡◌, [], IsTrue, IsFalse, IfOk, IfErr, OnOk, OnErr, string_bytes};
-ghost use Rattle.recovery.specs.Managed.{plan_of, past_of};
-ghost use Rattle.recovery.specs.Seal.{IsSealOf, IsRescued, may_end, needs_rescue_now};
+ghost use Rattle.run_manager.specs.Managed.{plan_of, past_of};
+ghost use Rattle.run_manager.specs.Seal.{IsSealOf, IsRescued, may_end, needs_rescue_now};
 ghost use Rattle.sched_core.specs.Run.{is_over};
 ghost use Rattle.job_starter.specs.Drives.{AreInStep, limits_of};
 ghost use Rattle.job_starter.specs.Calls.{running};
@@ -14,7 +14,7 @@ ghost use Rattle.run_leader.specs.Led.{GoOnFrom, IsLed, DrivesToEnd};
 use event_journal::Disk;
 use job_starter::{DriveFault, Starter, drive};
 use node_machine::Verdict;
-use recovery::{Manager, ManagerFault, Sealed};
+use run_manager::{Manager, ManagerFault, Sealed};
 use run_plan::Plan;
 use status_report::run_text;
 use std::alloc::Global;

@@ -1,17 +1,18 @@
 // Runs that are stopped, by a disk that fails or by a starter that refuses, and taken up again.
 ghost use Rattle.std.specs.Prelude.{◌≡◌, IfOk};
 ghost use Rattle.node_machine.specs.OutcomeTable.{HasPossibleOutcomes};
-ghost use Rattle.recovery.specs.Managed.{plan_of, past_of};
+ghost use Rattle.run_manager.specs.Managed.{plan_of, past_of};
 ghost use Rattle.recovery.specs.Recovery.{IsNewLife};
 
 use crate::plans::{File, NO_LIMITS, plan_of};
 use event_journal::{Journal, Opened};
-use job_starter::{Script, ScriptedStarter};
 use journal_disks::{Fuse, FuseDisk, MemDisk};
 use node_machine::{Record, Table, read_table};
-use recovery::{Manager, ManagerFault, replay};
+use recovery::{begin, recover, replay};
 use run_leader::lead;
+use run_manager::{Manager, ManagerFault};
 use run_plan::Plan;
+use scripted_starter::{Script, ScriptedStarter};
 use status_report::run_text;
 use std::alloc::Global;
 use std::process::Abort;
@@ -105,8 +106,8 @@ fn manager_on<'a>(
 {
     let mut disk = disk;
     match Journal::peek(alloc, &mut disk) {
-        Ok(None) => Manager::begin(alloc, disk, plan, 0, 1, SLOTS, NO_LIMITS),
-        Ok(Some(_)) => Manager::recover(alloc, disk, plan, SLOTS, NO_LIMITS),
+        Ok(None) => begin(alloc, disk, plan, 0, 1, SLOTS, NO_LIMITS),
+        Ok(Some(_)) => recover(alloc, disk, plan, SLOTS, NO_LIMITS),
         Err(fault) => Err((disk, ManagerFault::Journal(fault))),
     }
 }

@@ -1,9 +1,10 @@
 // A process starter over a system in memory with two running keys.
 use crate::children::shell;
-use job_starter::{Call, CallLog, Killed, StartFault, Started, Starter, System, no_memory};
+use job_starter::{Call, Killed, StartFault, Started, Starter, System};
 use node_machine::{Key, Outcome, Phase};
 use node_specs::ChildCommand;
 use process_starter::ProcessStarter;
+use scripted_starter::{CallLog, no_memory};
 use std::alloc::Global;
 use std::process::Abort;
 use std::test::Fail;

@@ -6,7 +6,7 @@ use dag_graph::Graph;
 use dag_opener::open_dag;
 use job_starter::{DriveFault, RunEnd, Starter, drive};
 use journal_disks::MemDisk;
-use recovery::Manager;
+use recovery::begin;
 use run_plan::{Plan, PlanFault};
 use sched_core::Core;
 use splices::FileSet;
@@ -56,7 +56,7 @@ pub fn run<S: Starter>(
     requires { running (S.told starter.old) ≡ [] }
 {
     let disk = MemDisk::new(alloc, 100_000);
-    let mut manager = match Manager::begin(alloc, disk, plan, 0, 1, 1000, limits) {
+    let mut manager = match begin(alloc, disk, plan, 0, 1, 1000, limits) {
         Ok(manager) => manager,
         Err((_disk, fault)) => return Err(Fail::from(fault)),
     };

@@ -2,11 +2,10 @@
 ghost use Rattle.node_machine.specs.OutcomeTable.{HasPossibleOutcomes};
 
 use crate::plans::{File, NO_LIMITS, plan_of, run};
-use job_starter::{
-    Call, DriveFault, RunEnd, Script, ScriptedStarter, StartFault, Started, Starter,
-};
+use job_starter::{Call, DriveFault, RunEnd, StartFault, Started, Starter};
 use node_machine::{Table, read_table};
 use run_plan::Plan;
+use scripted_starter::{Script, ScriptedStarter};
 use std::alloc::Global;
 use std::process::Abort;
 use std::test::Fail;

@@ -3,8 +3,8 @@ use Rattle.run_plan.specs.Plan.{Plan}
 use Rattle.node_machine.specs.declared.Record.TheVariants.{Finish}
 use Rattle.sched_core.specs.Run.{is_lawful, is_aborted}
 use Rattle.sched_core.proofs.Moves.{finish-follows}
-use Rattle.recovery.specs.Managed.{plan_of, past_of}
-use Rattle.recovery.proofs.Sealing.{finished_own}
+use Rattle.run_manager.specs.Managed.{plan_of, past_of}
+use Rattle.run_manager.proofs.Sealing.{finished_own}
 use Rattle.job_starter.specs.Drives.{limits_of}
 use Rattle.job_starter.proofs.Steps.{fault-on}
 use Rattle.job_starter.proofs.driving.drive.Goals as goal

@@ -1,6 +1,6 @@
 use Rattle.std.proofs.Common.{◌≡◌, refl, sym, ◌∙◌, subst, true}
 use Rattle.run_plan.specs.Plan.{node_at}
-use Rattle.recovery.specs.Managed.{plan_of, past_of}
+use Rattle.run_manager.specs.Managed.{plan_of, past_of}
 use Rattle.sched_core.specs.Run.{is_among, outstanding}
 use Rattle.job_starter.proofs.Counting.{wait-rises}
 use Rattle.job_starter.proofs.Steps.{some_child, children-start, child-ends}

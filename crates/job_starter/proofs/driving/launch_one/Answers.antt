@@ -3,7 +3,7 @@ use Rattle.event_journal.proofs.Moments.{on_ok}
 use Rattle.run_plan.specs.Plan.{Plan, node_at}
 use Rattle.node_specs.specs.Commands.{starts_child}
 use Rattle.sched_core.specs.Run.{is_lawful}
-use Rattle.recovery.specs.Managed.{past_of}
+use Rattle.run_manager.specs.Managed.{past_of}
 use Rattle.job_starter.specs.Drives.{clean, none_started}
 use Rattle.job_starter.proofs.Images.{cut_call, then_call}
 use Rattle.job_starter.proofs.Phases.{quiet-noop}

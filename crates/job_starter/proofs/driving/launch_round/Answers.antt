@@ -2,7 +2,7 @@ use Rattle.std.proofs.Common.{arith, ◌&&◌, not, refl, sym, ap, ◌∙◌, su
 use Rattle.std.proofs.lemmas.Bool.{and_parts, not-true}
 use Rattle.run_plan.specs.Plan.{Plan}
 use Rattle.sched_core.specs.Run.{is_aborted}
-use Rattle.recovery.specs.Managed.{plan_of, past_of}
+use Rattle.run_manager.specs.Managed.{plan_of, past_of}
 use Rattle.std.proofs.Common.{inl, inr}
 use Rattle.throttles.specs.declared.Limits.{Limits}
 use Rattle.job_starter.specs.Drives.{none_started, limits_of, AreInStep, AbortsAtLast, IsHeld}

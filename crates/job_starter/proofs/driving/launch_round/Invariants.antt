@@ -1,6 +1,6 @@
 use Rattle.std.proofs.Common.{◌≡◌, ◌≤◌}
 use Rattle.sched_core.specs.Bound.{records_left}
-use Rattle.recovery.specs.Managed.{plan_of, past_of}
+use Rattle.run_manager.specs.Managed.{plan_of, past_of}
 use Rattle.job_starter.specs.Calls.{TellsNoMore}
 use Rattle.job_starter.specs.Drives.{limits_of, Starts}
 use Rattle.job_starter.specs.Moments.{IsMomentOfRun, AtAnyMoment, StaysAcknowledged, KeepsDisk}

@@ -1,5 +1,5 @@
 use Rattle.std.proofs.Common.{arith, refl, ◌∙◌, subst, IfNone}
-use Rattle.recovery.specs.Managed.{plan_of, past_of}
+use Rattle.run_manager.specs.Managed.{plan_of, past_of}
 use Rattle.job_starter.specs.Drives.{IsNearerEnd}
 use Rattle.job_starter.proofs.Steps.{fault-before}
 use Rattle.job_starter.proofs.Images.{still, at_start, then_steps, keeps_still, keeps_on}

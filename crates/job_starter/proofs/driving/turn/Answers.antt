@@ -5,7 +5,7 @@ use Rattle.node_machine.specs.declared.Key.{Key}
 use Rattle.run_plan.specs.Plan.{Plan, node_at}
 use Rattle.node_specs.specs.Commands.{starts_child}
 use Rattle.sched_core.specs.Run.{is_aborted}
-use Rattle.recovery.specs.Managed.{plan_of, past_of}
+use Rattle.run_manager.specs.Managed.{plan_of, past_of}
 use Rattle.job_starter.specs.Drives.{no_step}
 use Rattle.job_starter.proofs.Images.{still, at_start}
 use Rattle.job_starter.proofs.Walks.{step-empty, step-in-step, drives-kills}

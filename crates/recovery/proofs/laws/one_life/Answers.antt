@@ -1,8 +1,8 @@
 use Rattle.std.proofs.Common.{◌∙◌, ◌++◌, List, inl, inr, refl, sym, ap, subst}
 use Rattle.run_plan.specs.Plan.{Plan}
 use Rattle.node_machine.specs.declared.Record.{Record}
-use Rattle.recovery.specs.Managed.{plan_of, past_of}
-use Rattle.recovery.specs.Chain.{HandsOver, life_records}
+use Rattle.run_manager.specs.Managed.{plan_of, past_of}
+use Rattle.run_manager.specs.Chain.{HandsOver, life_records}
 use Rattle.recovery.proofs.laws.one_life.Goals as goal
 
 pub returns-clause-begun : goal.returns-clause-begun

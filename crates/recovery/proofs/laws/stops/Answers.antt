@@ -3,9 +3,9 @@ use Rattle.run_plan.specs.Plan.{Plan}
 use Rattle.node_machine.specs.declared.Record.{Record}
 use Rattle.node_machine.specs.declared.Record.TheVariants.{Life}
 use Rattle.event_journal.specs.Image.{Header, header_of, replay_of}
-use Rattle.recovery.specs.Managed.{Reads, read_of, WithOrWithout, ReadsBeforeOrAfter}
+use Rattle.run_manager.specs.Managed.{Reads, read_of, WithOrWithout, ReadsBeforeOrAfter}
 use Rattle.recovery.specs.Recovery.{IsMomentOfBegin}
-use Rattle.recovery.specs.Chain.{Leaves}
+use Rattle.run_manager.specs.Chain.{Leaves}
 use Rattle.recovery.proofs.Lives.{with_life}
 use Rattle.recovery.proofs.laws.stops.Goals as goal
 

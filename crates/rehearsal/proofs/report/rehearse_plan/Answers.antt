@@ -1,7 +1,7 @@
 use Rattle.std.proofs.Common.{◌++◌, ◌∙◌, ap, refl}
 use Rattle.run_plan.specs.Plan.{Plan}
 use Rattle.sched_core.specs.Core.{Progress}
-use Rattle.recovery.specs.Managed.{past_of}
+use Rattle.run_manager.specs.Managed.{past_of}
 use Rattle.rehearsal.specs.Report.{rescue_part}
 use Rattle.rehearsal.proofs.RescueParts.{whole-report}
 use Rattle.rehearsal.proofs.report.rehearse_plan.Goals as goal

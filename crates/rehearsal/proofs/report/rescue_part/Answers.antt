@@ -2,7 +2,7 @@ use Rattle.std.proofs.Common.{◌∙◌, List, Bool, ap, sym}
 use Rattle.dag_graph.specs.Graph.{Network}
 use Rattle.run_plan.specs.Plan.{Plan}
 use Rattle.rescue_file.specs.Written.{ordinary_names, rescue_text_of}
-use Rattle.recovery.proofs.Marks.{marks-are}
+use Rattle.run_manager.proofs.Marks.{marks-are}
 use Rattle.rehearsal.proofs.RescueParts.{needed, not-needed}
 use Rattle.rehearsal.proofs.report.rescue_part.Goals as goal
 

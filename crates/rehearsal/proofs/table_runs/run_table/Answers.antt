@@ -1,5 +1,5 @@
 use Rattle.std.proofs.Common.{◌∙◌}
-use Rattle.recovery.specs.Managed.{plan_of, past_of}
+use Rattle.run_manager.specs.Managed.{plan_of, past_of}
 use Rattle.job_starter.specs.Drives.{limits_of}
 use Rattle.rehearsal.proofs.Rehearsals.{rehearsed}
 use Rattle.rehearsal.proofs.table_runs.run_table.Goals as goal

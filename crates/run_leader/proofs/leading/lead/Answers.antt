@@ -2,7 +2,7 @@ use Rattle.run_plan.specs.Plan.{Plan}
 use Rattle.std.proofs.Common.{◌≡◌, true, List, ap, sym, ◌∙◌, subst}
 use Rattle.sched_core.specs.Core.{Progress}
 use Rattle.sched_core.specs.Run.{is_lawful, is_over}
-use Rattle.recovery.specs.Managed.{plan_of, past_of, disk_of}
+use Rattle.run_manager.specs.Managed.{plan_of, past_of, disk_of}
 use Rattle.job_starter.specs.Drives.{limits_of}
 use Rattle.status_report.specs.Text.{run_text}
 use Rattle.node_machine.specs.declared.Record.{Record}

@@ -1,7 +1,7 @@
 use Rattle.std.proofs.Common.{◌≡◌, true, sym, ◌∙◌, subst}
 use Rattle.sched_core.specs.Core.{Progress}
 use Rattle.sched_core.specs.Run.{needs_rescue}
-use Rattle.recovery.specs.Managed.{plan_of, past_of}
+use Rattle.run_manager.specs.Managed.{plan_of, past_of}
 use Rattle.run_leader.proofs.Refusals.{seal-fault}
 use Rattle.run_leader.proofs.leading.sealed.Goals as goal
 

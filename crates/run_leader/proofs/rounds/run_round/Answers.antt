@@ -1,6 +1,6 @@
 use Rattle.std.proofs.Common.{◌∙◌, string_bytes}
-use Rattle.recovery.specs.Managed.{past_of}
-use Rattle.recovery.specs.Seal.{IsRescued}
+use Rattle.run_manager.specs.Managed.{past_of}
+use Rattle.run_manager.specs.Seal.{IsRescued}
 use Rattle.run_leader.specs.Led.{IsLed}
 use Rattle.run_leader.specs.Rounds.{IsRound}
 use Rattle.run_leader.specs.Causes.{IsLeadFault, IsRoundRefusal, not_opened, not_led}

@@ -1,0 +1,6 @@
+pub mod Chain
+pub mod Faults
+pub mod Lives
+pub mod Managed
+pub mod Rescue
+pub mod Seal

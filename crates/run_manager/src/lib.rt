@@ -1,0 +1,15 @@
+//! The manager of a run: a core and a journal that agree, record by record.
+//!
+//! The rules are those of the HTCondor manual, DAGMan workflows, "DAG recovery" and "The rescue
+//! DAG", as docs/MANUAL.md states them.
+#![tactic(auto)]
+
+mod calls;
+mod fault;
+mod manager;
+mod seal;
+
+pub use calls::append;
+pub use fault::{ManagerFault, told};
+pub use manager::Manager;
+pub use seal::Sealed;
