@@ -15,6 +15,7 @@ use dag_files::{
 use dag_graph::Graph;
 use dag_texts::{Answer, RunFault, graph_of, plan_by, warning_text};
 use job_starter::DriveFault;
+use journal_disks::FileDisk;
 use local_system::LocalSystem;
 use node_machine::Verdict;
 use process_starter::ProcessStarter;
@@ -85,7 +86,37 @@ fn start_of(round: &Round) -> Start
     }
 }
 
-/// Runs a round of a plan with children of this process, and answers what it prints.
+/// Leads a round of a plan to its end on these disks, with children of this process, and answers what
+/// it prints.
+fn run_on<R: Processes + Files<File = File> + Clock + AllocGlobal + Copy + Drop>(
+    rt: R,
+    place: &Place<'_>,
+    plan: &Plan,
+    round: &Round,
+    limits: Limits,
+    journal: FileDisk<R>,
+    rescue: FileDisk<R>,
+) -> Result<Report, RunFault>
+    requires next { IsRescueNumber round.now.next }
+    ensures led { IfOk result (λ report. IsLedRun plan.now (string_bytes report.text) report.status) }
+    ensures refused { IfErr result IsStopFault }
+{
+    let alloc = rt.alloc();
+    let mut starter = ProcessStarter::new(LocalSystem::new(alloc, rt, place.folder)?);
+    if round.journal == Journaled::Finished {
+        place.put_journal_away(&rt)?;
+    }
+    let start = start_of(round);
+    match run_round(alloc, journal, plan, start, limits, &mut starter, rescue) {
+        Ok(led) => Ok(Report {
+            text: led.text,
+            status: led.status,
+        }),
+        Err(fault) => Err(in_run(fault)),
+    }
+}
+
+/// Runs a round of a plan on the disks beside the DAG file, and answers what it prints.
 fn run_planned<R: Processes + Files<File = File> + Clock + AllocGlobal + Copy + Drop>(
     rt: R,
     place: &Place<'_>,
@@ -101,18 +132,7 @@ fn run_planned<R: Processes + Files<File = File> + Clock + AllocGlobal + Copy + 
     let rescue_name = rescue_path(alloc, place.top, round.next)?;
     let rescue = disk_at(rt, place, rescue_name.as_str())?;
     let journal = disk_at(rt, place, journal_path(alloc, place.top)?.as_str())?;
-    let mut starter = ProcessStarter::new(LocalSystem::new(alloc, rt, place.folder)?);
-    if round.journal == Journaled::Finished {
-        place.put_journal_away(&rt)?;
-    }
-    let start = start_of(round);
-    match run_round(alloc, journal, plan, start, limits, &mut starter, rescue) {
-        Ok(led) => Ok(Report {
-            text: led.text,
-            status: led.status,
-        }),
-        Err(fault) => Err(in_run(fault)),
-    }
+    run_on(rt, place, plan, round, limits, journal, rescue)
 }
 
 /// Whether the round is still the one that was found before the lock was taken: where it isn't,

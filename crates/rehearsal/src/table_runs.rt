@@ -12,7 +12,6 @@ ghost use Rattle.dag_texts.specs.declared.fault.RunFault.TheVariants.{Memory};
 use dag_texts::RunFault;
 use journal_disks::MemDisk;
 use node_machine::{Record, Table, Verdict};
-use recovery::begin;
 use run_leader::lead;
 use run_manager::Manager;
 use run_plan::Plan;
@@ -60,7 +59,7 @@ fn begin<'a>(
     ensures err { IfErr result (λ fault. fault ≡ Memory) }
 {
     let journal = MemDisk::new(alloc, usize::MAX);
-    match begin(alloc, journal, plan, 0, 1, u32::MAX, limits) {
+    match recovery::begin(alloc, journal, plan, 0, 1, u32::MAX, limits) {
         Ok(manager) => Ok(manager),
         Err((_journal, _fault)) => Err(RunFault::Memory),
     }
