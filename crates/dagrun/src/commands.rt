@@ -1,7 +1,7 @@
 //! The program's commands over the system's files and streams.
 
 use command_line::{Request, RunOptions, WordsFault, read_words};
-use dag_files::{Question, Reading, files_of, refused, told_here};
+use dag_files::{Question, Reading, bytes_of, files_of, refused, told_here};
 use dag_main::run_dag;
 use dag_texts::{Answer, RunFault, check_text};
 use rehearsal::rehearse_text;
@@ -115,14 +115,19 @@ fn rehearse<R: Files + Input + AllocGlobal>(
     outcomes: Option<&str>,
     limits: Limits,
 ) -> Result<Answer, RunFault> {
-    let table = match outcomes {
-        Some(path) => Some(read_outcomes(rt, path)?),
-        None => None,
-    };
+    let table = outcomes_of(rt, outcomes)?;
     let files = files_of(rt, dag, Reading::SplicesAlone)?;
-    match &table {
-        Some(bytes) => rehearse_text(rt.alloc(), &files, dag, Some(bytes.as_slice()), limits),
-        None => rehearse_text(rt.alloc(), &files, dag, None, limits),
+    rehearse_text(rt.alloc(), &files, dag, bytes_of(&table), limits)
+}
+
+/// The table of outcomes, where one is named.
+fn outcomes_of<R: Files + AllocGlobal>(
+    rt: &R,
+    path: Option<&str>,
+) -> Result<Option<Vec<u8>>, RunFault> {
+    match path {
+        Some(path) => Ok(Some(read_outcomes(rt, path)?)),
+        None => Ok(None),
     }
 }
 
