@@ -81,15 +81,23 @@ fn rehearse_command<'a>(alloc: Global) -> Result<Command<'a>, AllocError> {
     with_limits(alloc, command)
 }
 
+/// The program with one command more, if there is memory for it.
+fn with_command<'a>(
+    program: Command<'a>,
+    command: Result<Command<'a>, AllocError>,
+) -> Result<Command<'a>, AllocError> {
+    program.subcommand(command?)
+}
+
 /// The program with its commands.
 pub(crate) fn dagrun_command<'a>(alloc: Global) -> Result<Command<'a>, AllocError> {
-    Command::new(alloc, "dagrun")
+    let program = Command::new(alloc, "dagrun")
         .about("A workflow manager for job graphs on one machine")
         .subcommand_required(true)
-        .disable_help_subcommand(true)
-        .subcommand(run_command(alloc)?)?
-        .subcommand(status_command(alloc)?)?
-        .subcommand(audit_command(alloc)?)?
-        .subcommand(check_command(alloc)?)?
-        .subcommand(rehearse_command(alloc)?)
+        .disable_help_subcommand(true);
+    let program = with_command(program, run_command(alloc))?;
+    let program = with_command(program, status_command(alloc))?;
+    let program = with_command(program, audit_command(alloc))?;
+    let program = with_command(program, check_command(alloc))?;
+    with_command(program, rehearse_command(alloc))
 }

@@ -3,7 +3,7 @@ use Rattle.std.proofs.Common.{◌≡◌, Result, Ok, Err, IfErr, sym, subst}
 use Rattle.std.specs.Prelude.{IsErrAnd}
 use Rattle.dag_texts.specs.declared.fault.RunFault.{RunFault}
 use Rattle.dag_texts.specs.declared.fault.RunFault.TheVariants.{Memory}
-use Rattle.dag_texts.proofs.StatusFaults.{handed-on}
+use Rattle.dag_texts.proofs.Refusals.{handed-on}
 
 -- a cause that is handed on
 pub by-fault : {A : Type 0} (P : RunFault → Type 0) (given : RunFault) → P given → (r : Result A RunFault) → IsErrAnd r (λ fault. fault ≡ given) → IfErr r P

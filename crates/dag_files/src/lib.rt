@@ -3,11 +3,9 @@
 #![tactic(auto)]
 
 mod beside;
-mod by_journal;
 mod loading;
 mod rounds;
 
 pub use beside::{LAST_NUMBER, Place, journal_path, refused, rescue_path};
-pub use by_journal::{Question, bytes_of, named, told_here};
 pub use loading::{Reading, files_in, files_of};
-pub use rounds::{Journaled, Round, disk_at, round_of};
+pub use rounds::{Journaled, Round, bytes_of, disk_at, named, round_of};

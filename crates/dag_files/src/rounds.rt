@@ -1,15 +1,19 @@
 //! Which round of a DAG a run is: what its journal and its rescue files say.
 
-ghost use Rattle.std.specs.Prelude.{◌≡◌, ◌≤◌, IfOk, IfErr};
+ghost use Rattle.std.specs.Prelude.{◌≡◌, ◌≤◌, IfOk, IfErr, option_map};
 ghost use Rattle.event_journal.specs.Image.{IsRescueNumber};
+ghost use Rattle.dag_texts.specs.Planned.{in_line, named_by};
 ghost use Rattle.dag_texts.specs.declared.fault.RunFault.TheVariants.{Memory};
 ghost use Rattle.dag_files.specs.Beside.{IsRoundFault};
 
 use crate::beside::{LAST_NUMBER, Place, journal_path};
+use dag_reader::Text;
 use dag_texts::RunFault;
 use event_journal::{Journal, JournalFault, Peek};
 use journal_disks::FileDisk;
+use rescue_file::RescueFault;
 use run_manager::ManagerFault;
+use run_plan::PlanFault;
 use std::fs::File;
 use std::rt::Files;
 
@@ -108,4 +112,34 @@ fn unfinished(peek: &Peek) -> Result<Round, RunFault>
         used: peek.used,
         next: peek.next,
     })
+}
+
+/// The bytes, where there are some.
+pub fn bytes_of(bytes: &Option<Vec<u8>>) -> Option<&[u8]>
+    ensures { option_map (λ b. b.now) result ≡ option_map (λ v. v.items) bytes.now }
+{
+    match bytes {
+        Some(bytes) => Some(bytes.as_slice()),
+        None => None,
+    }
+}
+
+/// A fault of a plan, with the path of the rescue file where it is that of a line there.
+pub fn named(fault: RunFault, rescue: Option<Text>) -> RunFault
+    ensures { result ≡ named_by (in_line fault) rescue fault }
+{
+    match (in_line(&fault), rescue) {
+        (Some(line), Some(path)) => RunFault::InRescue(path, line),
+        (_, _) => fault,
+    }
+}
+
+/// The fault of a line of the rescue file, if it is one.
+fn in_line(fault: &RunFault) -> Option<RescueFault>
+    ensures { result ≡ in_line fault.now }
+{
+    match fault {
+        RunFault::InPlan(PlanFault::InRescue(fault)) => Some(*fault),
+        _ => None,
+    }
 }

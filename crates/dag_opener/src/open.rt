@@ -53,7 +53,7 @@ impl Drop for Draft {
 
 /// A file that was opened with those of its splices: its part of the graph, and the first name in
 /// the files that can't stand where it does.
-#[derive(Debug, Drop)]
+#[derive(Drop)]
 pub(crate) struct Found {
     pub(crate) part: Part,
     pub(crate) fault: Option<DagFault>,

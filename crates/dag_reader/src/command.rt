@@ -3,6 +3,7 @@
 use crate::span::Span;
 use crate::word::{Word, Words};
 use std::alloc::{AllocError, Global};
+use std::fmt;
 use std::marker::Model;
 
 /// The node that a setting is for.
@@ -44,7 +45,7 @@ pub struct Macro {
 }
 
 /// Macros, as the line has them. A contract sees the list of them.
-#[derive(Debug, Drop)]
+#[derive(Drop)]
 pub struct Macros {
     items: Vec<Macro>,
 }
@@ -89,6 +90,12 @@ impl Macros {
     {
         self.items.push(one)?;
         Ok(())
+    }
+}
+
+impl fmt::Debug for Macros {
+    fn fmt<W: fmt::Write>(&self, f: &mut fmt::Formatter<W>) -> fmt::Result {
+        fmt::Debug::fmt(self.as_slice(), f)
     }
 }
 

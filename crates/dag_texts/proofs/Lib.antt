@@ -1,4 +1,3 @@
 pub mod PlansOfFiles
 mod Checks
-pub mod StatusFaults
-pub mod AuditTexts
+pub mod Refusals

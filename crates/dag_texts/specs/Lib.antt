@@ -2,5 +2,3 @@ pub mod Warnings
 pub mod Checked
 pub mod Planned
 pub mod Told
-pub mod Statused
-pub mod Audited

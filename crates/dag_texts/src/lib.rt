@@ -1,16 +1,12 @@
 //! The commands of dagrun that look at texts alone, each as a call: what it answers, and why it is refused.
 #![tactic(auto)]
 
-mod audits;
 mod check;
 mod fault;
 mod plans;
-mod statuses;
 mod warnings;
 
-pub use audits::audit_of;
 pub use check::check_text;
 pub use fault::RunFault;
-pub use plans::{graph_of, plan_by, plan_of};
-pub use statuses::status_of;
+pub use plans::{graph_of, plan_by, plan_of, plan_with};
 pub use warnings::{Answer, warning_text};

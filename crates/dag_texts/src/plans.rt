@@ -85,7 +85,10 @@ pub fn plan_by(
 }
 
 /// The plan of the files of this path, with its submit files and a rescue file, if there is one.
-pub(crate) fn plan_with(
+///
+/// # Errors
+/// Those of `graph_of`, then those of `plan_by`.
+pub fn plan_with(
     alloc: Global,
     files: &FileSet,
     path: &str,

@@ -1,10 +1,11 @@
 //! The program's commands over the system's files and streams.
 
 use command_line::{Request, RunOptions, WordsFault, read_words};
-use dag_files::{Question, Reading, bytes_of, files_of, refused, told_here};
+use dag_files::{Reading, bytes_of, files_of, refused};
 use dag_main::run_dag;
 use dag_texts::{Answer, RunFault, check_text};
 use rehearsal::rehearse_text;
+use run_answers::{Question, told_here};
 use std::alloc::Global;
 use std::fs::File;
 use std::process::Processes;

@@ -1,9 +1,9 @@
-//! Tests of the journal and its disks, with bytes that stand here in full.
+//! Tests of journals, of managers over crashes and of audits, with bytes and records that stand here in full.
 #![tactic(auto)]
 
 #[cfg(test)]
-mod bytes;
+mod journals;
 #[cfg(test)]
-mod disks;
+mod managers;
 #[cfg(test)]
-mod runs;
+mod same;

@@ -66,17 +66,36 @@ fn count_of(records: &[Record]) -> Option<u32> {
     Some(count)
 }
 
-fn main(rt: HostRuntime) -> Result<()> {
-    let alloc = rt.alloc();
+/// How many records the journal holds, where they are those that this program appends.
+fn count_in<D: Disk + Drop>(
+    alloc: Global,
+    journal: &mut Journal<D>,
+) -> Result<Option<u32>, JournalFault>
+    requires settled { D.honest (journal_disk journal.old) → IsFalse (is_broken journal.old)
+        → IsSettled D.seen D.may_leave journal.old }
+    ensures settled { D.honest (journal_disk journal.new) → IsFalse (is_broken journal.new)
+        → IsSettled D.seen D.may_leave journal.new }
+{
+    let records = journal.records(alloc)?;
+    Ok(count_of(&records))
+}
+
+/// The path of the journal, and how many records it is to have.
+fn words_of(rt: HostRuntime) -> Result<(String, u32)> {
     let mut words = env::args(&rt)?;
     let _program = words.next();
     let (Some(path), Some(most)) = (words.next(), words.next()) else {
         bail!("usage: journal_writer PATH COUNT");
     };
     let most = most.as_str().parse::<u32>()?;
+    Ok((path, most))
+}
+
+fn main(rt: HostRuntime) -> Result<()> {
+    let alloc = rt.alloc();
+    let (path, most) = words_of(rt)?;
     let mut journal = begin(alloc, FileDisk::at(rt, path))?;
-    let records = journal.records(alloc)?;
-    let Some(count) = count_of(&records) else {
+    let Some(count) = count_in(alloc, &mut journal)? else {
         bail!("a record that was never appended");
     };
     println!(rt; "{count}")?;

@@ -10,7 +10,6 @@ use thiserror::Error;
 
 /// What is wrong with the files of a DAG: its code, its name and its place. Where there is a span,
 /// the text is the path of the file that it is in.
-#[derive(Debug)]
 pub enum DagFault {
     /// There is no file of this path.
     MissingFile(Text),
@@ -69,24 +68,30 @@ impl Drop for DagFault {
 
 impl fmt::Display for DagFault {
     fn fmt<W: fmt::Write>(&self, f: &mut fmt::Formatter<W>) -> fmt::Result {
-        match self {
-            DagFault::MissingFile(path) => write!(f, "S1 MissingFile {path}"),
+        let (name, path, span) = match self {
+            DagFault::MissingFile(path) => return write!(f, "S1 MissingFile {path}"),
             DagFault::InFile(path, fault) => {
                 let span = fault.span();
-                write!(f, "{fault} {path}:{span}")
+                return write!(f, "{fault} {path}:{span}");
             }
-            DagFault::Loop(paths) => write!(f, "S3 Loop{paths}"),
-            DagFault::DuplicateName(path, span) => write!(f, "S4 DuplicateName {path}:{span}"),
-            DagFault::UnknownNode(path, span) => write!(f, "S5 UnknownNode {path}:{span}"),
-            DagFault::TooDeep(path) => write!(f, "S6 TooDeep {path}"),
-            DagFault::TooManyNodes => write!(f, "S7 TooManyNodes"),
-            DagFault::FinalInSplice(path, span) => write!(f, "S8 FinalInSplice {path}:{span}"),
-            DagFault::SpliceSetting(path, span) => write!(f, "S9 SpliceSetting {path}:{span}"),
-            DagFault::EmptySpliceEdge(path, span) => {
-                write!(f, "S10 EmptySpliceEdge {path}:{span}")
-            }
-            DagFault::FinalSetting(path, span) => write!(f, "S11 FinalSetting {path}:{span}"),
-        }
+            DagFault::Loop(paths) => return write!(f, "S3 Loop{paths}"),
+            DagFault::DuplicateName(path, span) => ("S4 DuplicateName", path, span),
+            DagFault::UnknownNode(path, span) => ("S5 UnknownNode", path, span),
+            DagFault::TooDeep(path) => return write!(f, "S6 TooDeep {path}"),
+            DagFault::TooManyNodes => return f.write_str("S7 TooManyNodes"),
+            DagFault::FinalInSplice(path, span) => ("S8 FinalInSplice", path, span),
+            DagFault::SpliceSetting(path, span) => ("S9 SpliceSetting", path, span),
+            DagFault::EmptySpliceEdge(path, span) => ("S10 EmptySpliceEdge", path, span),
+            DagFault::FinalSetting(path, span) => ("S11 FinalSetting", path, span),
+        };
+        write!(f, "{name} {path}:{span}")
+    }
+}
+
+// A derived one goes over each part; the line that a user reads says as much.
+impl fmt::Debug for DagFault {
+    fn fmt<W: fmt::Write>(&self, f: &mut fmt::Formatter<W>) -> fmt::Result {
+        fmt::Display::fmt(self, f)
     }
 }
 

@@ -2,7 +2,7 @@ use Rattle.std.proofs.Common.{List, ℕ, Some, sym, subst}
 use Rattle.dag_texts.specs.Planned.{in_line, named_by}
 use Rattle.dag_files.specs.Beside.{IsFileFault, reading_had_no_memory}
 use Rattle.dag_main.specs.Runs.{IsRoundPlanFault, rescue_not_read, not_planned, not_planned_with}
-use Rattle.dag_texts.proofs.StatusFaults.{weaker}
+use Rattle.dag_texts.proofs.Refusals.{weaker}
 use Rattle.dag_files.proofs.RunFaults.{by-fault}
 use Rattle.dag_main.proofs.runs.plan_of_round.Goals as goal
 

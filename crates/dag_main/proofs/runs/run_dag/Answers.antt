@@ -3,7 +3,7 @@ use Rattle.splices.specs.Dag.{Dag}
 use Rattle.dag_graph.specs.Graph.{Network}
 use Rattle.dag_texts.specs.Warnings.{warning_lines}
 use Rattle.dag_main.specs.Runs.{IsRunFault, no_graph, no_round, no_plan, not_alone, no_round_again, not_led, no_memory}
-use Rattle.dag_texts.proofs.StatusFaults.{handed-on}
+use Rattle.dag_texts.proofs.Refusals.{handed-on}
 use Rattle.dag_main.proofs.RunPlans.{run-of}
 use Rattle.dag_main.proofs.runs.run_dag.Goals as goal
 

@@ -1,7 +1,7 @@
 use Rattle.std.proofs.Common.{subst, sym}
 use Rattle.dag_main.specs.Runs.{IsStopFault, journal_not_renamed, leading_had_no_memory}
 use Rattle.dag_texts.specs.declared.fault.RunFault.TheVariants.{Memory}
-use Rattle.dag_texts.proofs.StatusFaults.{handed-on}
+use Rattle.dag_texts.proofs.Refusals.{handed-on}
 use Rattle.dag_files.proofs.RunFaults.{by-fault}
 use Rattle.dag_main.proofs.runs.run_on.Goals as goal
 

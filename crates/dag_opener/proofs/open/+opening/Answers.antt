@@ -16,7 +16,7 @@ use Rattle.splices.specs.Opening.{open_file, open_lines, with_splice}
 use Rattle.dag_opener.proofs.Drafts.{behind_done}
 use Rattle.dag_opener.proofs.Said.{said_acting}
 use Rattle.dag_opener.proofs.ActingTrees.{acting_fails, acting_opens, acting_refused, read_acts}
-use Rattle.dag_opener.proofs.Trees.{forest_step, splice_opens, scope_fits}
+use Rattle.dag_opener.proofs.Trees.{forest_step, forest_fails, splice_opens, scope_fits}
 use Rattle.dag_opener.proofs.open.+opening.Goals as goal
 
 pub open_forest-loop-command-preserved : goal.open_forest-loop-command-preserved
@@ -101,3 +101,12 @@ open_tree-returns-clause-opened t c =
     c.in_ok-close.ensures.part
     refl
     c.in_ok-close.ensures.fault
+
+pub open_forest-returns-in_err-found-clause-opened :
+    goal.open_forest-returns-in_err-found-clause-opened
+open_forest-returns-in_err-found-clause-opened t c =
+    let p = err_from_is_err_and c.from_residual.result c.from_residual.ensures.1 in
+    rw (p.1, p.2) (forest_fails (open_file (files_in c.args.files.now) c.args.left) c.args.above.now c.loop-command.above c.args.folder.now c.args.prefix.now c.args.commands.now c.loop-command.command-index c.command-item.result
+    (open_lines (open_file (files_in c.args.files.now) c.args.left) c.args.draft.now.used c.args.above.now c.args.folder.now c.args.commands.now)
+    c.args.draft.now c.loop-command.draft c.args.parts.now.items c.loop-command.parts.items c.loop-command.fault c.in_err-found.field-0.0
+    c.command-item.is c.loop-command-test.true c.loop-command.invariant.0 c.loop-command.invariant.2 c.in_err-found.ensures.opened)

@@ -1,7 +1,6 @@
 use Rattle.std.proofs.Common.{◌≡◌, ◌∙◌, ◌++◌, List, ℕ, false, ap}
 use Rattle.splices.specs.Paths.{dir_text}
 use Rattle.splices.specs.Paths.{join}
-use Rattle.splices.specs.Settings.{no_settings}
 use Rattle.splices.specs.declared.flat.FlatNode.{FlatNode}
 use Rattle.splices.specs.declared.flat.Settings.{Settings}
 use Rattle.dag_opener.proofs.own_nodes.plain_node.Goals as goal

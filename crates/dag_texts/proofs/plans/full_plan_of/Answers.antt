@@ -1,7 +1,7 @@
 use Rattle.splices.specs.FileSet.{bytes_of}
 use Rattle.std.proofs.Common.{subst, sym}
 use Rattle.dag_texts.specs.Checked.{IsCheckFault, has_no_graph}
-use Rattle.dag_texts.proofs.StatusFaults.{handed-on}
+use Rattle.dag_texts.proofs.Refusals.{handed-on}
 use Rattle.dag_texts.proofs.PlansOfFiles.{full-dag, full-acyclic, full-sound, full-refused}
 use Rattle.dag_texts.proofs.plans.full_plan_of.Goals as goal
 

@@ -2,7 +2,7 @@ use Rattle.std.proofs.Common.{subst, sym}
 use Rattle.splices.specs.FileSet.{bytes_of}
 use Rattle.dag_graph.specs.Cycles.{IsCycleFault}
 use Rattle.dag_texts.specs.Planned.{IsGraphFault, cyclic, opening_had_no_memory}
-use Rattle.dag_texts.proofs.StatusFaults.{handed-on}
+use Rattle.dag_texts.proofs.Refusals.{handed-on}
 use Rattle.dag_texts.proofs.plans.graph_of.Goals as goal
 
 pub returns-in_err-dag-clause-refused : goal.returns-in_err-dag-clause-refused

@@ -1,5 +1,5 @@
 use Rattle.splices.specs.FileSet.{bytes_of, entries_of}
-use Rattle.dag_texts.proofs.StatusFaults.{by-fault}
+use Rattle.dag_texts.proofs.Refusals.{by-fault}
 use Rattle.dag_texts.proofs.plans.plan_by.Goals as goal
 
 pub returns-in-Err-clause-refused : goal.returns-in-Err-clause-refused

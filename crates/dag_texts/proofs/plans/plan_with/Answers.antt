@@ -1,7 +1,7 @@
 use Rattle.splices.specs.FileSet.{bytes_of, entries_of}
 use Rattle.std.specs.Option.{option_map}
 use Rattle.dag_texts.specs.Planned.{IsPlanWithFault, has_no_graph, not_planned}
-use Rattle.dag_texts.proofs.StatusFaults.{handed-on, weaker}
+use Rattle.dag_texts.proofs.Refusals.{handed-on, weaker}
 use Rattle.std.proofs.Common.{subst, sym}
 use Rattle.dag_texts.proofs.plans.plan_with.Goals as goal
 

@@ -6,7 +6,7 @@ use Rattle.rehearsal.specs.Refusals.{ReportsRun}
 use Rattle.dag_texts.specs.Warnings.{warning_lines}
 use Rattle.dag_texts.specs.declared.warnings.Answer.{Answer}
 use Rattle.rehearsal.proofs.Reports.{rehearsal-of, answered, rehearsal-memory}
-use Rattle.dag_texts.proofs.StatusFaults.{handed-on}
+use Rattle.dag_texts.proofs.Refusals.{handed-on}
 use Rattle.rehearsal.proofs.report.rehearse_text.Goals as goal
 
 pub returns-clause-report : goal.returns-clause-report

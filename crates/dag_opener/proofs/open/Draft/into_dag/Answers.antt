@@ -34,3 +34,9 @@ parts_are c =
 
 pub new-requires-clause-within : goal.new-requires-clause-within
 new-requires-clause-within c = subst IsWithin (sym (parts_are c)) c.requires.within
+
+pub new-requires-clause-below : goal.new-requires-clause-below
+new-requires-clause-below c = c.requires.below
+
+pub returns : goal.returns
+returns c = c.new.ensures ∙ parts_are c.before.before

@@ -1,4 +1,4 @@
-use Rattle.std.proofs.Common.{◌≡◌, ◌∙◌, List, map, ap, rules}
+use Rattle.std.proofs.Common.{◌∙◌, map, ap, rules}
 use Rattle.splices.specs.Notices.{warning_of}
 use Rattle.splices.specs.Warnings.{Told}
 use Rattle.dag_opener.proofs.told.Told.into_parts.Goals as goal

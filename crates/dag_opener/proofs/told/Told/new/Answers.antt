@@ -1,4 +1,4 @@
-use Rattle.std.proofs.Common.{◌≡◌, ◌∙◌, [], List, map, sym, ap}
+use Rattle.std.proofs.Common.{◌∙◌, [], List, map, sym, ap}
 use Rattle.splices.specs.Notices.{Notice}
 use Rattle.splices.specs.Warnings.{Told}
 use Rattle.splices.specs.declared.flat.CategoryLimit.{CategoryLimit}

@@ -1,9 +1,0 @@
-use Rattle.std.proofs.Common.{◌∙◌, ap}
-use Rattle.sched_core.specs.Core.{Progress}
-use Rattle.sched_core.specs.Run.{written}
-use Rattle.run_manager.specs.Managed.{past_of}
-use Rattle.run_manager.proofs.Sealing.{counted}
-use Rattle.recovery_tests.proofs.refusals.count_of.Goals as goal
-
-pub returns : goal.returns
-returns c = counted c.records.result.now (past_of c.args.manager.now) (c.records.ensures ∙ ap (λ (p : Progress). written p.past) c.core.ensures.lends)

@@ -1,0 +1,2 @@
+mod StatusFaults
+mod AuditTexts

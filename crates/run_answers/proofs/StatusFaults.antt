@@ -1,0 +1,58 @@
+-- Why a status is refused, and what it says.
+use Rattle.std.proofs.Common.{◌≡◌, ℕ, List, [], Option, Some, None, unwrap_or, true, ◌∙◌, refl, sym, ap, subst}
+use Rattle.run_plan.specs.Plan.{Plan}
+use Rattle.node_machine.specs.declared.Record.{Record}
+use Rattle.sched_core.specs.Core.{Progress}
+use Rattle.sched_core.specs.Run.{written, is_lawful}
+use Rattle.status_report.specs.Text.{status_text_of}
+use Rattle.event_journal.specs.declared.fault.JournalFault.{JournalFault}
+use Rattle.event_journal.specs.declared.fault.JournalFault.TheVariants as journal
+use Rattle.event_journal.specs.Reading.{FailsAs, ReadsRecords, replay_for}
+use Rattle.recovery.specs.Replay.{IsReplayFault, foreign}
+use Rattle.run_manager.specs.declared.fault.ManagerFault.TheVariants as manager
+use Rattle.dag_texts.specs.declared.fault.RunFault.{RunFault}
+use Rattle.dag_texts.specs.declared.fault.RunFault.TheVariants.{InManager, Memory}
+use Rattle.run_answers.specs.Statused.{records_read, records_at, read_fault, IsStatusText, IsRecordsFault, no_journal, foreign_record, reading_had_no_memory}
+
+-- the records of a journal
+pub owed-memory : (plan : Plan) (bytes : List ℕ) (fault : RunFault) → fault ≡ Memory → IsRecordsFault plan bytes fault
+owed-memory plan bytes fault is = subst (IsRecordsFault plan bytes) (sym is) reading_had_no_memory
+
+pub read-fault : (plan : Plan) (bytes : List ℕ) (fault : JournalFault) → FailsAs fault (replay_for plan.digest bytes) → IsRecordsFault plan bytes (read_fault fault)
+read-fault plan bytes journal.Memory is = reading_had_no_memory
+read-fault plan bytes journal.Device is = absurd is
+read-fault plan bytes journal.DiskFull is = absurd is
+read-fault plan bytes journal.NotAJournal is = no_journal journal.NotAJournal is
+read-fault plan bytes (journal.Version v) is = no_journal (journal.Version v) is
+read-fault plan bytes journal.OtherInputs is = no_journal journal.OtherInputs is
+read-fault plan bytes journal.SlotsFull is = absurd is
+read-fault plan bytes journal.Broken is = absurd is
+read-fault plan bytes (journal.BadSlot slot) is = no_journal (journal.BadSlot slot) is
+
+-- the records that were read
+records-read : (plan : Plan) (bytes : List ℕ) (read : Option (List Record)) → ReadsRecords read (replay_for plan.digest bytes)
+    → records_at plan bytes ≡ Some (unwrap_or read [])
+records-read plan bytes None is = ap records_read is
+records-read plan bytes (Some records) (found, is, same) = ap records_read is ∙ ap (λ (rs : List Record). Some rs) (sym same)
+
+pub read-records : (plan : Plan) (bytes : List ℕ) (o read : Option (List Record)) (digest : List ℕ) → digest ≡ plan.digest
+    → ReadsRecords o (replay_for digest bytes) → o ≡ read → records_at plan bytes ≡ Some (unwrap_or read [])
+read-records plan bytes o read digest same reads is =
+    records-read plan bytes read
+    (subst (λ (x : Option (List Record)). ReadsRecords x (replay_for plan.digest bytes)) is
+    (subst (λ (d : List ℕ). ReadsRecords o (replay_for d bytes)) same reads))
+
+pub foreign-fault : (plan : Plan) (bytes : List ℕ) (records : List Record) (slot : ℕ) → records_at plan bytes ≡ Some records
+    → IsReplayFault plan records (manager.Foreign slot) → IsRecordsFault plan bytes (InManager (manager.Foreign slot))
+foreign-fault plan bytes records slot is (foreign place first) = foreign_record records slot is first
+
+-- the status text of a core of these records
+pub status-text : (plan : Plan) (bytes : List ℕ) (records : List Record) (core : Progress) → records_at plan bytes ≡ Some records → core.plan ≡ plan
+    → records ≡ written core.past → is_lawful core.plan core.past ≡ true → (text : List ℕ) → text ≡ status_text_of core.plan core.past → IsStatusText plan bytes text 0
+status-text plan bytes records core are p r lawful text is = record {
+  past = core.past;
+  are_records = are ∙ ap (λ (rs : List Record). Some rs) r;
+  lawful = subst (λ (q : Plan). is_lawful q core.past ≡ true) p lawful;
+  text_is = is ∙ (λ j. status_text_of (p j) core.past);
+  status_is = refl;
+}

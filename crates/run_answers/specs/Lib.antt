@@ -1,0 +1,3 @@
+pub mod Statused
+pub mod Audited
+pub mod Asked

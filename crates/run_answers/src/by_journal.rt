@@ -1,0 +1,152 @@
+//! What is told of a run by its journal, from the files that stand beside its DAG file.
+
+ghost use Rattle.std.specs.Prelude.{◌≡◌, ◌≤◌, IfOk, IfErr, option_map, string_bytes};
+ghost use Rattle.journal_disks.specs.Memory.{disk_bytes};
+ghost use Rattle.splices.specs.FileSet.{bytes_of, entries_of};
+ghost use Rattle.dag_texts.specs.declared.fault.RunFault.TheVariants.{Memory};
+ghost use Rattle.dag_files.specs.Beside.{IsRoundFault};
+ghost use Rattle.run_answers.specs.Asked.{IsTold, IsRefused, IsToldOfRun, IsToldFault};
+
+use crate::audits::audit_of;
+use crate::statuses::status_of;
+use dag_files::{LAST_NUMBER, Place, bytes_of, files_in, journal_path, named, rescue_path};
+use dag_reader::Text;
+use dag_texts::{Answer, RunFault};
+use event_journal::{Journal, JournalFault};
+use journal_disks::MemDisk;
+use splices::FileSet;
+use std::alloc::{AllocError, Global};
+use std::rt::Files;
+
+/// A disk in memory of these bytes.
+fn disk_of(alloc: Global, bytes: &[u8]) -> Result<MemDisk, AllocError>
+    ensures { IfOk result (λ disk. disk_bytes disk ≡ bytes.now) }
+{
+    let mut copy = Vec::new(alloc);
+    copy.extend_from_slice(bytes)?;
+    Ok(MemDisk::of(alloc, copy, bytes.len()))
+}
+
+/// The number of the rescue file that the run of a journal read: 0 for none, where there is no
+/// journal, and where its bytes are none.
+fn used_in(alloc: Global, journal: Option<&[u8]>) -> Result<u16, RunFault>
+    ensures { IfErr result (λ fault. fault ≡ Memory) }
+{
+    let Some(bytes) = journal else {
+        return Ok(0);
+    };
+    let mut disk = disk_of(alloc, bytes)?;
+    match Journal::peek(alloc, &mut disk) {
+        Ok(Some(peek)) => Ok(peek.used),
+        Ok(None) => Ok(0),
+        Err(JournalFault::Memory) => Err(RunFault::Memory),
+        Err(_) => Ok(0),
+    }
+}
+
+/// The path of the rescue file that a run read, if it read one.
+fn used_path(alloc: Global, top: &str, used: u16) -> Result<Option<Text>, RunFault>
+    ensures { IfErr result IsRoundFault }
+{
+    if used == 0 {
+        return Ok(None);
+    }
+    if used > LAST_NUMBER {
+        return Err(RunFault::NotThere(used));
+    }
+    Ok(Some(rescue_path(alloc, top, used)?))
+}
+
+/// What stands beside a DAG file of its last round: the journal, and the path and the bytes of the
+/// rescue file that the journal names.
+#[derive(Drop)]
+struct LastRound {
+    journal: Option<Vec<u8>>,
+    name: Option<Text>,
+    rescue: Option<Vec<u8>>,
+}
+
+/// The last round of a DAG file.
+///
+/// # Errors
+/// In this order: a journal that the system refuses to read, a number of a rescue file above 999 in
+/// its header, a rescue file that the system refuses to read. Where the header can't be read, no
+/// rescue file is.
+fn last_round<R: Files + AllocGlobal>(rt: &R, place: &Place<'_>) -> Result<LastRound, RunFault>
+    ensures { IfErr result IsRoundFault }
+{
+    let alloc = rt.alloc();
+    let journal = place.read(rt, journal_path(alloc, place.top)?.as_str())?;
+    let used = used_in(alloc, bytes_of(&journal))?;
+    let name = used_path(alloc, place.top, used)?;
+    let rescue = match &name {
+        Some(name) => place.read(rt, name.as_str())?,
+        None => None,
+    };
+    Ok(LastRound {
+        journal,
+        name,
+        rescue,
+    })
+}
+
+/// What is asked of a run's journal.
+#[derive(Clone, Copy, Debug, PartialEq, Eq)]
+pub enum Question {
+    /// Where each node stands.
+    Status,
+    /// Whether it is that of a finished run, and what its nodes came to.
+    Audit,
+}
+
+/// What these files, bytes of a rescue file and bytes of a journal answer.
+///
+/// # Errors
+/// As `status_of` or `audit_of`.
+fn asked(
+    alloc: Global,
+    files: &FileSet,
+    top: &str,
+    rescue: Option<&[u8]>,
+    journal: Option<&[u8]>,
+    question: Question,
+) -> Result<Answer, RunFault>
+    ensures told { IfOk result (λ answer. IsTold question (bytes_of files.now) (entries_of files.now) top.now
+        (option_map (λ b. b.now) rescue.entry) (option_map (λ b. b.now) journal.entry)
+        (string_bytes answer.text) (string_bytes answer.warnings) answer.status) }
+    ensures refused { IfErr result (IsRefused question (bytes_of files.now) (entries_of files.now) top.now
+        (option_map (λ b. b.now) rescue.entry) (option_map (λ b. b.now) journal.entry)) }
+{
+    match question {
+        Question::Status => status_of(alloc, files, top, rescue, journal),
+        Question::Audit => audit_of(alloc, files, top, rescue, journal),
+    }
+}
+
+/// The answer for the DAG file of this path, seen from this folder, by its journal and the rescue file
+/// that the journal names.
+///
+/// # Errors
+/// In this order: a journal that the system refuses to read, a number of a rescue file above 999 in
+/// its header, a rescue file that the system refuses to read; then as `status_of` or `audit_of`, a
+/// fault in a line of the rescue file with its path. Where the header can't be read, no rescue file
+/// is. Want of memory may stand before any.
+pub fn told_here<R: Files + AllocGlobal>(
+    rt: &R,
+    folder: &str,
+    top: &str,
+    question: Question,
+) -> Result<Answer, RunFault>
+    ensures told { IfOk result (λ answer.
+        IsToldOfRun question top.now (string_bytes answer.text) (string_bytes answer.warnings) answer.status) }
+    ensures refused { IfErr result (IsToldFault question top.now) }
+{
+    let round = last_round(rt, &Place { folder, top })?;
+    let files = files_in(rt, folder, top)?;
+    let rescue = bytes_of(&round.rescue);
+    let journal = bytes_of(&round.journal);
+    match asked(rt.alloc(), &files, top, rescue, journal, question) {
+        Ok(answer) => Ok(answer),
+        Err(fault) => Err(named(fault, round.name)),
+    }
+}

@@ -1,0 +1,56 @@
+// Calls of a local system with one child.
+use crate::same::same;
+use dag_reader::{Text, Texts};
+use job_starter::{Killed, Started, System};
+use local_system::LocalSystem;
+use node_machine::{Key, Outcome, Phase};
+use node_specs::ChildCommand;
+use std::alloc::{AllocError, Global};
+use std::test::Fail;
+
+const A: Key = Key {
+    node: 0,
+    attempt: 0,
+    phase: Phase::Job,
+};
+
+/// A command that runs a line of shell.
+pub fn shell(alloc: Global, line: &str) -> Result<ChildCommand, AllocError> {
+    let mut words = Texts::new(alloc);
+    words.push(Text::new(alloc, "-c")?)?;
+    words.push(Text::new(alloc, line)?)?;
+    Ok(ChildCommand {
+        program: Text::new(alloc, "/bin/sh")?,
+        words,
+        folder: Text::new(alloc, "/")?,
+        input: None,
+        output: None,
+        error: None,
+        environment: Texts::new(alloc),
+    })
+}
+
+#[test]
+fn local_wait_succeeds(rt: HostRuntime) -> Result<(), Fail> {
+    let alloc = rt.alloc();
+    let mut system = LocalSystem::new(alloc, rt, "/")?;
+    let Started::Running = system.spawn(A, &shell(alloc, "exit 3")?)? else {
+        panic!(rt; "not started");
+    };
+    same(&rt, system.wait(A), Ok(Outcome::Exit(3)));
+    assert!(rt; system.running().is_empty());
+    Ok(())
+}
+
+#[test]
+fn local_kill_ends(rt: HostRuntime) -> Result<(), Fail> {
+    let alloc = rt.alloc();
+    let mut system = LocalSystem::new(alloc, rt, "/")?;
+    let Started::Running = system.spawn(A, &shell(alloc, "exec sleep 60")?)? else {
+        panic!(rt; "not started");
+    };
+    same(&rt, system.kill(A), Killed::Ended);
+    assert!(rt; system.running().is_empty());
+    same(&rt, system.faults(), 0);
+    Ok(())
+}

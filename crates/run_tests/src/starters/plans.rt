@@ -1,0 +1,78 @@
+// Plans of the tests, and what a run of one comes to.
+ghost use Rattle.std.specs.Prelude.{◌≡◌, [], IfOk, IsTrue};
+ghost use Rattle.job_starter.specs.Calls.{running};
+
+use crate::refused::fault_of;
+use dag_graph::Graph;
+use dag_opener::open_dag;
+use job_starter::{DriveFault, RunEnd, Starter, drive};
+use journal_disks::MemDisk;
+use recovery::begin;
+use run_plan::Plan;
+use sched_core::Core;
+use splices::FileSet;
+use std::alloc::Global;
+use std::test::Fail;
+use throttles::Limits;
+
+pub const NO_LIMITS: Limits = Limits {
+    jobs: 0,
+    pre: 0,
+    post: 0,
+    children: 0,
+};
+
+/// A file of a test: its name and its text.
+pub type File = (&'static str, &'static str);
+
+/// The plan of a DAG and the submit files of its nodes.
+pub fn plan_of(alloc: Global, dag: &str, submits: &[File]) -> Result<Plan, Fail> {
+    let mut files = FileSet::new(alloc);
+    files.add(alloc, "x.dag", dag.as_bytes())?;
+    for (name, text) in submits {
+        files.add(alloc, name, text.as_bytes())?;
+    }
+    let dag = open_dag(alloc, &files, "x.dag")?;
+    let graph = Graph::build(alloc, dag)?;
+    match Plan::build(alloc, graph, &files, None) {
+        Ok(plan) => Ok(plan),
+        Err(refused) => Err(fault_of(refused)),
+    }
+}
+
+/// Drives a run of a plan from its beginning, with a starter of no child: how it ended, and what
+/// each node came to.
+pub fn run<S: Starter>(
+    alloc: Global,
+    plan: &Plan,
+    limits: Limits,
+    starter: &mut S,
+) -> Result<(Result<RunEnd, DriveFault>, String), Fail>
+    requires { running (S.told starter.old) ≡ [] }
+{
+    let disk = MemDisk::new(alloc, 100_000);
+    let mut manager = match begin(alloc, disk, plan, 0, 1, 1000, limits) {
+        Ok(manager) => manager,
+        Err((_disk, fault)) => return Err(Fail::from(fault)),
+    };
+    let end = drive(alloc, &mut manager, plan, starter);
+    let text = shown(alloc, manager.core())?;
+    Ok((end, text))
+}
+
+/// A line for each node: its name, state, attempts and value.
+fn shown(alloc: Global, core: &Core<'_>) -> Result<String, Fail> {
+    let plan = core.plan();
+    let mut text = String::new(alloc);
+    let last = if plan.has_final() { 1 } else { 0 };
+    for node in 0..plan.count() + last {
+        let name = plan.spec(node).name();
+        let state = core.node_state(node);
+        let attempts = core.attempts_ended(node);
+        match core.last_value(node) {
+            Some(value) => write!(text, "{name} {state:?} {attempts} {value}\n")?,
+            None => write!(text, "{name} {state:?} {attempts} -\n")?,
+        }
+    }
+    Ok(text)
+}

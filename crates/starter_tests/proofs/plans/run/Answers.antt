@@ -1,7 +1,0 @@
-use Rattle.std.proofs.Common.{ap}
-use Rattle.event_journal.specs.Image.{replay_of}
-use Rattle.starter_tests.proofs.plans.run.Goals as goal
-
-pub begin-requires-clause-fresh : goal.begin-requires-clause-fresh
-unfolding replay_of
-begin-requires-clause-fresh g c = λ honest. ap replay_of c.new-disk.ensures.bytes
