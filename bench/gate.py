@@ -1,11 +1,13 @@
 #!/usr/bin/env python3
 """Measures what ./test costs, by crate: gate.py [COMMAND..], in place of ./test that command
 
-Run it in a fresh clone on a machine that does nothing else. It looks at the processes of the command once a second, and prints
-the minutes by the clock and of processors in all, and for each crate: the processor seconds of its proofs (of a crate of tests:
-with its tests), those of the edits that are tried, the most memory that one process held, and when its first process began and its
-last one ended, in minutes. A process that lives less than a second may be missed; the minutes in all are the system's own. On a
-rented machine the host may give its processors to others meanwhile: where it kept many minutes, the clock says nothing.
+Run it in a fresh clone on a machine that does nothing else. It looks at the processes of the command once a second. Before the
+command's last line, which tells how many passed, it prints the minutes by the clock and of processors in all, and for each crate:
+the processor seconds of its proofs (of a crate of tests: with its tests), those of the edits that are tried, the most memory that
+one process held, and when its first process began and its last one ended, in minutes. A process that lives less than a second may
+be missed; the minutes in all are the system's own. On a rented machine the host may give its processors to others meanwhile: where
+it kept many minutes, the clock says nothing. Before and behind the command it times a loop of Python, which tells the machine's
+pace. The exit status is the command's.
 """
 
 import os
@@ -13,6 +15,7 @@ import re
 import resource
 import subprocess
 import sys
+import threading
 import time
 
 TICKS = os.sysconf("SC_CLK_TCK")
@@ -94,15 +97,38 @@ def kept_by_the_host():
         return int(stat.readline().split()[8]) / TICKS / 60
 
 
+def pace():
+    """The seconds that 10 million additions take, alone."""
+    start, total = time.monotonic(), 0
+    for number in range(10_000_000):
+        total += number
+    return time.monotonic() - start
+
+
+def pass_on(lines, last):
+    """Prints the lines as they come, but keeps the last one."""
+    for line in lines:
+        if last:
+            print(last.pop(), end="", flush=True)
+        last.append(line)
+
+
 def main():
-    start, kept = time.monotonic(), kept_by_the_host()
-    with subprocess.Popen(sys.argv[1:] or ["./test"], cwd=TOP) as running:
+    paces, start, kept, last = [pace()], time.monotonic(), kept_by_the_host(), []
+    words = sys.argv[1:] or ["./test"]
+    with subprocess.Popen(words, cwd=TOP, stdout=subprocess.PIPE, stderr=subprocess.STDOUT, text=True, errors="replace") as running:
+        printing = threading.Thread(target=pass_on, args=(running.stdout, last))
+        printing.start()
         processes = watch(running, start)
+        printing.join()
     used = resource.getrusage(resource.RUSAGE_CHILDREN)
-    table(processes)
     minutes, processors = (time.monotonic() - start) / 60, (used.ru_utime + used.ru_stime) / 60
     kept = kept_by_the_host() - kept
+    paces.append(pace())
+    table(processes)
     print(f"{minutes:.1f} minutes by the clock, {processors:.1f} processor minutes, {kept:.1f} more kept by the host")
+    print(f"10 million additions in Python: {paces[0]:.1f} seconds before it, {paces[1]:.1f} behind it")
+    print(*last, sep="", end="")
     return running.returncode
 
 
