@@ -254,6 +254,25 @@ def two_wait_for_each_other(folder):
     same(folder.call("run", "y.dag"), (both_fail, "", 1))
 
 
+def two_runs_agree(folder):
+    """Two DAGs that agree on A and B: these end alike in both, and each launch of a run has the next number, whichever node it is of."""
+    folder.write("x.sh", "case $1-$2 in B-0 | X-*) exit 1 ;; Y-*) exit 2 ;; Z-*) kill -6 $$ ;; esac\n")
+    folder.write("x.sub", "executable = /bin/sh\narguments = x.sh $(JOB) $(RETRY)\noutput = $(JOB).$(Cluster).out\nqueue\n")
+    both = "A DONE attempts=1 value=0\nB DONE attempts=2 value=0\n"
+    for dag, report, outputs in (
+        ("JOB A x.sub\nJOB B x.sub\nJOB Y x.sub\nPARENT A CHILD B\nRETRY B 1\n",
+         both + "Y ERROR attempts=1 value=2\nresult 1\n", "A.1 B.2 B.3 Y.4"),
+        ("JOB X x.sub\nJOB A x.sub\nJOB B x.sub\nJOB Z x.sub\nPARENT A CHILD B\nRETRY B 1\nRETRY X 2\n",
+         "X ERROR attempts=3 value=1\n" + both + "Z ERROR attempts=1 value=-6\nresult 1\n", "A.4 B.5 B.6 X.1 X.2 X.3 Z.7"),
+    ):
+        folder.write("x.dag", dag)
+        same(folder.call("run", "--maxjobs", "1", "x.dag"), (report, "", 1))
+        same(sorted(name for name in os.listdir(folder.path) if name.endswith(".out")), [f"{it}.out" for it in outputs.split()])
+        for name in os.listdir(folder.path):
+            if not name.startswith("x.s"):
+                os.remove(folder.at(name))
+
+
 def an_abort_and_final(folder):
     folder.write("x.dag", "JOB B b.sub\nJOB A a.sub\nRETRY B 3\nABORT-DAG-ON B 7 RETURN 42\nFINAL F f.sub\nSCRIPT PRE F pre.sh $DAG_STATUS $FAILED_COUNT\n")
     folder.shell("b", "while [ ! -e begun ]; do sleep 0.02; done\nexit 7\n")
@@ -698,6 +717,7 @@ ROWS = [
     an_abort_kills,
     streams_and_environment,
     two_wait_for_each_other,
+    two_runs_agree,
     an_abort_and_final,
     a_first_life_of_four_records,
     a_life_of_one_launch,

@@ -1,15 +1,9 @@
 //! How a test compares.
 
-use std::fmt::Debug;
 use std::process::Abort;
 
-/// Stops the test where the two differ, and shows both.
-// A proof spells out each `assert_eq!`, so there is one, and the tests call it.
-pub fn same<T: PartialEq + Debug + Copy>(rt: &impl Abort, found: T, wanted: T) {
-    assert_eq!(rt; found, wanted);
-}
-
 /// Stops the test where what is told at a row of a table is not what is due, and names the row.
+// A proof spells out each `assert!`, so there is one for texts, and the tests call it.
 pub fn same_text(rt: &impl Abort, row: &str, told: &str, due: &str) {
     assert!(rt; told == due, "{row}: {told}");
 }

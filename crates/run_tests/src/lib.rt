@@ -1,11 +1,19 @@
-//! Tests of starters, of runs led by them and of rehearsals.
+//! Tests of starters, and of runs that they are driven with.
 #![tactic(auto)]
 
 #[cfg(test)]
-mod refused;
+mod children;
 #[cfg(test)]
-mod rehearsals;
+mod cores;
+#[cfg(test)]
+mod course;
+#[cfg(test)]
+mod faults;
+#[cfg(test)]
+mod memory;
+#[cfg(test)]
+mod plans;
 #[cfg(test)]
 mod same;
 #[cfg(test)]
-mod starters;
+mod scripts;

@@ -1,19 +1,14 @@
 // Audits of the journals of runs over crashes, and the fates that tables alone say.
 use crate::managers::lives::run;
-use crate::managers::plans::{DIAMOND, PLAN_P, PLAN_Q, plan_of};
+use crate::managers::plans::{PLAN_P, PLAN_Q, plan_of};
 use crate::managers::runs::{LIVES, OUTCOMES, table_of};
 use crate::same::same;
-use fate_audit::{AuditNo, Fate, audit, predict};
+use fate_audit::{Fate, audit, predict};
 use node_machine::Table;
 use run_plan::Plan;
 use std::alloc::Global;
 use std::process::Abort;
 use std::test::Fail;
-
-// The header of a journal, and a slot.
-const HEADER: usize = 64;
-
-const SLOT: usize = 32;
 
 // Adds what a node comes to, with its phases that ended.
 fn add_line(text: &mut String, name: &str, fate: &Fate) -> Result<(), Fail> {
@@ -58,51 +53,6 @@ fn is_told(
     let text = audited(rt, alloc, plan, bytes)?;
     same(rt, text.as_str(), due);
     Ok(())
-}
-
-const ALL_DONE: &str = "A Done 1 Some(0) 0 Job Exit(0)\nB Done 1 Some(0) 0 Job Exit(0)\n\
-    C Done 1 Some(0) 0 Job Exit(0)\nD Done 1 Some(0) 0 Job Exit(0)\n";
-
-// So many bytes of a journal, and a closed gate.
-fn front_of(alloc: Global, bytes: &[u8], size: usize) -> Result<Vec<u8>, Fail> {
-    let mut front = Vec::new(alloc);
-    if size <= bytes.len() {
-        front.extend_from_slice(&bytes[..size])?;
-    }
-    front.push(0)?;
-    Ok(front)
-}
-
-// Eight of the records are of no finished run, and one letter is no journal.
-fn fronts_of(rt: &impl Abort, alloc: Global, plan: &Plan, bytes: &[u8]) -> Result<(), Fail> {
-    let front = front_of(alloc, bytes, HEADER + SLOT * 8)?;
-    same(
-        rt,
-        audit(alloc, plan, &front).err(),
-        Some(AuditNo::Unfinished),
-    );
-    same(
-        rt,
-        audit(alloc, plan, b"J").err(),
-        Some(AuditNo::NotAJournal),
-    );
-    Ok(())
-}
-
-fn two_crashes_of(rt: &impl Abort, alloc: Global, plan: &Plan) -> Result<(), Fail> {
-    let table = table_of(rt, alloc, b"");
-    let disk = run(rt, alloc, plan, &table, &[3, 3, 100]);
-    assert!(rt; disk.bytes().len() == HEADER + SLOT * 14 + 1);
-    is_told(rt, alloc, plan, disk.bytes(), ALL_DONE)?;
-    fronts_of(rt, alloc, plan, disk.bytes())
-}
-
-#[test]
-fn audit_of_two_crashes(rt: HostRuntime) -> Result<(), Fail> {
-    let plan = plan_of(rt.alloc(), DIAMOND)?;
-    let answer = two_crashes_of(&rt, rt.alloc(), &plan);
-    drop(plan);
-    answer
 }
 
 fn is_predicted(

@@ -1,38 +1,46 @@
 //! Sets of files, and paths.
 
 use crate::dags::shown::{View, answer};
-use crate::same::{same, same_text};
+use crate::same::same_text;
 use splices::{FileSet, path_in};
 use std::alloc::{AllocError, Global};
 use std::process::Abort;
 use std::test::Fail;
 
+/// A row of a table.
+type Row = (&'static str, &'static str, &'static str);
+
 /// Files that are added in this order, and what is there under the name `a` then.
-static ADDED: [(&str, &str, &str); 4] = [
+static ADDED: [Row; 4] = [
     ("b", "two", "-"),
     ("a", "one", "one"),
     ("A", "three", "one"),
     ("a", "", ""),
 ];
 
-fn compare_added(rt: &impl Abort, alloc: Global) -> Result<(), AllocError> {
-    let mut files = FileSet::new(alloc);
-    for (name, text, wanted) in &ADDED {
-        files.add(alloc, name, text.as_bytes())?;
-        let told = files.get("a").unwrap_or(b"-".as_slice());
-        same(rt, (*name, told), (*name, wanted.as_bytes()));
-    }
+fn compare_added(
+    rt: &impl Abort,
+    alloc: Global,
+    files: &mut FileSet,
+    row: &Row,
+) -> Result<(), AllocError> {
+    files.add(alloc, row.0, row.1.as_bytes())?;
+    let told = files.get("a").unwrap_or(b"-".as_slice());
+    assert!(rt; told == row.2.as_bytes(), "{} {}", row.0, row.1);
     Ok(())
 }
 
 #[test]
 fn last_file_of_a_name(rt: HostRuntime) -> Result<(), Fail> {
-    compare_added(&rt, rt.alloc())?;
+    let mut files = FileSet::new(rt.alloc());
+    for row in &ADDED {
+        compare_added(&rt, rt.alloc(), &mut files, row)?;
+    }
     Ok(())
 }
 
 /// Files that are added in this order, and what opening t.dag answers then.
-static STEPS: [(&str, &str, &str); 5] = [
+static STEPS: [Row; 5] = [
     ("d/y.dag", "JOB D d\n", "S1 MissingFile t.dag"),
     ("t.dag", "SPLICE X x.dag DIR d\n", "S1 MissingFile d/x.dag"),
     (
@@ -52,24 +60,29 @@ static STEPS: [(&str, &str, &str); 5] = [
     ),
 ];
 
-fn compare_steps(rt: &impl Abort, alloc: Global) -> Result<(), AllocError> {
-    let mut files = FileSet::new(alloc);
-    for (name, text, wanted) in &STEPS {
-        files.add(alloc, name, text.as_bytes())?;
-        let told = answer(alloc, View::Options, &files, "t.dag")?;
-        same_text(rt, name, told.as_str(), wanted);
-    }
+fn compare_step(
+    rt: &impl Abort,
+    alloc: Global,
+    files: &mut FileSet,
+    row: &Row,
+) -> Result<(), AllocError> {
+    files.add(alloc, row.0, row.1.as_bytes())?;
+    let told = answer(alloc, View::Options, files, "t.dag")?;
+    same_text(rt, row.0, told.as_str(), row.2);
     Ok(())
 }
 
 #[test]
 fn missing_file_is_added(rt: HostRuntime) -> Result<(), Fail> {
-    compare_steps(&rt, rt.alloc())?;
+    let mut files = FileSet::new(rt.alloc());
+    for row in &STEPS {
+        compare_step(&rt, rt.alloc(), &mut files, row)?;
+    }
     Ok(())
 }
 
 /// A folder, a path, and the path as seen from the folder.
-static PATHS: [(&str, &str, &str); 9] = [
+static PATHS: [Row; 9] = [
     ("", "", ""),
     ("", "a/b", "a/b"),
     ("", "/a", "/a"),
@@ -81,20 +94,16 @@ static PATHS: [(&str, &str, &str); 9] = [
     ("d", "/", "/"),
 ];
 
-fn compare_paths(rt: &impl Abort, alloc: Global) -> Result<(), AllocError> {
-    for (folder, path, wanted) in &PATHS {
-        let told = path_in(alloc, folder, path)?;
-        same(
-            rt,
-            (*folder, *path, told.as_str()),
-            (*folder, *path, *wanted),
-        );
-    }
+fn compare_path(rt: &impl Abort, alloc: Global, row: &Row) -> Result<(), AllocError> {
+    let told = path_in(alloc, row.0, row.1)?;
+    same_text(rt, row.1, told.as_str(), row.2);
     Ok(())
 }
 
 #[test]
 fn paths_in_folders(rt: HostRuntime) -> Result<(), Fail> {
-    compare_paths(&rt, rt.alloc())?;
+    for row in &PATHS {
+        compare_path(&rt, rt.alloc(), row)?;
+    }
     Ok(())
 }

@@ -1,6 +1,5 @@
 //! What lines say beside declarations: settings, warnings and limits.
 
-use crate::dags::shown::add;
 use dag_reader::Placement;
 use splices::{CategorySetting, FlatDag, FlatNode, MacroSetting, ScriptSetting, Settings};
 use std::alloc::{AllocError, Global};
@@ -9,115 +8,91 @@ use std::alloc::{AllocError, Global};
 pub fn settings(alloc: Global, dag: &FlatDag) -> Result<String, AllocError> {
     let mut shown = String::new(alloc);
     for node in dag.nodes() {
-        add(&mut shown, setting(alloc, node))?;
+        add_node(&mut shown, node)?;
     }
     if let Some(node) = dag.final_node() {
-        add(&mut shown, setting(alloc, node))?;
+        add_node(&mut shown, node)?;
     }
     Ok(shown)
 }
 
-fn setting(alloc: Global, node: &FlatNode) -> Result<String, AllocError> {
-    let mut shown = String::new(alloc);
-    shown.push_str(node.name.as_str())?;
+fn add_node(shown: &mut String, node: &FlatNode) -> Result<(), AllocError> {
     let settings = &node.settings;
-    add(&mut shown, script(alloc, "PRE", &settings.pre))?;
-    add(&mut shown, script(alloc, "POST", &settings.post))?;
-    add(&mut shown, attempts(alloc, settings))?;
-    add(&mut shown, run(alloc, settings))?;
-    add(&mut shown, category(alloc, &settings.category))?;
-    for one in settings.macros.as_slice() {
-        add(&mut shown, assigned(alloc, one))?;
-    }
-    shown.push_str(";")?;
-    Ok(shown)
+    write!(shown, "{}", node.name)?;
+    add_script(shown, "PRE", &settings.pre)?;
+    add_script(shown, "POST", &settings.post)?;
+    add_attempts(shown, settings)?;
+    add_run(shown, settings)?;
+    add_category(shown, &settings.category)?;
+    add_macros(shown, settings.macros.as_slice())?;
+    write!(shown, ";")
 }
 
-fn script(
-    alloc: Global,
+fn add_script(
+    shown: &mut String,
     kind: &str,
     setting: &Option<ScriptSetting>,
-) -> Result<String, AllocError> {
+) -> Result<(), AllocError> {
     match setting {
-        Some(script) => {
-            let line = script.line;
-            let words = &script.words;
-            format!(in alloc; " {line}:{kind}{words}")
-        }
-        None => Ok(String::new(alloc)),
+        Some(script) => write!(shown, " {}:{kind}{}", script.line, script.words),
+        None => Ok(()),
     }
 }
 
-fn attempts(alloc: Global, settings: &Settings) -> Result<String, AllocError> {
-    let mut shown = String::new(alloc);
+fn add_attempts(shown: &mut String, settings: &Settings) -> Result<(), AllocError> {
     if let Some(retry) = settings.retry {
-        let line = retry.line;
-        let retries = retry.retries;
-        let unless = retry.unless_exit;
-        add(
-            &mut shown,
-            format!(in alloc; " {line}:RETRY {retries} {unless:?}"),
-        )?;
+        let (line, retries, unless) = (retry.line, retry.retries, retry.unless_exit);
+        write!(shown, " {line}:RETRY {retries} {unless:?}")?;
     }
-    if let Some(skip) = settings.pre_skip {
-        let line = skip.line;
-        let value = skip.value;
-        add(&mut shown, format!(in alloc; " {line}:PRE_SKIP {value}"))?;
+    match settings.pre_skip {
+        Some(skip) => write!(shown, " {}:PRE_SKIP {}", skip.line, skip.value),
+        None => Ok(()),
     }
-    Ok(shown)
 }
 
-fn run(alloc: Global, settings: &Settings) -> Result<String, AllocError> {
-    let mut shown = String::new(alloc);
+fn add_run(shown: &mut String, settings: &Settings) -> Result<(), AllocError> {
     if let Some(priority) = settings.priority {
-        let line = priority.line;
-        let value = priority.value;
-        add(&mut shown, format!(in alloc; " {line}:PRIORITY {value}"))?;
+        write!(shown, " {}:PRIORITY {}", priority.line, priority.value)?;
     }
-    if let Some(abort) = settings.abort {
-        let line = abort.line;
-        let value = abort.value;
-        let status = abort.status;
-        add(
-            &mut shown,
-            format!(in alloc; " {line}:ABORT {value} {status:?}"),
-        )?;
-    }
-    Ok(shown)
-}
-
-fn category(alloc: Global, setting: &Option<CategorySetting>) -> Result<String, AllocError> {
-    match setting {
-        Some(category) => {
-            let line = category.line;
-            let name = &category.name;
-            format!(in alloc; " {line}:CATEGORY {name}")
+    match settings.abort {
+        Some(abort) => {
+            let (line, value, status) = (abort.line, abort.value, abort.status);
+            write!(shown, " {line}:ABORT {value} {status:?}")
         }
-        None => Ok(String::new(alloc)),
+        None => Ok(()),
     }
 }
 
-fn assigned(alloc: Global, one: &MacroSetting) -> Result<String, AllocError> {
-    let line = one.line;
-    let name = &one.name;
-    let text = &one.text;
-    match one.placement {
-        Placement::Prepend => format!(in alloc; " {line}:PREPEND {name}={text}"),
-        Placement::Append => format!(in alloc; " {line}:APPEND {name}={text}"),
+fn add_category(shown: &mut String, setting: &Option<CategorySetting>) -> Result<(), AllocError> {
+    match setting {
+        Some(category) => write!(shown, " {}:CATEGORY {}", category.line, category.name),
+        None => Ok(()),
     }
+}
+
+fn add_macros(shown: &mut String, macros: &[MacroSetting]) -> Result<(), AllocError> {
+    for one in macros {
+        add_macro(shown, one)?;
+    }
+    Ok(())
+}
+
+fn add_macro(shown: &mut String, one: &MacroSetting) -> Result<(), AllocError> {
+    let placement = match one.placement {
+        Placement::Prepend => "PREPEND",
+        Placement::Append => "APPEND",
+    };
+    write!(shown, " {}:{placement} {}={}", one.line, one.name, one.text)
 }
 
 /// The limits of categories, each with its place.
 pub fn limits(alloc: Global, dag: &FlatDag) -> Result<String, AllocError> {
     let mut shown = String::new(alloc);
-    for category in dag.categories() {
-        let name = &category.name;
-        let limit = category.limit;
-        let path = &category.path;
-        let line = category.line;
-        add(
+    for it in dag.categories() {
+        write!(
             &mut shown,
-            format!(in alloc; "{name} {limit} {path}:{line};"),
+            "{} {} {}:{};",
+            it.name, it.limit, it.path, it.line
         )?;
     }
     Ok(shown)

@@ -1,7 +1,7 @@
 //! Rescue files: what is written, what is read, and their names.
 
 use crate::built::{files_of, graph_of};
-use crate::same::same;
+use crate::same::same_text;
 use dag_graph::Graph;
 use dag_reader::{Text, Texts};
 use rescue_file::{RescueFault, pick_number, read_rescue, rescue_name, rescue_text};
@@ -48,9 +48,9 @@ static WRITTEN: [([bool; 4], &str); 3] = [
 
 fn are_written(rt: &impl Abort, alloc: Global, graph: &Graph) -> Result<(), Fail> {
     assert!(rt; graph.flat().nodes().len() == 4);
-    for (marks, due) in &WRITTEN {
-        let text = rescue_text(alloc, graph, marks)?;
-        same(rt, text.as_str(), *due);
+    for row in &WRITTEN {
+        let text = rescue_text(alloc, graph, &row.0)?;
+        same_text(rt, "a text", text.as_str(), row.1);
     }
     Ok(())
 }
@@ -105,13 +105,13 @@ fn is_read(
     due: &str,
 ) -> Result<(), Fail> {
     let got = read(alloc, bytes, graph)?;
-    same(rt, got.as_str(), due);
+    same_text(rt, "lines", got.as_str(), due);
     Ok(())
 }
 
 fn are_read(rt: &impl Abort, alloc: Global, graph: &Graph) -> Result<(), Fail> {
-    for (text, due) in &READ {
-        is_read(rt, alloc, graph, text.as_bytes(), due)?;
+    for row in &READ {
+        is_read(rt, alloc, graph, row.0.as_bytes(), row.1)?;
     }
     is_read(
         rt,
@@ -178,15 +178,19 @@ fn named(alloc: Global, number: u16) -> Result<String, Fail> {
     }
 }
 
+fn is_named(rt: &impl Abort, alloc: Global, row: &(u16, &str)) -> Result<(), Fail> {
+    let got = named(alloc, row.0)?;
+    same_text(rt, "a name", got.as_str(), row.1);
+    Ok(())
+}
+
 #[test]
 fn names(rt: HostRuntime) -> Result<(), Fail> {
-    for (number, due) in &NAMES {
-        let got = named(rt.alloc(), *number)?;
-        same(&rt, got.as_str(), *due);
+    for row in &NAMES {
+        is_named(&rt, rt.alloc(), row)?;
     }
-    let memory = RescueFault::Memory;
-    let told = format!(in rt.alloc(); "{memory}")?;
-    same(&rt, told.as_str(), "E5 Memory");
+    let told = shown_fault(rt.alloc(), RescueFault::Memory)?;
+    same_text(&rt, "memory", told.as_str(), "E5 Memory");
     Ok(())
 }
 
@@ -213,12 +217,17 @@ fn texts_of(alloc: Global, list: &str) -> Result<Texts, Fail> {
     Ok(names)
 }
 
+fn is_picked(rt: &impl Abort, alloc: Global, row: &(&str, u16)) -> Result<(), Fail> {
+    let names = texts_of(alloc, row.0)?;
+    let got = pick_number(names.as_slice(), "x.dag");
+    assert!(rt; got == row.1, "{}: {got}", row.0);
+    Ok(())
+}
+
 #[test]
 fn picked_numbers(rt: HostRuntime) -> Result<(), Fail> {
-    for (list, due) in &PICKED {
-        let names = texts_of(rt.alloc(), list)?;
-        let got = pick_number(names.as_slice(), "x.dag");
-        same(&rt, (*list, got), (*list, *due));
+    for row in &PICKED {
+        is_picked(&rt, rt.alloc(), row)?;
     }
     Ok(())
 }

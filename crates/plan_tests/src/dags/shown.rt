@@ -88,6 +88,19 @@ fn file_set(alloc: Global, others: &[(&str, &str)], text: &str) -> Result<FileSe
     Ok(files)
 }
 
+fn compare_one(
+    rt: &impl Abort,
+    alloc: Global,
+    view: View,
+    others: &[(&str, &str)],
+    case: &(&str, &str),
+) -> Result<(), AllocError> {
+    let files = file_set(alloc, others, case.0)?;
+    let told = answer(alloc, view, &files, "t.dag")?;
+    same_text(rt, case.0, told.as_str(), case.1);
+    Ok(())
+}
+
 /// Compares the answers at some texts of t.dag, with other files beside it, with those that are
 /// wanted.
 pub fn compare(
@@ -97,16 +110,8 @@ pub fn compare(
     others: &[(&str, &str)],
     cases: &[(&str, &str)],
 ) -> Result<(), AllocError> {
-    for (text, wanted) in cases {
-        let files = file_set(alloc, others, text)?;
-        let told = answer(alloc, view, &files, "t.dag")?;
-        same_text(rt, text, told.as_str(), wanted);
+    for case in cases {
+        compare_one(rt, alloc, view, others, case)?;
     }
-    Ok(())
-}
-
-/// Puts a text behind another.
-pub fn add(text: &mut String, more: Result<String, AllocError>) -> Result<(), AllocError> {
-    text.push_str(more?.as_str())?;
     Ok(())
 }

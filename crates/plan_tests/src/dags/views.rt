@@ -1,8 +1,9 @@
 //! Nodes, and how they hang together.
 
-use crate::dags::shown::add;
+ghost use Rattle.std.specs.Prelude.{◌<◌};
+ghost use Rattle.run_plan.specs.Plan.{count_of};
+
 use dag_graph::Graph;
-use node_machine::Course;
 use node_specs::NodeSpec;
 use run_plan::Plan;
 use splices::{FlatDag, FlatNode};
@@ -13,58 +14,74 @@ pub fn links(alloc: Global, graph: &Graph) -> Result<String, AllocError> {
     let mut shown = String::new(alloc);
     let mut number = 0u32;
     for node in graph.flat().nodes() {
-        add(&mut shown, link(alloc, graph, node, number))?;
+        add_link(&mut shown, graph, node, number)?;
         number = number.saturating_add(1);
     }
     Ok(shown)
 }
 
-fn link(alloc: Global, graph: &Graph, node: &FlatNode, number: u32) -> Result<String, AllocError> {
+fn add_link(
+    shown: &mut String,
+    graph: &Graph,
+    node: &FlatNode,
+    number: u32,
+) -> Result<(), AllocError> {
     if number as usize >= graph.flat().nodes().len() {
-        return Ok(String::new(alloc));
+        return Ok(());
     }
-    let name = &node.name;
-    let file = &node.file;
-    let folder = &node.folder;
-    let parents = graph.parents(number);
-    let children = graph.children(number);
-    format!(in alloc; "{name} {file} '{folder}' {parents:?} {children:?};")
+    let (parents, children) = (graph.parents(number), graph.children(number));
+    let (name, file, folder) = (&node.name, &node.file, &node.folder);
+    write!(shown, "{name} {file} '{folder}' {parents:?} {children:?};")
 }
 
 /// Each node, FINAL last: its name, submit file, folder and options.
 pub fn options(alloc: Global, dag: &FlatDag) -> Result<String, AllocError> {
     let mut shown = String::new(alloc);
     for node in dag.nodes() {
-        add(&mut shown, option(alloc, node))?;
+        add_options(&mut shown, node)?;
     }
     if let Some(node) = dag.final_node() {
-        add(&mut shown, option(alloc, node))?;
+        add_options(&mut shown, node)?;
     }
     Ok(shown)
 }
 
-fn option(alloc: Global, node: &FlatNode) -> Result<String, AllocError> {
-    let name = &node.name;
-    let file = &node.file;
-    let folder = &node.folder;
-    let noop = if node.noop { " NOOP" } else { "" };
-    let done = if node.done { " DONE" } else { "" };
-    format!(in alloc; "{name} {file} '{folder}'{noop}{done};")
+/// The word where it holds, or nothing.
+fn word_if(holds: bool, word: &'static str) -> &'static str {
+    if holds { word } else { "" }
+}
+
+fn add_options(shown: &mut String, node: &FlatNode) -> Result<(), AllocError> {
+    let (noop, done) = (word_if(node.noop, " NOOP"), word_if(node.done, " DONE"));
+    let (name, file, folder) = (&node.name, &node.file, &node.folder);
+    write!(shown, "{name} {file} '{folder}'{noop}{done};")
 }
 
 /// Each node's ancestors, by numbers.
 pub fn ancestors(alloc: Global, plan: &Plan) -> Result<String, AllocError> {
     let mut shown = String::new(alloc);
     for node in 0..plan.count() {
-        add(&mut shown, format!(in alloc; "{node}:"))?;
-        for other in 0..plan.count() {
-            if let Ok(true) = plan.graph().is_ancestor(alloc, other, node) {
-                add(&mut shown, format!(in alloc; " {other}"))?;
-            }
-        }
-        shown.push_str(";")?;
+        write!(&mut shown, "{node}:")?;
+        add_ancestors(alloc, &mut shown, plan, node)?;
+        write!(&mut shown, ";")?;
     }
     Ok(shown)
+}
+
+fn add_ancestors(
+    alloc: Global,
+    shown: &mut String,
+    plan: &Plan,
+    node: u32,
+) -> Result<(), AllocError>
+    requires { node < count_of plan.now }
+{
+    for other in 0..plan.count() {
+        if let Ok(true) = plan.graph().is_ancestor(alloc, other, node) {
+            write!(shown, " {other}")?;
+        }
+    }
+    Ok(())
 }
 
 /// The numbers of some names.
@@ -72,7 +89,7 @@ pub fn names(alloc: Global, graph: &Graph) -> Result<String, AllocError> {
     let mut shown = String::new(alloc);
     for name in ["S", "E", "Y+X+L", "Z+X+L", "F", "Y", "A", "y+a"] {
         let number = graph.node_named(name);
-        add(&mut shown, format!(in alloc; "{name} {number:?};"))?;
+        write!(&mut shown, "{name} {number:?};")?;
     }
     Ok(shown)
 }
@@ -81,32 +98,31 @@ pub fn names(alloc: Global, graph: &Graph) -> Result<String, AllocError> {
 pub fn plan_text(alloc: Global, plan: &Plan) -> Result<String, AllocError> {
     let mut shown = String::new(alloc);
     for number in 0..plan.count() {
-        add(&mut shown, spec(alloc, plan.spec(number)))?;
+        add_spec(&mut shown, plan.spec(number))?;
     }
     if plan.has_final() {
-        add(&mut shown, spec(alloc, plan.spec(plan.count())))?;
+        add_spec(&mut shown, plan.spec(plan.count()))?;
     }
     Ok(shown)
 }
 
-fn spec(alloc: Global, spec: &NodeSpec) -> Result<String, AllocError> {
-    let name = spec.name();
-    let parents = spec.parents();
-    let course = course(alloc, spec.course())?;
-    let done = if spec.is_done() { " DONE" } else { "" };
-    let priority = spec.priority();
-    let category = spec.category();
+fn add_spec(shown: &mut String, spec: &NodeSpec) -> Result<(), AllocError> {
+    write!(shown, "{} {:?}", spec.name(), spec.parents())?;
+    add_course(shown, spec)?;
+    let done = word_if(spec.is_done(), " DONE");
+    let (priority, category) = (spec.priority(), spec.category());
     let status = spec.abort_return();
-    format!(in alloc; "{name} {parents:?}{course}{done} {priority} {category:?} {status:?};")
+    write!(shown, "{done} {priority} {category:?} {status:?};")
 }
 
-fn course(alloc: Global, course: &Course) -> Result<String, AllocError> {
-    let pre = if course.pre { " PRE" } else { "" };
-    let noop = if course.noop { " NOOP" } else { "" };
-    let post = if course.post { " POST" } else { "" };
-    let retries = course.retries;
-    let unless = course.unless_exit;
-    let skip = course.pre_skip;
-    let abort = course.abort_on;
-    format!(in alloc; "{pre}{noop}{post} {retries} {unless:?} {skip:?} {abort:?}")
+fn add_course(shown: &mut String, spec: &NodeSpec) -> Result<(), AllocError> {
+    let it = spec.course();
+    let (pre, post) = (word_if(it.pre, " PRE"), word_if(it.post, " POST"));
+    let noop = word_if(it.noop, " NOOP");
+    write!(
+        shown,
+        "{pre}{noop}{post} {} {:?}",
+        it.retries, it.unless_exit
+    )?;
+    write!(shown, " {:?} {:?}", it.pre_skip, it.abort_on)
 }

@@ -4,7 +4,6 @@ ghost use Rattle.std.specs.Prelude.{◌≡◌, ◌≤◌, IfOk};
 ghost use Rattle.node_specs.specs.Commands.{starts_child};
 ghost use Rattle.run_plan.specs.Plan.{count_of};
 
-use crate::jobs::shown::joined;
 use crate::jobs::words::barred;
 use dag_reader::Text;
 use node_machine::{Key, Phase};
@@ -45,24 +44,25 @@ pub fn text_or_dash(text: Option<&Text>) -> &str {
 /// The program and its words, a bar behind each, the folder, the files of the streams, and what is
 /// added to the environment.
 fn shown(alloc: Global, command: &ChildCommand) -> Result<String, AllocError> {
+    let mut text = String::new(alloc);
+    add_program(alloc, &mut text, command)?;
+    add_places(alloc, &mut text, command)?;
+    Ok(text)
+}
+
+fn add_program(alloc: Global, text: &mut String, command: &ChildCommand) -> Result<(), AllocError> {
     let words = barred(alloc, &command.words)?;
+    write!(text, "{}|{words} in '{}'", command.program, command.folder)?;
+    Ok(())
+}
+
+fn add_places(alloc: Global, text: &mut String, command: &ChildCommand) -> Result<(), AllocError> {
     let environment = barred(alloc, &command.environment)?;
-    let pieces = [
-        command.program.as_str(),
-        "|",
-        words.as_str(),
-        " in '",
-        command.folder.as_str(),
-        "' <",
-        text_or_dash(command.input.as_ref()),
-        " >",
-        text_or_dash(command.output.as_ref()),
-        " 2>",
-        text_or_dash(command.error.as_ref()),
-        " ",
-        environment.as_str(),
-    ];
-    joined(alloc, &pieces)
+    let input = text_or_dash(command.input.as_ref());
+    let output = text_or_dash(command.output.as_ref());
+    let error = text_or_dash(command.error.as_ref());
+    write!(text, " <{input} >{output} 2>{error} {environment}")?;
+    Ok(())
 }
 
 /// What is known when a phase is launched: the seventh launch, behind a PRE script with value 4 and a

@@ -5,7 +5,19 @@ use crate::built::files_of;
 use crate::jobs::looks::{Kind, Look, Source, told};
 use crate::same::same_text;
 use std::alloc::Global;
+use std::process::Abort;
 use std::test::Fail;
+
+/// The kind of a plan, the path of a DAG file, the files in the order in which they are added, a rescue file, what is looked at,
+/// and what is due.
+type Row = (
+    Kind,
+    &'static str,
+    &'static [(&'static str, &'static str)],
+    Option<&'static str>,
+    Look,
+    &'static str,
+);
 
 /// What a look at the plan of the files of this path and of a rescue file tells.
 fn answer(
@@ -26,6 +38,12 @@ fn answer(
     told(alloc, &source, "", look)
 }
 
+fn compare(rt: &impl Abort, alloc: Global, row: &Row) -> Result<(), Fail> {
+    let told = answer(alloc, row.0, row.1, row.2, row.3, &row.4)?;
+    same_text(rt, row.5, told.as_str(), row.5);
+    Ok(())
+}
+
 /// A DAG and the submit file of its nodes.
 const MARKED: [(&str, &str); 2] = [
     (
@@ -38,7 +56,7 @@ const MARKED: [(&str, &str); 2] = [
 /// The kind of a plan, the path of a DAG file, the files in the order in which they are added, a
 /// rescue file, and the digest of the plan or the nodes that are done from the start. For a digest
 /// the DAG file of a full plan is empty or a comment.
-static PLANS: [(Kind, &str, &[(&str, &str)], Option<&str>, Look, &str); 22] = [
+static PLANS: [Row; 22] = [
     (
         Kind::Full,
         "d.dag",
@@ -192,9 +210,8 @@ static PLANS: [(Kind, &str, &[(&str, &str)], Option<&str>, Look, &str); 22] = [
 
 #[test]
 fn digests_and_marks(rt: HostRuntime) -> Result<(), Fail> {
-    for (kind, top, texts, rescue, look, due) in &PLANS {
-        let told = answer(rt.alloc(), *kind, top, texts, *rescue, look)?;
-        same_text(&rt, due, told.as_str(), due);
+    for row in &PLANS {
+        compare(&rt, rt.alloc(), row)?;
     }
     Ok(())
 }

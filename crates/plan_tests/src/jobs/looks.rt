@@ -104,8 +104,7 @@ fn done_names(alloc: Global, nodes: &[NodeSpec]) -> Result<String, AllocError> {
     let mut names = String::new(alloc);
     for node in nodes {
         if node.is_done() {
-            names.push_str(node.name())?;
-            names.push_str(" ")?;
+            write!(&mut names, "{} ", node.name())?;
         }
     }
     Ok(names)

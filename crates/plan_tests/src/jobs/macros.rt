@@ -3,28 +3,48 @@
 use crate::jobs::shown::{decimal, joined, macro_fault};
 use crate::same::same_text;
 use std::alloc::{AllocError, Global};
+use std::process::Abort;
 use std::test::Fail;
 use vars_macros::{Attempt, Expanded, MacroFault, Macros, expand, expand_vars};
 
 /// A name with its value, and whether VARS says so.
-type Row<'a> = (&'a str, &'a str, bool);
+type Row = (&'static str, &'static str, bool);
 
-fn assign(alloc: Global, macros: &mut Macros, row: &Row<'_>) -> Result<(), MacroFault> {
-    macros.assign(alloc, row.0, row.1, row.2)
+/// By which macros a text is expanded.
+enum How {
+    /// By these, as a text of a submit file.
+    Of(&'static [Row]),
+    /// By these, as a text of VARS.
+    OfVars(&'static [Row]),
+    /// By `DOUBLED` with this m0.
+    Doubled(&'static str),
 }
 
-fn assign_all(alloc: Global, macros: &mut Macros, rows: &[Row<'_>]) -> Result<(), MacroFault> {
+fn assign_all(alloc: Global, macros: &mut Macros, rows: &[Row]) -> Result<(), MacroFault> {
     for row in rows {
-        assign(alloc, macros, row)?;
+        macros.assign(alloc, row.0, row.1, row.2)?;
     }
     Ok(())
 }
 
-/// The macros of node A: names with their values, and whether VARS says so.
-fn macros_of(alloc: Global, rows: &[(&str, &str, bool)]) -> Result<Macros, MacroFault> {
+fn add_assigned(alloc: Global, macros: &mut Macros, how: &How) -> Result<(), MacroFault> {
+    match how {
+        How::Of(rows) | How::OfVars(rows) => assign_all(alloc, macros, rows),
+        How::Doubled(first) => {
+            macros.assign(alloc, "m0", first, true)?;
+            assign_all(alloc, macros, &DOUBLED)
+        }
+    }
+}
+
+/// What comes of a text of node A.
+fn expanded(alloc: Global, text: &str, how: &How) -> Result<Expanded, MacroFault> {
     let mut macros = Macros::new(alloc, "A")?;
-    assign_all(alloc, &mut macros, rows)?;
-    Ok(macros)
+    add_assigned(alloc, &mut macros, how)?;
+    match how {
+        How::OfVars(_) => expand_vars(alloc, text, &macros, ATTEMPT),
+        How::Of(_) | How::Doubled(_) => expand(alloc, text, &macros, ATTEMPT),
+    }
 }
 
 const ATTEMPT: Attempt = Attempt {
@@ -33,19 +53,24 @@ const ATTEMPT: Attempt = Attempt {
 };
 
 fn text_of(alloc: Global, expanded: &Expanded) -> Result<String, AllocError> {
+    let text = expanded.text.as_str();
+    if text.len() > 100 {
+        return decimal(alloc, text.len());
+    }
     let bar = if expanded.whole_run { "|" } else { "" };
-    joined(alloc, &[expanded.text.as_str(), bar])
+    joined(alloc, &[text, bar])
 }
 
-/// The text, with a bar behind it where it is known in a whole run alone, or the fault.
-fn shown(alloc: Global, answer: Result<Expanded, MacroFault>) -> Result<String, AllocError> {
-    match answer {
+/// The text, with a bar behind it where it is known in a whole run alone; how many bytes it has where these are over 100; or the
+/// fault.
+fn shown(alloc: Global, text: &str, how: &How) -> Result<String, AllocError> {
+    match expanded(alloc, text, how) {
         Ok(expanded) => text_of(alloc, &expanded),
         Err(fault) => macro_fault(alloc, fault),
     }
 }
 
-const NODE: [(&str, &str, bool); 6] = [
+const NODE: [Row; 6] = [
     ("msg", "say \"hi\"", true),
     ("who", "$(JOB)-$(RETRY)", true),
     ("executable", "/bin/echo", false),
@@ -54,7 +79,7 @@ const NODE: [(&str, &str, bool); 6] = [
     ("x", "$", true),
 ];
 
-const LOOPS: [(&str, &str, bool); 5] = [
+const LOOPS: [Row; 5] = [
     ("a", "$(b)", true),
     ("b", "$(A)", true),
     ("file", "$(RETRY)$(JOB)", false),
@@ -63,10 +88,10 @@ const LOOPS: [(&str, &str, bool); 5] = [
 ];
 
 /// Names that are a file's own assignments, and in texts of VARS the node's.
-const SHADOWED: [(&str, &str, bool); 2] = [("JOB", "file", false), ("RETRY", "$(JOB)", false)];
+const SHADOWED: [Row; 2] = [("JOB", "file", false), ("RETRY", "$(JOB)", false)];
 
 /// Each is the one before it, twice.
-const DOUBLED: [(&str, &str, bool); 16] = [
+static DOUBLED: [Row; 16] = [
     ("m1", "$(m0)$(m0)", true),
     ("m2", "$(m1)$(m1)", true),
     ("m3", "$(m2)$(m2)", true),
@@ -84,50 +109,6 @@ const DOUBLED: [(&str, &str, bool); 16] = [
     ("m15", "$(m14)$(m14)", true),
     ("m16", "$(m15)$(m15)", true),
 ];
-
-/// How many bytes a text has, or the fault.
-fn size(alloc: Global, answer: Result<Expanded, MacroFault>) -> Result<String, AllocError> {
-    match answer {
-        Ok(expanded) => decimal(alloc, expanded.text.as_str().len()),
-        Err(fault) => macro_fault(alloc, fault),
-    }
-}
-
-/// How many bytes come of m with this number, where m0 is a text and each further one is the one
-/// before it, twice; or the fault.
-fn doubled(alloc: Global, text: &str, name: &str) -> Result<String, Fail> {
-    let mut macros = macros_of(alloc, &[("m0", text, true)])?;
-    assign_all(alloc, &mut macros, &DOUBLED)?;
-    Ok(size(alloc, expand(alloc, name, &macros, ATTEMPT))?)
-}
-
-/// By which macros a text is expanded.
-enum How {
-    /// By these, as a text of a submit file.
-    Of(&'static [(&'static str, &'static str, bool)]),
-    /// By these, as a text of VARS.
-    OfVars(&'static [(&'static str, &'static str, bool)]),
-    /// By `DOUBLED` with this m0, and its bytes are counted.
-    Doubled(&'static str),
-}
-
-fn answer(alloc: Global, text: &str, how: &How) -> Result<String, Fail> {
-    match how {
-        How::Of(rows) => of_submit(alloc, text, rows),
-        How::OfVars(rows) => of_vars(alloc, text, rows),
-        How::Doubled(first) => doubled(alloc, first, text),
-    }
-}
-
-fn of_submit(alloc: Global, text: &str, rows: &[(&str, &str, bool)]) -> Result<String, Fail> {
-    let macros = macros_of(alloc, rows)?;
-    Ok(shown(alloc, expand(alloc, text, &macros, ATTEMPT))?)
-}
-
-fn of_vars(alloc: Global, text: &str, rows: &[(&str, &str, bool)]) -> Result<String, Fail> {
-    let macros = macros_of(alloc, rows)?;
-    Ok(shown(alloc, expand_vars(alloc, text, &macros, ATTEMPT))?)
-}
 
 /// Texts, and what comes of them.
 static EXPANDED: [(&str, How, &str); 28] = [
@@ -160,16 +141,21 @@ static EXPANDED: [(&str, How, &str); 28] = [
     ("$(Job)$(RETRY)$(JOB:d)", How::OfVars(&SHADOWED), "A0file"),
     ("$(Job)$(RETRY)", How::Of(&SHADOWED), "filefile"),
     ("$(m15)", How::Doubled("x"), "32768"),
-    ("$(m15)", How::Doubled(""), "0"),
+    ("$(m15)", How::Doubled(""), ""),
     ("$(m16)", How::Doubled("x"), "V3 TooLong"),
     ("$(m16)", How::Doubled(""), "V3 TooLong"),
 ];
 
+fn compare(rt: &impl Abort, alloc: Global, row: &(&str, How, &str)) -> Result<(), AllocError> {
+    let told = shown(alloc, row.0, &row.1)?;
+    same_text(rt, row.0, told.as_str(), row.2);
+    Ok(())
+}
+
 #[test]
 fn expansions(rt: HostRuntime) -> Result<(), Fail> {
-    for (text, how, due) in &EXPANDED {
-        let told = answer(rt.alloc(), text, how)?;
-        same_text(&rt, text, told.as_str(), due);
+    for row in &EXPANDED {
+        compare(&rt, rt.alloc(), row)?;
     }
     Ok(())
 }

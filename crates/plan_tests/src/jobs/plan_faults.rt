@@ -8,6 +8,7 @@ use dag_graph::Graph;
 use run_plan::{Plan, PlanFault};
 use splices::FileSet;
 use std::alloc::Global;
+use std::process::Abort;
 use std::test::Fail;
 
 /// The fault of the plan of x.dag, or nothing.
@@ -130,11 +131,16 @@ static FAULTS: [(&str, How, &str); 15] = [
     ("", How::Memory, "P7 Memory"),
 ];
 
+fn compare(rt: &impl Abort, alloc: Global, row: &(&str, How, &str)) -> Result<(), Fail> {
+    let told = answer(alloc, row.0, &row.1)?;
+    same_text(rt, row.0, told.as_str(), row.2);
+    Ok(())
+}
+
 #[test]
 fn faults(rt: HostRuntime) -> Result<(), Fail> {
-    for (text, how, due) in &FAULTS {
-        let told = answer(rt.alloc(), text, how)?;
-        same_text(&rt, text, told.as_str(), due);
+    for row in &FAULTS {
+        compare(&rt, rt.alloc(), row)?;
     }
     Ok(())
 }

@@ -8,6 +8,17 @@ use std::alloc::Global;
 use std::process::Abort;
 use std::test::Fail;
 
+fn compare_one(
+    rt: &impl Abort,
+    alloc: Global,
+    source: &Source<'_>,
+    row: &(&str, Look, &str),
+) -> Result<(), Fail> {
+    let answer = told(alloc, source, row.0, &row.1)?;
+    same_text(rt, row.0, answer.as_str(), row.2);
+    Ok(())
+}
+
 /// Compares what looks at nodes of the plan of x.dag among these files tell with what is due.
 fn compare(
     rt: &impl Abort,
@@ -23,9 +34,8 @@ fn compare(
         files: &files,
         rescue: None,
     };
-    for (name, look, due) in rows {
-        let answer = told(alloc, &source, name, look)?;
-        same_text(rt, name, answer.as_str(), due);
+    for row in rows {
+        compare_one(rt, alloc, &source, row)?;
     }
     Ok(())
 }

@@ -1,9 +1,9 @@
 //! The assignments of submit files.
 
 use crate::jobs::commands::text_or_dash;
-use crate::jobs::shown::joined;
 use crate::same::same_text;
 use std::alloc::{AllocError, Global};
+use std::process::Abort;
 use std::test::Fail;
 use submit_file::{Assignment, read_submit};
 
@@ -11,8 +11,7 @@ use submit_file::{Assignment, read_submit};
 fn assigned(alloc: Global, assignments: &[Assignment]) -> Result<String, AllocError> {
     let mut out = String::new(alloc);
     for one in assignments {
-        let pair = joined(alloc, &[one.name.as_str(), "=", one.value.as_str(), ";"])?;
-        out.push_str(pair.as_str())?;
+        write!(&mut out, "{}={};", one.name, one.value)?;
     }
     Ok(out)
 }
@@ -41,11 +40,16 @@ static TEXTS: [(&[u8], &str); 8] = [
     (b"queue", ""),
 ];
 
+fn compare(rt: &impl Abort, alloc: Global, row: &(&[u8], &str)) -> Result<(), Fail> {
+    let answer = said(alloc, row.0)?;
+    same_text(rt, row.1, answer.as_str(), row.1);
+    Ok(())
+}
+
 #[test]
 fn assignments(rt: HostRuntime) -> Result<(), Fail> {
-    for (text, due) in &TEXTS {
-        let answer = said(rt.alloc(), text)?;
-        same_text(&rt, due, answer.as_str(), due);
+    for row in &TEXTS {
+        compare(&rt, rt.alloc(), row)?;
     }
     Ok(())
 }

@@ -4,6 +4,7 @@ use crate::jobs::shown::{joined, macro_fault, yes_or_no};
 use crate::same::same_text;
 use dag_reader::{Text, Texts};
 use std::alloc::{AllocError, Global};
+use std::process::Abort;
 use std::test::Fail;
 use vars_macros::{ScriptFacts, script_words, split_arguments, uses_whole_run};
 
@@ -11,8 +12,7 @@ use vars_macros::{ScriptFacts, script_words, split_arguments, uses_whole_run};
 pub fn barred(alloc: Global, words: &Texts) -> Result<String, AllocError> {
     let mut out = String::new(alloc);
     for word in words.as_slice() {
-        out.push_str(word.as_str())?;
-        out.push_str("|")?;
+        write!(&mut out, "{word}|")?;
     }
     Ok(out)
 }
@@ -128,11 +128,16 @@ static TEXTS: [(&str, How, &str); 20] = [
     ("x$JOBID", How::Whole, "no"),
 ];
 
+fn compare(rt: &impl Abort, alloc: Global, row: &(&str, How, &str)) -> Result<(), Fail> {
+    let told = answer(alloc, row.0, &row.1)?;
+    same_text(rt, row.0, told.as_str(), row.2);
+    Ok(())
+}
+
 #[test]
 fn arguments_and_scripts(rt: HostRuntime) -> Result<(), Fail> {
-    for (text, how, due) in &TEXTS {
-        let told = answer(rt.alloc(), text, how)?;
-        same_text(&rt, text, told.as_str(), due);
+    for row in &TEXTS {
+        compare(&rt, rt.alloc(), row)?;
     }
     Ok(())
 }

@@ -1,9 +1,10 @@
 //! Lines before their words are read: line ends, and a line that is no DAG line.
 
-use crate::reader::shown::answer;
-use crate::same::same;
+use crate::reader::shown::compare_one;
+use crate::same::same_text;
 use dag_reader::{LineReader, Span, Token, line_text, split_line};
 use std::alloc::{AllocError, Global};
+use std::process::Abort;
 use std::test::Fail;
 
 /// Bytes, and what reading them answers.
@@ -26,9 +27,8 @@ static ENDS: [(&[u8], &str); 5] = [
 
 #[test]
 fn ends(rt: HostRuntime) -> Result<(), Fail> {
-    for (text, wanted) in &ENDS {
-        let told = answer(rt.alloc(), text)?;
-        same(&rt, told.as_str(), *wanted);
+    for row in &ENDS {
+        compare_one(&rt, rt.alloc(), row.0, row.1)?;
     }
     Ok(())
 }
@@ -42,19 +42,33 @@ static WORDS: [&str; 4] = [
     "-7 10-12 false false None None Some(-7)",
 ];
 
-#[test]
-fn words_of_another_line(rt: HostRuntime) -> Result<(), Fail> {
-    let (first, rest) = split_line(b"a JOB +02 -7\r\nb");
-    same(&rt, rest, b"b".as_slice());
-    let text = line_text(9, first).ok().ok_or("a text")?;
+fn compare_next(
+    rt: &impl Abort,
+    alloc: Global,
+    line: &mut LineReader<'_>,
+    wanted: &str,
+) -> Result<(), Fail> {
+    let word = line.next_word().ok_or("a word")?;
+    let told = shown(alloc, &word)?;
+    same_text(rt, wanted, told.as_str(), wanted);
+    Ok(())
+}
+
+fn compare_words(rt: &impl Abort, alloc: Global, text: &str) -> Result<(), Fail> {
     let mut line = LineReader::new(9, text);
     for wanted in &WORDS {
-        let word = line.next_word().ok_or("a word")?;
-        let told = shown(rt.alloc(), &word)?;
-        same(&rt, told.as_str(), *wanted);
+        compare_next(rt, alloc, &mut line, wanted)?;
     }
     assert!(rt; line.next_word().is_none());
     Ok(())
+}
+
+#[test]
+fn words_of_another_line(rt: HostRuntime) -> Result<(), Fail> {
+    let (first, rest) = split_line(b"a JOB +02 -7\r\nb");
+    assert!(rt; rest == b"b".as_slice());
+    let text = line_text(9, first).ok().ok_or("a text")?;
+    compare_words(&rt, rt.alloc(), text)
 }
 
 fn shown(alloc: Global, word: &Token<'_>) -> Result<String, AllocError> {

@@ -6,7 +6,7 @@ use std::alloc::{AllocError, Global};
 use std::process::Abort;
 
 /// The commands of a text as they are shown for debugging, or its fault.
-pub fn answer(alloc: Global, text: &[u8]) -> Result<String, AllocError> {
+fn answer(alloc: Global, text: &[u8]) -> Result<String, AllocError> {
     match read_dag(alloc, text) {
         Ok(file) => format!(in alloc; "{:?}", file.commands),
         Err(ReadFault::Memory) => Err(AllocError),
@@ -17,11 +17,22 @@ pub fn answer(alloc: Global, text: &[u8]) -> Result<String, AllocError> {
     }
 }
 
+/// Compares the answer at a text with the one that is wanted.
+pub fn compare_one(
+    rt: &impl Abort,
+    alloc: Global,
+    text: &[u8],
+    wanted: &str,
+) -> Result<(), AllocError> {
+    let told = answer(alloc, text)?;
+    same_text(rt, wanted, told.as_str(), wanted);
+    Ok(())
+}
+
 /// Compares the answers at some texts with those that are wanted.
 pub fn compare(rt: &impl Abort, alloc: Global, cases: &[(&str, &str)]) -> Result<(), AllocError> {
-    for (text, wanted) in cases {
-        let told = answer(alloc, text.as_bytes())?;
-        same_text(rt, text, told.as_str(), wanted);
+    for case in cases {
+        compare_one(rt, alloc, case.0.as_bytes(), case.1)?;
     }
     Ok(())
 }

@@ -1,6 +1,6 @@
 // A process starter over a system in memory with two running keys.
+use crate::children::shell;
 use crate::same::same;
-use crate::starters::children::shell;
 use job_starter::{Call, Killed, StartFault, Started, Starter, System};
 use node_machine::{Key, Outcome, Phase};
 use node_specs::ChildCommand;

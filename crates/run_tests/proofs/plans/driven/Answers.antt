@@ -1,6 +1,6 @@
 use Rattle.std.proofs.Common.{ap}
 use Rattle.event_journal.specs.Image.{replay_of}
-use Rattle.run_tests.proofs.starters.plans.run.Goals as goal
+use Rattle.run_tests.proofs.plans.driven.Goals as goal
 
 pub begin-requires-clause-fresh : goal.begin-requires-clause-fresh
 unfolding replay_of

@@ -1,8 +1,8 @@
 // Runs by a script: no child is started, and each call can be made to fail.
 ghost use Rattle.node_machine.specs.OutcomeTable.{HasPossibleOutcomes};
 
+use crate::plans::{File, NO_LIMITS, in_order, plan_of, run};
 use crate::same::same;
-use crate::starters::plans::{File, NO_LIMITS, plan_of, run};
 use job_starter::{Call, DriveFault, RunEnd, StartFault, Started, Starter};
 use node_machine::{Table, read_table};
 use run_plan::Plan;
@@ -231,13 +231,7 @@ fn no_child_to_wait_for(rt: HostRuntime) -> Result<(), Fail> {
         panic!(rt; "no table");
     };
     let plan = plan_of(alloc, THREE, &SUBMITS)?;
-    let script = Script {
-        places: Vec::new(alloc),
-        failing_start: None,
-        failing_wait: None,
-        lets_go: false,
-    };
-    let mut starter = ScriptedStarter::new(alloc, &plan, &table, script);
+    let mut starter = ScriptedStarter::new(alloc, &plan, &table, in_order(alloc));
     let answer = starter.wait_any();
     let faults = starter.faults();
     drop(starter);

@@ -4,8 +4,8 @@ ghost use Rattle.node_machine.specs.OutcomeTable.{HasPossibleOutcomes};
 ghost use Rattle.run_manager.specs.Managed.{plan_of, past_of};
 ghost use Rattle.recovery.specs.Recovery.{IsNewLife};
 
+use crate::plans::{File, NO_LIMITS, plan_of};
 use crate::same::same;
-use crate::starters::plans::{File, NO_LIMITS, plan_of};
 use event_journal::{Journal, Opened};
 use journal_disks::{Fuse, FuseDisk, MemDisk};
 use node_machine::{Record, Table, read_table};

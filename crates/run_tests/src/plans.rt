@@ -1,17 +1,21 @@
 // Plans of the tests, and what a run of one comes to.
 ghost use Rattle.std.specs.Prelude.{◌≡◌, [], IfOk, IsTrue};
+ghost use Rattle.node_machine.specs.OutcomeTable.{HasPossibleOutcomes};
 ghost use Rattle.job_starter.specs.Calls.{running};
 
-use crate::refused::fault_of;
 use dag_graph::Graph;
 use dag_opener::open_dag;
 use job_starter::{DriveFault, RunEnd, Starter, drive};
 use journal_disks::MemDisk;
+use node_machine::Table;
 use recovery::begin;
-use run_plan::Plan;
+use run_manager::Manager;
+use run_plan::{Plan, PlanFault};
 use sched_core::Core;
+use scripted_starter::{Script, ScriptedStarter};
 use splices::FileSet;
 use std::alloc::Global;
+use std::process::Abort;
 use std::test::Fail;
 use throttles::Limits;
 
@@ -24,6 +28,14 @@ pub const NO_LIMITS: Limits = Limits {
 
 /// A file of a test: its name and its text.
 pub type File = (&'static str, &'static str);
+
+/// The fault of a plan that is refused. The graph that comes back is dropped by a call: a proof spells each of its parts where a
+/// block's end drops it.
+fn fault_of(refused: (Graph, PlanFault)) -> Fail {
+    let (graph, fault) = refused;
+    drop(graph);
+    Fail::from(fault)
+}
 
 /// The plan of a DAG and the submit files of its nodes.
 pub fn plan_of(alloc: Global, dag: &str, submits: &[File]) -> Result<Plan, Fail> {
@@ -40,14 +52,13 @@ pub fn plan_of(alloc: Global, dag: &str, submits: &[File]) -> Result<Plan, Fail>
     }
 }
 
-/// Drives a run of a plan from its beginning, with a starter of no child: how it ended, and what
-/// each node came to.
-pub fn run<S: Starter>(
+/// Drives a run of a plan from its beginning, with a starter of no child: its manager, and how it ended.
+fn driven<'a, S: Starter>(
     alloc: Global,
-    plan: &Plan,
+    plan: &'a Plan,
     limits: Limits,
     starter: &mut S,
-) -> Result<(Result<RunEnd, DriveFault>, String), Fail>
+) -> Result<(Manager<'a, MemDisk>, Result<RunEnd, DriveFault>), Fail>
     requires { running (S.told starter.old) ≡ [] }
 {
     let disk = MemDisk::new(alloc, 100_000);
@@ -56,8 +67,49 @@ pub fn run<S: Starter>(
         Err((_disk, fault)) => return Err(Fail::from(fault)),
     };
     let end = drive(alloc, &mut manager, plan, starter);
+    Ok((manager, end))
+}
+
+/// How a driven run ended, and what each node came to.
+pub fn run<S: Starter>(
+    alloc: Global,
+    plan: &Plan,
+    limits: Limits,
+    starter: &mut S,
+) -> Result<(Result<RunEnd, DriveFault>, String), Fail>
+    requires { running (S.told starter.old) ≡ [] }
+{
+    let (manager, end) = driven(alloc, plan, limits, starter)?;
     let text = shown(alloc, manager.core())?;
     Ok((end, text))
+}
+
+/// The script by which children end in the order of their starts, and no call is refused.
+pub fn in_order(alloc: Global) -> Script
+    ensures { result.places.items ≡ [] }
+{
+    Script {
+        places: Vec::new(alloc),
+        failing_start: None,
+        failing_wait: None,
+        lets_go: false,
+    }
+}
+
+/// The manager of a run whose children ended as a table says, in the order of their starts.
+pub fn by_table<'a>(
+    rt: &impl Abort,
+    alloc: Global,
+    plan: &'a Plan,
+    table: &Table,
+    limits: Limits,
+) -> Result<Manager<'a, MemDisk>, Fail>
+    requires { HasPossibleOutcomes table.now }
+{
+    let mut starter = ScriptedStarter::new(alloc, plan, table, in_order(alloc));
+    let (manager, end) = driven(alloc, plan, limits, &mut starter)?;
+    assert!(rt; end.is_ok());
+    Ok(manager)
 }
 
 /// A line for each node: its name, state, attempts and value.
