@@ -1,0 +1,21 @@
+-- Requests, case by case.
+use Rattle.std.proofs.Common.{ℕ, List, Result, IfOk, string_bytes}
+use Rattle.std.proofs.lemmas.Result.{IfOk-at_ok}
+use Rattle.command_line.specs.Requests.{Asked}
+use Rattle.run_answers.specs.declared.by_journal.Question.{Question}
+use Rattle.run_answers.specs.declared.by_journal.Question.TheVariants.{Status, Audit}
+use Rattle.run_answers.specs.Asked.{IsToldFault}
+use Rattle.dag_texts.specs.declared.fault.RunFault.{RunFault}
+use Rattle.dag_texts.specs.declared.warnings.Answer.{Answer}
+use Rattle.dagrun.specs.Answered.{asked_of, IsRefusal, no_status, not_audited, MayAsk, IsAnswerTo, IsStatusOf, printed, not_printed, IsExit, answered, refused}
+
+pub no-answer : (question : Question) (path : List ℕ) (fault : RunFault) → IsToldFault question path fault → IsRefusal (asked_of question path) fault
+no-answer Status path fault why = no_status path fault why
+no-answer Audit path fault why = not_audited path fault why
+
+-- an answer is printed with its status, or refused
+pub exits : (count : ℕ) (asked : Asked) → MayAsk count asked → (result : Result Answer RunFault)
+    → IfOk result (λ answer. IsAnswerTo asked (string_bytes answer.text) (string_bytes answer.warnings) answer.status)
+    → (status : ℕ) → IsStatusOf result status → IsExit count status
+exits count asked may result is status (printed answer same) = answered asked _ _ answer.status may (IfOk-at_ok _ same is)
+exits count asked may result is status not_printed = refused

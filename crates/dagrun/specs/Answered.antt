@@ -1,0 +1,66 @@
+-- What the program answers to a request, and its exit status (docs/MANUAL.md, "The command line").
+use Rattle.std.specs.Prelude.{◌≡◌, ◌≤◌, ℕ, List, Option, None, Result, Ok, codes, is_some, IfSome}
+use Rattle.splices.specs.FileSet.{bytes_of}
+use Rattle.splices.specs.declared.file_set.FileSet.{FileSet}
+use Rattle.throttles.specs.declared.Limits.{Limits}
+use Rattle.command_line.specs.Requests.{Asked, checks, runs, tells_status, audits, rehearses, no_limits, limits_in, AreLimits}
+use Rattle.command_line.specs.declared.request.RunOptions.{RunOptions}
+use Rattle.dag_files.specs.Beside.{IsFileFault}
+use Rattle.dag_texts.specs.Checked.{IsCheckOf, IsCheckFault}
+use Rattle.dag_texts.specs.declared.fault.RunFault.{RunFault}
+use Rattle.dag_texts.specs.declared.warnings.Answer.{Answer}
+use Rattle.dag_main.specs.Runs.{IsRunOf, IsRunFault}
+use Rattle.run_answers.specs.Asked.{IsToldOfRun, IsToldFault}
+use Rattle.run_answers.specs.declared.by_journal.Question.TheVariants.{Status, Audit}
+use Rattle.run_answers.specs.declared.by_journal.Question.{Question}
+use Rattle.rehearsal.specs.Rehearsed.{IsRehearsalOf, IsRehearsalFault}
+
+-- What `check` answers, of some files of the path.
+abbrev pub IsCheck : (path text warnings : List ℕ) → (status : ℕ) → Type 0
+IsCheck path text warnings status = (files : FileSet) × IsCheckOf (bytes_of files) path text warnings status
+
+-- What `rehearse` answers, of some files of the path, and of the text of a table where one is named.
+pub record IsRehearsal (path : List ℕ) (outcomes : Option (List ℕ)) (limits : Limits) (text warnings : List ℕ) (status : ℕ) : Type 0 where
+  pub files : FileSet
+  pub table : Option (List ℕ)
+  pub is_named : is_some table ≡ is_some outcomes
+  pub rehearsed : IsRehearsalOf (bytes_of files) path table limits text warnings status
+
+-- The answer to a request: the text that is printed, the warnings, and the exit status.
+abbrev pub IsAnswerTo : Asked → (text warnings : List ℕ) → (status : ℕ) → Type 0
+IsAnswerTo (checks path) text warnings status = IsCheck path text warnings status
+IsAnswerTo (runs path options) text warnings status = IsRunOf path text warnings status
+IsAnswerTo (tells_status path) text warnings status = IsToldOfRun Status path text warnings status
+IsAnswerTo (audits path) text warnings status = IsToldOfRun Audit path text warnings status
+IsAnswerTo (rehearses path outcomes limits) text warnings status = IsRehearsal path outcomes limits text warnings status
+
+-- what a question asks for
+abbrev pub asked_of : Question → List ℕ → Asked
+asked_of Status path = tells_status path
+asked_of Audit path = audits path
+
+-- Why a request is refused: the system refuses the folder or a file, or memory ran out; or for a cause of the call that it is for.
+pub data IsRefusal : Asked → RunFault → Type 0 where
+  not_read : (asked : Asked) (fault : RunFault) → IsFileFault fault → IsRefusal asked fault
+  not_checked : (path : List ℕ) (files : FileSet) (fault : RunFault) → IsCheckFault (bytes_of files) path fault → IsRefusal (checks path) fault
+  not_run : (path : List ℕ) (options : RunOptions) (fault : RunFault) → IsRunFault path fault → IsRefusal (runs path options) fault
+  no_status : (path : List ℕ) (fault : RunFault) → IsToldFault Status path fault → IsRefusal (tells_status path) fault
+  not_audited : (path : List ℕ) (fault : RunFault) → IsToldFault Audit path fault → IsRefusal (audits path) fault
+  not_rehearsed : (path : List ℕ) (outcomes table : Option (List ℕ)) (limits : Limits) (files : FileSet) (fault : RunFault) →
+      is_some table ≡ is_some outcomes → IsRehearsalFault (bytes_of files) path table fault → IsRefusal (rehearses path outcomes limits) fault
+
+-- What the words of a command line may ask for, where there are `count` of them, the program's name among them: without others
+-- it is `rehearse -`; and there is always a limit on all children.
+pub record MayAsk (count : ℕ) (asked : Asked) : Type 0 where
+  pub no_words : count ≤ 1 → asked ≡ rehearses (codes "-") None no_limits
+  pub limited : IfSome (limits_in asked) AreLimits
+
+-- The exit status of the program on a command line of `count` words: that of an answer to what they may ask for, or 125.
+pub data IsExit (count : ℕ) : ℕ → Type 0 where
+  answered : (asked : Asked) (text warnings : List ℕ) (status : ℕ) → MayAsk count asked → IsAnswerTo asked text warnings status → IsExit count status
+  refused : IsExit count 125
+
+-- The exit status with which the result of a request is told: that of its answer, once this is printed; else 125.
+pub data IsStatusOf (result : Result Answer RunFault) : ℕ → Type 0 where
+  printed : (answer : Answer) → result ≡ Ok answer → IsStatusOf result answer.status
+  not_printed : IsStatusOf result 125
