@@ -15,9 +15,11 @@ use Rattle.run_manager.specs.Chain.{commands_in}
 use Rattle.job_starter.specs.declared.Call.{Call}
 use Rattle.job_starter.specs.declared.Call.TheVariants as calls
 use Rattle.job_starter.specs.declared.Started.TheVariants.{NotStarted}
+use Rattle.job_starter.specs.declared.driving.DriveFault.{DriveFault}
+use Rattle.job_starter.proofs.Cuts.{halted-of}
 use Rattle.job_starter.proofs.Phases.{noop-quiet}
 use Rattle.job_starter.specs.Calls.{snapshot_of}
-use Rattle.job_starter.specs.Drives.{launch_of, IsCommandAt, IsStep, passes, starts, fails, ends, kills, Drives, no_step, one_more, IsCutOff, clean, launched, failed, ended, Kills, nobody, one_killed, IsHalted, IsStopped}
+use Rattle.job_starter.specs.Drives.{launch_of, IsCommandAt, IsStep, passes, starts, fails, ends, kills, Drives, no_step, one_more, IsCutOff, clean, launched, failed, ended, Kills, nobody, one_killed, IsHalted, IsHaltedBy, IsStopped}
 use Rattle.job_starter.specs.Handed.{handed, HandsAll, HandsAllButOne}
 
 abbrev Exactly : Plan → List Record → List Call → List Record → List Call → Type 0
@@ -125,11 +127,17 @@ halted-hands limits plan may past told after last h =
     then-hands plan past told h.between h.heard after last (drives-exact limits plan may past told h.between h.heard h.steps)
     (cut-hands limits plan may h.between h.heard after last h.cut)
 
+-- so do those that a fault cut off
+pub by-fault-hands : (limits : Limits) (plan : Plan) (may : List Call → Key → Outcome → Type 0) (past : List Record) (told : List Call) (fault : DriveFault) (after : List Record) (last : List Call)
+    → IsHaltedBy limits plan may past told fault after last → HandsAllButOne plan past after told last
+by-fault-hands limits plan may past told fault after last h =
+    halted-hands limits plan may past told after last (halted-of limits plan may past told fault after last h)
+
 -- so do those that were stopped
-pub stopped : (limits : Limits) (plan : Plan) (may : List Call → Key → Outcome → Type 0) (past : List Record) (told : List Call) (after : List Record) (last : List Call)
-    → IsStopped limits plan may past told after last → HandsAllButOne plan past after told last
-stopped limits plan may past told after last s =
-    let h = halted-hands limits plan may past told after s.rest s.halted in
+pub stopped : (limits : Limits) (plan : Plan) (may : List Call → Key → Outcome → Type 0) (past : List Record) (told : List Call) (fault : DriveFault) (after : List Record) (last : List Call)
+    → IsStopped limits plan may past told fault after last → HandsAllButOne plan past after told last
+stopped limits plan may past told fault after last s =
+    let h = by-fault-hands limits plan may past told fault after s.rest s.halted in
     record { own = h.own; are = kills-same s.rest last s.kills ∙ h.are; rest = h.rest; few = h.few; commands = h.commands }
 
 step-adds : (limits : Limits) (plan : Plan) (may : List Call → Key → Outcome → Type 0) (past : List Record) (told : List Call) (after : List Record) (last : List Call)
@@ -149,7 +157,7 @@ drives-adds limits plan may past told _ _ (one_more {between = between} {after =
     let more = step-adds limits plan may between heard after last step in
     (more.0 ++ before.0, more.1 ∙ ap (λ l. more.0 ++ l) before.1 ∙ sym (append_assoc more.0 before.0 past))
 
-cut-adds : (limits : Limits) (plan : Plan) (may : List Call → Key → Outcome → Type 0) (past : List Record) (told : List Call) (after : List Record) (last : List Call)
+pub cut-adds : (limits : Limits) (plan : Plan) (may : List Call → Key → Outcome → Type 0) (past : List Record) (told : List Call) (after : List Record) (last : List Call)
     → IsCutOff limits plan may past told after last → (own : List Record) × (after ≡ own ++ past)
 cut-adds limits plan may past told _ _ clean = ([], refl)
 cut-adds limits plan may past told _ _ (launched {key = key} chosen) = (launch_of past key ∷ [], refl)

@@ -1,6 +1,8 @@
 pub mod Running
 pub mod Counting
 pub mod Steps
+pub mod Cuts
+pub mod Disks
 pub mod Walks
 pub mod Rounds
 pub mod Handing

@@ -10,10 +10,12 @@ use Rattle.node_machine.specs.declared.Record.{Record}
 use Rattle.sched_core.specs.Run.{is_open}
 use Rattle.sched_core.specs.Choices.{IsChoice}
 use Rattle.job_starter.specs.declared.Call.{Call}
+use Rattle.job_starter.specs.declared.driving.DriveFault.{DriveFault}
 use Rattle.job_starter.specs.Calls.{running, TellsNoMore}
-use Rattle.job_starter.specs.Drives.{AreInStep, IsNearerEnd, IsHeld, IsStep, Drives, no_step, one_more, IsCutOff, IsHalted}
+use Rattle.job_starter.specs.Drives.{AreInStep, IsNearerEnd, IsHeld, IsStep, Drives, no_step, one_more, IsCutBy, IsHaltedBy}
 use Rattle.job_starter.proofs.Steps.{nothing-startable}
-use Rattle.job_starter.proofs.Walks.{drives-then, cut-fewer, no_child}
+use Rattle.job_starter.proofs.Cuts.{by-fewer}
+use Rattle.job_starter.proofs.Walks.{drives-then, no_child}
 
 -- how far a walk has come
 pub record Walk (limits : Limits) (plan : Plan) (may : List Call → Key → Outcome → Type 0) (past : List Record) (told : List Call) (after : List Record) (last : List Call) : Type 0 where
@@ -41,12 +43,12 @@ module _ (limits limits' : Limits) (same_limits : limits' ≡ limits) (plan plan
     steps = drives-on more;
   }
 
-  pub halted-at : IsCutOff limits' plan' may' between heard after last → IsHalted limits plan may past told after last
-  halted-at cut = record {
+  pub halted-at : (fault : DriveFault) → IsCutBy limits' plan' may' between heard fault after last → IsHaltedBy limits plan may past told fault after last
+  halted-at fault cut = record {
     between = between;
     heard = heard;
     steps = walk.steps;
-    cut = cut-fewer limits plan may may' between heard after last t (here (λ l p. IsCutOff l p may' between heard after last) cut);
+    cut = by-fewer limits plan may may' between heard fault after last t (here (λ l p. IsCutBy l p may' between heard fault after last) cut);
   }
 
 pub one-step : (limits : Limits) (plan : Plan) (may : List Call → Key → Outcome → Type 0) (past : List Record) (told : List Call) (after : List Record) (last : List Call)

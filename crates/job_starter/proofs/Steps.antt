@@ -1,5 +1,5 @@
 -- What a record makes of a run, and why it is refused.
-use Rattle.std.proofs.Common.{None, arith, ◌≡◌, ℕ, suc, ◌≤◌, Bool, true, false, not, ◌&&◌, ◌||◌, ◌==◌, List, [], ◌∷◌, Option, Some, refl, sym, ap, ◌∙◌, subst, eq-eqb}
+use Rattle.std.proofs.Common.{None, arith, ◌≡◌, ℕ, suc, ◌≤◌, Bool, true, false, not, ◌&&◌, ◌||◌, ◌==◌, List, [], ◌∷◌, Option, Some, Result, Ok, Err, IfErr, refl, sym, ap, ◌∙◌, subst, eq-eqb}
 use Rattle.std.specs.List.{list_all}
 use Rattle.std.proofs.lemmas.Bool.{and_parts, and_from, false≢true, not-true}
 use Rattle.node_machine.specs.declared.Key.{Key}
@@ -28,8 +28,10 @@ use Rattle.sched_core.proofs.Turns.{turn-allowed}
 use Rattle.run_manager.specs.declared.fault.ManagerFault.{ManagerFault}
 use Rattle.run_manager.specs.Managed.{Managed, plan_of, past_of, is_begun, IsRefusal}
 use Rattle.job_starter.specs.declared.driving.DriveFault.{DriveFault}
+use Rattle.job_starter.specs.Moments.{KeepsDisk, CountsOn}
+use Rattle.job_starter.proofs.Disks.{keeps_on, keeps_still, counts_on, counts_still}
 use Rattle.job_starter.proofs.Counting.{rises-before, rises-on}
-use Rattle.job_starter.specs.Causes.{IsRecordRefused, IsDriveFault, no_memory_for_child, no_ending_told, no_memory_for_command, record_refused}
+use Rattle.job_starter.specs.Causes.{IsOfRun, IsRecordRefused, IsDriveFault, no_memory_for_child, no_ending_told, no_memory_for_command, record_refused}
 use Rattle.job_starter.specs.Drives.{launch_of, IsNearerEnd, IsHeld}
 
 -- an ending of what is outstanding is lawful
@@ -114,21 +116,43 @@ children-start plan (other ∷ keys) key all is = go (is_same key other) refl is
     go true same some rest = subst (λ (k : Key). starts_child (node_at plan k.node) k.phase ≡ true) (sym (same-eq key other same)) (and_parts _ _ all).0
     go false same some rest = rest some
 
--- what stopped a run did, however the counts rise later
-pub fault-on : {D : Type 0} (failures capacity : D → ℕ) (before now later : ℕ) (manager : Managed D) (fault : DriveFault) → now ≤ later
-    → IsDriveFault failures capacity before now manager fault → IsDriveFault failures capacity before later manager fault
-fault-on failures capacity before now later manager _ le (no_memory_for_child rises) = no_memory_for_child (rises-on before now later le rises)
-fault-on failures capacity before now later manager _ le (no_ending_told rises) = no_ending_told (rises-on before now later le rises)
-fault-on failures capacity before now later manager _ le no_memory_for_command = no_memory_for_command
-fault-on failures capacity before now later manager _ le (record_refused refused) = record_refused refused
+-- why a run is stopped is so however the counts go on
+pub fault-on : {D : Type 0} (honest : D → Type 0) (failures capacity : D → ℕ) (before now later : ℕ) (old manager : Managed D) (fault : DriveFault) → now ≤ later
+    → IsDriveFault honest failures capacity before now old manager fault → IsDriveFault honest failures capacity before later old manager fault
+fault-on honest failures capacity before now later old manager _ le (no_memory_for_child rises) = no_memory_for_child (rises-on before now later le rises)
+fault-on honest failures capacity before now later old manager _ le (no_ending_told rises) = no_ending_told (rises-on before now later le rises)
+fault-on honest failures capacity before now later old manager _ le no_memory_for_command = no_memory_for_command
+fault-on honest failures capacity before now later old manager _ le (record_refused refused) = record_refused refused
 
--- however the counts stood earlier
-pub fault-before : {D : Type 0} (failures capacity : D → ℕ) (earlier before now : ℕ) (manager : Managed D) (fault : DriveFault) → earlier ≤ before
-    → IsDriveFault failures capacity before now manager fault → IsDriveFault failures capacity earlier now manager fault
-fault-before failures capacity earlier before now manager _ le (no_memory_for_child rises) = no_memory_for_child (rises-before earlier before now le rises)
-fault-before failures capacity earlier before now manager _ le (no_ending_told rises) = no_ending_told (rises-before earlier before now le rises)
-fault-before failures capacity earlier before now manager _ le no_memory_for_command = no_memory_for_command
-fault-before failures capacity earlier before now manager _ le (record_refused refused) = record_refused refused
+-- a record is refused for a call that began earlier too
+pub refused-since : {D : Type 0} (honest : D → Type 0) (failures capacity : D → ℕ) (is_own : Record → Type 0) (old mid manager : Managed D) (fault : ManagerFault)
+    → KeepsDisk honest failures capacity old mid → CountsOn old mid
+    → IsRecordRefused honest failures capacity is_own mid manager fault → IsRecordRefused honest failures capacity is_own old manager fault
+refused-since honest failures capacity is_own old mid manager fault keeps counts r = record {
+  entry = r.entry;
+  own = r.own;
+  then_was = r.then_was;
+  same = r.same;
+  disk = keeps_on honest failures capacity old mid r.then_was keeps r.disk;
+  counts = counts_on old mid r.then_was counts r.counts;
+  lawful = r.lawful;
+  cause = r.cause;
+}
+
+-- however the counts and the manager stood earlier
+pub fault-before : {D : Type 0} (honest : D → Type 0) (failures capacity : D → ℕ) (earlier before now : ℕ) (old mid manager : Managed D) (fault : DriveFault) → earlier ≤ before
+    → KeepsDisk honest failures capacity old mid → CountsOn old mid
+    → IsDriveFault honest failures capacity before now mid manager fault → IsDriveFault honest failures capacity earlier now old manager fault
+fault-before honest failures capacity earlier before now old mid manager _ le keeps counts (no_memory_for_child rises) = no_memory_for_child (rises-before earlier before now le rises)
+fault-before honest failures capacity earlier before now old mid manager _ le keeps counts (no_ending_told rises) = no_ending_told (rises-before earlier before now le rises)
+fault-before honest failures capacity earlier before now old mid manager _ le keeps counts no_memory_for_command = no_memory_for_command
+fault-before honest failures capacity earlier before now old mid manager _ le keeps counts (record_refused {fault = fault} refused) =
+    record_refused (refused-since honest failures capacity IsOfRun old mid manager fault keeps counts refused)
+
+-- what is known of one fault makes another thing known of it
+pub if-err : {X E : Type 0} (P Q : E → Type 0) (result : Result X E) → ((fault : E) → P fault → Q fault) → IfErr result P → IfErr result Q
+if-err P Q (Ok x) more is = tt
+if-err P Q (Err fault) more is = more fault is
 
 pub open-begun : (past : List Record) → is_begun past ≡ true → is_over past ≡ false → is_open past ≡ true
 open-begun [] begun over = absurd (false≢true begun)
@@ -145,12 +169,16 @@ nothing-startable limits plan past nothing node = go (startable limits plan past
         absurd (false≢true (sym (all_below-not (λ n. not (may_launch plan past n)) (suc (count_of plan)) node (launch-within plan past node may) (ap not may)) ∙ nothing))
 
 -- a manager refused a record that may follow
-pub refused-record : {D : Type 0} (failures capacity : D → ℕ) (old new : Managed D) (entry : Record) (fault : ManagerFault)
+pub refused-record : {D : Type 0} (honest : D → Type 0) (failures capacity : D → ℕ) (is_own : Record → Type 0) (old new : Managed D) (entry : Record) (fault : ManagerFault) → is_own entry
     → plan_of new ≡ plan_of old → past_of new ≡ past_of old → may_follow (plan_of old) (past_of old) entry ≡ true
-    → IsRefusal failures capacity (plan_of old) (past_of old) entry old.journal new.journal fault → IsRecordRefused failures capacity new fault
-refused-record failures capacity old new entry fault plan past may cause = record {
+    → IsRefusal failures capacity (plan_of old) (past_of old) entry old.journal new.journal fault → IsRecordRefused honest failures capacity is_own old new fault
+refused-record honest failures capacity is_own old new entry fault own plan past may cause = record {
   entry = entry;
-  earlier = old.journal;
+  own = own;
+  then_was = old;
+  same = sym past;
+  disk = keeps_still honest failures capacity old;
+  counts = counts_still old;
   lawful = (λ j. may_follow (plan j) (past j) entry) ∙ may;
   cause = subst (λ (p : Plan). IsRefusal failures capacity p (past_of new) entry old.journal new.journal fault) (sym plan)
       (subst (λ (r : List Record). IsRefusal failures capacity (plan_of old) r entry old.journal new.journal fault) (sym past) cause);

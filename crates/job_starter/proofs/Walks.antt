@@ -1,5 +1,5 @@
 -- Steps of a run, one behind another.
-use Rattle.std.proofs.Common.{◌≡◌, ℕ, Bool, true, false, not, ◌&&◌, ◌||◌, List, [], ◌∷◌, Result, Ok, Err, Some, refl, sym, ap, ◌∙◌, subst, OnOk, OnErr, if◌then◌else◌}
+use Rattle.std.proofs.Common.{◌≡◌, ℕ, Bool, true, false, not, ◌&&◌, ◌||◌, List, [], ◌∷◌, Result, Ok, Err, Some, refl, sym, ap, ◌∙◌, subst, OnOk, OnErr, IfErr, if◌then◌else◌}
 use Rattle.std.specs.List.{list_all}
 use Rattle.std.proofs.lemmas.Bool.{and_parts, and_from, false≢true}
 use Rattle.node_machine.specs.declared.Key.{Key}
@@ -21,8 +21,11 @@ use Rattle.job_starter.specs.declared.Call.TheVariants as calls
 use Rattle.job_starter.specs.declared.Started.{Started}
 use Rattle.job_starter.specs.declared.Started.TheVariants.{Running, NotStarted}
 use Rattle.job_starter.specs.declared.driving.DriveFault.{DriveFault}
-use Rattle.job_starter.specs.Calls.{running, MayRun, TellsNoMore}
-use Rattle.job_starter.specs.Drives.{launch_of, IsHandedOver, AreInStep, IsHeld, IsStep, passes, starts, fails, ends, kills, final_verdict, Drives, no_step, one_more, IsCutOff, clean, launched, failed, ended, Starts, none_started, one_start, Kills, nobody, one_killed, AbortsAtLast}
+use Rattle.job_starter.specs.declared.driving.DriveFault.TheVariants as drives
+use Rattle.job_starter.specs.Calls.{running, snapshot_of, MayRun, TellsNoMore}
+use Rattle.job_starter.specs.Causes.{IsOfManager, IsUnhanded}
+use Rattle.job_starter.proofs.Cuts.{of-manager, of-unhanded}
+use Rattle.job_starter.specs.Drives.{launch_of, IsHandedOver, AreInStep, IsHeld, IsStep, passes, starts, fails, ends, kills, final_verdict, Drives, no_step, one_more, IsCutOff, clean, launched, failed, ended, IsCutBy, child_refused, command_refused, none_told, launch_refused, pass_refused, fail_refused, end_refused, Starts, none_started, one_start, Kills, nobody, one_killed, AbortsAtLast}
 use Rattle.job_starter.proofs.Steps.{chosen-free}
 
 module _ (limits : Limits) (plan : Plan) (may : List Call → Key → Outcome → Type 0) (past : List Record) (told : List Call) where
@@ -35,43 +38,60 @@ module _ (limits : Limits) (plan : Plan) (may : List Call → Key → Outcome �
       (subst (λ l. IsStep limits plan may past told (End key outcome ∷ past) l) (sym tells) (ends step held ran may_be))
   step-ends (Err fault) after heard key outcome step held ran may_be is tells = tt
 
+  pub end-step : (heard : List Call) (key : Key) (outcome : Outcome)
+      → AreInStep plan past told → IsHeld limits plan past → is_among key (running told) ≡ true → may told key outcome
+      → heard ≡ calls.Ended key outcome ∷ told → IsStep limits plan may past told (End key outcome ∷ past) heard
+  end-step heard key outcome step held ran may_be tells =
+      subst (λ l. IsStep limits plan may past told (End key outcome ∷ past) l) (sym tells) (ends step held ran may_be)
+
   pub cut-ended : (result : Result (Unit {0}) DriveFault) (after : List Record) (heard : List Call) (key : Key) (outcome : Outcome)
-      → IsHeld limits plan past → is_among key (running told) ≡ true → may told key outcome
+      → IfErr result IsOfManager → IsHeld limits plan past → is_among key (running told) ≡ true → may told key outcome
       → OnErr result (after ≡ past) → heard ≡ calls.Ended key outcome ∷ told
-      → OnErr result (IsCutOff limits plan may past told after heard)
-  cut-ended (Ok unit) after heard key outcome held ran may_be is tells = tt
-  cut-ended (Err fault) after heard key outcome held ran may_be is tells =
-      subst (λ records. IsCutOff limits plan may past told records heard) (sym is)
-      (subst (λ l. IsCutOff limits plan may past told past l) (sym tells) (ended held ran may_be))
+      → IfErr result (λ fault. IsCutBy limits plan may past told fault after heard)
+  cut-ended (Ok unit) after heard key outcome by held ran may_be is tells = tt
+  cut-ended (Err fault) after heard key outcome by held ran may_be is tells =
+      subst (λ records. IsCutBy limits plan may past told fault records heard) (sym is)
+      (subst (λ l. IsCutBy limits plan may past told fault past l) (sym tells)
+      (of-manager (λ f. IsCutBy limits plan may past told f past (calls.Ended key outcome ∷ told)) (λ f. end_refused held ran may_be) fault by))
 
   pub cut-told_end : (heard : List Call) (key : Key) (outcome : Outcome) → IsHeld limits plan past → is_among key (running told) ≡ true → may told key outcome
       → heard ≡ calls.Ended key outcome ∷ told → IsCutOff limits plan may past told past heard
   cut-told_end heard key outcome held ran may_be tells =
       subst (λ l. IsCutOff limits plan may past told past l) (sym tells) (ended held ran may_be)
 
-  pub cut-clean : (after : List Record) (heard : List Call) → after ≡ past → heard ≡ told → IsCutOff limits plan may past told after heard
-  cut-clean after heard is same =
-      subst (λ records. IsCutOff limits plan may past told records heard) (sym is)
-      (subst (λ l. IsCutOff limits plan may past told past l) (sym same) clean)
+  pub cut-untold : (heard : List Call) → heard ≡ told → IsHeld limits plan past → is_nothing (outstanding plan past) ≡ false
+      → IsCutBy limits plan may past told drives.WaitFault past heard
+  cut-untold heard same held some = subst (λ l. IsCutBy limits plan may past told drives.WaitFault past l) (sym same) (none_told held some)
+
+  pub cut-unlaunched : (fault : DriveFault) (after : List Record) (key : Key) → IsOfManager fault → IsChoice limits plan past (choices.Start key) → after ≡ past
+      → IsCutBy limits plan may past told fault after told
+  cut-unlaunched fault after key by chosen is =
+      subst (λ records. IsCutBy limits plan may past told fault records told) (sym is)
+      (of-manager (λ f. IsCutBy limits plan may past told f past told) (λ f. launch_refused {key = key} chosen) fault by)
 
   -- behind the launch of a key
   module _ (key : Key) (chosen : IsChoice limits plan past (choices.Start key)) (plan' : Plan) (same_plan : plan' ≡ plan)
       (records : List Record) (is : records ≡ launch_of past key ∷ past) where
+    pub pass-step : AreInStep plan past told → is_noop_job (node_at plan key.node).course key.phase ≡ true
+        → IsStep limits plan may past told (End key (Exit 0) ∷ records) told
+    pass-step step quiet = subst (λ r. IsStep limits plan may past told (End key (Exit 0) ∷ r) told) (sym is) (passes step chosen quiet)
+
     pub step-passes : (result : Result (Unit {0}) DriveFault) (after : List Record) → AreInStep plan past told
         → is_noop_job (node_at plan key.node).course key.phase ≡ true → OnOk result (after ≡ End key (Exit 0) ∷ records)
         → OnOk result (IsStep limits plan may past told after told)
-    step-passes (Ok unit) after step quiet more =
-        subst (λ r. IsStep limits plan may past told r told) (sym (more ∙ ap (λ r. End key (Exit 0) ∷ r) is))
-        (passes step chosen quiet)
+    step-passes (Ok unit) after step quiet more = subst (λ r. IsStep limits plan may past told r told) (sym more) (pass-step step quiet)
     step-passes (Err fault) after step quiet more = tt
 
-    pub cut-launched : (result : Result (Unit {0}) DriveFault) (after : List Record) → OnErr result (after ≡ records)
-        → OnErr result (IsCutOff limits plan may past told after told)
-    cut-launched (Ok unit) after none = tt
-    cut-launched (Err fault) after none = subst (λ r. IsCutOff limits plan may past told r told) (sym (none ∙ is)) (launched chosen)
+    pub cut-passed : (result : Result (Unit {0}) DriveFault) (after : List Record) → IfErr result IsOfManager
+        → is_noop_job (node_at plan key.node).course key.phase ≡ true → OnErr result (after ≡ records)
+        → IfErr result (λ fault. IsCutBy limits plan may past told fault after told)
+    cut-passed (Ok unit) after by quiet none = tt
+    cut-passed (Err fault) after by quiet none =
+        subst (λ r. IsCutBy limits plan may past told fault r told) (sym (none ∙ is))
+        (of-manager (λ f. IsCutBy limits plan may past told f (launch_of past key ∷ past) told) (λ f. pass_refused chosen quiet) fault by)
 
-    pub cut-unhanded : (heard : List Call) → heard ≡ told → IsCutOff limits plan may past told records heard
-    cut-unhanded heard same =
+    pub cut-launched : (heard : List Call) → heard ≡ told → IsCutOff limits plan may past told records heard
+    cut-launched heard same =
         subst (λ r. IsCutOff limits plan may past told r heard) (sym is)
         (subst (λ l. IsCutOff limits plan may past told (launch_of past key ∷ past) l) (sym same) (launched chosen))
 
@@ -84,6 +104,13 @@ module _ (limits : Limits) (plan : Plan) (may : List Call → Key → Outcome �
     child : starts_child (node_at plan' key.node) key.phase ≡ true → starts_child (node_at plan key.node) key.phase ≡ true
     child = subst (λ (p : Plan). starts_child (node_at p key.node) key.phase ≡ true) same_plan
 
+    pub cut-unhanded : (fault : DriveFault) (heard : List Call) → IsUnhanded fault → starts_child (node_at plan' key.node) key.phase ≡ true → heard ≡ told
+        → IsCutBy limits plan may past told fault records heard
+    cut-unhanded fault heard by starting same =
+        subst (λ r. IsCutBy limits plan may past told fault r heard) (sym is)
+        (subst (λ l. IsCutBy limits plan may past told fault (launch_of past key ∷ past) l) (sym same)
+        (of-unhanded (λ f. IsCutBy limits plan may past told f (launch_of past key ∷ past) told) (child_refused chosen (child starting)) (command_refused chosen (child starting)) fault by))
+
     pub step-starts : (heard : List Call) (answer : Started) → answer ≡ Running → AreInStep plan past told
         → starts_child (node_at plan' key.node) key.phase ≡ true → MayRun may told key
         → IsHandedOver plan' records key answer told heard → IsStep limits plan may past told records heard
@@ -92,14 +119,20 @@ module _ (limits : Limits) (plan : Plan) (may : List Call → Key → Outcome �
         subst (λ r. IsStep limits plan may past told r heard) (sym is)
         (subst (λ l. IsStep limits plan may past told (launch_of past key ∷ past) l) (sym h.entry) (starts step chosen (child starting) h.is may_run))
 
+    pub fail-step : (heard : List Call) (answer : Started)
+        → answer ≡ NotStarted → AreInStep plan past told → starts_child (node_at plan' key.node) key.phase ≡ true → may told key NoStart
+        → IsHandedOver plan' records key answer told heard → IsStep limits plan may past told (End key NoStart ∷ records) heard
+    fail-step heard answer fails_ step starting may_be handed =
+        let h = subst (λ a. IsHandedOver plan (launch_of past key ∷ past) key a told heard) fails_ (moved heard answer handed) in
+        subst (λ r. IsStep limits plan may past told (End key NoStart ∷ r) heard) (sym is)
+        (subst (λ l. IsStep limits plan may past told (End key NoStart ∷ launch_of past key ∷ past) l) (sym h.entry) (fails step chosen (child starting) h.is may_be))
+
     pub step-fails : (result : Result (Unit {0}) DriveFault) (after : List Record) (heard : List Call) (answer : Started)
         → answer ≡ NotStarted → AreInStep plan past told → starts_child (node_at plan' key.node) key.phase ≡ true → may told key NoStart
         → IsHandedOver plan' records key answer told heard → OnOk result (after ≡ End key NoStart ∷ records)
         → OnOk result (IsStep limits plan may past told after heard)
     step-fails (Ok unit) after heard answer fails_ step starting may_be handed more =
-        let h = subst (λ a. IsHandedOver plan (launch_of past key ∷ past) key a told heard) fails_ (moved heard answer handed) in
-        subst (λ r. IsStep limits plan may past told r heard) (sym (more ∙ ap (λ r. End key NoStart ∷ r) is))
-        (subst (λ l. IsStep limits plan may past told (End key NoStart ∷ launch_of past key ∷ past) l) (sym h.entry) (fails step chosen (child starting) h.is may_be))
+        subst (λ r. IsStep limits plan may past told r heard) (sym more) (fail-step heard answer fails_ step starting may_be handed)
     step-fails (Err fault) after heard answer fails_ step starting may_be handed more = tt
 
     pub cut-told : (heard : List Call) (answer : Started)
@@ -111,12 +144,16 @@ module _ (limits : Limits) (plan : Plan) (may : List Call → Key → Outcome �
         (subst (λ l. IsCutOff limits plan may past told (launch_of past key ∷ past) l) (sym h.entry) (failed chosen (child starting) h.is may_be))
 
     pub cut-failed : (result : Result (Unit {0}) DriveFault) (after : List Record) (heard : List Call) (answer : Started)
-        → answer ≡ NotStarted → starts_child (node_at plan' key.node) key.phase ≡ true → may told key NoStart
+        → IfErr result IsOfManager → answer ≡ NotStarted → starts_child (node_at plan' key.node) key.phase ≡ true → may told key NoStart
         → IsHandedOver plan' records key answer told heard → OnErr result (after ≡ records)
-        → OnErr result (IsCutOff limits plan may past told after heard)
-    cut-failed (Ok unit) after heard answer fails_ starting may_be handed none = tt
-    cut-failed (Err fault) after heard answer fails_ starting may_be handed none =
-        subst (λ r. IsCutOff limits plan may past told r heard) (sym none) (cut-told heard answer fails_ starting may_be handed)
+        → IfErr result (λ fault. IsCutBy limits plan may past told fault after heard)
+    cut-failed (Ok unit) after heard answer by fails_ starting may_be handed none = tt
+    cut-failed (Err fault) after heard answer by fails_ starting may_be handed none =
+        let h = subst (λ a. IsHandedOver plan (launch_of past key ∷ past) key a told heard) fails_ (moved heard answer handed) in
+        subst (λ r. IsCutBy limits plan may past told fault r heard) (sym (none ∙ is))
+        (subst (λ l. IsCutBy limits plan may past told fault (launch_of past key ∷ past) l) (sym h.entry)
+        (of-manager (λ f. IsCutBy limits plan may past told f (launch_of past key ∷ past) (calls.Started key (snapshot_of h.command) NotStarted ∷ told))
+        (λ f. fail_refused chosen (child starting) h.is may_be) fault by))
 
 -- an abort is no launch
 launch-calm : (plan : Plan) (past : List Record) (key : Key) → is_aborted plan (launch_of past key ∷ past) ≡ is_aborted plan past

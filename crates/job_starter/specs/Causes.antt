@@ -1,8 +1,8 @@
 -- Why a starter refuses a call, and why a run is stopped before its end.
 use Rattle.std.specs.Prelude.{◌≡◌, ℕ, List, [], IsTrue}
 use Rattle.node_machine.specs.declared.Record.{Record}
+use Rattle.node_machine.specs.declared.Record.TheVariants.{Life, Launch, End, Finish}
 use Rattle.sched_core.specs.Run.{may_follow}
-use Rattle.event_journal.specs.declared.journal.Journal.{Journal}
 use Rattle.run_manager.specs.Managed.{Managed, plan_of, past_of, IsRefusal}
 use Rattle.run_manager.specs.declared.fault.ManagerFault.{ManagerFault}
 use Rattle.job_starter.specs.declared.Call.{Call}
@@ -11,6 +11,7 @@ use Rattle.job_starter.specs.declared.StartFault.TheVariants as starts
 use Rattle.job_starter.specs.declared.driving.DriveFault.{DriveFault}
 use Rattle.job_starter.specs.declared.driving.DriveFault.TheVariants as drives
 use Rattle.job_starter.specs.Calls.{running, Rises}
+use Rattle.job_starter.specs.Moments.{KeepsDisk, CountsOn}
 
 -- Why a child is neither started nor answered as not started, by the system's counts of refusals before and after: memory.
 pub data IsStartFault (before now : ℕ) : StartFault → Type 0 where
@@ -25,18 +26,44 @@ pub data IsWaitFault (before now : ℕ) (told : List Call) : StartFault → Type
   waiting_refused : Rises before now → IsWaitFault before now told starts.WaitFault
   no_child_runs : running told ≡ [] → IsWaitFault before now told starts.NoChild
 
--- A manager refused a record that may follow: the disk or memory is the cause, by what it was at that call.
-pub record IsRecordRefused {D : Type 0} (failures capacity : D → ℕ) (manager : Managed D) (fault : ManagerFault) : Type 0 where
-  pub entry : Record
-  pub earlier : Journal D
-  pub lawful : IsTrue (may_follow (plan_of manager) (past_of manager) entry)
-  pub cause : IsRefusal failures capacity (plan_of manager) (past_of manager) entry earlier manager.journal fault
+-- a run records launches and endings
+abbrev pub IsOfRun : Record → Type 0
+IsOfRun (Launch key number) = Unit {0}
+IsOfRun (End key outcome) = Unit {0}
+IsOfRun Life = ⊥
+IsOfRun (Finish status) = ⊥
 
--- Why a run is stopped, by the starter's counts of refusals and by the manager that is left: the starter refused; or memory for
--- a command; or the manager refused a record.
-pub data IsDriveFault {D : Type 0} (failures capacity : D → ℕ) (before now : ℕ) (manager : Managed D) : DriveFault → Type 0 where
-  no_memory_for_child : Rises before now → IsDriveFault failures capacity before now manager drives.StartMemory
-  no_ending_told : Rises before now → IsDriveFault failures capacity before now manager drives.WaitFault
-  no_memory_for_command : IsDriveFault failures capacity before now manager drives.Memory
-  record_refused : {fault : ManagerFault} → IsRecordRefused failures capacity manager fault
-      → IsDriveFault failures capacity before now manager (drives.Manager fault)
+-- A manager refused a record that may follow: the disk or memory is the cause, by what it was at that call. Then it had the records
+-- that are left, and its journal had counted each since the call began; its disk had the same bounds, and had failed no less often.
+pub record IsRecordRefused {D : Type 0} (honest : D → Type 0) (failures capacity : D → ℕ) (is_own : Record → Type 0) (old manager : Managed D) (fault : ManagerFault) : Type 0 where
+  pub entry : Record
+  pub own : is_own entry
+  pub then_was : Managed D
+  pub same : past_of then_was ≡ past_of manager
+  pub disk : KeepsDisk honest failures capacity old then_was
+  pub counts : CountsOn old then_was
+  pub lawful : IsTrue (may_follow (plan_of manager) (past_of manager) entry)
+  pub cause : IsRefusal failures capacity (plan_of manager) (past_of manager) entry then_was.journal manager.journal fault
+
+-- Why a run is stopped, by the starter's counts of refusals and by the manager that was there and that is left: the starter refused;
+-- or memory for a command; or the manager refused a record.
+pub data IsDriveFault {D : Type 0} (honest : D → Type 0) (failures capacity : D → ℕ) (before now : ℕ) (old manager : Managed D) : DriveFault → Type 0 where
+  no_memory_for_child : Rises before now → IsDriveFault honest failures capacity before now old manager drives.StartMemory
+  no_ending_told : Rises before now → IsDriveFault honest failures capacity before now old manager drives.WaitFault
+  no_memory_for_command : IsDriveFault honest failures capacity before now old manager drives.Memory
+  record_refused : {fault : ManagerFault} → IsRecordRefused honest failures capacity IsOfRun old manager fault
+      → IsDriveFault honest failures capacity before now old manager (drives.Manager fault)
+
+-- the manager refused
+abbrev pub IsOfManager : DriveFault → Type 0
+IsOfManager (drives.Manager fault) = Unit {0}
+IsOfManager drives.StartMemory = ⊥
+IsOfManager drives.WaitFault = ⊥
+IsOfManager drives.Memory = ⊥
+
+-- memory was refused for a child or for its command
+abbrev pub IsUnhanded : DriveFault → Type 0
+IsUnhanded drives.StartMemory = Unit {0}
+IsUnhanded drives.Memory = Unit {0}
+IsUnhanded drives.WaitFault = ⊥
+IsUnhanded (drives.Manager fault) = ⊥

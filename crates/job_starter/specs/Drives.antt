@@ -14,15 +14,18 @@ use Rattle.sched_core.specs.declared.Choice.{Choice}
 use Rattle.sched_core.specs.declared.Choice.TheVariants as choices
 use Rattle.node_machine.specs.declared.Record.{Record}
 use Rattle.node_machine.specs.declared.Record.TheVariants.{Launch, End}
-use Rattle.sched_core.specs.Run.{outstanding, is_among, is_aborted, is_open, launch_number}
+use Rattle.sched_core.specs.Run.{outstanding, is_among, is_nothing, is_aborted, is_open, launch_number}
 use Rattle.sched_core.specs.Bound.{records_left}
 use Rattle.sched_core.specs.Choices.{IsChoice, startable}
 use Rattle.sched_core.specs.Commands.{facts_in}
 use Rattle.run_manager.specs.Managed.{Managed}
+use Rattle.run_manager.specs.declared.fault.ManagerFault.{ManagerFault}
 use Rattle.job_starter.specs.declared.Call.{Call}
 use Rattle.job_starter.specs.declared.Call.TheVariants as calls
 use Rattle.job_starter.specs.declared.Started.{Started}
 use Rattle.job_starter.specs.declared.Started.TheVariants.{Running, NotStarted}
+use Rattle.job_starter.specs.declared.driving.DriveFault.{DriveFault}
+use Rattle.job_starter.specs.declared.driving.DriveFault.TheVariants as drives
 use Rattle.job_starter.specs.Calls.{running, snapshot_of, MayRun}
 
 -- the limits that a manager keeps to
@@ -90,7 +93,7 @@ pub data Drives (limits : Limits) (plan : Plan) (may : List Call → Key → Out
   one_more : {between after : List Record} {heard last : List Call} → Drives limits plan may past told between heard
       → IsStep limits plan may between heard after last → Drives limits plan may past told after last
 
--- What is left of a step that a fault or a crash cut off: nothing; a launch that was not handed over, or not recorded as ended; an
+-- What is left of a step that a crash cut off: nothing; a launch that was not handed over, or not recorded as ended; an
 -- answer that is not recorded.
 pub data IsCutOff (limits : Limits) (plan : Plan) (may : List Call → Key → Outcome → Type 0) (past : List Record) (told : List Call) : List Record → List Call → Type 0 where
   clean : IsCutOff limits plan may past told past told
@@ -101,6 +104,27 @@ pub data IsCutOff (limits : Limits) (plan : Plan) (may : List Call → Key → O
       → IsCutOff limits plan may past told (launch_of past key ∷ past) (calls.Started key (snapshot_of command) NotStarted ∷ told)
   ended : {key : Key} {outcome : Outcome} → IsHeld limits plan past → IsTrue (is_among key (running told)) → may told key outcome
       → IsCutOff limits plan may past told past (calls.Ended key outcome ∷ told)
+
+-- What each fault leaves of the step that it cut off. Where memory was refused for the child, or for its command, its launch is
+-- recorded and not handed over. Where no ending was told, nothing more may be launched and some phase is outstanding. Where the
+-- manager refused a record: that of a launch; the end of a NOOP's job or of a child that did not start, of which the launch is
+-- recorded; an ending that was told.
+pub data IsCutBy (limits : Limits) (plan : Plan) (may : List Call → Key → Outcome → Type 0) (past : List Record) (told : List Call) : DriveFault → List Record → List Call → Type 0 where
+  child_refused : {key : Key} → IsChoice limits plan past (choices.Start key) → IsTrue (starts_child (node_at plan key.node) key.phase)
+      → IsCutBy limits plan may past told drives.StartMemory (launch_of past key ∷ past) told
+  command_refused : {key : Key} → IsChoice limits plan past (choices.Start key) → IsTrue (starts_child (node_at plan key.node) key.phase)
+      → IsCutBy limits plan may past told drives.Memory (launch_of past key ∷ past) told
+  none_told : IsHeld limits plan past → IsFalse (is_nothing (outstanding plan past)) → IsCutBy limits plan may past told drives.WaitFault past told
+  launch_refused : {key : Key} {fault : ManagerFault} → IsChoice limits plan past (choices.Start key)
+      → IsCutBy limits plan may past told (drives.Manager fault) past told
+  pass_refused : {key : Key} {fault : ManagerFault} → IsChoice limits plan past (choices.Start key)
+      → IsTrue (is_noop_job (node_at plan key.node).course key.phase)
+      → IsCutBy limits plan may past told (drives.Manager fault) (launch_of past key ∷ past) told
+  fail_refused : {key : Key} {command : ChildCommand} {fault : ManagerFault} → IsChoice limits plan past (choices.Start key)
+      → IsTrue (starts_child (node_at plan key.node) key.phase) → IsCommandAt plan past key command → may told key NoStart
+      → IsCutBy limits plan may past told (drives.Manager fault) (launch_of past key ∷ past) (calls.Started key (snapshot_of command) NotStarted ∷ told)
+  end_refused : {key : Key} {outcome : Outcome} {fault : ManagerFault} → IsHeld limits plan past → IsTrue (is_among key (running told)) → may told key outcome
+      → IsCutBy limits plan may past told (drives.Manager fault) past (calls.Ended key outcome ∷ told)
 
 -- children were to be started; none ended and none was killed
 pub data Starts (told : List Call) : List Call → Type 0 where
@@ -118,19 +142,26 @@ abbrev pub AbortsAtLast : Plan → List Record → Type 0
 AbortsAtLast plan [] = ⊥
 AbortsAtLast plan (newest ∷ past) = IsFalse (is_aborted plan past) × IsTrue (is_aborted plan (newest ∷ past))
 
--- nothing more is to be launched, or the newest record aborted the run
-abbrev pub IsLaunched : Limits → Plan → List Record → Type 0
-IsLaunched limits plan past = IsHeld limits plan past ⊎ AbortsAtLast plan past
+-- nothing more is to be launched; or the newest record aborted the run, which was not aborted before
+abbrev pub IsLaunched : Limits → Plan → List Record → List Record → Type 0
+IsLaunched limits plan before past = IsHeld limits plan past ⊎ (IsFalse (is_aborted plan before) × AbortsAtLast plan past)
 
--- behind a fault or a crash: any number of steps, and the rest of one that was cut off
+-- behind a crash: any number of steps, and the rest of one that was cut off
 pub record IsHalted (limits : Limits) (plan : Plan) (may : List Call → Key → Outcome → Type 0) (past : List Record) (told : List Call) (after : List Record) (last : List Call) : Type 0 where
   pub between : List Record
   pub heard : List Call
   pub steps : Drives limits plan may past told between heard
   pub cut : IsCutOff limits plan may between heard after last
 
+-- behind a fault: any number of steps, and what that fault leaves of one
+pub record IsHaltedBy (limits : Limits) (plan : Plan) (may : List Call → Key → Outcome → Type 0) (past : List Record) (told : List Call) (fault : DriveFault) (after : List Record) (last : List Call) : Type 0 where
+  pub between : List Record
+  pub heard : List Call
+  pub steps : Drives limits plan may past told between heard
+  pub cut : IsCutBy limits plan may between heard fault after last
+
 -- behind a fault: the same, and all children that still ran are killed
-pub record IsStopped (limits : Limits) (plan : Plan) (may : List Call → Key → Outcome → Type 0) (past : List Record) (told : List Call) (after : List Record) (last : List Call) : Type 0 where
+pub record IsStopped (limits : Limits) (plan : Plan) (may : List Call → Key → Outcome → Type 0) (past : List Record) (told : List Call) (fault : DriveFault) (after : List Record) (last : List Call) : Type 0 where
   pub rest : List Call
-  pub halted : IsHalted limits plan may past told after rest
+  pub halted : IsHaltedBy limits plan may past told fault after rest
   pub kills : Kills rest last

@@ -7,11 +7,11 @@ ghost use Rattle.node_specs.specs.Commands.{starts_child};
 ghost use Rattle.sched_core.specs.Run.{is_among, is_aborted, is_over, is_open, is_nothing, outstanding, may_follow, table_of};
 ghost use Rattle.sched_core.specs.Fate.{AreFates, shown};
 ghost use Rattle.sched_core.specs.Choices.{IsChoice};
-ghost use Rattle.run_manager.specs.Managed.{plan_of, past_of};
+ghost use Rattle.run_manager.specs.Managed.{Managed, plan_of, past_of};
 ghost use Rattle.job_starter.specs.Calls.{running, MayRun, TellsNoMore};
-ghost use Rattle.job_starter.specs.Drives.{limits_of, launch_of, AreInStep, IsNearerEnd, IsHandedOver, IsHeld, IsStep, final_verdict, Drives, IsCutOff, Starts, Kills, IsLaunched, IsHalted, IsStopped};
-ghost use Rattle.job_starter.specs.Causes.{IsDriveFault};
-ghost use Rattle.job_starter.specs.Moments.{IsMomentOfRun, AtAnyMoment, StaysAcknowledged, KeepsDisk};
+ghost use Rattle.job_starter.specs.Drives.{limits_of, launch_of, AreInStep, IsNearerEnd, IsHandedOver, IsHeld, IsStep, final_verdict, Drives, IsCutBy, Starts, Kills, IsLaunched, IsHaltedBy, IsStopped};
+ghost use Rattle.job_starter.specs.Causes.{IsDriveFault, IsUnhanded};
+ghost use Rattle.job_starter.specs.Moments.{fault_in, IsMomentOfRun, IsLastMoment, AtAnyMoment, AtTheEnd, UnlessDiskFault, StaysAcknowledged, KeepsDisk, CountsOn};
 
 use crate::keys::key_at;
 use crate::records::{
@@ -86,8 +86,9 @@ fn hand_over<D: Disk + Drop, S: Starter>(
     ensures may_run { IfOk result (λ answer.
         answer ≡ Started.Running → MayRun (S.may_tell starter.old) (S.told starter.old) key) }
     ensures later { S.faults starter.old ≤ S.faults starter.new }
-    ensures refused { IfErr result (IsDriveFault D.faults D.capacity
-        (S.faults starter.old) (S.faults starter.new) manager.now) }
+    ensures refused { (old : Managed D) → IfErr result (IsDriveFault D.honest D.faults D.capacity
+        (S.faults starter.old) (S.faults starter.new) old manager.now) }
+    ensures unhanded { IfErr result IsUnhanded }
     ensures may { TellsNoMore (S.may_tell starter.old) (S.may_tell starter.new) }
 {
     let core = manager.core();
@@ -116,20 +117,26 @@ fn launch_one<D: Disk + Drop, S: Starter>(
     ensures limits { limits_of manager.new ≡ limits_of manager.old }
     ensures step { OnOk result (IsStep (limits_of manager.old) (plan_of manager.old) (S.may_tell starter.old)
         (past_of manager.old) (S.told starter.old) (past_of manager.new) (S.told starter.new)) }
-    ensures cut { OnErr result (IsCutOff (limits_of manager.old) (plan_of manager.old) (S.may_tell starter.old)
-        (past_of manager.old) (S.told starter.old) (past_of manager.new) (S.told starter.new)) }
+    ensures cut { IfErr result (λ fault. IsCutBy (limits_of manager.old) (plan_of manager.old) (S.may_tell starter.old)
+        (past_of manager.old) (S.told starter.old) fault (past_of manager.new) (S.told starter.new)) }
     ensures later { S.faults starter.old ≤ S.faults starter.new }
-    ensures refused { IfErr result (IsDriveFault D.faults D.capacity
-        (S.faults starter.old) (S.faults starter.new) manager.new) }
+    ensures refused { IfErr result (IsDriveFault D.honest D.faults D.capacity
+        (S.faults starter.old) (S.faults starter.new) manager.old manager.new) }
     ensures may { TellsNoMore (S.may_tell starter.old) (S.may_tell starter.new) }
     ensures fewer { OnOk result (IsNearerEnd (plan_of manager.old) (past_of manager.old) (past_of manager.new)) }
     ensures waits_for_none { Starts (S.told starter.old) (S.told starter.new) }
     ensures any_moment { AtAnyMoment D.honest D.seen D.may_leave D.moment D.left_since
         manager.old manager.new (IsMomentOfRun (limits_of manager.old) (plan_of manager.old)
-        (S.may_tell starter.old) (past_of manager.old) (S.told starter.old)) }
-    ensures acknowledged { OnOk result
+        (S.may_tell starter.old) (past_of manager.old) (S.told starter.old) (fault_in result)
+        (past_of manager.new) (S.told starter.new)) }
+    ensures left { OnErr result (AtTheEnd D.honest D.seen D.may_leave manager.old manager.new
+        (IsLastMoment (limits_of manager.old) (plan_of manager.old)
+        (S.may_tell starter.old) (past_of manager.old) (S.told starter.old) (fault_in result)
+        (past_of manager.new) (S.told starter.new))) }
+    ensures acknowledged { UnlessDiskFault (fault_in result)
         (StaysAcknowledged D.honest D.seen D.may_leave manager.old manager.new) }
-    ensures disk { KeepsDisk D.honest D.capacity manager.old manager.new }
+    ensures disk { KeepsDisk D.honest D.faults D.capacity manager.old manager.new }
+    ensures counts { OnOk result (CountsOn manager.old manager.new) }
 {
     keeps_the_law(manager);
     if let Err(fault) = record_launch(manager, key) {
@@ -159,19 +166,25 @@ fn end_one<D: Disk + Drop, S: Starter>(
     ensures limits { limits_of manager.new ≡ limits_of manager.old }
     ensures step { OnOk result (IsStep (limits_of manager.old) (plan_of manager.old) (S.may_tell starter.old)
         (past_of manager.old) (S.told starter.old) (past_of manager.new) (S.told starter.new)) }
-    ensures cut { OnErr result (IsCutOff (limits_of manager.old) (plan_of manager.old) (S.may_tell starter.old)
-        (past_of manager.old) (S.told starter.old) (past_of manager.new) (S.told starter.new)) }
+    ensures cut { IfErr result (λ fault. IsCutBy (limits_of manager.old) (plan_of manager.old) (S.may_tell starter.old)
+        (past_of manager.old) (S.told starter.old) fault (past_of manager.new) (S.told starter.new)) }
     ensures later { S.faults starter.old ≤ S.faults starter.new }
-    ensures refused { IfErr result (IsDriveFault D.faults D.capacity
-        (S.faults starter.old) (S.faults starter.new) manager.new) }
+    ensures refused { IfErr result (IsDriveFault D.honest D.faults D.capacity
+        (S.faults starter.old) (S.faults starter.new) manager.old manager.new) }
     ensures may { TellsNoMore (S.may_tell starter.old) (S.may_tell starter.new) }
     ensures fewer { OnOk result (IsNearerEnd (plan_of manager.old) (past_of manager.old) (past_of manager.new)) }
     ensures any_moment { AtAnyMoment D.honest D.seen D.may_leave D.moment D.left_since
         manager.old manager.new (IsMomentOfRun (limits_of manager.old) (plan_of manager.old)
-        (S.may_tell starter.old) (past_of manager.old) (S.told starter.old)) }
-    ensures acknowledged { OnOk result
+        (S.may_tell starter.old) (past_of manager.old) (S.told starter.old) (fault_in result)
+        (past_of manager.new) (S.told starter.new)) }
+    ensures left { OnErr result (AtTheEnd D.honest D.seen D.may_leave manager.old manager.new
+        (IsLastMoment (limits_of manager.old) (plan_of manager.old)
+        (S.may_tell starter.old) (past_of manager.old) (S.told starter.old) (fault_in result)
+        (past_of manager.new) (S.told starter.new))) }
+    ensures acknowledged { UnlessDiskFault (fault_in result)
         (StaysAcknowledged D.honest D.seen D.may_leave manager.old manager.new) }
-    ensures disk { KeepsDisk D.honest D.capacity manager.old manager.new }
+    ensures disk { KeepsDisk D.honest D.faults D.capacity manager.old manager.new }
+    ensures counts { OnOk result (CountsOn manager.old manager.new) }
 {
     keeps_the_law(manager);
     match starter.wait_any() {
@@ -201,23 +214,32 @@ pub fn launch_round<D: Disk + Drop, S: Starter>(
     // What was recorded and handed over, one step behind another.
     ensures steps { OnOk result (Drives (limits_of manager.old) (plan_of manager.old) (S.may_tell starter.old)
         (past_of manager.old) (S.told starter.old) (past_of manager.new) (S.told starter.new)) }
-    // Nothing more is let in, or the newest record aborts the run.
-    ensures done { OnOk result (IsLaunched (limits_of manager.old) (plan_of manager.old) (past_of manager.new)) }
-    // Behind a fault: steps, and what is left of one that was cut off.
-    ensures stopped { OnErr result (IsHalted (limits_of manager.old) (plan_of manager.old) (S.may_tell starter.old)
-        (past_of manager.old) (S.told starter.old) (past_of manager.new) (S.told starter.new)) }
+    // Nothing more is let in, or the newest record aborts the run, which was not aborted before.
+    ensures done { OnOk result (IsLaunched (limits_of manager.old) (plan_of manager.old)
+        (past_of manager.old) (past_of manager.new)) }
+    // Behind a fault: steps, and what this fault leaves of one.
+    ensures stopped { IfErr result (λ fault. IsHaltedBy (limits_of manager.old) (plan_of manager.old) (S.may_tell starter.old)
+        (past_of manager.old) (S.told starter.old) fault (past_of manager.new) (S.told starter.new)) }
     ensures later { S.faults starter.old ≤ S.faults starter.new }
-    ensures refused { IfErr result (IsDriveFault D.faults D.capacity
-        (S.faults starter.old) (S.faults starter.new) manager.new) }
+    ensures refused { IfErr result (IsDriveFault D.honest D.faults D.capacity
+        (S.faults starter.old) (S.faults starter.new) manager.old manager.new) }
     ensures waits_for_none { Starts (S.told starter.old) (S.told starter.new) }
-    // On an honest disk each image that a crash may leave meanwhile is that of a moment of the run.
+    // On an honest disk each image that a crash may leave meanwhile has what was recorded until some
+    // moment of the call; where the disk refused a record, perhaps that one too.
     ensures any_moment { AtAnyMoment D.honest D.seen D.may_leave D.moment D.left_since
         manager.old manager.new (IsMomentOfRun (limits_of manager.old) (plan_of manager.old)
-        (S.may_tell starter.old) (past_of manager.old) (S.told starter.old)) }
-    // What it recorded is in every later image.
-    ensures acknowledged { OnOk result
+        (S.may_tell starter.old) (past_of manager.old) (S.told starter.old) (fault_in result)
+        (past_of manager.new) (S.told starter.new)) }
+    // Behind a fault none of the records is missing in an image.
+    ensures left { OnErr result (AtTheEnd D.honest D.seen D.may_leave manager.old manager.new
+        (IsLastMoment (limits_of manager.old) (plan_of manager.old)
+        (S.may_tell starter.old) (past_of manager.old) (S.told starter.old) (fault_in result)
+        (past_of manager.new) (S.told starter.new))) }
+    // What it recorded is in every later image, unless the disk refused a record.
+    ensures acknowledged { UnlessDiskFault (fault_in result)
         (StaysAcknowledged D.honest D.seen D.may_leave manager.old manager.new) }
-    ensures disk { KeepsDisk D.honest D.capacity manager.old manager.new }
+    ensures disk { KeepsDisk D.honest D.faults D.capacity manager.old manager.new }
+    ensures counts { OnOk result (CountsOn manager.old manager.new) }
 {
     let _plan = plan;
     goes_on(manager);
@@ -268,20 +290,26 @@ fn act<D: Disk + Drop, S: Starter>(
     ensures limits { limits_of manager.new ≡ limits_of manager.old }
     ensures step { OnOk result (IsStep (limits_of manager.old) (plan_of manager.old) (S.may_tell starter.old)
         (past_of manager.old) (S.told starter.old) (past_of manager.new) (S.told starter.new)) }
-    ensures cut { OnErr result (IsCutOff (limits_of manager.old) (plan_of manager.old) (S.may_tell starter.old)
-        (past_of manager.old) (S.told starter.old) (past_of manager.new) (S.told starter.new)) }
+    ensures cut { IfErr result (λ fault. IsCutBy (limits_of manager.old) (plan_of manager.old) (S.may_tell starter.old)
+        (past_of manager.old) (S.told starter.old) fault (past_of manager.new) (S.told starter.new)) }
     ensures later { S.faults starter.old ≤ S.faults starter.new }
-    ensures refused { IfErr result (IsDriveFault D.faults D.capacity
-        (S.faults starter.old) (S.faults starter.new) manager.new) }
+    ensures refused { IfErr result (IsDriveFault D.honest D.faults D.capacity
+        (S.faults starter.old) (S.faults starter.new) manager.old manager.new) }
     ensures may { TellsNoMore (S.may_tell starter.old) (S.may_tell starter.new) }
     ensures fewer { OnOk result
         (IsNearerEnd (plan_of manager.old) (past_of manager.old) (past_of manager.new)) }
     ensures any_moment { AtAnyMoment D.honest D.seen D.may_leave D.moment D.left_since
         manager.old manager.new (IsMomentOfRun (limits_of manager.old) (plan_of manager.old)
-        (S.may_tell starter.old) (past_of manager.old) (S.told starter.old)) }
-    ensures acknowledged { OnOk result
+        (S.may_tell starter.old) (past_of manager.old) (S.told starter.old) (fault_in result)
+        (past_of manager.new) (S.told starter.new)) }
+    ensures left { OnErr result (AtTheEnd D.honest D.seen D.may_leave manager.old manager.new
+        (IsLastMoment (limits_of manager.old) (plan_of manager.old)
+        (S.may_tell starter.old) (past_of manager.old) (S.told starter.old) (fault_in result)
+        (past_of manager.new) (S.told starter.new))) }
+    ensures acknowledged { UnlessDiskFault (fault_in result)
         (StaysAcknowledged D.honest D.seen D.may_leave manager.old manager.new) }
-    ensures disk { KeepsDisk D.honest D.capacity manager.old manager.new }
+    ensures disk { KeepsDisk D.honest D.faults D.capacity manager.old manager.new }
+    ensures counts { OnOk result (CountsOn manager.old manager.new) }
 {
     match choice {
         Choice::Start(key) => launch_one(alloc, manager, starter, key),
@@ -310,18 +338,24 @@ fn turn<D: Disk + Drop, S: Starter>(
     ensures open { IfOk result (λ end. IfSome end (λ verdict. IsTrue (is_open (past_of manager.new)))) }
     ensures fewer { IfOk result (λ end. IfNone end (
         IsNearerEnd (plan_of manager.old) (past_of manager.old) (past_of manager.new))) }
-    ensures cut { OnErr result (IsCutOff (limits_of manager.old) (plan_of manager.old) (S.may_tell starter.old)
-        (past_of manager.old) (S.told starter.old) (past_of manager.new) (S.told starter.new)) }
+    ensures cut { IfErr result (λ fault. IsCutBy (limits_of manager.old) (plan_of manager.old) (S.may_tell starter.old)
+        (past_of manager.old) (S.told starter.old) fault (past_of manager.new) (S.told starter.new)) }
     ensures later { S.faults starter.old ≤ S.faults starter.new }
-    ensures refused { IfErr result (IsDriveFault D.faults D.capacity
-        (S.faults starter.old) (S.faults starter.new) manager.new) }
+    ensures refused { IfErr result (IsDriveFault D.honest D.faults D.capacity
+        (S.faults starter.old) (S.faults starter.new) manager.old manager.new) }
     ensures may { TellsNoMore (S.may_tell starter.old) (S.may_tell starter.new) }
     ensures any_moment { AtAnyMoment D.honest D.seen D.may_leave D.moment D.left_since
         manager.old manager.new (IsMomentOfRun (limits_of manager.old) (plan_of manager.old)
-        (S.may_tell starter.old) (past_of manager.old) (S.told starter.old)) }
-    ensures acknowledged { OnOk result
+        (S.may_tell starter.old) (past_of manager.old) (S.told starter.old) (fault_in result)
+        (past_of manager.new) (S.told starter.new)) }
+    ensures left { OnErr result (AtTheEnd D.honest D.seen D.may_leave manager.old manager.new
+        (IsLastMoment (limits_of manager.old) (plan_of manager.old)
+        (S.may_tell starter.old) (past_of manager.old) (S.told starter.old) (fault_in result)
+        (past_of manager.new) (S.told starter.new))) }
+    ensures acknowledged { UnlessDiskFault (fault_in result)
         (StaysAcknowledged D.honest D.seen D.may_leave manager.old manager.new) }
-    ensures disk { KeepsDisk D.honest D.capacity manager.old manager.new }
+    ensures disk { KeepsDisk D.honest D.faults D.capacity manager.old manager.new }
+    ensures counts { OnOk result (CountsOn manager.old manager.new) }
 {
     keeps_the_law(manager);
     let before = is_aborted(manager);
@@ -354,17 +388,23 @@ fn run<D: Disk + Drop, S: Starter>(
     ensures over { IfOk result (λ verdict.
         IsChoice (limits_of manager.old) (plan_of manager.old) (past_of manager.new) (Choice.Finish verdict)) }
     ensures open { OnOk result (IsTrue (is_open (past_of manager.new))) }
-    ensures stopped { OnErr result (IsHalted (limits_of manager.old) (plan_of manager.old) (S.may_tell starter.old)
-        (past_of manager.old) (S.told starter.old) (past_of manager.new) (S.told starter.new)) }
+    ensures stopped { IfErr result (λ fault. IsHaltedBy (limits_of manager.old) (plan_of manager.old) (S.may_tell starter.old)
+        (past_of manager.old) (S.told starter.old) fault (past_of manager.new) (S.told starter.new)) }
     ensures later { S.faults starter.old ≤ S.faults starter.new }
-    ensures refused { IfErr result (IsDriveFault D.faults D.capacity
-        (S.faults starter.old) (S.faults starter.new) manager.new) }
+    ensures refused { IfErr result (IsDriveFault D.honest D.faults D.capacity
+        (S.faults starter.old) (S.faults starter.new) manager.old manager.new) }
     ensures any_moment { AtAnyMoment D.honest D.seen D.may_leave D.moment D.left_since
         manager.old manager.new (IsMomentOfRun (limits_of manager.old) (plan_of manager.old)
-        (S.may_tell starter.old) (past_of manager.old) (S.told starter.old)) }
-    ensures acknowledged { OnOk result
+        (S.may_tell starter.old) (past_of manager.old) (S.told starter.old) (fault_in result)
+        (past_of manager.new) (S.told starter.new)) }
+    ensures left { OnErr result (AtTheEnd D.honest D.seen D.may_leave manager.old manager.new
+        (IsLastMoment (limits_of manager.old) (plan_of manager.old)
+        (S.may_tell starter.old) (past_of manager.old) (S.told starter.old) (fault_in result)
+        (past_of manager.new) (S.told starter.new))) }
+    ensures acknowledged { UnlessDiskFault (fault_in result)
         (StaysAcknowledged D.honest D.seen D.may_leave manager.old manager.new) }
-    ensures disk { KeepsDisk D.honest D.capacity manager.old manager.new }
+    ensures disk { KeepsDisk D.honest D.faults D.capacity manager.old manager.new }
+    ensures counts { OnOk result (CountsOn manager.old manager.new) }
 {
     keeps_the_law(manager);
     loop {
@@ -409,22 +449,30 @@ pub fn drive<D: Disk + Drop, S: Starter>(
     // Without abort the run shows the fates that the recursion over parents reads from its endings.
     ensures fates { IfOk result (λ end. IsFalse end.aborted → AreFates (plan_of manager.old)
         (table_of (past_of manager.new)) (shown (plan_of manager.old) (past_of manager.new))) }
-    // Behind a fault: steps, what is left of one that was cut off, and kills.
-    ensures stopped { OnErr result (IsStopped (limits_of manager.old) (plan_of manager.old) (S.may_tell starter.old)
-        (past_of manager.old) (S.told starter.old) (past_of manager.new) (S.told starter.new)) }
+    // Behind a fault: steps, what this fault leaves of one, and kills.
+    ensures stopped { IfErr result (λ fault. IsStopped (limits_of manager.old) (plan_of manager.old) (S.may_tell starter.old)
+        (past_of manager.old) (S.told starter.old) fault (past_of manager.new) (S.told starter.new)) }
     // No child runs, however the call returns.
     ensures none_left { running (S.told starter.new) ≡ [] }
     ensures later { S.faults starter.old ≤ S.faults starter.new }
-    ensures refused { IfErr result (IsDriveFault D.faults D.capacity
-        (S.faults starter.old) (S.faults starter.new) manager.new) }
-    // On an honest disk each image that a crash may leave meanwhile is that of a moment of the run.
+    ensures refused { IfErr result (IsDriveFault D.honest D.faults D.capacity
+        (S.faults starter.old) (S.faults starter.new) manager.old manager.new) }
+    // On an honest disk each image that a crash may leave meanwhile has what was recorded until some
+    // moment of the call; where the disk refused a record, perhaps that one too.
     ensures any_moment { AtAnyMoment D.honest D.seen D.may_leave D.moment D.left_since
         manager.old manager.new (IsMomentOfRun (limits_of manager.old) (plan_of manager.old)
-        (S.may_tell starter.old) (past_of manager.old) (S.told starter.old)) }
-    // What it recorded is in every later image.
-    ensures acknowledged { OnOk result
+        (S.may_tell starter.old) (past_of manager.old) (S.told starter.old) (fault_in result)
+        (past_of manager.new) (S.told starter.new)) }
+    // Behind a fault none of the records is missing in an image.
+    ensures left { OnErr result (AtTheEnd D.honest D.seen D.may_leave manager.old manager.new
+        (IsLastMoment (limits_of manager.old) (plan_of manager.old)
+        (S.may_tell starter.old) (past_of manager.old) (S.told starter.old) (fault_in result)
+        (past_of manager.new) (S.told starter.new))) }
+    // What it recorded is in every later image, unless the disk refused a record.
+    ensures acknowledged { UnlessDiskFault (fault_in result)
         (StaysAcknowledged D.honest D.seen D.may_leave manager.old manager.new) }
-    ensures disk { KeepsDisk D.honest D.capacity manager.old manager.new }
+    ensures disk { KeepsDisk D.honest D.faults D.capacity manager.old manager.new }
+    ensures counts { OnOk result (CountsOn manager.old manager.new) }
 {
     let _plan = plan;
     goes_on(manager);

@@ -1,6 +1,6 @@
 //! What holds of the definitions alone. No program calls these functions.
 
-ghost use Rattle.std.specs.Prelude.{◌≡◌, ℕ, List, [], ◌∷◌};
+ghost use Rattle.std.specs.Prelude.{◌≡◌, ℕ, List, [], ◌∷◌, Option};
 ghost use Rattle.node_machine.specs.declared.Key.{Key};
 ghost use Rattle.node_machine.specs.declared.Outcome.{Outcome};
 ghost use Rattle.node_machine.specs.Story.{Table};
@@ -15,8 +15,9 @@ ghost use Rattle.sched_core.specs.declared.Choice.TheVariants as choices;
 ghost use Rattle.event_journal.specs.Image.{Header};
 ghost use Rattle.run_manager.specs.Chain.{ReadsForInputs};
 ghost use Rattle.job_starter.specs.declared.Call.{Call};
+ghost use Rattle.job_starter.specs.declared.driving.DriveFault.{DriveFault};
 ghost use Rattle.job_starter.specs.Calls.{running};
-ghost use Rattle.job_starter.specs.Drives.{AreInStep, Drives, IsHalted, IsStopped};
+ghost use Rattle.job_starter.specs.Drives.{AreInStep, Drives, IsHalted, IsHaltedBy, IsStopped};
 ghost use Rattle.job_starter.specs.Handed.{HandsAll, HandsAllButOne};
 ghost use Rattle.job_starter.specs.Moments.{IsMomentOfRun, IsLifeAt};
 ghost use Rattle.job_starter.specs.Scripts.{IsScripted};
@@ -33,19 +34,23 @@ pub fn hand_over<S: Starter>()
     ensures halted { (limits : Limits) (plan : Plan) (starter : S) (past : List Record)
         (told : List Call) (after : List Record) (last : List Call) →
         IsHalted limits plan (S.may_tell starter) past told after last → HandsAllButOne plan past after told last }
+    ensures halted_by { (limits : Limits) (plan : Plan) (starter : S) (past : List Record)
+        (told : List Call) (fault : DriveFault) (after : List Record) (last : List Call) →
+        IsHaltedBy limits plan (S.may_tell starter) past told fault after last → HandsAllButOne plan past after told last }
     ensures stopped { (limits : Limits) (plan : Plan) (starter : S) (past : List Record)
-        (told : List Call) (after : List Record) (last : List Call) →
-        IsStopped limits plan (S.may_tell starter) past told after last → HandsAllButOne plan past after told last }
+        (told : List Call) (fault : DriveFault) (after : List Record) (last : List Call) →
+        IsStopped limits plan (S.may_tell starter) past told fault after last → HandsAllButOne plan past after told last }
 {}
 
 /// A run that a manager began or went on with stopped at some moment of `launch_round` or `drive`,
-/// by a crash: what it recorded, what it handed over and the image that it left make it a life of
+/// by a crash, or behind a fault: what it recorded, what it handed over and the image that it left make it a life of
 /// the run, of the bytes that the manager found.
 pub fn stops<S: Starter>()
     ensures { (limits : Limits) (plan : Plan) (starter : S) (past : List Record)
-        (told : List Call) (header : Header) (found image : List ℕ) →
+        (told : List Call) (fault : Option DriveFault) (kept : List Record) (last : List Call)
+        (header : Header) (found image : List ℕ) →
         header.digest ≡ plan.digest → ReadsForInputs plan past found →
-        (stop : IsMomentOfRun limits plan (S.may_tell starter) (Life ∷ past) told header image) →
+        (stop : IsMomentOfRun limits plan (S.may_tell starter) (Life ∷ past) told fault kept last header image) →
         IsLifeAt past told found image stop }
 {}
 

@@ -3,12 +3,12 @@ ghost use Rattle.std.specs.Prelude.{◌≡◌, ℕ, ◌∷◌, ◌≤◌, ◌&&�
 ghost use Rattle.node_machine.specs.Story.{is_possible, may_end_with};
 ghost use Rattle.run_plan.specs.Plan.{node_at, count_of};
 ghost use Rattle.node_specs.specs.Commands.{starts_child};
-ghost use Rattle.sched_core.specs.Run.{is_among, is_aborted, is_lawful, is_over, is_open, outstanding};
+ghost use Rattle.sched_core.specs.Run.{is_among, is_aborted, is_lawful, is_over, is_open, outstanding, may_follow};
 ghost use Rattle.sched_core.specs.Choices.{IsChoice};
-ghost use Rattle.run_manager.specs.Managed.{plan_of, past_of, ReadsBeforeOrAfter};
+ghost use Rattle.run_manager.specs.Managed.{plan_of, past_of};
 ghost use Rattle.job_starter.specs.Drives.{limits_of, launch_of, IsNearerEnd};
-ghost use Rattle.job_starter.specs.Causes.{IsDriveFault};
-ghost use Rattle.job_starter.specs.Moments.{AtAnyMoment, StaysAcknowledged, KeepsDisk};
+ghost use Rattle.job_starter.specs.Causes.{IsDriveFault, IsOfManager};
+ghost use Rattle.job_starter.specs.Moments.{fault_in, ReadsBy, AtAnyMoment, UnlessDiskFault, StaysAcknowledged, KeepsDisk, CountsOn};
 
 use crate::DriveFault;
 use event_journal::Disk;
@@ -71,14 +71,18 @@ pub fn record_launch<D: Disk + Drop>(
         (past_of manager.new ≡ launch_of (past_of manager.old) key ∷ past_of manager.old) }
     ensures past_err { OnErr result (past_of manager.new ≡ past_of manager.old) }
     ensures refused { (before now : ℕ)
-        → IfErr result (IsDriveFault D.faults D.capacity before now manager.new) }
+        → IfErr result (IsDriveFault D.honest D.faults D.capacity before now manager.old manager.new) }
+    ensures by_manager { IfErr result IsOfManager }
     ensures fewer { OnOk result (IsNearerEnd (plan_of manager.old) (past_of manager.old) (past_of manager.new)) }
-    ensures any_moment { AtAnyMoment D.honest D.seen D.may_leave D.moment D.left_since
-        manager.old manager.new (λ header. ReadsBeforeOrAfter header (past_of manager.old)
+    ensures lawful { IsTrue (may_follow (plan_of manager.old) (past_of manager.old)
         (launch_of (past_of manager.old) key)) }
-    ensures acknowledged { OnOk result
+    ensures any_moment { AtAnyMoment D.honest D.seen D.may_leave D.moment D.left_since
+        manager.old manager.new (λ header. ReadsBy (fault_in result) header (past_of manager.old)
+        (launch_of (past_of manager.old) key)) }
+    ensures acknowledged { UnlessDiskFault (fault_in result)
         (StaysAcknowledged D.honest D.seen D.may_leave manager.old manager.new) }
-    ensures disk { KeepsDisk D.honest D.capacity manager.old manager.new }
+    ensures disk { KeepsDisk D.honest D.faults D.capacity manager.old manager.new }
+    ensures counts { OnOk result (CountsOn manager.old manager.new) }
     ensures within { key.node ≤ count_of (plan_of manager.old) }
     ensures allowed { key.attempt ≤ (node_at (plan_of manager.old) key.node).course.retries }
     ensures free { IsFalse (is_among key (outstanding (plan_of manager.old) (past_of manager.old))) }
@@ -106,14 +110,18 @@ pub fn record_end<D: Disk + Drop>(
         (past_of manager.new ≡ Record.End key outcome ∷ past_of manager.old) }
     ensures past_err { OnErr result (past_of manager.new ≡ past_of manager.old) }
     ensures refused { (before now : ℕ)
-        → IfErr result (IsDriveFault D.faults D.capacity before now manager.new) }
+        → IfErr result (IsDriveFault D.honest D.faults D.capacity before now manager.old manager.new) }
+    ensures by_manager { IfErr result IsOfManager }
     ensures fewer { OnOk result (IsNearerEnd (plan_of manager.old) (past_of manager.old) (past_of manager.new)) }
-    ensures any_moment { AtAnyMoment D.honest D.seen D.may_leave D.moment D.left_since
-        manager.old manager.new (λ header. ReadsBeforeOrAfter header (past_of manager.old)
+    ensures lawful { IsTrue (may_follow (plan_of manager.old) (past_of manager.old)
         (Record.End key outcome)) }
-    ensures acknowledged { OnOk result
+    ensures any_moment { AtAnyMoment D.honest D.seen D.may_leave D.moment D.left_since
+        manager.old manager.new (λ header. ReadsBy (fault_in result) header (past_of manager.old)
+        (Record.End key outcome)) }
+    ensures acknowledged { UnlessDiskFault (fault_in result)
         (StaysAcknowledged D.honest D.seen D.may_leave manager.old manager.new) }
-    ensures disk { KeepsDisk D.honest D.capacity manager.old manager.new }
+    ensures disk { KeepsDisk D.honest D.faults D.capacity manager.old manager.new }
+    ensures counts { OnOk result (CountsOn manager.old manager.new) }
 {
     keeps_the_law(manager);
     match manager.record_end(key, outcome) {
