@@ -149,10 +149,13 @@ fault-before honest failures capacity earlier before now old mid manager _ le ke
 fault-before honest failures capacity earlier before now old mid manager _ le keeps counts (record_refused {fault = fault} refused) =
     record_refused (refused-since honest failures capacity IsOfRun old mid manager fault keeps counts refused)
 
--- what is known of one fault makes another thing known of it
-pub if-err : {X E : Type 0} (P Q : E → Type 0) (result : Result X E) → ((fault : E) → P fault → Q fault) → IfErr result P → IfErr result Q
-if-err P Q (Ok x) more is = tt
-if-err P Q (Err fault) more is = more fault is
+-- why a call is refused that went on from another
+pub refused-later : {D X : Type 0} (honest : D → Type 0) (failures capacity : D → ℕ) (before now : ℕ) (old mid manager : Managed D) (result : Result X DriveFault)
+    → KeepsDisk honest failures capacity old mid → CountsOn old mid
+    → IfErr result (IsDriveFault honest failures capacity before now mid manager) → IfErr result (IsDriveFault honest failures capacity before now old manager)
+refused-later honest failures capacity before now old mid manager (Ok x) keeps counts is = tt
+refused-later honest failures capacity before now old mid manager (Err fault) keeps counts is =
+    fault-before honest failures capacity before before now old mid manager fault (let le : before ≤ before = omega arith in le) keeps counts is
 
 pub open-begun : (past : List Record) → is_begun past ≡ true → is_over past ≡ false → is_open past ≡ true
 open-begun [] begun over = absurd (false≢true begun)

@@ -1,21 +1,24 @@
 -- Steps of a run, one behind another.
-use Rattle.std.proofs.Common.{◌≡◌, ℕ, Bool, true, false, not, ◌&&◌, ◌||◌, List, [], ◌∷◌, Result, Ok, Err, Some, refl, sym, ap, ◌∙◌, subst, OnOk, OnErr, IfErr, if◌then◌else◌}
+use Rattle.std.proofs.Common.{arith, ◌≡◌, ◌==◌, ◌<◌, ◌++◌, ℕ, zero, suc, Bool, true, false, not, ◌&&◌, ◌||◌, eqb-true, List, [], ◌∷◌, Result, Ok, Err, Some, refl, sym, ap, ◌∙◌, subst, OnOk, OnErr, IfErr, if◌then◌else◌}
 use Rattle.std.specs.List.{list_all}
-use Rattle.std.proofs.lemmas.Bool.{and_parts, and_from, false≢true}
+use Rattle.std.proofs.lemmas.Bool.{and_parts, and_from, not-true, false≢true}
 use Rattle.node_machine.specs.declared.Key.{Key}
 use Rattle.node_machine.specs.declared.Outcome.{Outcome}
 use Rattle.node_machine.specs.declared.Outcome.TheVariants.{Exit, NoStart}
-use Rattle.node_machine.specs.Story.{is_noop_job}
+use Rattle.node_machine.specs.Story.{is_noop_job, value_after}
 use Rattle.throttles.specs.declared.Limits.{Limits}
-use Rattle.run_plan.specs.Plan.{Plan, node_at}
+use Rattle.run_plan.specs.Plan.{Plan, node_at, count_of, all_below}
 use Rattle.node_specs.specs.Commands.{starts_child}
 use Rattle.sched_core.specs.declared.Choice.{Choice}
 use Rattle.sched_core.specs.declared.Choice.TheVariants as choices
 use Rattle.node_machine.specs.declared.Record.{Record}
 use Rattle.node_machine.specs.declared.Record.TheVariants.{End}
-use Rattle.sched_core.specs.Run.{is_open, is_lawful, is_among, is_same, is_nothing, outstanding, without, is_aborted}
+use Rattle.sched_core.specs.Run.{history, is_met, has_abort_value, is_open, is_lawful, is_among, is_same, is_nothing, outstanding, without, is_aborted}
 use Rattle.sched_core.specs.Choices.{IsChoice}
+use Rattle.sched_core.proofs.Alone.{alone, among-ordinary}
+use Rattle.sched_core.proofs.Best.{chosen-follows}
 use Rattle.sched_core.proofs.Keys.{same-self}
+use Rattle.sched_core.proofs.Sweeps.{all_below-not}
 use Rattle.job_starter.specs.declared.Call.{Call}
 use Rattle.job_starter.specs.declared.Call.TheVariants as calls
 use Rattle.job_starter.specs.declared.Started.{Started}
@@ -24,6 +27,7 @@ use Rattle.job_starter.specs.declared.driving.DriveFault.{DriveFault}
 use Rattle.job_starter.specs.declared.driving.DriveFault.TheVariants as drives
 use Rattle.job_starter.specs.Calls.{running, snapshot_of, MayRun, TellsNoMore}
 use Rattle.job_starter.specs.Causes.{IsOfManager, IsUnhanded}
+use Rattle.job_starter.specs.Moments.{IsOlderPart}
 use Rattle.job_starter.proofs.Cuts.{of-manager, of-unhanded}
 use Rattle.job_starter.specs.Drives.{launch_of, IsHandedOver, AreInStep, IsHeld, IsStep, passes, starts, fails, ends, kills, final_verdict, Drives, no_step, one_more, IsCutOff, clean, launched, failed, ended, IsCutBy, child_refused, command_refused, none_told, launch_refused, pass_refused, fail_refused, end_refused, Starts, none_started, one_start, Kills, nobody, one_killed, AbortsAtLast}
 use Rattle.job_starter.proofs.Steps.{chosen-free}
@@ -292,6 +296,58 @@ step-aborts limits plan may past told _ _ (fails {key = key} s chosen child comm
 step-aborts limits plan may past told _ _ (ends s held ran may_be) calm aborted = (calm, aborted)
 step-aborts limits plan may past told _ _ (kills ran free) calm aborted = absurd (false≢true (sym calm ∙ aborted))
 
+-- an ending behind an abort is none of an ordinary node, so that the run stays aborted
+end-stays : (plan : Plan) (past : List Record) (key : Key) (outcome : Outcome) → is_lawful plan past ≡ true → is_among key (outstanding plan past) ≡ true
+    → is_aborted plan past ≡ true → is_aborted plan (End key outcome ∷ past) ≡ true
+unfolding is_aborted
+end-stays plan past key outcome lawful among aborted =
+    let low = among-ordinary plan key (outstanding plan past) ((alone plan past lawful).aborted aborted) among in
+    let some = below-some (λ node. not (has_abort_value plan past node)) (count_of plan) (not-true _ aborted) in
+    let ne : (key.node == some.0) ≡ false = (let lt = some.1 in let differ : key.node ≡ some.0 → ⊥ = (λ is. omega (arith, low, lt, is)) in apart key.node some.0 differ) in
+    let kept : has_abort_value plan (End key outcome ∷ past) some.0 ≡ has_abort_value plan past some.0 =
+    (λ j. is_met (node_at plan some.0).course.abort_on (value_after (node_at plan some.0).course
+    (if ne j then history past some.0 ++ record { attempt = key.attempt; phase = key.phase; outcome = outcome } ∷ [] else history past some.0))) in
+    ap not (all_below-not (λ node. not (has_abort_value plan (End key outcome ∷ past) node)) (count_of plan) some.0 some.1 (ap not kept ∙ some.2))
+  where
+    below-some : (test : ℕ → Bool) (n : ℕ) → all_below test n ≡ false → (k : ℕ) × (k < n) × (test k ≡ false)
+    below-some test zero e = absurd (false≢true (sym e))
+    below-some test (suc n) e = go (test n) refl (below-some test n)
+      where
+        go : (b : Bool) → test n ≡ b → (all_below test n ≡ false → (k : ℕ) × (k < n) × (test k ≡ false)) → (k : ℕ) × (k < suc n) × (test k ≡ false)
+        go false is deeper = (n, omega arith, is)
+        go true is deeper = let d = deeper ((λ j. sym is j && all_below test n) ∙ e) in (d.0, (let lt = d.1 in omega (arith, lt)), d.2)
+
+    apart : (a b : ℕ) → (a ≡ b → ⊥) → (a == b) ≡ false
+    apart a b differ = go (a == b) refl
+      where
+        go : (c : Bool) → (a == b) ≡ c → (a == b) ≡ false
+        go true e = absurd (differ (eqb-true a b e))
+        go false e = e
+
+launched-stays : (limits : Limits) (plan : Plan) (past : List Record) (key : Key) (outcome : Outcome) → is_lawful plan past ≡ true → is_open past ≡ true
+    → IsChoice limits plan past (choices.Start key) → is_aborted plan past ≡ true → is_aborted plan (End key outcome ∷ launch_of past key ∷ past) ≡ true
+launched-stays limits plan past key outcome lawful going chosen aborted =
+    end-stays plan (launch_of past key ∷ past) key outcome
+    (and_from _ _ lawful (chosen-follows limits plan past key going chosen))
+    (λ j. same-self key j || is_among key (outstanding plan past)) (launch-calm plan past key ∙ aborted)
+
+-- so does each step
+pub step-stays : (limits : Limits) (plan : Plan) (may : List Call → Key → Outcome → Type 0) (past : List Record) (told : List Call) (after : List Record) (heard : List Call)
+    → is_lawful plan past ≡ true → is_open past ≡ true → IsStep limits plan may past told after heard → is_aborted plan past ≡ true → is_aborted plan after ≡ true
+step-stays limits plan may past told _ _ lawful going (passes {key = key} s chosen quiet) aborted =
+    launched-stays limits plan past key (Exit 0) lawful going chosen aborted
+step-stays limits plan may past told _ _ lawful going (starts {key = key} s chosen child command may_run) aborted = launch-calm plan past key ∙ aborted
+step-stays limits plan may past told _ _ lawful going (fails {key = key} s chosen child command may_be) aborted =
+    launched-stays limits plan past key NoStart lawful going chosen aborted
+step-stays limits plan may past told _ _ lawful going (ends {key = key} {outcome = outcome} s held ran may_be) aborted =
+    end-stays plan past key outcome lawful (ap (is_among key) (sym s.same) ∙ ran) aborted
+step-stays limits plan may past told _ _ lawful going (kills ran free) aborted = aborted
+
+-- what was so later was not before, where it stays
+pub not-before : (a b : Bool) → (a ≡ true → b ≡ true) → b ≡ false → a ≡ false
+not-before true b stays calm = absurd (false≢true (sym calm ∙ stays refl))
+not-before false b stays calm = refl
+
 pub starts-same : (told heard : List Call) → heard ≡ told → Starts told heard
 starts-same told heard same = subst (Starts told) (sym same) none_started
 
@@ -302,3 +358,7 @@ starts-handed plan records key answer told heard handed = subst (Starts told) (s
 pub starts-then : (told heard last : List Call) → Starts told heard → Starts heard last → Starts told last
 starts-then told heard _ first none_started = first
 starts-then told heard _ first (one_start s) = one_start (starts-then told heard _ first s)
+
+pub handed-older : (plan : Plan) (records : List Record) (key : Key) (answer : Started) (told heard : List Call)
+    → IsHandedOver plan records key answer told heard → IsOlderPart told heard
+handed-older plan records key answer told heard handed = (calls.Started key (snapshot_of handed.command) answer ∷ [], handed.entry)

@@ -6,11 +6,23 @@ use Rattle.sched_core.proofs.Moves.{finish-follows}
 use Rattle.run_manager.specs.Managed.{plan_of, past_of}
 use Rattle.run_manager.proofs.Sealing.{finished_own}
 use Rattle.job_starter.specs.Drives.{limits_of}
+use Rattle.job_starter.proofs.Cuts.{kills-tell}
+use Rattle.job_starter.proofs.Images.{then_hears, last_hears}
 use Rattle.job_starter.proofs.Steps.{fault-on}
 use Rattle.job_starter.proofs.driving.drive.Goals as goal
 
 pub returns-in-Err-clause-refused : goal.returns-in-Err-clause-refused
-returns-in-Err-clause-refused g c = fault-on _ _ _ _ _ _ c.in-Err.fault c.kill_all.ensures.later c.in-Err.ensures.refused
+returns-in-Err-clause-refused g c = fault-on _ _ _ _ _ _ _ _ c.in-Err.fault c.kill_all.ensures.later c.in-Err.ensures.refused
+
+pub returns-in-Err-clause-any_moment : goal.returns-in-Err-clause-any_moment
+returns-in-Err-clause-any_moment g c = λ honest header was.
+    then_hears g.D.Disk.moment g.D.Disk.left_since _ _ _ _ _ header _ _ _ _ _ _ (kills-tell _ _ c.kill_all.ensures.kills)
+    (c.in-Err.ensures.any_moment honest header was)
+
+pub returns-in-Err-clause-left : goal.returns-in-Err-clause-left
+returns-in-Err-clause-left g c = λ honest header was image left.
+    last_hears _ _ _ _ _ header _ _ _ _ (kills-tell _ _ c.kill_all.ensures.kills) image
+    (c.in-Err.ensures.left honest header was image left)
 
 pub returns-in-Ok-clause-ready : goal.returns-in-Ok-clause-ready
 returns-in-Ok-clause-ready g c =

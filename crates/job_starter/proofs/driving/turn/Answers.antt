@@ -7,7 +7,9 @@ use Rattle.node_specs.specs.Commands.{starts_child}
 use Rattle.sched_core.specs.Run.{is_aborted}
 use Rattle.run_manager.specs.Managed.{plan_of, past_of}
 use Rattle.job_starter.specs.Drives.{no_step}
-use Rattle.job_starter.proofs.Images.{still, at_start}
+use Rattle.job_starter.proofs.Disks.{keeps_still, counts_still}
+use Rattle.job_starter.proofs.Cuts.{older-self, kills-tell}
+use Rattle.job_starter.proofs.Images.{still, at_start, then_hears}
 use Rattle.job_starter.proofs.Walks.{step-empty, step-in-step, drives-kills}
 use Rattle.job_starter.proofs.Rounds.{one-step}
 use Rattle.job_starter.proofs.driving.turn.Goals as goal
@@ -50,4 +52,15 @@ returns-else-is_new-clause-steps g c = one-step _ _ _ _ _ _ _ c.in_default-act.e
 pub returns-in-Some-clause-any_moment : goal.returns-in-Some-clause-any_moment
 returns-in-Some-clause-any_moment g c = λ honest header was.
     still g.D.Disk.honest g.D.Disk.seen g.D.Disk.may_leave g.D.Disk.moment g.D.Disk.left_since g.met.D.Disk.only_now c.args.manager.now _ header _ refl honest was
-    (at_start _ _ _ _ _ header _ c.keeps_the_law.ensures was.reads)
+    (at_start _ _ _ _ _ header _ _ _ _ c.keeps_the_law.ensures (older-self _) (older-self _) was.reads)
+
+pub returns-in-Some-clause-disk : goal.returns-in-Some-clause-disk
+returns-in-Some-clause-disk g c = keeps_still _ _ _ _
+
+pub returns-in-Some-clause-counts : goal.returns-in-Some-clause-counts
+returns-in-Some-clause-counts g c = counts_still _
+
+pub returns-then-is_new-clause-any_moment : goal.returns-then-is_new-clause-any_moment
+returns-then-is_new-clause-any_moment g c = λ honest header was.
+    then_hears g.D.Disk.moment g.D.Disk.left_since _ _ _ _ _ header _ _ _ _ _ _ (kills-tell _ _ c.kill_all.ensures.kills)
+    (c.in_default-act.ensures.any_moment honest header was)
