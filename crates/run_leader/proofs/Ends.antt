@@ -1,6 +1,6 @@
 -- A run that is led to its end.
 use Rattle.run_manager.specs.Chain.{commands_in}
-use Rattle.std.proofs.Common.{arith, ◌≡◌, ◌&&◌, ℕ, true, false, List, [], ◌∷◌, ◌++◌, refl, sym, ap, ◌∙◌, subst}
+use Rattle.std.proofs.Common.{arith, inl, inr, Option, None, ◌≡◌, ◌&&◌, ℕ, true, false, List, [], ◌∷◌, ◌++◌, refl, sym, ap, ◌∙◌, subst}
 use Rattle.std.proofs.lemmas.Bool.{and_from}
 use Rattle.std.proofs.lemmas.List.{append-nil}
 use Rattle.throttles.specs.declared.Limits.{Limits}
@@ -15,16 +15,19 @@ use Rattle.sched_core.specs.Fate.{AreFates, shown}
 use Rattle.sched_core.specs.Choices.{IsChoice}
 use Rattle.status_report.specs.Text.{run_text}
 use Rattle.job_starter.specs.declared.Call.{Call}
-use Rattle.job_starter.specs.Drives.{Drives, clean, IsStopped}
+use Rattle.job_starter.specs.Drives.{Drives, clean, IsHalted, IsStopped}
 use Rattle.job_starter.specs.Handed.{HandsAll, HandsAllButOne}
-use Rattle.job_starter.specs.Moments.{IsMomentOfRun}
-use Rattle.job_starter.proofs.Images.{at_moment}
+use Rattle.job_starter.specs.declared.driving.DriveFault.{DriveFault}
+use Rattle.job_starter.specs.Moments.{IsOlderPart, MayHold, MayStand, ReadsBy, IsMomentOfRun}
+use Rattle.job_starter.proofs.Cuts.{older-self, halted-of}
+use Rattle.job_starter.proofs.Images.{older-is, older-next, may-older, moment_grows, at_rest}
 use Rattle.event_journal.specs.Disk.{LeavesOnly}
 use Rattle.event_journal.specs.Image.{Header}
 use Rattle.event_journal.proofs.Moments as moments
-use Rattle.run_manager.specs.Managed.{ReadsBeforeOrAfter}
-use Rattle.job_starter.proofs.Handing.{drives-adds, halted-adds}
+use Rattle.run_manager.specs.Managed.{Reads}
+use Rattle.job_starter.proofs.Handing.{driven, drives-adds, halted-adds}
 use Rattle.run_leader.specs.Led.{GoOnFrom, IsLed, DrivesToEnd}
+use Rattle.run_leader.specs.Moments.{IsMomentOfEnd, IsMomentOfLead, IsLastOfLead}
 
 aborted-after : (plan : Plan) (past : List Record) (status : ℕ) → is_aborted plan (Finish status ∷ past) ≡ is_aborted plan past
 unfolding is_aborted
@@ -80,9 +83,10 @@ to-end limits plan plan' same may past between records told heard status steps c
   ended = is ∙ ap (λ (p : Plan). Finish (exit_status p between) ∷ between) same ∙ ap (λ (n : ℕ). Finish n ∷ between) (sym chosen.2);
 }
 
-pub stopped-adds : (limits : Limits) (plan : Plan) (may : List Call → Key → Outcome → Type 0) (past : List Record) (told : List Call) (after : List Record) (last : List Call)
-    → IsStopped limits plan may past told after last → GoOnFrom past after
-stopped-adds limits plan may past told after last s = halted-adds limits plan may past told after s.rest s.halted
+pub stopped-adds : (limits : Limits) (plan : Plan) (may : List Call → Key → Outcome → Type 0) (past : List Record) (told : List Call) (fault : DriveFault) (after : List Record) (last : List Call)
+    → IsStopped limits plan may past told fault after last → GoOnFrom past after
+stopped-adds limits plan may past told fault after last s =
+    halted-adds limits plan may past told after s.rest (halted-of limits plan may past told fault after s.rest s.halted)
 
 -- the record of the end hands nothing over
 pub finished-adds : (past between after : List Record) (status : ℕ) → GoOnFrom past between → after ≡ Finish status ∷ between → GoOnFrom past after
@@ -102,12 +106,107 @@ all-but-one plan past after told heard h = record {
   commands = h.commands ∙ ap (λ l. commands_in plan past ++ l) (sym (append-nil h.own));
 }
 
--- a crash while the end is recorded, behind the steps of the run
-pub then_end : {D : Type 0} (moment : D → ℕ) (left_since : D → ℕ → List ℕ → Type 0) (limits : Limits) (plan : Plan) (may : List Call → Key → Outcome → Type 0) (past : List Record) (told : List Call) (header : Header)
-    (old mid new : D) (between : List Record) (heard : List Call) (entry : Record) → is_lawful plan between ≡ true → Drives limits plan may past told between heard
-    → LeavesOnly moment left_since old mid (IsMomentOfRun limits plan may past told header) → LeavesOnly moment left_since mid new (ReadsBeforeOrAfter header between entry)
-    → LeavesOnly moment left_since old new (IsMomentOfRun limits plan may past told header)
-then_end moment left_since limits plan may past told header old mid new between heard entry lawful steps first second =
-    moments.joined moment left_since old mid new (IsMomentOfRun limits plan may past told header) first
-    (moments.weaker moment left_since mid new (ReadsBeforeOrAfter header between entry) (IsMomentOfRun limits plan may past told header)
-    (λ image. at_moment limits plan may past told header between heard entry image lawful (record { between = between; heard = heard; steps = steps; cut = clean })) second)
+-- behind all steps the rest of one is none
+pub at-steps : (limits : Limits) (plan : Plan) (may : List Call → Key → Outcome → Type 0) (past : List Record) (told : List Call) (after : List Record) (last : List Call)
+    → Drives limits plan may past told after last → IsHalted limits plan may past told after last
+at-steps limits plan may past told after last steps = record { between = after; heard = last; steps = steps; cut = clean }
+
+module _ (limits : Limits) (plan : Plan) (may : List Call → Key → Outcome → Type 0) (past : List Record) (told : List Call) (header : Header) where
+  -- The record of the end, behind the steps of the run: what they came to, without it and with it.
+  pub record IsEndCall (by fault : Option DriveFault) (kept : List Record) (last : List Call) (between : List Record) (entry : Record) : Type 0 where
+    pub lawful : is_lawful plan between ≡ true
+    pub follows : may_follow plan between entry ≡ true
+    pub steps : Drives limits plan may past told between last
+    pub ended : DrivesToEnd limits plan may past told (entry ∷ between) last
+    pub part : MayHold fault kept between
+    pub more : MayStand by → MayHold fault kept (entry ∷ between)
+
+  pub end_moment : (by fault : Option DriveFault) (kept : List Record) (last : List Call) (between : List Record) (entry : Record) (image : List ℕ)
+      → IsEndCall by fault kept last between entry → ReadsBy by header between entry image → IsMomentOfLead limits plan may past told fault kept last header image
+  end_moment by fault kept last between entry image call (inl reads) = inl (record {
+    held = between;
+    heard = last;
+    lawful = call.lawful;
+    halted = at-steps limits plan may past told between last call.steps;
+    part = call.part;
+    answered = older-self last;
+    reads = reads;
+  })
+  end_moment by fault kept last between entry image call (inr reads) = inr (record {
+    held = entry ∷ between;
+    lawful = and_from _ _ call.lawful call.follows;
+    ended = call.ended;
+    part = call.more reads.0;
+    reads = reads.1;
+  })
+
+  pub end_last : (by fault : Option DriveFault) (kept : List Record) (last : List Call) (between : List Record) (entry : Record) (image : List ℕ)
+      → IsEndCall by fault kept last between entry → kept ≡ between → ReadsBy by header between entry image → IsLastOfLead limits plan may past told fault kept last header image
+  end_last by fault kept last between entry image call same (inl reads) = inl (record {
+    moment = record {
+      held = between;
+      heard = last;
+      lawful = call.lawful;
+      halted = at-steps limits plan may past told between last call.steps;
+      part = call.part;
+      answered = older-self last;
+      reads = reads;
+    };
+    all = older-is kept between (sym same);
+  })
+  end_last by fault kept last between entry image call same (inr reads) = inr (
+    record {
+      held = entry ∷ between;
+      lawful = and_from _ _ call.lawful call.follows;
+      ended = call.ended;
+      part = call.more reads.0;
+      reads = reads.1;
+    },
+    older-next entry kept (entry ∷ between) (ap (λ (l : List Record). entry ∷ l) (sym same)),
+  )
+
+  -- the end is recorded
+  pub end_rest : (fault : Option DriveFault) (kept : List Record) (last : List Call) (image : List ℕ) → is_lawful plan kept ≡ true
+      → DrivesToEnd limits plan may past told kept last → Reads header kept image → IsLastOfLead limits plan may past told fault kept last header image
+  end_rest fault kept last image lawful ended reads =
+      inr (record { held = kept; lawful = lawful; ended = ended; part = may-older fault kept kept (older-self kept); reads = reads }, older-self kept)
+
+  -- the end is not recorded yet
+  pub steps_rest : (fault : Option DriveFault) (kept : List Record) (last : List Call) (image : List ℕ) → is_lawful plan kept ≡ true
+      → Drives limits plan may past told kept last → Reads header kept image → IsLastOfLead limits plan may past told fault kept last header image
+  steps_rest fault kept last image lawful steps reads =
+      inl (at_rest limits plan may past told header fault kept last last image lawful (at-steps limits plan may past told kept last steps) (older-self last) reads)
+
+  module _ {D : Type 0} (moment : D → ℕ) (left_since : D → ℕ → List ℕ → Type 0) (fault : Option DriveFault) (kept : List Record) (last : List Call) where
+    pub lead_run : (old new : D) → LeavesOnly moment left_since old new (IsMomentOfRun limits plan may past told fault kept last header)
+        → LeavesOnly moment left_since old new (IsMomentOfLead limits plan may past told fault kept last header)
+    lead_run old new leaves =
+        moments.weaker moment left_since old new (IsMomentOfRun limits plan may past told fault kept last header) (IsMomentOfLead limits plan may past told fault kept last header)
+        (λ image run. inl run) leaves
+
+    -- a run that was driven, as its end may be recorded behind it
+    pub lead_grown : (old new : D) (between : List Record) → IsOlderPart between kept → LeavesOnly moment left_since old new (IsMomentOfRun limits plan may past told None between last header)
+        → LeavesOnly moment left_since old new (IsMomentOfLead limits plan may past told fault kept last header)
+    lead_grown old new between grown leaves =
+        moments.weaker moment left_since old new (IsMomentOfRun limits plan may past told None between last header) (IsMomentOfLead limits plan may past told fault kept last header)
+        (λ image run. inl (moment_grows limits plan may past told header fault between last kept last grown (older-self last) image run)) leaves
+
+    -- a crash while the end is recorded, behind the steps of the run
+    pub then_end : (old mid new : D) (by : Option DriveFault) (between : List Record) (entry : Record) → IsEndCall by fault kept last between entry → IsOlderPart between kept
+        → LeavesOnly moment left_since old mid (IsMomentOfRun limits plan may past told None between last header) → LeavesOnly moment left_since mid new (ReadsBy by header between entry)
+        → LeavesOnly moment left_since old new (IsMomentOfLead limits plan may past told fault kept last header)
+    then_end old mid new by between entry call grown first second =
+        moments.joined moment left_since old mid new (IsMomentOfLead limits plan may past told fault kept last header) (lead_grown old mid between grown first)
+        (moments.weaker moment left_since mid new (ReadsBy by header between entry) (IsMomentOfLead limits plan may past told fault kept last header)
+        (λ image. end_moment by fault kept last between entry image call) second)
+
+-- a moment of the end hands over what its steps did
+pub end-hands : (limits : Limits) (plan : Plan) (may : List Call → Key → Outcome → Type 0) (past : List Record) (told : List Call) (records : List Record) (heard : List Call)
+    → DrivesToEnd limits plan may past told records heard → HandsAll plan past records told heard
+end-hands limits plan may past told records heard d =
+    finished-hands plan past d.between records d.status told heard (driven limits plan may past told d.between heard d.steps) d.ended
+
+pub end-adds : (limits : Limits) (plan : Plan) (may : List Call → Key → Outcome → Type 0) (past : List Record) (told : List Call) (records : List Record) (heard : List Call)
+    → DrivesToEnd limits plan may past told records heard → GoOnFrom past records
+end-adds limits plan may past told records heard d =
+    finished-adds past d.between records d.status (drives-adds limits plan may past told d.between heard d.steps) d.ended

@@ -1,31 +1,114 @@
 -- A round that was opened and led to its end.
-use Rattle.std.proofs.Common.{ℕ, List, [], ◌∷◌, Option, Result, Ok, Err, sym, ap, ◌∙◌, subst}
-use Rattle.std.specs.Prelude.{IfOk}
+use Rattle.std.proofs.Common.{◌≡◌, ◌⊎◌, ℕ, false, List, [], ◌∷◌, length, Option, Some, None, Result, Ok, Err, IfErr, inl, inr, refl, sym, ap, ◌∙◌, subst}
+use Rattle.throttles.specs.declared.Limits.{Limits}
+use Rattle.node_machine.specs.declared.Key.{Key}
+use Rattle.node_machine.specs.declared.Outcome.{Outcome}
 use Rattle.run_plan.specs.Plan.{Plan}
 use Rattle.node_machine.specs.declared.Record.{Record}
-use Rattle.run_manager.specs.Managed.{Managed, past_of}
-use Rattle.recovery.specs.Recovery.{IsNewLife}
+use Rattle.node_machine.specs.declared.Record.TheVariants.{Life}
+use Rattle.sched_core.specs.Run.{written}
+use Rattle.event_journal.specs.Disk.{LeavesOnly}
+use Rattle.event_journal.specs.Image.{Header, Found}
+use Rattle.event_journal.specs.Journal.{is_broken, journal_count}
+use Rattle.event_journal.proofs.Moments as moments
+use Rattle.run_manager.specs.declared.fault.ManagerFault.{ManagerFault}
+use Rattle.run_manager.specs.declared.fault.ManagerFault.TheVariants as faults
+use Rattle.run_manager.specs.Faults.{IsToldByDisk}
+use Rattle.run_manager.specs.Managed.{Managed, plan_of, past_of, disk_of, Agree, IsAcknowledged}
 use Rattle.run_manager.specs.Chain.{ReadsForInputs}
 use Rattle.run_manager.specs.Seal.{IsRescued}
-use Rattle.run_leader.specs.Led.{IsLed}
-use Rattle.run_leader.specs.Rounds.{BeginsOn, IsRound}
+use Rattle.run_manager.proofs.Chains.{same_found}
+use Rattle.run_manager.proofs.Sealing.{counted}
+use Rattle.recovery.specs.Recovery.{IsNewLife, IsUntouched, IsBeginFault, begin_failed, begin_had_no_room, begin_had_no_slot, begin_had_no_memory, begun_before}
+use Rattle.job_starter.specs.declared.Call.{Call}
+use Rattle.job_starter.specs.declared.driving.DriveFault.{DriveFault}
+use Rattle.job_starter.specs.Drives.{limits_of}
+use Rattle.run_leader.specs.declared.rounds.Start.{Start}
+use Rattle.run_leader.specs.Led.{IsLed, DrivesToEnd}
+use Rattle.run_leader.specs.Moments.{IsMomentOfLead, IsLastOfLead}
+use Rattle.run_leader.specs.Rounds.{BeginsOn, IsJournaled, IsMomentOfOpening, IsRound, IsRoundOnDisk}
+use Rattle.run_leader.proofs.Ends.{end-hands}
 
-pub both : {A E : Type 0} (P Q S : A → Type 0) (result : Result A E) → ((x : A) → P x → Q x → S x) → IfOk result P → IfOk result Q → IfOk result S
-both P Q S (Ok x) more p q = more x p q
-both P Q S (Err fault) more p q = tt
+-- a run that isn't begun wrote nothing, unless its disk told the fault
+pub begin-untouched : {D : Type 0} (failures capacity : D → ℕ) (honest : D → Type 0) (seen : D → List ℕ) (may_leave : D → List ℕ → Type 0) (moment : D → ℕ) (left_since : D → ℕ → List ℕ → Type 0)
+    (slots : ℕ) (old new : D) (fault : ManagerFault) → honest old → (slots ≡ 0 → ⊥) → IsBeginFault failures capacity honest slots old new fault
+    → (fault ≡ faults.Memory → IsUntouched seen may_leave moment left_since old new) → IsToldByDisk fault ⊎ IsUntouched seen may_leave moment left_since old new
+begin-untouched failures capacity honest seen may_leave moment left_since slots old new _ premise some (begin_failed rises) untouched = inl (inl refl)
+begin-untouched failures capacity honest seen may_leave moment left_since slots old new _ premise some (begin_had_no_room small) untouched = inl (inr refl)
+begin-untouched failures capacity honest seen may_leave moment left_since slots old new _ premise some (begin_had_no_slot zero) untouched = absurd (some zero)
+begin-untouched failures capacity honest seen may_leave moment left_since slots old new _ premise some begin_had_no_memory untouched = inr (untouched refl)
+begin-untouched failures capacity honest seen may_leave moment left_since slots old new _ premise some (begun_before fault is dishonest) untouched = absurd (dishonest premise)
+
+pub of-faults : {X E : Type 0} (P Q S : E → Type 0) (result : Result X E) → ((fault : E) → P fault → Q fault → S fault) → IfErr result P → IfErr result Q → IfErr result S
+of-faults P Q S (Ok x) more p q = tt
+of-faults P Q S (Err fault) more p q = more fault p q
+
+-- a whole journal of an honest disk counts the records
+pub counts-records : {D : Type 0} (honest : D → Type 0) (seen : D → List ℕ) (may_leave : D → List ℕ → Type 0) (manager : Managed D)
+    → Agree honest seen may_leave (past_of manager) manager.journal → is_broken manager.journal ≡ false → honest (disk_of manager) → journal_count manager.journal ≡ length (past_of manager)
+counts-records honest seen may_leave manager agrees whole premise =
+    let keeps = agrees premise whole in
+    let image = keeps.settled.image in
+    let found : image.found ≡ record { header = keeps.header; records = written (past_of manager) } =
+    same_found image.found (record { header = keeps.header; records = written (past_of manager) }) (sym image.reads ∙ keeps.reads) in
+    image.counts ∙ counted image.found.records (past_of manager) (ap (λ (f : Found). f.records) found)
 
 abbrev behind : List Record → List Record
 behind [] = []
 behind (entry ∷ past) = past
 
-pub round-of : {D R : Type 0} (honest : D → Type 0) (seen : D → List ℕ) (rescue_honest : R → Type 0) (rescue_may_leave : R → List ℕ → Type 0)
-    (plan : Plan) (disk : D) (manager : Managed D) (records : List Record) (text : List ℕ) (status : ℕ) (rescue : Option R)
-    → IsNewLife (past_of manager) → (honest disk → BeginsOn plan (seen disk) manager) → IsLed plan (past_of manager) records text status
-    → IsRescued rescue_honest rescue_may_leave plan records rescue → IsRound honest seen rescue_honest rescue_may_leave plan disk text status rescue
-round-of honest seen rescue_honest rescue_may_leave plan disk manager records text status rescue life begins led rescued = record {
-  begun = life.before;
-  records = records;
-  found = λ h. subst (λ (l : List Record). ReadsForInputs plan l (seen disk)) (ap behind (sym (begins h).records ∙ life.is)) (begins h).found;
-  led = subst (λ (l : List Record). IsLed plan l records text status) life.is led;
-  rescued = rescued;
-}
+module _ {D : Type 0} (seen : D → List ℕ) (may_leave : D → List ℕ → Type 0) (moment : D → ℕ) (left_since : D → ℕ → List ℕ → Type 0)
+    (start : Start) (limits : Limits) (plan : Plan) (may : List Call → Key → Outcome → Type 0) (told : List Call) (fault : Option DriveFault) (kept : List Record) (last : List Call)
+    (disk left : D) (opened manager : Managed D) where
+  -- what is made of the disk by opening a round and leading it
+  pub on-disk : limits_of opened ≡ limits → plan_of opened ≡ plan → left ≡ disk_of manager → IsJournaled seen may_leave plan opened
+      → LeavesOnly moment left_since disk (disk_of opened) (IsMomentOfOpening start plan (may_leave disk) (seen disk))
+      → ((header : Header) → IsAcknowledged seen may_leave header opened
+      → LeavesOnly moment left_since (disk_of opened) (disk_of manager) (IsMomentOfLead (limits_of opened) (plan_of opened) may (past_of opened) told fault kept last header))
+      → ((header : Header) → IsAcknowledged seen may_leave header opened
+      → (image : List ℕ) → may_leave (disk_of manager) image → IsLastOfLead (limits_of opened) (plan_of opened) may (past_of opened) told fault kept last header image)
+      → IsRoundOnDisk seen may_leave moment left_since start limits plan may (past_of opened) told fault kept last disk left
+  on-disk limits_are plan_is left_is journaled opening leading ending =
+      let header = journaled.header in
+      let Lead : Limits → Plan → List ℕ → Type 0 = λ l p. IsMomentOfLead l p may (past_of opened) told fault kept last header in
+      let Last : Limits → Plan → List ℕ → Type 0 = λ l p. IsLastOfLead l p may (past_of opened) told fault kept last header in
+      let All : List ℕ → Type 0 = λ image. IsMomentOfOpening start plan (may_leave disk) (seen disk) image ⊎ Lead limits plan image in
+      let led = subst (λ (l : Limits). LeavesOnly moment left_since (disk_of opened) (disk_of manager) (Lead l plan)) limits_are
+      (subst (λ (p : Plan). LeavesOnly moment left_since (disk_of opened) (disk_of manager) (Lead (limits_of opened) p)) plan_is (leading header journaled.acknowledged)) in
+      record {
+        header = header;
+        inputs = journaled.inputs;
+        any_moment = subst (λ (d : D). LeavesOnly moment left_since disk d All) (sym left_is)
+            (moments.joined moment left_since disk (disk_of opened) (disk_of manager) All
+            (moments.weaker moment left_since disk (disk_of opened) (IsMomentOfOpening start plan (may_leave disk) (seen disk)) All (λ image m. inl m) opening)
+            (moments.weaker moment left_since (disk_of opened) (disk_of manager) (Lead limits plan) All (λ image m. inr m) led));
+        at_the_end = λ image leaves.
+            subst (λ (l : Limits). Last l plan image) limits_are
+            (subst (λ (p : Plan). Last (limits_of opened) p image) plan_is
+            (ending header journaled.acknowledged image (subst (λ (d : D). may_leave d image) left_is leaves)));
+      }
+
+pub round-of : {D R : Type 0} (honest : D → Type 0) (seen : D → List ℕ) (may_leave : D → List ℕ → Type 0) (moment : D → ℕ) (left_since : D → ℕ → List ℕ → Type 0)
+    (rescue_honest : R → Type 0) (rescue_may_leave : R → List ℕ → Type 0) (plan : Plan) (start : Start) (limits : Limits) (may : List Call → Key → Outcome → Type 0) (told heard : List Call)
+    (disk left : D) (opened : Managed D) (records : List Record) (text : List ℕ) (status : ℕ) (rescue : Option R)
+    → limits_of opened ≡ limits → plan_of opened ≡ plan → IsNewLife (past_of opened) → (honest disk → BeginsOn plan (seen disk) opened)
+    → IsLed plan (past_of opened) records text status → DrivesToEnd (limits_of opened) (plan_of opened) may (past_of opened) told records heard
+    → IsRescued rescue_honest rescue_may_leave plan records rescue
+    → (honest disk → IsRoundOnDisk seen may_leave moment left_since start limits plan may (past_of opened) told None records heard disk left)
+    → IsRound honest seen may_leave moment left_since rescue_honest rescue_may_leave plan start limits may told heard disk left text status rescue
+round-of honest seen may_leave moment left_since rescue_honest rescue_may_leave plan start limits may told heard disk left opened records text status rescue
+    limits_are plan_is life begins led drives rescued disks =
+    let steps : DrivesToEnd limits plan may (Life ∷ life.before) told records heard =
+    subst (λ (r : List Record). DrivesToEnd limits plan may r told records heard) life.is
+    (subst (λ (l : Limits). DrivesToEnd l plan may (past_of opened) told records heard) limits_are
+    (subst (λ (p : Plan). DrivesToEnd (limits_of opened) p may (past_of opened) told records heard) plan_is drives)) in
+    record {
+      begun = life.before;
+      records = records;
+      found = λ h. subst (λ (l : List Record). ReadsForInputs plan l (seen disk)) (ap behind (sym (begins h).records ∙ life.is)) (begins h).found;
+      led = subst (λ (l : List Record). IsLed plan l records text status) life.is led;
+      steps = steps;
+      hands_over = end-hands limits plan may (Life ∷ life.before) told records heard steps;
+      rescued = rescued;
+      on_disk = λ h. subst (λ (l : List Record). IsRoundOnDisk seen may_leave moment left_since start limits plan may l told None records heard disk left) life.is (disks h);
+    }

@@ -1,5 +1,5 @@
 -- Why a run isn't led to its end.
-use Rattle.std.proofs.Common.{◌≡◌, ℕ, true, false, ◌&&◌, inl, inr, List, [], ◌∷◌, length, sym, ◌∙◌, subst}
+use Rattle.std.proofs.Common.{◌≡◌, ℕ, true, false, ◌&&◌, inl, inr, List, [], ◌∷◌, length, sym, ap, ◌∙◌, subst}
 use Rattle.std.specs.Prelude.{IsTrue, IfErr, Result, Ok, Err}
 use Rattle.std.proofs.lemmas.Bool.{and_parts, and_from, false≢true, not-true}
 use Rattle.run_plan.specs.Plan.{Plan}
@@ -14,7 +14,9 @@ use Rattle.run_manager.specs.Managed.{Managed, plan_of, past_of, IsRefusal}
 use Rattle.run_manager.specs.Seal.{IsFinishFault, IsRescueFault, run_over, not_now, no_memory, disk_failed, disk_full, may_end, needs_rescue_now}
 use Rattle.run_manager.specs.declared.fault.ManagerFault.{ManagerFault}
 use Rattle.job_starter.specs.Causes.{IsRecordRefused}
-use Rattle.run_leader.specs.Causes.{IsSealFault, text_had_no_memory, rescue_failed, rescue_had_no_room}
+use Rattle.job_starter.specs.Moments.{KeepsDisk, CountsOn}
+use Rattle.job_starter.proofs.Steps.{refused-since, refused-record}
+use Rattle.run_leader.specs.Causes.{IsEndOf, IsSealFault, text_had_no_memory, rescue_failed, rescue_had_no_room}
 
 open-going : (past : List Record) → is_open past ≡ true → is_over past ≡ false
 open-going [] h = absurd (false≢true h)
@@ -42,20 +44,20 @@ ends-now limits plan plan' same past status chosen may =
     subst (λ (p : Plan). may_end p past ≡ true) (sym same) (subst (λ (n : ℕ). may_follow plan past (Finish n) ≡ true) chosen.2 may)
 
 -- the end of such a run, whose seal is of its records, is refused as a record alone
-pub end-refused : {D : Type 0} (failures capacity : D → ℕ) (plan : Plan) (past : List Record) (count : ℕ) (old : Journal D) (manager : Managed D) {fault : ManagerFault}
-    → plan_of manager ≡ plan → past_of manager ≡ past → may_end plan past ≡ true → count ≡ length past
-    → IsFinishFault failures capacity plan past count old manager.journal fault → IsRecordRefused failures capacity manager fault
-end-refused failures capacity plan past count old manager same kept ends many (inr stale) = absurd (stale.1 many)
-end-refused failures capacity plan past count old manager {fault} same kept ends many (inl why) =
-    let entry : Record = Finish (exit_status plan past) in
-    record {
-      entry = entry;
-      earlier = old;
-      lawful = subst (λ (p : Plan). may_follow p (past_of manager) entry ≡ true) (sym same)
-          (subst (λ (l : List Record). may_follow plan l entry ≡ true) (sym kept) ends);
-      cause = subst (λ (p : Plan). IsRefusal failures capacity p (past_of manager) entry old manager.journal fault) (sym same)
-          (subst (λ (l : List Record). IsRefusal failures capacity plan l entry old manager.journal fault) (sym kept) why);
-    }
+pub end-refusal : {D : Type 0} (failures capacity : D → ℕ) (plan : Plan) (past : List Record) (count : ℕ) (old new : Journal D) (fault : ManagerFault)
+    → count ≡ length past → IsFinishFault failures capacity plan past count old new fault → IsRefusal failures capacity plan past (Finish (exit_status plan past)) old new fault
+end-refusal failures capacity plan past count old new fault many (inl why) = why
+end-refusal failures capacity plan past count old new fault many (inr stale) = absurd (stale.1 many)
+
+pub end-refused : {D : Type 0} (honest : D → Type 0) (failures capacity : D → ℕ) (old mid new : Managed D) (fault : ManagerFault)
+    → KeepsDisk honest failures capacity old mid → CountsOn old mid
+    → plan_of new ≡ plan_of mid → past_of new ≡ past_of mid → may_end (plan_of mid) (past_of mid) ≡ true
+    → IsRefusal failures capacity (plan_of mid) (past_of mid) (Finish (exit_status (plan_of mid) (past_of mid))) mid.journal new.journal fault
+    → IsRecordRefused honest failures capacity (IsEndOf (plan_of new) (past_of new)) old new fault
+end-refused honest failures capacity old mid new fault keeps counts same kept ends why =
+    refused-since honest failures capacity (IsEndOf (plan_of new) (past_of new)) old mid new fault keeps counts
+    (refused-record honest failures capacity (IsEndOf (plan_of new) (past_of new)) mid new (Finish (exit_status (plan_of mid) (past_of mid))) fault
+    (λ j. Finish (exit_status (sym same j) (sym kept j))) same kept ends why)
 
 -- what is known of one fault makes another thing known of it
 pub of-fault : {X E : Type 0} (P Q : E → Type 0) (result : Result X E) → ((fault : E) → P fault → Q fault) → IfErr result P → IfErr result Q

@@ -1,20 +1,29 @@
 -- Why a run is not led to its end.
-use Rattle.std.specs.Prelude.{◌≡◌, ℕ, ◌<◌, List, length, IsTrue}
+use Rattle.std.specs.Prelude.{◌≡◌, ◌⊎◌, ℕ, ◌<◌, List, length, Some, IsTrue}
+use Rattle.node_machine.specs.declared.Key.{Key}
+use Rattle.node_machine.specs.declared.Outcome.{Outcome}
+use Rattle.throttles.specs.declared.Limits.{Limits}
 use Rattle.run_plan.specs.Plan.{Plan}
 use Rattle.node_machine.specs.declared.Record.{Record}
-use Rattle.sched_core.specs.Run.{is_over}
-use Rattle.event_journal.specs.Disk.{Rises}
+use Rattle.node_machine.specs.declared.Record.TheVariants.{Finish}
+use Rattle.sched_core.specs.Run.{exit_status}
+use Rattle.event_journal.specs.Disk.{LeavesOnly, Rises}
 use Rattle.event_journal.specs.declared.fault.JournalFault.TheVariants as journal
-use Rattle.run_manager.specs.Managed.{Managed, plan_of, past_of}
+use Rattle.run_manager.specs.Faults.{IsToldByDisk}
+use Rattle.run_manager.specs.Managed.{Managed, plan_of, past_of, disk_of}
 use Rattle.run_manager.specs.Seal.{needs_rescue_now}
 use Rattle.run_manager.specs.Rescue.{rescue_text_for}
 use Rattle.run_manager.specs.declared.fault.ManagerFault.{ManagerFault}
 use Rattle.run_manager.specs.declared.fault.ManagerFault.TheVariants as faults
+use Rattle.recovery.specs.Recovery.{IsUntouched}
+use Rattle.job_starter.specs.declared.Call.{Call}
+use Rattle.job_starter.specs.Drives.{limits_of, IsStopped}
 use Rattle.job_starter.specs.Causes.{IsDriveFault, IsRecordRefused}
 use Rattle.job_starter.specs.declared.driving.DriveFault.{DriveFault}
 use Rattle.job_starter.specs.declared.driving.DriveFault.TheVariants as drives
 use Rattle.run_leader.specs.declared.rounds.Start.{Start}
-use Rattle.run_leader.specs.Rounds.{IsOpeningFault}
+use Rattle.run_leader.specs.Led.{DrivesToEnd, IsAtEnd}
+use Rattle.run_leader.specs.Rounds.{IsMomentOfOpening, IsOpeningFault, IsOpened, IsRoundOnDisk}
 
 -- Why the rescue file of these records isn't on its disk: memory was refused for its text; or the disk failed, or has no room for it.
 pub data IsSealFault {R : Type 0} (failures capacity : R → ℕ) (plan : Plan) (past : List Record) (disk : R) : ManagerFault → Type 0 where
@@ -24,24 +33,38 @@ pub data IsSealFault {R : Type 0} (failures capacity : R → ℕ) (plan : Plan) 
   rescue_had_no_room : capacity disk < length (rescue_text_for plan past) →
       IsSealFault failures capacity plan past disk (faults.Journal journal.DiskFull)
 
--- Why a run isn't led to its end, by the starter's counts of refusals, the disk for the rescue file and the manager that is left: it was
--- stopped on the way; it may end, but the rescue file that it needs isn't written; its end was refused as a record; or it ended, and
--- memory was refused for its report.
-pub data IsLeadFault {D R : Type 0} (failures capacity : D → ℕ) (rescue_failures rescue_capacity : R → ℕ) (before now : ℕ) (manager : Managed D) (disk : R) : DriveFault → Type 0 where
-  stopped : {fault : DriveFault} → IsDriveFault failures capacity before now manager fault →
-      IsLeadFault failures capacity rescue_failures rescue_capacity before now manager disk fault
-  not_sealed : {fault : ManagerFault} → IsTrue (needs_rescue_now (plan_of manager) (past_of manager)) →
-      IsSealFault rescue_failures rescue_capacity (plan_of manager) (past_of manager) disk fault →
-      IsLeadFault failures capacity rescue_failures rescue_capacity before now manager disk (drives.Manager fault)
-  end_refused : {fault : ManagerFault} → IsRecordRefused failures capacity manager fault →
-      IsLeadFault failures capacity rescue_failures rescue_capacity before now manager disk (drives.Manager fault)
-  no_memory_for_report : IsTrue (is_over (past_of manager)) →
-      IsLeadFault failures capacity rescue_failures rescue_capacity before now manager disk drives.Memory
+-- the record of a run's end
+abbrev pub IsEndOf : Plan → List Record → Record → Type 0
+IsEndOf plan past entry = entry ≡ Finish (exit_status plan past)
 
--- Why a round isn't run to its end: its manager refuses to begin, or to go on; or, begun, it isn't led to its end.
-pub data IsRoundRefusal {D R : Type 0} (failures capacity : D → ℕ) (honest : D → Type 0) (seen : D → List ℕ) (rescue_failures rescue_capacity : R → ℕ) (before now : ℕ) (plan : Plan) (slots : ℕ) (start : Start) (disk : D) (rescue : R) : DriveFault → Type 0 where
-  not_opened : {fault : ManagerFault} → (left : D) → IsOpeningFault failures capacity honest seen plan slots start disk left fault →
-      IsRoundRefusal failures capacity honest seen rescue_failures rescue_capacity before now plan slots start disk rescue (drives.Manager fault)
-  not_led : {fault : DriveFault} → (manager : Managed D) → plan_of manager ≡ plan →
-      IsLeadFault failures capacity rescue_failures rescue_capacity before now manager rescue fault →
-      IsRoundRefusal failures capacity honest seen rescue_failures rescue_capacity before now plan slots start disk rescue fault
+-- Why a run isn't led to its end, by the starter's counts of refusals, the disk for the rescue file and the manager that was there and
+-- that is left; and what was recorded and told until then. It was stopped on the way; or, behind all its steps, the rescue file
+-- that it needs isn't written, or its end was refused as a record; or it ended, and memory was refused for its report.
+pub data IsLeadFault {D R : Type 0} (honest : D → Type 0) (failures capacity : D → ℕ) (rescue_failures rescue_capacity : R → ℕ) (before now : ℕ)
+    (may : List Call → Key → Outcome → Type 0) (old manager : Managed D) (told heard : List Call) (disk : R) : DriveFault → Type 0 where
+  stopped : {fault : DriveFault} → IsDriveFault honest failures capacity before now old manager fault →
+      IsStopped (limits_of old) (plan_of old) may (past_of old) told fault (past_of manager) heard →
+      IsLeadFault honest failures capacity rescue_failures rescue_capacity before now may old manager told heard disk fault
+  not_sealed : {fault : ManagerFault} → IsAtEnd (limits_of old) (plan_of old) may (past_of old) told (past_of manager) heard →
+      IsTrue (needs_rescue_now (plan_of manager) (past_of manager)) →
+      IsSealFault rescue_failures rescue_capacity (plan_of manager) (past_of manager) disk fault →
+      IsLeadFault honest failures capacity rescue_failures rescue_capacity before now may old manager told heard disk (drives.Manager fault)
+  end_refused : {fault : ManagerFault} → IsAtEnd (limits_of old) (plan_of old) may (past_of old) told (past_of manager) heard →
+      IsRecordRefused honest failures capacity (IsEndOf (plan_of manager) (past_of manager)) old manager fault →
+      IsLeadFault honest failures capacity rescue_failures rescue_capacity before now may old manager told heard disk (drives.Manager fault)
+  no_memory_for_report : DrivesToEnd (limits_of old) (plan_of old) may (past_of old) told (past_of manager) heard →
+      IsLeadFault honest failures capacity rescue_failures rescue_capacity before now may old manager told heard disk drives.Memory
+
+-- Why a round isn't run to its end, and what is left of the journal's disk: its manager refuses to begin, or to go on, and nothing
+-- was handed over; or, begun on what stood there, it isn't led to its end.
+pub data IsRoundRefusal {D R : Type 0} (honest : D → Type 0) (seen : D → List ℕ) (may_leave : D → List ℕ → Type 0) (moment : D → ℕ) (left_since : D → ℕ → List ℕ → Type 0)
+    (failures capacity : D → ℕ) (rescue_failures rescue_capacity : R → ℕ) (before now : ℕ) (plan : Plan) (slots : ℕ) (start : Start) (limits : Limits)
+    (may : List Call → Key → Outcome → Type 0) (told heard : List Call) (disk left : D) (rescue : R) : DriveFault → Type 0 where
+  not_opened : {fault : ManagerFault} → heard ≡ told → IsOpeningFault failures capacity honest seen plan slots start disk left fault →
+      (honest disk → IsToldByDisk fault ⊎ IsUntouched seen may_leave moment left_since disk left) →
+      (honest disk → LeavesOnly moment left_since disk left (IsMomentOfOpening start plan (may_leave disk) (seen disk))) →
+      IsRoundRefusal honest seen may_leave moment left_since failures capacity rescue_failures rescue_capacity before now plan slots start limits may told heard disk left rescue (drives.Manager fault)
+  not_led : {fault : DriveFault} → (opened manager : Managed D) → IsOpened honest seen capacity plan slots limits disk opened → disk_of manager ≡ left →
+      IsLeadFault honest failures capacity rescue_failures rescue_capacity before now may opened manager told heard rescue fault →
+      (honest disk → IsRoundOnDisk seen may_leave moment left_since start limits plan may (past_of opened) told (Some fault) (past_of manager) heard disk left) →
+      IsRoundRefusal honest seen may_leave moment left_since failures capacity rescue_failures rescue_capacity before now plan slots start limits may told heard disk left rescue fault

@@ -35,3 +35,9 @@ pub record DrivesToEnd (limits : Limits) (plan : Plan) (may : List Call → Key 
   pub steps : Drives limits plan may past told between heard
   pub chosen : IsChoice limits plan between (choices.Finish status)
   pub ended : records ≡ Finish status ∷ between
+
+-- One step of a run behind another, until what is to be done next is to finish.
+pub record IsAtEnd (limits : Limits) (plan : Plan) (may : List Call → Key → Outcome → Type 0) (past : List Record) (told : List Call) (records : List Record) (heard : List Call) : Type 0 where
+  pub status : ℕ
+  pub steps : Drives limits plan may past told records heard
+  pub chosen : IsChoice limits plan records (choices.Finish status)

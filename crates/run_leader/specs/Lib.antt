@@ -1,3 +1,4 @@
 pub mod Led
+pub mod Moments
 pub mod Rounds
 pub mod Causes

@@ -7,9 +7,10 @@ ghost use Rattle.sched_core.specs.Run.{is_over};
 ghost use Rattle.job_starter.specs.Drives.{AreInStep, limits_of};
 ghost use Rattle.job_starter.specs.Calls.{running};
 ghost use Rattle.job_starter.specs.Handed.{HandsAll, HandsAllButOne};
-ghost use Rattle.job_starter.specs.Moments.{AtAnyMoment, IsMomentOfRun, StaysAcknowledged};
+ghost use Rattle.job_starter.specs.Moments.{fault_in, AtAnyMoment, AtTheEnd, UnlessDiskFault, StaysAcknowledged, KeepsDisk};
 ghost use Rattle.run_leader.specs.Causes.{IsSealFault, IsLeadFault};
 ghost use Rattle.run_leader.specs.Led.{GoOnFrom, IsLed, DrivesToEnd};
+ghost use Rattle.run_leader.specs.Moments.{IsMomentOfLead, IsLastOfLead};
 
 use event_journal::Disk;
 use job_starter::{DriveFault, Starter, drive};
@@ -83,14 +84,21 @@ pub fn lead<D: Disk + Drop, R: Disk + Drop, S: Starter>(
         (past_of manager.new) (S.told starter.old) (S.told starter.new)) }
     ensures none_left { running (S.told starter.new) ≡ [] }
     // A crash at any moment of the call leaves what makes it a life of the run (job_starter's law
-    // `stops`); what was answered Ok is in every later image.
+    // `stops`, and `stops_at_end`), and behind it none of the records that are kept is missing.
     ensures any_moment { AtAnyMoment D.honest D.seen D.may_leave D.moment D.left_since
-        manager.old manager.new (IsMomentOfRun (limits_of manager.old) (plan_of manager.old)
-        (S.may_tell starter.old) (past_of manager.old) (S.told starter.old)) }
-    ensures acknowledged { OnOk result
+        manager.old manager.new (IsMomentOfLead (limits_of manager.old) (plan_of manager.old)
+        (S.may_tell starter.old) (past_of manager.old) (S.told starter.old) (fault_in result)
+        (past_of manager.new) (S.told starter.new)) }
+    ensures left { AtTheEnd D.honest D.seen D.may_leave manager.old manager.new
+        (IsLastOfLead (limits_of manager.old) (plan_of manager.old)
+        (S.may_tell starter.old) (past_of manager.old) (S.told starter.old) (fault_in result)
+        (past_of manager.new) (S.told starter.new)) }
+    ensures acknowledged { UnlessDiskFault (fault_in result)
         (StaysAcknowledged D.honest D.seen D.may_leave manager.old manager.new) }
-    ensures refused { IfErr result (IsLeadFault D.faults D.capacity R.faults R.capacity
-        (S.faults starter.old) (S.faults starter.new) manager.new rescue) }
+    ensures disk { KeepsDisk D.honest D.faults D.capacity manager.old manager.new }
+    ensures refused { IfErr result (IsLeadFault D.honest D.faults D.capacity R.faults R.capacity
+        (S.faults starter.old) (S.faults starter.new) (S.may_tell starter.old) manager.old manager.new
+        (S.told starter.old) (S.told starter.new) rescue) }
     // The rescue file that the run owes is on its disk.
     ensures rescued { IfOk result (λ led.
         IsRescued R.honest R.may_leave plan.now (past_of manager.new) led.rescue) }
@@ -99,11 +107,11 @@ pub fn lead<D: Disk + Drop, R: Disk + Drop, S: Starter>(
         Ok(end) => end,
         Err(fault) => return Err(fault),
     };
+    manager.core().keeps_the_law();
     let seal = match sealed(alloc, manager, rescue) {
         Ok(seal) => seal,
         Err(fault) => return Err(DriveFault::Manager(fault)),
     };
-    manager.core().keeps_the_law();
     let rescue = match manager.finish(seal) {
         Ok(rescue) => rescue,
         Err((_seal, fault)) => return Err(DriveFault::Manager(fault)),
