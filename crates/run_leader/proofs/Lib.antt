@@ -1,3 +1,4 @@
 pub mod Ends
 mod Refusals
 mod Openings
+mod Stops

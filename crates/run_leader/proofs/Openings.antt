@@ -24,9 +24,10 @@ use Rattle.job_starter.specs.declared.Call.{Call}
 use Rattle.job_starter.specs.declared.driving.DriveFault.{DriveFault}
 use Rattle.job_starter.specs.Drives.{limits_of}
 use Rattle.run_leader.specs.declared.rounds.Start.{Start}
+use Rattle.run_leader.specs.declared.rounds.Start.TheVariants.{Begin, GoOn}
 use Rattle.run_leader.specs.Led.{IsLed, DrivesToEnd}
 use Rattle.run_leader.specs.Moments.{IsMomentOfLead, IsLastOfLead}
-use Rattle.run_leader.specs.Rounds.{BeginsOn, IsJournaled, IsMomentOfOpening, IsRound, IsRoundOnDisk}
+use Rattle.run_leader.specs.Rounds.{HasBegun, IsBegunBy, BeginsOn, IsJournaled, IsMomentOfOpening, IsRound, IsRoundOnDisk}
 use Rattle.run_leader.proofs.Ends.{end-hands}
 
 -- a run that isn't begun wrote nothing, unless its disk told the fault
@@ -88,16 +89,26 @@ module _ {D : Type 0} (seen : D → List ℕ) (may_leave : D → List ℕ → Ty
             (ending header journaled.acknowledged image (subst (λ (d : D). may_leave d image) left_is leaves)));
       }
 
+-- a new round has no earlier records
+begun-by : (start : Start) (past before : List Record) → past ≡ Life ∷ before → HasBegun start past → IsBegunBy start before
+begun-by (Begin used next) past before is alone = ap behind (sym is ∙ alone)
+begun-by GoOn past before is life = tt
+
+pub life-of : (start : Start) (past : List Record) → HasBegun start past → IsNewLife past
+life-of (Begin used next) past alone = record { before = []; is = alone }
+life-of GoOn past life = life
+
 pub round-of : {D R : Type 0} (honest : D → Type 0) (seen : D → List ℕ) (may_leave : D → List ℕ → Type 0) (moment : D → ℕ) (left_since : D → ℕ → List ℕ → Type 0)
     (rescue_honest : R → Type 0) (rescue_may_leave : R → List ℕ → Type 0) (plan : Plan) (start : Start) (limits : Limits) (may : List Call → Key → Outcome → Type 0) (told heard : List Call)
     (disk left : D) (opened : Managed D) (records : List Record) (text : List ℕ) (status : ℕ) (rescue : Option R)
-    → limits_of opened ≡ limits → plan_of opened ≡ plan → IsNewLife (past_of opened) → (honest disk → BeginsOn plan (seen disk) opened)
+    → limits_of opened ≡ limits → plan_of opened ≡ plan → HasBegun start (past_of opened) → (honest disk → BeginsOn plan (seen disk) opened)
     → IsLed plan (past_of opened) records text status → DrivesToEnd (limits_of opened) (plan_of opened) may (past_of opened) told records heard
     → IsRescued rescue_honest rescue_may_leave plan records rescue
     → (honest disk → IsRoundOnDisk seen may_leave moment left_since start limits plan may (past_of opened) told None records heard disk left)
     → IsRound honest seen may_leave moment left_since rescue_honest rescue_may_leave plan start limits may told heard disk left text status rescue
 round-of honest seen may_leave moment left_since rescue_honest rescue_may_leave plan start limits may told heard disk left opened records text status rescue
-    limits_are plan_is life begins led drives rescued disks =
+    limits_are plan_is anew begins led drives rescued disks =
+    let life = life-of start (past_of opened) anew in
     let steps : DrivesToEnd limits plan may (Life ∷ life.before) told records heard =
     subst (λ (r : List Record). DrivesToEnd limits plan may r told records heard) life.is
     (subst (λ (l : Limits). DrivesToEnd l plan may (past_of opened) told records heard) limits_are
@@ -105,6 +116,7 @@ round-of honest seen may_leave moment left_since rescue_honest rescue_may_leave 
     record {
       begun = life.before;
       records = records;
+      anew = begun-by start (past_of opened) life.before life.is anew;
       found = λ h. subst (λ (l : List Record). ReadsForInputs plan l (seen disk)) (ap behind (sym (begins h).records ∙ life.is)) (begins h).found;
       led = subst (λ (l : List Record). IsLed plan l records text status) life.is led;
       steps = steps;

@@ -9,7 +9,8 @@ use Rattle.node_machine.specs.declared.Record.TheVariants.{Finish}
 use Rattle.sched_core.specs.Run.{exit_status}
 use Rattle.event_journal.specs.Disk.{LeavesOnly, Rises}
 use Rattle.event_journal.specs.declared.fault.JournalFault.TheVariants as journal
-use Rattle.run_manager.specs.Faults.{IsToldByDisk}
+use Rattle.event_journal.specs.declared.fault.JournalFault.{JournalFault}
+use Rattle.run_manager.specs.Faults.{IsImageFault, IsToldByDisk}
 use Rattle.run_manager.specs.Managed.{Managed, plan_of, past_of, disk_of}
 use Rattle.run_manager.specs.Seal.{needs_rescue_now}
 use Rattle.run_manager.specs.Rescue.{rescue_text_for}
@@ -55,6 +56,23 @@ pub data IsLeadFault {D R : Type 0} (honest : D → Type 0) (failures capacity :
   no_memory_for_report : DrivesToEnd (limits_of old) (plan_of old) may (past_of old) told (past_of manager) heard →
       IsLeadFault honest failures capacity rescue_failures rescue_capacity before now may old manager told heard disk drives.Memory
 
+-- the faults of a manager by which a round is stopped: those of the disks, and of what stands on the journal's
+pub data IsManagerStop : ManagerFault → Type 0 where
+  stopped_by_memory : IsManagerStop faults.Memory
+  stopped_by_disk : IsManagerStop (faults.Journal journal.Device)
+  stopped_by_room : IsManagerStop (faults.Journal journal.DiskFull)
+  stopped_by_slots : IsManagerStop (faults.Journal journal.SlotsFull)
+  stopped_by_image : (fault : JournalFault) → IsImageFault fault → IsManagerStop (faults.Journal fault)
+  stopped_by_record : (slot : ℕ) → IsManagerStop (faults.Foreign slot)
+  stopped_by_end : IsManagerStop faults.AlreadyFinished
+
+-- a round may be stopped so
+abbrev pub MayStop : DriveFault → Type 0
+MayStop (drives.Manager fault) = IsManagerStop fault
+MayStop drives.StartMemory = Unit {0}
+MayStop drives.WaitFault = Unit {0}
+MayStop drives.Memory = Unit {0}
+
 -- Why a round isn't run to its end, and what is left of the journal's disk: its manager refuses to begin, or to go on, and nothing
 -- was handed over; or, begun on what stood there, it isn't led to its end.
 pub data IsRoundRefusal {D R : Type 0} (honest : D → Type 0) (seen : D → List ℕ) (may_leave : D → List ℕ → Type 0) (moment : D → ℕ) (left_since : D → ℕ → List ℕ → Type 0)
@@ -64,7 +82,7 @@ pub data IsRoundRefusal {D R : Type 0} (honest : D → Type 0) (seen : D → Lis
       (honest disk → IsToldByDisk fault ⊎ IsUntouched seen may_leave moment left_since disk left) →
       (honest disk → LeavesOnly moment left_since disk left (IsMomentOfOpening start plan (may_leave disk) (seen disk))) →
       IsRoundRefusal honest seen may_leave moment left_since failures capacity rescue_failures rescue_capacity before now plan slots start limits may told heard disk left rescue (drives.Manager fault)
-  not_led : {fault : DriveFault} → (opened manager : Managed D) → IsOpened honest seen capacity plan slots limits disk opened → disk_of manager ≡ left →
+  not_led : {fault : DriveFault} → (opened manager : Managed D) → IsOpened honest seen capacity plan slots start limits disk opened → disk_of manager ≡ left →
       IsLeadFault honest failures capacity rescue_failures rescue_capacity before now may opened manager told heard rescue fault →
       (honest disk → IsRoundOnDisk seen may_leave moment left_since start limits plan may (past_of opened) told (Some fault) (past_of manager) heard disk left) →
       IsRoundRefusal honest seen may_leave moment left_since failures capacity rescue_failures rescue_capacity before now plan slots start limits may told heard disk left rescue fault

@@ -1,5 +1,5 @@
 -- How a round begins: anew, or where the last manager left it.
-use Rattle.std.specs.Prelude.{◌≡◌, ◌⊎◌, ℕ, List, ◌∷◌, length, Option, Ok, None, IsTrue, IsFalse}
+use Rattle.std.specs.Prelude.{◌≡◌, ◌⊎◌, ℕ, List, [], ◌∷◌, length, Option, Ok, None, IsTrue, IsFalse}
 use Rattle.node_machine.specs.declared.Key.{Key}
 use Rattle.node_machine.specs.declared.Outcome.{Outcome}
 use Rattle.throttles.specs.declared.Limits.{Limits}
@@ -35,6 +35,16 @@ abbrev pub FitsIn : Start → List ℕ → Type 0
 FitsIn (Begin used next) image = replay_of image ≡ Ok None
 FitsIn GoOn image = ¬ (replay_of image ≡ Ok None)
 
+-- the records of a manager whose life has begun: Life alone in a new round
+abbrev pub HasBegun : Start → List Record → Type 0
+HasBegun (Begin used next) past = past ≡ Life ∷ []
+HasBegun GoOn past = IsNewLife past
+
+-- those before it: none in a new round
+abbrev pub IsBegunBy : Start → List Record → Type 0
+IsBegunBy (Begin used next) begun = begun ≡ []
+IsBegunBy GoOn begun = Unit {0}
+
 -- while a round is opened: an image from before, or a moment of a run that begins, or of one that is recovered
 abbrev pub IsMomentOfOpening : Start → Plan → (List ℕ → Type 0) → List ℕ → List ℕ → Type 0
 IsMomentOfOpening (Begin used next) plan before found = IsMomentOfBegin before (header_of used next plan.digest)
@@ -58,6 +68,7 @@ pub record IsRound {D R : Type 0} (honest : D → Type 0) (seen : D → List ℕ
     (disk left : D) (text : List ℕ) (status : ℕ) (rescue : Option R) : Type 0 where
   pub begun : List Record
   pub records : List Record
+  pub anew : IsBegunBy start begun
   pub found : honest disk → ReadsForInputs plan begun (seen disk)
   pub led : IsLed plan (Life ∷ begun) records text status
   pub steps : DrivesToEnd limits plan may (Life ∷ begun) told records heard
@@ -85,10 +96,10 @@ pub record BeginsOn {D : Type 0} (plan : Plan) (image : List ℕ) (manager : Man
 
 -- A round is opened: its manager keeps to the limits, and its life has begun on the records of the bytes that stood there. The journal is
 -- whole, of as many slots; of an honest disk it counts the records.
-pub record IsOpened {D : Type 0} (honest : D → Type 0) (seen : D → List ℕ) (capacity : D → ℕ) (plan : Plan) (slots : ℕ) (limits : Limits) (disk : D) (manager : Managed D) : Type 0 where
+pub record IsOpened {D : Type 0} (honest : D → Type 0) (seen : D → List ℕ) (capacity : D → ℕ) (plan : Plan) (slots : ℕ) (start : Start) (limits : Limits) (disk : D) (manager : Managed D) : Type 0 where
   pub plan_is : plan_of manager ≡ plan
   pub limits_are : limits_of manager ≡ limits
-  pub life : IsNewLife (past_of manager)
+  pub anew : HasBegun start (past_of manager)
   pub begun : honest disk → BeginsOn plan (seen disk) manager
   pub whole : IsFalse (is_broken manager.journal)
   pub slots_are : journal_limit manager.journal ≡ slots

@@ -2,6 +2,7 @@
 //! run's end, the rescue file that it owes, and the end recorded.
 #![tactic(auto)]
 
+pub mod laws;
 mod leading;
 mod rounds;
 

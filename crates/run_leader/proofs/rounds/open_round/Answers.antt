@@ -1,5 +1,3 @@
-use Rattle.std.proofs.Common.{◌≡◌}
-use Rattle.run_manager.specs.Faults.{IsToldByDisk}
 use Rattle.run_leader.proofs.Openings.{begin-untouched, of-faults}
 use Rattle.run_leader.proofs.rounds.open_round.Goals as goal
 
@@ -15,3 +13,9 @@ returns-in-Begin-clause-untouched g c = λ honest.
     (λ e why untouched. begin-untouched g.D.Disk.faults g.D.Disk.capacity g.D.Disk.honest g.D.Disk.seen g.D.Disk.may_leave g.D.Disk.moment g.D.Disk.left_since
     16777216 c.args.disk e.0 e.1 honest (λ zero. absurd cc) why untouched)
     c.begin.ensures.refused (c.begin.ensures.untouched honest)
+
+pub returns-in-Begin-clause-anew : goal.returns-in-Begin-clause-anew
+returns-in-Begin-clause-anew g c = rw (c.in-Begin.is) c.begin.ensures.past
+
+pub returns-in-GoOn-clause-anew : goal.returns-in-GoOn-clause-anew
+returns-in-GoOn-clause-anew g c = rw (c.in-GoOn.is) c.recover.ensures.life

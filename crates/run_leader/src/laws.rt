@@ -1,0 +1,26 @@
+//! What holds of the definitions alone. No program calls this function.
+
+ghost use Rattle.std.specs.Prelude.{◌≡◌, ℕ, List, ◌∷◌, Option};
+ghost use Rattle.throttles.specs.declared.Limits.{Limits};
+ghost use Rattle.run_plan.specs.Plan.{Plan};
+ghost use Rattle.node_machine.specs.declared.Record.{Record};
+ghost use Rattle.node_machine.specs.declared.Record.TheVariants.{Life};
+ghost use Rattle.event_journal.specs.Image.{Header};
+ghost use Rattle.run_manager.specs.Chain.{ReadsForInputs};
+ghost use Rattle.job_starter.specs.declared.Call.{Call};
+ghost use Rattle.job_starter.specs.declared.driving.DriveFault.{DriveFault};
+ghost use Rattle.run_leader.specs.Moments.{IsMomentOfEnd, IsLifeAtEnd};
+
+use job_starter::Starter;
+
+/// A run that a manager began or went on with stopped while its end was recorded, by a crash or behind
+/// a fault: it is a life of the run, of the bytes that the manager found, as at each other moment
+/// (job_starter's law `stops`).
+pub fn stops_at_end<S: Starter>()
+    ensures { (limits : Limits) (plan : Plan) (starter : S) (past : List Record)
+        (told : List Call) (fault : Option DriveFault) (kept : List Record) (last : List Call)
+        (header : Header) (found image : List ℕ) →
+        header.digest ≡ plan.digest → ReadsForInputs plan past found →
+        (stop : IsMomentOfEnd limits plan (S.may_tell starter) (Life ∷ past) told fault kept last header image) →
+        IsLifeAtEnd past told found image stop }
+{}
