@@ -1,10 +1,10 @@
 //! Which round of a DAG a run is: what its journal and its rescue files say.
 
-ghost use Rattle.std.specs.Prelude.{◌≡◌, ◌≤◌, IfOk, IfErr, option_map};
+ghost use Rattle.std.specs.Prelude.{◌≡◌, ◌≤◌, IfOk, IfErr, option_map, if◌then◌else◌};
 ghost use Rattle.event_journal.specs.Image.{IsRescueNumber};
 ghost use Rattle.dag_texts.specs.Planned.{in_line, named_by};
 ghost use Rattle.dag_texts.specs.declared.fault.RunFault.TheVariants.{Memory};
-ghost use Rattle.dag_files.specs.Beside.{IsRoundFault};
+ghost use Rattle.dag_files.specs.Beside.{IsRoundFault, IsRoundBy, number_behind};
 
 use crate::beside::{LAST_NUMBER, Place, journal_path};
 use dag_reader::Text;
@@ -41,13 +41,21 @@ pub struct Round {
 
 /// The number behind the highest; 999 is written again.
 fn number_after(highest: u16) -> u16
-    ensures { IsRescueNumber result }
+    ensures number { IsRescueNumber result }
+    ensures behind { result ≡ number_behind highest }
 {
     if highest < LAST_NUMBER {
         highest + 1
     } else {
         LAST_NUMBER
     }
+}
+
+/// The number of the rescue file that a new round reads, 0 for none.
+fn number_read(autorescue: bool, highest: u16) -> u16
+    ensures { result ≡ (if autorescue then highest else 0) }
+{
+    if autorescue { highest } else { 0 }
 }
 
 /// The disk of the file of this path. Nothing is opened yet.
@@ -77,6 +85,7 @@ pub fn round_of<R: Files<File = File> + AllocGlobal + Copy + Drop>(
     autorescue: bool,
 ) -> Result<Round, RunFault>
     ensures numbers { IfOk result (λ round. IsRescueNumber round.next × (round.used ≤ 999)) }
+    ensures by { IfOk result (IsRoundBy autorescue) }
     ensures refused { IfErr result IsRoundFault }
 {
     let alloc = rt.alloc();
@@ -91,7 +100,7 @@ pub fn round_of<R: Files<File = File> + AllocGlobal + Copy + Drop>(
     let highest = place.highest(&rt)?;
     Ok(Round {
         journal,
-        used: if autorescue { highest } else { 0 },
+        used: number_read(autorescue, highest),
         next: number_after(highest),
     })
 }
@@ -99,6 +108,7 @@ pub fn round_of<R: Files<File = File> + AllocGlobal + Copy + Drop>(
 /// The round of an unfinished journal, whose header has the numbers.
 fn unfinished(peek: &Peek) -> Result<Round, RunFault>
     ensures numbers { IfOk result (λ round. IsRescueNumber round.next × (round.used ≤ 999)) }
+    ensures unfinished { IfOk result (λ round. round.journal ≡ Journaled.Unfinished) }
     ensures refused { IfErr result IsRoundFault }
 {
     if peek.used > LAST_NUMBER {
