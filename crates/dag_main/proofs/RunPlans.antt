@@ -4,16 +4,22 @@ use Rattle.splices.specs.FileSet.{bytes_of}
 use Rattle.splices.specs.declared.file_set.FileSet.{FileSet}
 use Rattle.dag_graph.specs.Graph.{Network}
 use Rattle.run_plan.specs.Plan.{Plan}
-use Rattle.dag_main.specs.Runs.{IsPlannedRun, IsLedRun, IsRunOf}
+use Rattle.command_line.specs.declared.request.RunOptions.{RunOptions}
+use Rattle.dag_files.specs.declared.rounds.Round.{Round}
+use Rattle.dag_files.specs.Beside.{IsRoundBy}
+use Rattle.dag_main.specs.Runs.{start_by, IsPlannedRun, IsLedRun, IsRunOf}
 use Rattle.dag_texts.specs.Planned.{IsGraphOf}
 use Rattle.dag_texts.specs.Warnings.{warning_lines}
 
-pub run-of : (path : List ℕ) (files : FileSet) (graph : Network) (plan : Plan) → IsGraphOf (bytes_of files) path graph
-    → IsPlannedRun files graph plan → (text warnings : List ℕ) (status : ℕ) → IsLedRun plan text status
-    → warnings ≡ warning_lines plan.graph.dag.warnings → IsRunOf path text warnings status
-run-of path files graph plan is_graph (rescue, made) text warnings status led notes = record {
+pub run-of : (path : List ℕ) (options : RunOptions) (files : FileSet) (graph : Network) (round : Round) (plan : Plan) → IsGraphOf (bytes_of files) path graph
+    → IsRoundBy options.autorescue round → IsPlannedRun files graph round.used plan → (text warnings : List ℕ) (status : ℕ) → IsLedRun options.limits plan (start_by round) text status
+    → warnings ≡ warning_lines plan.graph.dag.warnings → IsRunOf path options text warnings status
+run-of path options files graph round plan is_graph is_round (rescue, rescue_is, made) text warnings status led notes = record {
   files = files;
+  round = round;
+  is_round = is_round;
   rescue = rescue;
+  rescue_is = rescue_is;
   told = record {
     plan = plan;
     planned = record { graph = graph; is_graph = is_graph; made = made };

@@ -1,5 +1,5 @@
 -- What `run` prints.
-use Rattle.std.specs.Prelude.{ℕ, List, ◌∷◌, Option, Some, None}
+use Rattle.std.specs.Prelude.{◌≡◌, ℕ, List, [], ◌∷◌, Option, Some, None}
 use Rattle.splices.specs.FileSet.{bytes_of, entries_of}
 use Rattle.splices.specs.declared.file_set.FileSet.{FileSet}
 use Rattle.dag_graph.specs.Graph.{Network}
@@ -8,27 +8,68 @@ use Rattle.node_machine.specs.declared.Record.{Record}
 use Rattle.node_machine.specs.declared.Record.TheVariants.{Life}
 use Rattle.rescue_file.specs.Numbered.{rescue_name_of}
 use Rattle.run_manager.specs.declared.fault.ManagerFault.{ManagerFault}
-use Rattle.run_leader.specs.Led.{IsLed}
-use Rattle.dag_files.specs.Beside.{IsFileFault, IsRoundFault}
+use Rattle.node_machine.specs.declared.Key.{Key}
+use Rattle.node_machine.specs.declared.Outcome.{Outcome}
+use Rattle.throttles.specs.declared.Limits.{Limits}
+use Rattle.command_line.specs.declared.request.RunOptions.{RunOptions}
+use Rattle.job_starter.specs.declared.Call.{Call}
+use Rattle.job_starter.specs.Handed.{HandsAll}
+use Rattle.run_leader.specs.declared.rounds.Start.{Start}
+use Rattle.run_leader.specs.declared.rounds.Start.TheVariants.{Begin, GoOn}
+use Rattle.run_leader.specs.Led.{IsLed, DrivesToEnd}
+use Rattle.run_leader.specs.Rounds.{IsBegunBy}
+use Rattle.run_leader.specs.Causes.{IsManagerStop}
+use Rattle.dag_files.specs.declared.rounds.Journaled.{Journaled}
+use Rattle.dag_files.specs.declared.rounds.Journaled.TheVariants as journals
+use Rattle.dag_files.specs.declared.rounds.Round.{Round}
+use Rattle.dag_files.specs.Beside.{IsFileFault, IsRoundFault, IsRoundBy}
 use Rattle.dag_texts.specs.Planned.{IsGraphOf, IsGraphFault, IsPlanBy, IsPlanByFault, in_line, named_by}
 use Rattle.dag_texts.specs.Told.{IsToldOf}
 use Rattle.dag_texts.specs.declared.fault.RunFault.{RunFault}
 use Rattle.dag_texts.specs.declared.fault.RunFault.TheVariants.{InManager, StartMemory, WaitFault, Memory}
 
--- the plan of a graph and of the submit files of a set, with a rescue file or without one
-abbrev pub IsPlannedRun : FileSet → Network → Plan → Type 0
-IsPlannedRun set graph plan = (rescue : Option (List ℕ)) × IsPlanBy (bytes_of set) (entries_of set) rescue graph plan
+-- no rescue file is read where the number is 0
+abbrev pub IsRescueOf : ℕ → Option (List ℕ) → Type 0
+IsRescueOf used rescue = used ≡ 0 → rescue ≡ None
 
--- this was printed by a manager whose life began on some records of the plan, and which led the run to its end
-abbrev pub IsLedRun : Plan → List ℕ → ℕ → Type 0
-IsLedRun plan text status = (begun : List Record) × (records : List Record) × IsLed plan (Life ∷ begun) records text status
+-- the plan of a graph and of the submit files of a set, with the rescue file of this number, or with none where it is 0
+abbrev pub IsPlannedRun : FileSet → Network → ℕ → Plan → Type 0
+IsPlannedRun set graph used plan = (rescue : Option (List ℕ)) × IsRescueOf used rescue × IsPlanBy (bytes_of set) (entries_of set) rescue graph plan
 
--- This was printed of the plan of the files of this path, with a rescue file or without one: the status text of the records
--- of a run that was led to its end, and its exit status; and these are the warnings of its files.
-pub record IsRunOf (path text warnings : List ℕ) (status : ℕ) : Type 0 where
+-- how the manager of a round begins, by its journal and by the numbers of its rescue files
+abbrev pub start_with : Journaled → ℕ → ℕ → Start
+start_with journals.Nothing used next = Begin used next
+start_with journals.Finished used next = Begin used next
+start_with journals.Unfinished used next = GoOn
+
+abbrev pub start_by : Round → Start
+start_by round = start_with round.journal round.used round.next
+
+-- children of the system may come to any ending
+abbrev pub any_ending : List Call → Key → Outcome → Type 0
+any_ending told key outcome = Unit {0}
+
+-- This was printed by a manager whose life began on some records of the plan, in a new round on none; which led the run to its end under
+-- these limits, one step behind another; and which handed over the commands of its launches, once each and in their order.
+pub record IsLedRun (limits : Limits) (plan : Plan) (start : Start) (text : List ℕ) (status : ℕ) : Type 0 where
+  pub begun : List Record
+  pub records : List Record
+  pub calls : List Call
+  pub anew : IsBegunBy start begun
+  pub led : IsLed plan (Life ∷ begun) records text status
+  pub steps : DrivesToEnd limits plan any_ending (Life ∷ begun) [] records calls
+  pub hands_over : HandsAll plan (Life ∷ begun) records [] calls
+
+-- This was printed of the plan of the files of this path, with the rescue file of the round that this is, or without one: the status
+-- text of the records of a run that was led to its end under the limits of these options, and its exit status; and these are the
+-- warnings of its files.
+pub record IsRunOf (path : List ℕ) (options : RunOptions) (text warnings : List ℕ) (status : ℕ) : Type 0 where
   pub files : FileSet
+  pub round : Round
+  pub is_round : IsRoundBy options.autorescue round
   pub rescue : Option (List ℕ)
-  pub told : IsToldOf (bytes_of files) (entries_of files) path rescue (λ plan. IsLedRun plan text status) warnings
+  pub rescue_is : IsRescueOf round.used rescue
+  pub told : IsToldOf (bytes_of files) (entries_of files) path rescue (λ plan. IsLedRun options.limits plan (start_by round) text status) warnings
 
 -- Why the round has no plan: the system refuses the rescue file; a submit file, a text of a job or a line of the rescue file has a
 -- fault, that of a line told with the name of the rescue file; memory ran out.
@@ -38,11 +79,11 @@ pub data IsRoundPlanFault (files : FileSet) (path : List ℕ) (graph : Network) 
   not_planned_with : (number : ℕ) (rescue : Option (List ℕ)) (fault : RunFault) → IsPlanByFault (bytes_of files) (entries_of files) rescue graph fault →
       IsRoundPlanFault files path graph (named_by (in_line fault) (Some (rescue_name_of path number)) fault)
 
--- Why a run is not led to its end: the journal of the round before can't be renamed, the manager refuses, or the starter does; or
--- memory ran out.
+-- Why a run is not led to its end: the journal of the round before can't be renamed; the manager refuses, for a disk or for what stands
+-- on it; the starter refuses; or memory ran out.
 pub data IsStopFault : RunFault → Type 0 where
   journal_not_renamed : (fault : RunFault) → IsFileFault fault → IsStopFault fault
-  manager_refused : (fault : ManagerFault) → IsStopFault (InManager fault)
+  manager_refused : (fault : ManagerFault) → IsManagerStop fault → IsStopFault (InManager fault)
   no_memory_for_child : IsStopFault StartMemory
   no_ending_told : IsStopFault WaitFault
   leading_had_no_memory : IsStopFault Memory
@@ -50,14 +91,14 @@ pub data IsStopFault : RunFault → Type 0 where
 -- Why `run` is refused, the first cause first. Each is met where those before it are not: the files make no graph; it is not
 -- told which round this is; the round has no plan; another manager is at work, or the lock is refused; under the lock it is not
 -- told again which round this is; the run is not led to its end.
-pub data IsRunFault (path : List ℕ) : RunFault → Type 0 where
-  no_graph : (files : FileSet) (fault : RunFault) → IsGraphFault (bytes_of files) path fault → IsRunFault path fault
-  no_round : (files : FileSet) (graph : Network) (fault : RunFault) → IsGraphOf (bytes_of files) path graph → IsRoundFault fault → IsRunFault path fault
-  no_plan : (files : FileSet) (graph : Network) (fault : RunFault) → IsGraphOf (bytes_of files) path graph → IsRoundPlanFault files path graph fault → IsRunFault path fault
-  not_alone : (files : FileSet) (graph : Network) (plan : Plan) (fault : RunFault) → IsGraphOf (bytes_of files) path graph → IsPlannedRun files graph plan →
-      IsFileFault fault → IsRunFault path fault
-  no_round_again : (files : FileSet) (graph : Network) (plan : Plan) (fault : RunFault) → IsGraphOf (bytes_of files) path graph → IsPlannedRun files graph plan →
-      IsRoundFault fault → IsRunFault path fault
-  not_led : (files : FileSet) (graph : Network) (plan : Plan) (fault : RunFault) → IsGraphOf (bytes_of files) path graph → IsPlannedRun files graph plan →
-      IsStopFault fault → IsRunFault path fault
-  no_memory : IsRunFault path Memory
+pub data IsRunFault (path : List ℕ) (options : RunOptions) : RunFault → Type 0 where
+  no_graph : (files : FileSet) (fault : RunFault) → IsGraphFault (bytes_of files) path fault → IsRunFault path options fault
+  no_round : (files : FileSet) (graph : Network) (fault : RunFault) → IsGraphOf (bytes_of files) path graph → IsRoundFault fault → IsRunFault path options fault
+  no_plan : (files : FileSet) (graph : Network) (fault : RunFault) → IsGraphOf (bytes_of files) path graph → IsRoundPlanFault files path graph fault → IsRunFault path options fault
+  not_alone : (files : FileSet) (graph : Network) (round : Round) (plan : Plan) (fault : RunFault) → IsGraphOf (bytes_of files) path graph → IsRoundBy options.autorescue round → IsPlannedRun files graph round.used plan →
+      IsFileFault fault → IsRunFault path options fault
+  no_round_again : (files : FileSet) (graph : Network) (round : Round) (plan : Plan) (fault : RunFault) → IsGraphOf (bytes_of files) path graph → IsRoundBy options.autorescue round → IsPlannedRun files graph round.used plan →
+      IsRoundFault fault → IsRunFault path options fault
+  not_led : (files : FileSet) (graph : Network) (round : Round) (plan : Plan) (fault : RunFault) → IsGraphOf (bytes_of files) path graph → IsRoundBy options.autorescue round → IsPlannedRun files graph round.used plan →
+      IsStopFault fault → IsRunFault path options fault
+  no_memory : IsRunFault path options Memory

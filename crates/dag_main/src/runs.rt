@@ -1,11 +1,12 @@
 //! A run with children of the operating system.
 
-ghost use Rattle.std.specs.Prelude.{◌≤◌, IfOk, IfErr, string_bytes};
+ghost use Rattle.std.specs.Prelude.{◌≡◌, ◌≤◌, IfOk, IfErr, string_bytes};
 ghost use Rattle.splices.specs.FileSet.{bytes_of, entries_of};
 ghost use Rattle.event_journal.specs.Image.{IsRescueNumber};
 ghost use Rattle.run_leader.specs.Rounds.{IsNumbered};
 ghost use Rattle.dag_texts.specs.Planned.{IsPlanBy};
-ghost use Rattle.dag_main.specs.Runs.{IsPlannedRun, IsLedRun, IsRunOf, IsRoundPlanFault, IsStopFault, IsRunFault};
+ghost use Rattle.run_leader.specs.Causes.{MayStop};
+ghost use Rattle.dag_main.specs.Runs.{start_by, IsPlannedRun, IsLedRun, IsRunOf, IsRoundPlanFault, IsStopFault, IsRunFault};
 
 use command_line::RunOptions;
 use dag_files::{
@@ -38,6 +39,7 @@ struct Report {
 
 /// Why a command is refused whose run was stopped.
 fn in_run(fault: DriveFault) -> RunFault
+    requires stops { MayStop fault }
     ensures { IsStopFault result }
 {
     match fault {
@@ -57,7 +59,7 @@ fn plan_of_round<R: Files<File = File> + AllocGlobal + Copy + Drop>(
     round: &Round,
 ) -> Result<Plan, RunFault>
     requires used { round.now.used ≤ 999 }
-    ensures plan { IfOk result (IsPlannedRun files.now graph) }
+    ensures plan { IfOk result (IsPlannedRun files.now graph round.now.used) }
     ensures refused { IfErr result (IsRoundPlanFault files.now place.now.top.now graph) }
 {
     let alloc = rt.alloc();
@@ -75,7 +77,8 @@ fn plan_of_round<R: Files<File = File> + AllocGlobal + Copy + Drop>(
 /// How the manager of this round begins.
 fn start_of(round: &Round) -> Start
     requires { IsRescueNumber round.now.next }
-    ensures { IsNumbered result }
+    ensures numbered { IsNumbered result }
+    ensures start { result ≡ start_by round.now }
 {
     match round.journal {
         Journaled::Nothing | Journaled::Finished => Start::Begin {
@@ -98,7 +101,8 @@ fn run_on<R: Processes + Files<File = File> + Clock + AllocGlobal + Copy + Drop>
     rescue: FileDisk<R>,
 ) -> Result<Report, RunFault>
     requires next { IsRescueNumber round.now.next }
-    ensures led { IfOk result (λ report. IsLedRun plan.now (string_bytes report.text) report.status) }
+    ensures led { IfOk result (λ report. IsLedRun limits plan.now (start_by round.now)
+        (string_bytes report.text) report.status) }
     ensures refused { IfErr result IsStopFault }
 {
     let alloc = rt.alloc();
@@ -108,11 +112,11 @@ fn run_on<R: Processes + Files<File = File> + Clock + AllocGlobal + Copy + Drop>
     }
     let start = start_of(round);
     match run_round(alloc, journal, plan, start, limits, &mut starter, rescue) {
-        Ok(led) => Ok(Report {
+        Ok((_journal, led)) => Ok(Report {
             text: led.text,
             status: led.status,
         }),
-        Err(fault) => Err(in_run(fault)),
+        Err((_journal, fault)) => Err(in_run(fault)),
     }
 }
 
@@ -125,7 +129,8 @@ fn run_planned<R: Processes + Files<File = File> + Clock + AllocGlobal + Copy + 
     limits: Limits,
 ) -> Result<Report, RunFault>
     requires next { IsRescueNumber round.now.next }
-    ensures led { IfOk result (λ report. IsLedRun plan.now (string_bytes report.text) report.status) }
+    ensures led { IfOk result (λ report. IsLedRun limits plan.now (start_by round.now)
+        (string_bytes report.text) report.status) }
     ensures refused { IfErr result IsStopFault }
 {
     let alloc = rt.alloc();
@@ -165,11 +170,12 @@ pub fn run_dag<R: Processes + Files<File = File> + Clock + AllocGlobal + Copy + 
     top: &str,
     options: &RunOptions,
 ) -> Result<Answer, RunFault>
-    // The report is that of a round of the plan of some files, led to its end.
+    // The report is that of a round of the plan of some files, led to its end under the limits of
+    // the options, with the rescue file that they ask for.
     ensures run { IfOk result (λ answer.
-        IsRunOf top.now (string_bytes answer.text) (string_bytes answer.warnings) answer.status) }
+        IsRunOf top.now options.now (string_bytes answer.text) (string_bytes answer.warnings) answer.status) }
     // It is refused for the first cause of the stated order, or for want of memory.
-    ensures refused { IfErr result (IsRunFault top.now) }
+    ensures refused { IfErr result (IsRunFault top.now options.now) }
 {
     let alloc = rt.alloc();
     let place = Place { folder, top };

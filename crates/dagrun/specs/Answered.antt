@@ -29,7 +29,7 @@ pub record IsRehearsal (path : List ℕ) (outcomes : Option (List ℕ)) (limits 
 -- The answer to a request: the text that is printed, the warnings, and the exit status.
 abbrev pub IsAnswerTo : Asked → (text warnings : List ℕ) → (status : ℕ) → Type 0
 IsAnswerTo (checks path) text warnings status = IsCheck path text warnings status
-IsAnswerTo (runs path options) text warnings status = IsRunOf path text warnings status
+IsAnswerTo (runs path options) text warnings status = IsRunOf path options text warnings status
 IsAnswerTo (tells_status path) text warnings status = IsToldOfRun Status path text warnings status
 IsAnswerTo (audits path) text warnings status = IsToldOfRun Audit path text warnings status
 IsAnswerTo (rehearses path outcomes limits) text warnings status = IsRehearsal path outcomes limits text warnings status
@@ -43,7 +43,7 @@ asked_of Audit path = audits path
 pub data IsRefusal : Asked → RunFault → Type 0 where
   not_read : (asked : Asked) (fault : RunFault) → IsFileFault fault → IsRefusal asked fault
   not_checked : (path : List ℕ) (files : FileSet) (fault : RunFault) → IsCheckFault (bytes_of files) path fault → IsRefusal (checks path) fault
-  not_run : (path : List ℕ) (options : RunOptions) (fault : RunFault) → IsRunFault path fault → IsRefusal (runs path options) fault
+  not_run : (path : List ℕ) (options : RunOptions) (fault : RunFault) → IsRunFault path options fault → IsRefusal (runs path options) fault
   no_status : (path : List ℕ) (fault : RunFault) → IsToldFault Status path fault → IsRefusal (tells_status path) fault
   not_audited : (path : List ℕ) (fault : RunFault) → IsToldFault Audit path fault → IsRefusal (audits path) fault
   not_rehearsed : (path : List ℕ) (outcomes table : Option (List ℕ)) (limits : Limits) (files : FileSet) (fault : RunFault) →

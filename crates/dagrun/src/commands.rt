@@ -132,7 +132,7 @@ fn run_here<R: Files<File = File> + Processes + Clock + Env + AllocGlobal + Copy
     options: &RunOptions,
 ) -> Result<Answer, RunFault>
     ensures run { IfOk result (λ answer.
-        IsRunOf dag.now (string_bytes answer.text) (string_bytes answer.warnings) answer.status) }
+        IsRunOf dag.now options.now (string_bytes answer.text) (string_bytes answer.warnings) answer.status) }
     ensures refused { IfErr result (IsRefusal (runs dag.now options.now)) }
 {
     let folder = folder_now(rt)?;

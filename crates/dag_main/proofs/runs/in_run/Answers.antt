@@ -1,8 +1,10 @@
+use Rattle.std.proofs.Common.{subst}
+use Rattle.run_leader.specs.Causes.{MayStop}
 use Rattle.dag_main.specs.Runs.{manager_refused, no_memory_for_child, no_ending_told, leading_had_no_memory}
 use Rattle.dag_main.proofs.runs.in_run.Goals as goal
 
 pub returns-in-Manager : goal.returns-in-Manager
-returns-in-Manager c = manager_refused c.in-Manager.fault
+returns-in-Manager c = manager_refused c.in-Manager.fault (subst MayStop c.in-Manager.is c.requires.stops)
 
 pub returns-in-StartMemory : goal.returns-in-StartMemory
 returns-in-StartMemory c = no_memory_for_child
