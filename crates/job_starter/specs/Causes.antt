@@ -3,6 +3,7 @@ use Rattle.std.specs.Prelude.{◌≡◌, ℕ, List, [], IsTrue}
 use Rattle.node_machine.specs.declared.Record.{Record}
 use Rattle.node_machine.specs.declared.Record.TheVariants.{Life, Launch, End, Finish}
 use Rattle.sched_core.specs.Run.{may_follow}
+use Rattle.event_journal.specs.Disk.{IsOneMore}
 use Rattle.run_manager.specs.Managed.{Managed, plan_of, past_of, IsRefusal}
 use Rattle.run_manager.specs.declared.fault.ManagerFault.{ManagerFault}
 use Rattle.job_starter.specs.declared.Call.{Call}
@@ -13,18 +14,19 @@ use Rattle.job_starter.specs.declared.driving.DriveFault.TheVariants as drives
 use Rattle.job_starter.specs.Calls.{running, Rises}
 use Rattle.job_starter.specs.Moments.{KeepsDisk, CountsOn}
 
--- Why a child is neither started nor answered as not started, by the system's counts of refusals before and after: memory.
+-- Why a child is neither started nor answered as not started, by the system's counts of refusals before and after: memory, which is
+-- one refusal.
 pub data IsStartFault (before now : ℕ) : StartFault → Type 0 where
-  start_had_no_memory : Rises before now → IsStartFault before now starts.StartMemory
+  start_had_no_memory : IsOneMore before now → IsStartFault before now starts.StartMemory
 
 -- Why a system doesn't say how a child does: it refused the question or the wait.
 pub data IsAskFault (before now : ℕ) : StartFault → Type 0 where
-  asking_refused : Rises before now → IsAskFault before now starts.WaitFault
+  asking_refused : IsOneMore before now → IsAskFault before now starts.WaitFault
 
--- Why a starter tells no ending: the system refused a question or a wait; or no child runs.
+-- Why a starter tells no ending: the system refused a question or a wait, once; or no child runs, which counts as no refusal.
 pub data IsWaitFault (before now : ℕ) (told : List Call) : StartFault → Type 0 where
-  waiting_refused : Rises before now → IsWaitFault before now told starts.WaitFault
-  no_child_runs : running told ≡ [] → IsWaitFault before now told starts.NoChild
+  waiting_refused : IsOneMore before now → IsWaitFault before now told starts.WaitFault
+  no_child_runs : running told ≡ [] → now ≡ before → IsWaitFault before now told starts.NoChild
 
 -- a run records launches and endings
 abbrev pub IsOfRun : Record → Type 0

@@ -1,5 +1,5 @@
 //! What a starter of children is: what it is asked, and what its answers mean.
-ghost use Rattle.std.specs.Prelude.{◌≡◌, ◌∷◌, [], ◌≤◌, ℕ, List, None, IsTrue, IsFalse, IfOk, IfErr, IfSome, OnErr, IsErrOf, reverse};
+ghost use Rattle.std.specs.Prelude.{◌≡◌, ◌∷◌, [], ◌≤◌, ℕ, List, None, IsTrue, IsFalse, IfOk, IfErr, IfSome, OnOk, OnErr, IsErrOf, reverse};
 ghost use Rattle.node_machine.specs.Story.{is_possible};
 ghost use Rattle.node_machine.specs.declared.Key.{Key};
 ghost use Rattle.node_machine.specs.declared.Outcome.{Outcome};
@@ -23,8 +23,8 @@ pub trait Starter {
     /// How the child of a key may be told to end, behind these calls.
     ghost may_tell: { Self → List Call → Key → Outcome → Type 0 };
 
-    /// The count of the system's refusals, which stays at 2 ^ 64 - 1. That no child runs counts as
-    /// none.
+    /// The count of the system's refusals, which stays at 2 ^ 64 - 1: each adds one. That no child runs
+    /// counts as none, and so does a kill.
     ghost faults: { Self → ℕ };
 
     /// Starts a child. Room for its ending is taken here.
@@ -42,6 +42,7 @@ pub trait Starter {
             answer ≡ Started.Running → MayRun (may_tell self.old) (told self.old) key) }
         ensures refused { OnErr result (told self.new ≡ told self.old) }
         ensures err { IfErr result (IsStartFault (faults self.old) (faults self.new)) }
+        ensures counts { OnOk result (faults self.new ≡ faults self.old) }
         ensures later { faults self.old ≤ faults self.new }
         ensures may { TellsNoMore (may_tell self.old) (may_tell self.new) };
 
@@ -60,6 +61,7 @@ pub trait Starter {
         ensures err { IfErr result
             (IsWaitFault (faults self.old) (faults self.new) (told self.old)) }
         ensures idle { running (told self.old) ≡ [] → IsErrOf result StartFault.NoChild }
+        ensures counts { OnOk result (faults self.new ≡ faults self.old) }
         ensures later { faults self.old ≤ faults self.new }
         ensures may { TellsNoMore (may_tell self.old) (may_tell self.new) };
 
@@ -67,7 +69,7 @@ pub trait Starter {
     fn kill(&mut self, key: Key) -> Killed
         requires { IsTrue (is_among key (running (told self.old))) }
         ensures told { told self.new ≡ Call.Killed key ∷ told self.old }
-        ensures later { faults self.old ≤ faults self.new }
+        ensures counts { faults self.new ≡ faults self.old }
         ensures may { TellsNoMore (may_tell self.old) (may_tell self.new) };
 
     /// The keys of the children that run, in the order of their starts.
@@ -92,7 +94,7 @@ pub trait System {
     /// How the child of a key may be told to end, behind these calls.
     ghost may_tell: { Self → List Call → Key → Outcome → Type 0 };
 
-    /// The count of refusals, which stays at 2 ^ 64 - 1.
+    /// The count of refusals, which stays at 2 ^ 64 - 1: each adds one. A kill counts as none.
     ghost faults: { Self → ℕ };
 
     /// Starts a child. Room for its ending is taken here.
@@ -109,6 +111,7 @@ pub trait System {
             answer ≡ Started.Running → MayRun (may_tell self.old) (told self.old) key) }
         ensures refused { OnErr result (told self.new ≡ told self.old) }
         ensures err { IfErr result (IsStartFault (faults self.old) (faults self.new)) }
+        ensures counts { OnOk result (faults self.new ≡ faults self.old) }
         ensures later { faults self.old ≤ faults self.new }
         ensures may { TellsNoMore (may_tell self.old) (may_tell self.new) };
 
@@ -126,6 +129,7 @@ pub trait System {
         ensures runs { IfOk result (λ answer. answer ≡ None → told self.new ≡ told self.old) }
         ensures refused { OnErr result (told self.new ≡ told self.old) }
         ensures err { IfErr result (IsAskFault (faults self.old) (faults self.new)) }
+        ensures counts { OnOk result (faults self.new ≡ faults self.old) }
         ensures later { faults self.old ≤ faults self.new }
         ensures may { TellsNoMore (may_tell self.old) (may_tell self.new) };
 
@@ -141,6 +145,7 @@ pub trait System {
         ensures possible { IfOk result (λ outcome. IsTrue (is_possible outcome)) }
         ensures refused { OnErr result (told self.new ≡ told self.old) }
         ensures err { IfErr result (IsAskFault (faults self.old) (faults self.new)) }
+        ensures counts { OnOk result (faults self.new ≡ faults self.old) }
         ensures later { faults self.old ≤ faults self.new }
         ensures may { TellsNoMore (may_tell self.old) (may_tell self.new) };
 
@@ -148,13 +153,13 @@ pub trait System {
     fn kill(&mut self, key: Key) -> Killed
         requires { IsTrue (is_among key (running (told self.old))) }
         ensures told { told self.new ≡ Call.Killed key ∷ told self.old }
-        ensures later { faults self.old ≤ faults self.new }
+        ensures counts { faults self.new ≡ faults self.old }
         ensures may { TellsNoMore (may_tell self.old) (may_tell self.new) };
 
     /// Lets some time pass between two rounds of questions.
     fn pause(&mut self)
         ensures told { told self.new ≡ told self.old }
-        ensures later { faults self.old ≤ faults self.new }
+        ensures counts { faults self.new ≡ faults self.old }
         ensures may { TellsNoMore (may_tell self.old) (may_tell self.new) };
 
     /// The keys of the children that run, in the order of their starts.

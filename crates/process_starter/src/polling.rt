@@ -1,5 +1,5 @@
 //! A starter over a system whose children are asked one by one.
-ghost use Rattle.std.specs.Prelude.{◌≡◌, ◌∷◌, ◌≤◌, [], None, IsTrue, IsFalse, IfOk, IfSome, OnErr, IfErr, reverse};
+ghost use Rattle.std.specs.Prelude.{◌≡◌, ◌∷◌, ◌≤◌, [], None, IsTrue, IsFalse, IfOk, IfSome, OnOk, OnErr, IfErr, reverse};
 ghost use Rattle.node_machine.specs.Story.{is_possible};
 ghost use Rattle.sched_core.specs.Run.{is_among};
 ghost use Rattle.job_starter.specs.Calls.{running, TellsNoMore};
@@ -42,6 +42,7 @@ impl<S: System + Drop> ProcessStarter<S> {
         ensures refused { OnErr result (S.told self.new.system ≡ S.told self.old.system) }
         ensures err { IfErr result
             (IsAskFault (S.faults self.old.system) (S.faults self.new.system)) }
+        ensures counts { OnOk result (S.faults self.new.system ≡ S.faults self.old.system) }
         ensures later { S.faults self.old.system ≤ S.faults self.new.system }
         ensures may { TellsNoMore (S.may_tell self.old.system) (S.may_tell self.new.system) }
     {

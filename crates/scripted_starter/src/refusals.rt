@@ -1,7 +1,7 @@
 //! The count of a system's refusals.
 ghost use Rattle.std.specs.Prelude.{◌≤◌, List};
 ghost use Rattle.job_starter.specs.declared.Call.{Call};
-ghost use Rattle.job_starter.specs.Calls.{Rises};
+ghost use Rattle.event_journal.specs.Disk.{IsOneMore};
 ghost use Rattle.job_starter.specs.Causes.{IsStartFault, IsAskFault, IsWaitFault};
 
 use job_starter::StartFault;
@@ -9,7 +9,7 @@ use job_starter::StartFault;
 /// One more. The count stays at its end.
 pub fn raise(count: &mut u64)
     ensures later { count.old ≤ count.new }
-    ensures rises { Rises count.old count.new }
+    ensures one_more { IsOneMore count.old count.new }
 {
     if *count < u64::MAX {
         *count += 1;

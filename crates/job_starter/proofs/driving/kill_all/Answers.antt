@@ -9,5 +9,5 @@ pub loop-starter-preserved : goal.loop-starter-preserved
 loop-starter-preserved g c =
     let i = c.loop-starter.invariant in
     let e = c.kill.ensures in
-    let low = i.1 in let high = e.later in
+    let low = i.1 in let high = e.counts in
     (subst (λ l. Kills (g.S.Starter.told c.args.starter.now) l) (sym e.told) (one_killed i.0 (search rules)), omega arith, λ told key outcome may. i.2 told key outcome (e.may told key outcome may))

@@ -1,11 +1,11 @@
-use Rattle.std.proofs.Common.{rules, reverse, sym, ap, ◌∙◌}
+use Rattle.std.proofs.Common.{rules, reverse, refl, sym, ap, ◌∙◌}
 use Rattle.job_starter.proofs.Running.{no_items}
 use Rattle.job_starter.specs.Causes.{no_child_runs}
 use Rattle.job_starter.proofs.Counting.{ask-before, ask-waits}
 use Rattle.process_starter.proofs.polling.ProcessStarterStarter.wait_any.Goals as goal
 
 pub returns-then-is_empty-clause-err : goal.returns-then-is_empty-clause-err
-returns-then-is_empty-clause-err g c = no_child_runs (sym c.running.ensures ∙ ap reverse (no_items c.running.result.now (search rules)))
+returns-then-is_empty-clause-err g c = no_child_runs (sym c.running.ensures ∙ ap reverse (no_items c.running.result.now (search rules))) refl
 
 pub returns-in-Err-clause-err : goal.returns-in-Err-clause-err
 returns-in-Err-clause-err g c = ask-waits _ _ _ c.in-Err.fault (ask-before _ _ _ c.in-Err.fault c.loop.invariant.1 c.in-Err.ensures.err)
