@@ -82,7 +82,7 @@ pub data IsRoundRefusal {D R : Type 0} (honest : D → Type 0) (seen : D → Lis
       (honest disk → IsToldByDisk fault ⊎ IsUntouched seen may_leave moment left_since disk left) →
       (honest disk → LeavesOnly moment left_since disk left (IsMomentOfOpening start plan (may_leave disk) (seen disk))) →
       IsRoundRefusal honest seen may_leave moment left_since failures capacity rescue_failures rescue_capacity before now plan slots start limits may told heard disk left rescue (drives.Manager fault)
-  not_led : {fault : DriveFault} → (opened manager : Managed D) → IsOpened honest seen capacity plan slots start limits disk opened → disk_of manager ≡ left →
+  not_led : {fault : DriveFault} → (opened manager : Managed D) → IsOpened honest seen failures capacity plan slots start limits disk opened → disk_of manager ≡ left →
       IsLeadFault honest failures capacity rescue_failures rescue_capacity before now may opened manager told heard rescue fault →
       (honest disk → IsRoundOnDisk seen may_leave moment left_since start limits plan may (past_of opened) told (Some fault) (past_of manager) heard disk left) →
       IsRoundRefusal honest seen may_leave moment left_since failures capacity rescue_failures rescue_capacity before now plan slots start limits may told heard disk left rescue fault

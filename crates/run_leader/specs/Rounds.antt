@@ -1,5 +1,5 @@
 -- How a round begins: anew, or where the last manager left it.
-use Rattle.std.specs.Prelude.{◌≡◌, ◌⊎◌, ℕ, List, [], ◌∷◌, length, Option, Ok, None, IsTrue, IsFalse}
+use Rattle.std.specs.Prelude.{◌≡◌, ◌⊎◌, ◌≤◌, ℕ, List, [], ◌∷◌, length, Option, Ok, None, IsTrue, IsFalse}
 use Rattle.node_machine.specs.declared.Key.{Key}
 use Rattle.node_machine.specs.declared.Outcome.{Outcome}
 use Rattle.throttles.specs.declared.Limits.{Limits}
@@ -95,8 +95,8 @@ pub record BeginsOn {D : Type 0} (plan : Plan) (image : List ℕ) (manager : Man
   pub records : past_of manager ≡ Life ∷ begun
 
 -- A round is opened: its manager keeps to the limits, and its life has begun on the records of the bytes that stood there. The journal is
--- whole, of as many slots; of an honest disk it counts the records.
-pub record IsOpened {D : Type 0} (honest : D → Type 0) (seen : D → List ℕ) (capacity : D → ℕ) (plan : Plan) (slots : ℕ) (start : Start) (limits : Limits) (disk : D) (manager : Managed D) : Type 0 where
+-- whole, of as many slots; of an honest disk it counts the records. The disk has its bounds, and has failed no less often.
+pub record IsOpened {D : Type 0} (honest : D → Type 0) (seen : D → List ℕ) (failures capacity : D → ℕ) (plan : Plan) (slots : ℕ) (start : Start) (limits : Limits) (disk : D) (manager : Managed D) : Type 0 where
   pub plan_is : plan_of manager ≡ plan
   pub limits_are : limits_of manager ≡ limits
   pub anew : HasBegun start (past_of manager)
@@ -104,4 +104,5 @@ pub record IsOpened {D : Type 0} (honest : D → Type 0) (seen : D → List ℕ)
   pub whole : IsFalse (is_broken manager.journal)
   pub slots_are : journal_limit manager.journal ≡ slots
   pub room : capacity (disk_of manager) ≡ capacity disk
+  pub later : failures disk ≤ failures (disk_of manager)
   pub count : honest disk → journal_count manager.journal ≡ length (past_of manager)

@@ -28,6 +28,7 @@ returns-in-Err-lead-clause-refused g c =
       whole = c.in-Ok.ensures.whole;
       slots_are = c.in-Ok.ensures.slots;
       room = c.in-Ok.ensures.room;
+      later = c.in-Ok.ensures.later;
       count = λ h. c.counts_records.ensures.count (c.in-Ok.ensures.keeps h);
     })
     (sym c.into_disk-in-Err-lead.ensures) c.in-Err-lead.ensures.refused
@@ -58,6 +59,7 @@ returns-in-Err-lead-clause-stops g c =
       whole = c.in-Ok.ensures.whole;
       slots_are = c.in-Ok.ensures.slots;
       room = c.in-Ok.ensures.room;
+      later = c.in-Ok.ensures.later;
       count = λ h. c.counts_records.ensures.count (c.in-Ok.ensures.keeps h);
     })
     (sym c.into_disk-in-Err-lead.ensures) c.in-Err-lead.ensures.refused
