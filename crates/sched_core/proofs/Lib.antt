@@ -24,3 +24,8 @@ mod Noted
 mod Taking
 mod Members
 mod Queues
+mod Tallies
+mod Keeping
+mod Settling
+mod Undone
+mod Turning

@@ -1,6 +1,6 @@
 -- The members of a queue of nodes.
 use Rattle.std.proofs.Common.{◌≡◌, ℕ, zero, suc, ◌+◌, ◌-◌, ◌<◌, ◌≤◌, ◌⊎◌, inl, inr, ⊎_elim, Bool, true, false, ◌==◌, List, [], ◌∷◌, length, map, get_or, refl, sym, ap, ◌∙◌, subst, arith, eqb-true}
-use Rattle.std.specs.Prelude.{nat_lt, Result, Ok, Err, OnOk, OnErr}
+use Rattle.std.specs.Prelude.{nat_lt, Result, Ok, Err, OnOk, OnErr, IsOk, ◌↔◌}
 use Rattle.ready_queue.specs.declared.QueueFault.{QueueFault}
 use Rattle.std.specs.List.{Contains, insert, remove, list_any, IsDistinct, AllByRecursion}
 use Rattle.std.proofs.lemmas.Bool.{ltb-true, ltb-false, false_from_ne_true, or_cases, false≢true}
@@ -12,7 +12,7 @@ use Rattle.ready_queue.specs.Queue.{Queue, ComesBefore, IsOrdered}
 use Rattle.ready_queue.proofs.Places.{not-itself}
 use Rattle.run_plan.specs.Plan.{Plan, count_of}
 use Rattle.sched_core.specs.Limits.{member_of}
-use Rattle.sched_core.specs.Queued.{AreMembers, IsMore}
+use Rattle.sched_core.specs.Queued.{AreMembers, IsSet}
 
 pub by_lt : {P : Type 0} (a b : ℕ) → (a < b → P) → (b ≤ a → P) → P
 by_lt {P} a b less more = go (nat_lt a b) refl
@@ -130,27 +130,64 @@ are-less plan old new place are inside is room = record {
   room = room (suc (count_of plan)) are.room;
 }
 
+-- a member that was taken out stands nowhere else
+gone-remove : (members : List Member) (place : ℕ) (old : Member) → IsOrdered members → place < length members → get_or members place old ≡ old
+    → Contains (remove members place) old → ⊥
+gone-remove members place old ordered inside is has =
+    let long = length-remove members place inside in
+    by_lt has.0 place
+    (λ lt. not-itself old (subst (ComesBefore old) is
+    (subst (λ m. ComesBefore m (get_or members place old)) (sym (get_or-remove_below members place old has.0 lt inside) ∙ has.2) (ordered has.0 place old lt inside))))
+    (λ ge. not-itself old (subst (λ m. ComesBefore m old) is
+    (subst (ComesBefore (get_or members place old)) (sym (get_or-remove_above members place old has.0 ge inside) ∙ has.2)
+    (ordered place (has.0 + 1) old (omega (arith, ge)) (let l = has.1 in omega (arith, l, long, inside))))))
+
+-- a queue whose members stay
+pub same-set : (plan : Plan) (node : ℕ) (now : Bool) (members : List Member) → (now ≡ true → Contains members (member_of plan node))
+    → (now ≡ false → Contains members (member_of plan node) → ⊥) → IsSet plan node now members members
+same-set plan node now members there absent = record { kept = λ m has differs. has; others = λ m has differs. has; there = there; absent = absent }
+
 -- what adding a node's member makes of a queue
 pub added-queue : (plan : Plan) (old new : Queue) (node : ℕ) (member : Member) (r : Result Unit QueueFault) → member ≡ member_of plan node → node < count_of plan → AreMembers plan old
-    → OnOk r ((place : ℕ) × (place ≤ length old.members) × (new.members ≡ insert old.members place member)) → old.room ≤ new.room + 1 → OnErr r (new ≡ old)
-    → AreMembers plan new × IsMore old.members new.members
-added-queue plan old new node member (Ok x) is lt are added room same =
-    let at : new.members ≡ insert old.members added.0 (member_of plan node) = added.2 ∙ ap (insert old.members added.0) is in (
+    → (Contains old.members (member_of plan node) → ⊥) → (IsOk r ↔ (Contains old.members member → ⊥))
+    → OnOk r ((place : ℕ) × (place ≤ length old.members) × (new.members ≡ insert old.members place member)) → old.room ≤ new.room + 1
+    → AreMembers plan new × IsSet plan node true old.members new.members
+added-queue plan old new node member (Err e) is lt are absent refused added room =
+    absurd (false≢true (refused.1 (λ has. absent (subst (Contains old.members) is has))))
+added-queue plan old new node member (Ok x) is lt are absent refused added room =
+    let at : new.members ≡ insert old.members added.0 (member_of plan node) = added.2 ∙ ap (insert old.members added.0) is in
+    let long = length-insert old.members added.0 (member_of plan node) added.1 in (
       are-more plan old new node added.0 are lt added.1 at room,
-      λ m has. subst (λ ms. Contains ms m) (sym at) (kept-insert old.members added.0 (member_of plan node) added.1 m has),
+      record {
+        kept = λ m has differs. subst (λ ms. Contains ms m) (sym at) (kept-insert old.members added.0 (member_of plan node) added.1 m has);
+        others = λ m has differs. ⊎_elim (λ (same : member_of plan node ≡ m). absurd (differs (ap (λ (k : Member). k.node) (sym same)))) (λ before. before)
+            (insert-cases old.members added.0 (member_of plan node) added.1 m (subst (λ ms. Contains ms m) at has));
+        there = λ t. subst (λ ms. Contains ms (member_of plan node)) (sym at)
+            (added.0, (let w = added.1 in omega (arith, w, long)), get_or-insert_at old.members added.0 (member_of plan node) (member_of plan node) added.1);
+        absent = λ f. absurd (false≢true (sym f));
+      },
     )
-added-queue plan old new node member (Err e) is lt are added room same = (subst (AreMembers plan) (sym same) are, λ m has. subst (λ (q : Queue). Contains q.members m) (sym same) has)
 
 -- and taking it out
-pub removed-queue : (plan : Plan) (old new : Queue) (node : ℕ) (member : Member) (r : Result Unit QueueFault) → member ≡ member_of plan node → AreMembers plan old
+pub removed-queue : (plan : Plan) (old new : Queue) (node : ℕ) (member : Member) (r : Result Unit QueueFault) → member ≡ member_of plan node → IsOrdered old.members → AreMembers plan old
+    → (IsOk r ↔ Contains old.members member)
     → OnOk r ((place : ℕ) × (place < length old.members) × (get_or old.members place member ≡ member) × (new.members ≡ remove old.members place))
     → OnOk r (old.room + 1 ≤ new.room) → OnErr r (new ≡ old)
-    → AreMembers plan new × ((m : Member) → Contains old.members m → (m.node ≡ node → ⊥) → Contains new.members m)
-removed-queue plan old new node member (Ok x) is are removed freed same =
+    → AreMembers plan new × IsSet plan node false old.members new.members
+removed-queue plan old new node member (Ok x) is ordered are refused removed freed same =
     let long = length-remove old.members removed.0 removed.1 in let len = ap (λ (ms : List Member). length ms) removed.3 in (
       are-less plan old new removed.0 are removed.1 removed.3 (λ n le. let at = removed.1 in omega (arith, le, long, len, freed, at)),
-      λ m has differs. subst (λ ms. Contains ms m) (sym removed.3)
-          (kept-remove old.members removed.0 member removed.1 removed.2 m has (λ one. differs (sym (ap (λ (k : Member). k.node) (sym is ∙ one))))),
+      record {
+        kept = λ m has differs. subst (λ ms. Contains ms m) (sym removed.3)
+            (kept-remove old.members removed.0 member removed.1 removed.2 m has (λ one. differs (sym (ap (λ (k : Member). k.node) (sym is ∙ one)))));
+        others = λ m has differs. from-remove old.members removed.0 removed.1 m (subst (λ ms. Contains ms m) removed.3 has);
+        there = λ t. absurd (false≢true t);
+        absent = λ f has. gone-remove old.members removed.0 member ordered removed.1 removed.2
+            (subst (Contains (remove old.members removed.0)) (sym is) (subst (λ ms. Contains ms (member_of plan node)) removed.3 has));
+      },
     )
-removed-queue plan old new node member (Err e) is are removed freed same =
-    (subst (AreMembers plan) (sym same) are, λ m has differs. subst (λ (q : Queue). Contains q.members m) (sym same) has)
+removed-queue plan old new node member (Err e) is ordered are refused removed freed same = (
+  subst (AreMembers plan) (sym same) are,
+  subst (λ (q : Queue). IsSet plan node false old.members q.members) (sym same)
+      (same-set plan node false old.members (λ t. absurd (false≢true t)) (λ f has. false≢true (refused.1 (subst (Contains old.members) (sym is) has)))),
+)

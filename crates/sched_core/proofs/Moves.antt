@@ -1,7 +1,6 @@
 -- What a core adds and chooses.
-use Rattle.std.proofs.Common.{nat_lt, ◌≡◌, ℕ, suc, ◌+◌, ◌<◌, ◌≤◌, Bool, true, false, not, ◌&&◌, ◌||◌, List, [], ◌∷◌, ◌++◌, length, take, drop, reverse, ◌==◌, Option, Some, None, IfSome, IfNone, is_some, refl, sym, ap, ◌∙◌, subst, arith, eq-eqb, eqb-true, if◌then◌else◌}
+use Rattle.std.proofs.Common.{nat_lt, ◌≡◌, ℕ, suc, ◌+◌, ◌<◌, ◌≤◌, Bool, true, false, not, ◌&&◌, List, [], ◌∷◌, length, ◌==◌, Option, Some, None, refl, sym, ap, ◌∙◌, subst, arith, eq-eqb, eqb-true, if◌then◌else◌}
 use Rattle.std.proofs.lemmas.Bool.{and_parts, and_from, false≢true, false_from_ne_true}
-use Rattle.std.proofs.Math.Seq.{take-append_seam}
 use Rattle.node_machine.specs.declared.Key.{Key}
 use Rattle.node_machine.specs.declared.Outcome.{Outcome}
 use Rattle.node_machine.specs.Story.{phase_number}
@@ -12,10 +11,10 @@ use Rattle.node_machine.specs.NodeProgress.{NodeProgress}
 use Rattle.node_machine.specs.declared.Record.{Record}
 use Rattle.sched_core.specs.declared.Choice.TheVariants as choices
 use Rattle.node_machine.specs.declared.Record.TheVariants.{Life, Launch, End, Finish}
-use Rattle.sched_core.specs.Run.{next, is_met, has_abort_value, is_aborted, outstanding, without, is_among, is_next, is_free, is_nothing, is_open, is_ready, is_final_ready, may_launch, may_follow, is_lawful, job_launches, launch_number, exit_status}
+use Rattle.sched_core.specs.Run.{next, is_met, has_abort_value, is_aborted, outstanding, is_among, is_next, is_free, is_open, is_ready, is_final_ready, may_launch, may_follow, is_lawful, job_launches, launch_number, exit_status}
 use Rattle.sched_core.specs.Core.{Shows, AreFresh, is_running, runs_after, aborted_after, jobs_after}
 use Rattle.sched_core.specs.Choices.{IsChoice, launchable}
-use Rattle.sched_core.proofs.Keys.{Each, each_among, each_without, same-self}
+use Rattle.sched_core.proofs.Keys.{each_among, same-self}
 use Rattle.sched_core.proofs.Sound.{sound}
 use Rattle.sched_core.proofs.Held.{Within, outstanding-within, among-is, launched-within, end-within}
 use Rattle.sched_core.proofs.Shown.{shows-after}
@@ -34,33 +33,16 @@ jobs-few (Launch key number ∷ past) = go (phase_number key.phase == 1) (jobs-f
     go true h = omega arith
     go false h = omega arith
 
--- a written part of a list that is the whole
-pub written : {A : Type 0} (new old : List A) (len : ℕ) → length new ≡ len → take len (new ++ drop (length new) old) ≡ new
-written new old len n = ap (λ m. take m (new ++ drop (length new) old)) (sym n) ∙ take-append_seam new (drop (length new) old)
-
-pub add-shown : (plan : Plan) (records records' : List Record) (entry : Record) (old slice new : List NodeProgress) (len : ℕ) (aborted flag : Bool) (jobs jobs' : ℕ)
-    → Shows plan (reverse records) old aborted jobs → may_follow plan (reverse records) entry ≡ true
-    → slice ≡ old → length slice ≡ len → new ≡ runs_after plan slice aborted entry → flag ≡ aborted_after plan slice aborted entry
-    → jobs' ≡ jobs_after jobs entry → reverse records' ≡ entry ∷ reverse records
-    → Shows plan (reverse records') (take len (new ++ drop (length new) old)) flag jobs'
-add-shown plan records records' entry old slice new len aborted flag jobs jobs' s h same size n f g r =
-    subst (λ t. Shows plan t (take len (new ++ drop (length new) old)) flag jobs') (sym r)
-    (subst (λ t. Shows plan (entry ∷ reverse records) t flag jobs') (sym whole)
-    (subst (λ t. Shows plan (entry ∷ reverse records) (runs_after plan old aborted entry) t jobs') (sym (f ∙ ap (λ l. aborted_after plan l aborted entry) same))
-    (subst (λ t. Shows plan (entry ∷ reverse records) (runs_after plan old aborted entry) (aborted_after plan old aborted entry) t) (sym g) now)))
-  where
-    now : Shows plan (entry ∷ reverse records) (runs_after plan old aborted entry) (aborted_after plan old aborted entry) (jobs_after jobs entry)
-    now = shows-after plan (reverse records) old aborted jobs s entry h
-
-    is_new : new ≡ runs_after plan old aborted entry
-    is_new = n ∙ ap (λ l. runs_after plan l aborted entry) same
-
-    whole : take len (new ++ drop (length new) old) ≡ runs_after plan old aborted entry
-    whole =
-        let a : length new ≡ suc (count_of plan) = ap length is_new ∙ now.many in
-        let b : length old ≡ suc (count_of plan) = s.many in
-        let c : length old ≡ len = sym (ap length same) ∙ size in
-        written new old len (omega arith) ∙ is_new
+-- what a core keeps of the nodes behind a record
+pub added-shown : (plan : Plan) (past now : List Record) (entry : Record) (runs runs' : List NodeProgress) (aborted flag : Bool) (jobs jobs' : ℕ)
+    → Shows plan past runs aborted jobs → may_follow plan past entry ≡ true → runs' ≡ runs_after plan runs aborted entry → flag ≡ aborted_after plan runs aborted entry
+    → jobs' ≡ jobs_after jobs entry → now ≡ entry ∷ past → Shows plan now runs' flag jobs'
+added-shown plan past now entry runs runs' aborted flag jobs jobs' s h r f g n =
+    subst (λ t. Shows plan t runs' flag jobs') (sym n)
+    (subst (λ t. Shows plan (entry ∷ past) t flag jobs') (sym r)
+    (subst (λ t. Shows plan (entry ∷ past) (runs_after plan runs aborted entry) t jobs') (sym f)
+    (subst (λ t. Shows plan (entry ∷ past) (runs_after plan runs aborted entry) (aborted_after plan runs aborted entry) t) (sym g)
+    (shows-after plan past runs aborted jobs s entry h))))
 
 calm-at_first : (plan : Plan) → is_aborted plan [] ≡ false
 unfolding is_aborted

@@ -182,7 +182,7 @@ stuck-error plan past runs aborted jobs s node lt =
         cases false = sym (none-key node stand stand.phase)
 
 -- a sum in which one number rose from 0
-sum-one : (f g : ℕ → ℕ) (k : ℕ) → ((m : ℕ) → (k == m) ≡ false → g m ≡ f m) → f k ≡ 0
+pub sum-one : (f g : ℕ → ℕ) (k : ℕ) → ((m : ℕ) → (k == m) ≡ false → g m ≡ f m) → f k ≡ 0
     → (n : ℕ) → sum_below g n ≡ (if nat_lt k n then g k else 0) + sum_below f n
 sum-one f g k same low zero = sym (λ j. (if none-below k j then g k else 0) + 0)
 sum-one f g k same low (suc n) = go (k == n) refl (sum-one f g k same low n)

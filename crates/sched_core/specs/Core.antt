@@ -16,12 +16,14 @@ use Rattle.node_machine.specs.declared.Record.{Record}
 use Rattle.node_machine.specs.declared.Record.TheVariants.{Life, Launch, End, Finish}
 use Rattle.sched_core.specs.Run.{history, next, is_done, outstanding, is_aborted, is_lawful, job_launches, is_met, is_over}
 
--- the plan, the limits, the records, the newest first, and how many more need no memory
+-- the plan, the limits, the records, the newest first, how many more need no memory, and how many states of nodes were looked
+-- at to apply records
 pub record Progress : Type 0 where
   pub plan : Plan
   pub limits : Limits
   pub past : List Record
   pub room : ℕ
+  pub looks : ℕ
 
 -- one of the keys is of this node
 abbrev pub has_key_of : ℕ → List Key → Bool

@@ -6,8 +6,13 @@ pub mod Example
 pub mod Rounds
 pub mod Limits
 pub mod Notes
+pub mod States
+pub mod Turns
 pub mod Queued
 pub mod Core
 pub mod Choices
 pub mod Bound
+pub mod Looks
+pub mod Tally
 pub mod Commands
+pub mod Kept

@@ -7,6 +7,7 @@
 ghost use Rattle.std.specs.Prelude.{◌≡◌};
 ghost use Rattle.sched_core.specs.declared.CoreFault.TheVariants.{Memory};
 
+mod advancing;
 pub mod examples;
 mod facts;
 pub mod laws;
@@ -14,6 +15,7 @@ mod nodes;
 mod notes;
 mod ready;
 mod scheduler;
+mod states;
 
 use node_machine::{Key, Verdict};
 pub use scheduler::Core;

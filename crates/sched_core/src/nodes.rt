@@ -3,14 +3,15 @@
 ghost use Rattle.std.specs.Prelude.{None, Some, true, false, IfOk, IfErr, ◌≡◌, ℕ, ◌+◌, ◌^◌, ◌<◌, ◌≤◌, ◌++◌, ◌∷◌, [], ◌==◌, ◌||◌, ◌&&◌, suc, map, length, not, slice_set, vec_len, vec_capacity, is_none, IsTrue, if◌then◌else◌};
 ghost use Rattle.node_machine.specs.Story.{phase_number, is_possible, may_end_with};
 ghost use Rattle.node_machine.specs.Stand.{next_of};
-ghost use Rattle.node_machine.specs.NodeRun.{started, stopped, ended_with};
 ghost use Rattle.run_plan.specs.Plan.{node_at, count_of};
 ghost use Rattle.sched_core.specs.declared.CoreFault.TheVariants.{NotLawful, Finished};
 ghost use Rattle.sched_core.specs.Run.{written, history, key_at, is_next, is_same, is_met, is_over, is_open, abort_status};
 ghost use Rattle.splices.specs.declared.flat.CategoryLimit.{CategoryLimit};
 ghost use Rattle.throttles.specs.Throttled.{all_in};
 ghost use Rattle.sched_core.specs.Limits.{limits_of, throttled_in, throttled_after, IsOfNode, IsCounted};
-ghost use Rattle.sched_core.specs.Core.{AreFresh, run_at, aborted_in, has_abort_at, is_stuck_at, failed_after, runs_ended, runs_after, aborted_after, jobs_after};
+ghost use Rattle.sched_core.specs.Core.{AreFresh, run_at, jobs_after};
+ghost use Rattle.sched_core.specs.Tally.{stop_status};
+ghost use Rattle.sched_core.specs.Bound.{sum_below};
 
 use crate::CoreFault;
 use node_machine::{Ended, Key, NodeRun, Outcome, Phase, Record, State};
@@ -32,15 +33,6 @@ pub fn set_run(runs: &mut [NodeRun], node: u32, run: NodeRun)
     ensures { runs.new ≡ slice_set runs.old node run }
 {
     runs[node as usize] = run;
-}
-
-/// Nothing is outstanding any more.
-pub fn stop_all(runs: &mut [NodeRun])
-    ensures { runs.new ≡ map stopped runs.old }
-{
-    for run in runs.iter_mut() {
-        let _ = run.forget_launch();
-    }
 }
 
 pub fn is_job(phase: Phase) -> bool
@@ -182,88 +174,6 @@ pub fn is_met_by(setting: Option<i32>, value: Option<i32>) -> bool
     }
 }
 
-/// Whether this is an ordinary node, and its abort value stands there.
-fn has_abort_at(plan: &Plan, runs: &[NodeRun], node: u32) -> bool
-    requires many { length runs.now ≡ suc (count_of plan.now) }
-    requires node { node < suc (count_of plan.now) }
-    ensures { result ≡ has_abort_at plan.now runs.now node }
-{
-    node < plan.count()
-        && is_met_by(
-            plan.spec(node).course().abort_on,
-            run_of(runs, node).last_value(),
-        )
-}
-
-/// Whether an ordinary node is in error.
-fn is_stuck_at(plan: &Plan, runs: &[NodeRun], node: u32) -> bool
-    requires many { length runs.now ≡ suc (count_of plan.now) }
-    requires node { node < suc (count_of plan.now) }
-    ensures { result ≡ is_stuck_at plan.now runs.now node }
-{
-    node < plan.count()
-        && !plan.spec(node).is_done()
-        && matches!(run_of(runs, node).state(), State::Error)
-}
-
-/// The ordinary nodes in error after one more record, which made these of the nodes.
-pub fn count_failed(plan: &Plan, runs: &[NodeRun], failed: u32, entry: Record) -> u32
-    requires many { length runs.now ≡ suc (count_of plan.now) }
-    requires node { IsOfNode plan.now entry }
-    requires few { failed_after plan.now runs.now failed entry < 2 ^ 32 }
-    ensures { result ≡ failed_after plan.now runs.now failed entry }
-{
-    match entry {
-        Record::End(key, _) => {
-            if is_stuck_at(plan, runs, key.node) {
-                failed + 1
-            } else {
-                failed
-            }
-        }
-        _ => failed,
-    }
-}
-
-/// A node's next phase is launched.
-pub fn launch_phase(runs: &mut [NodeRun], key: Key)
-    requires node { key.node < length runs.old }
-    requires idle { (run_at runs.old key.node).running ≡ false }
-    requires next { next_of (run_at runs.old key.node).stand (run_at runs.old key.node).stand.phase
-        ≡ Some (key.attempt, key.phase) }
-    ensures { runs.new ≡ slice_set runs.old key.node (started (run_at runs.old key.node)) }
-{
-    let mut run = run_of(runs, key.node);
-    let _ = run.launched(key.attempt, key.phase);
-    set_run(runs, key.node, run);
-}
-
-/// A node's next phase ends.
-pub fn end_phase(runs: &mut [NodeRun], node: u32, outcome: Outcome)
-    requires node { node < length runs.old }
-    requires running { (run_at runs.old node).running ≡ true }
-    ensures { runs.new ≡ slice_set runs.old node (ended_with (run_at runs.old node) outcome) }
-{
-    let mut run = run_of(runs, node);
-    let _ = run.ended(outcome);
-    set_run(runs, node, run);
-}
-
-/// An abort that was not there before this node's phase ended stops all.
-pub fn stop_at_abort(plan: &Plan, runs: &mut [NodeRun], aborted: bool, node: u32) -> bool
-    requires many { length runs.old ≡ suc (count_of plan.now) }
-    requires node { node < suc (count_of plan.now) }
-    requires others { aborted_in plan.now runs.old ≡ (aborted || has_abort_at plan.now runs.old node) }
-    ensures flag { result ≡ aborted_in plan.now runs.old }
-    ensures runs { runs.new ≡ (if result && (not aborted) then map stopped runs.old else runs.old) }
-{
-    let now = aborted || has_abort_at(plan, runs, node);
-    if now && !aborted {
-        stop_all(runs);
-    }
-    now
-}
-
 pub fn push_in_room(records: &mut Vec<Record>, entry: Record)
     requires { vec_len records.old < vec_capacity records.old }
     ensures items { records.new.items ≡ records.old.items ++ entry ∷ [] }
@@ -279,6 +189,32 @@ pub fn count_and_one(records: &[Record]) -> u64
     ensures small { length records.now + 1 < 2 ^ 64 }
 {
     records.len() as u64 + 1
+}
+
+/// A count, one higher where this holds.
+pub fn count_if(count: u32, holds: bool) -> u32
+    requires { holds ≡ true → count + 1 < 2 ^ 32 }
+    ensures { result ≡ (if holds then suc count else count) }
+{
+    if holds { count + 1 } else { count }
+}
+
+/// The exit status that an abort gives the run, where this record's end of a phase aborts it.
+pub fn status_after(plan: &Plan, status: u8, aborts: bool, entry: Record) -> u8
+    requires { IsOfNode plan.now entry }
+    ensures { result ≡ (if aborts then stop_status plan.now status entry else status) }
+{
+    match entry {
+        Record::End(key, _) => {
+            if aborts {
+                let spec = plan.spec(key.node);
+                status_by(spec.abort_return(), spec.course().abort_on)
+            } else {
+                status
+            }
+        }
+        _ => status,
+    }
 }
 
 /// The launches of jobs after one more record.
@@ -359,6 +295,25 @@ pub fn both(first: bool, second: bool) -> bool
     ensures { result ≡ (first && second) }
 {
     first && second
+}
+
+pub fn either(first: bool, second: bool) -> bool
+    ensures { result ≡ (first || second) }
+{
+    first || second
+}
+
+/// How many ordinary nodes are done from the start.
+pub fn done_at_first(plan: &Plan) -> u32
+    ensures { result ≡ sum_below (λ node. if (node_at plan.now node).done then 1 else 0) (count_of plan.now) }
+{
+    let mut done = 0;
+    for node in 0..plan.count() {
+        if plan.spec(node).is_done() {
+            done += 1;
+        }
+    }
+    done
 }
 
 /// The phases of a node that ended, the oldest first.

@@ -1,12 +1,10 @@
 //! What a core notes of each node's newest attempt.
 
-ghost use Rattle.std.specs.Prelude.{◌≡◌, ◌<◌, [], suc, length, slice_set, is_none, if◌then◌else◌, IfOk};
-ghost use Rattle.run_plan.specs.Plan.{count_of};
-ghost use Rattle.sched_core.specs.Limits.{IsOfNode};
-ghost use Rattle.sched_core.specs.Notes.{AreNotes, no_notes, notes_at, notes_after, with_launch, with_end};
+ghost use Rattle.std.specs.Prelude.{◌≡◌, ◌<◌, [], length, slice_set, is_none, if◌then◌else◌, IfOk};
+ghost use Rattle.sched_core.specs.Notes.{AreNotes, no_notes, notes_at, with_launch, with_end};
 
 use crate::nodes::is_job;
-use node_machine::{Key, Outcome, Phase, Record};
+use node_machine::{Key, Outcome, Phase};
 use run_plan::Plan;
 use std::alloc::{AllocError, Global};
 
@@ -47,7 +45,8 @@ fn earlier(before: Option<Outcome>, now: Option<Outcome>) -> Option<Outcome>
     }
 }
 
-fn with_launch(notes: AttemptNotes, key: Key, number: u64) -> AttemptNotes
+/// What the launch of a phase makes of the notes.
+pub fn with_launch(notes: AttemptNotes, key: Key, number: u64) -> AttemptNotes
     ensures { result ≡ with_launch notes key number }
 {
     let now = if key.attempt == notes.attempt {
@@ -67,7 +66,8 @@ fn with_launch(notes: AttemptNotes, key: Key, number: u64) -> AttemptNotes
     }
 }
 
-fn with_end(notes: AttemptNotes, phase: Phase, outcome: Outcome) -> AttemptNotes
+/// What the end of a phase makes of the notes.
+pub fn with_end(notes: AttemptNotes, phase: Phase, outcome: Outcome) -> AttemptNotes
     ensures { result ≡ with_end notes phase outcome }
 {
     match phase {
@@ -90,31 +90,11 @@ pub fn notes_of(notes: &[AttemptNotes], node: u32) -> AttemptNotes
     notes[node as usize]
 }
 
-fn set_notes(notes: &mut [AttemptNotes], node: u32, now: AttemptNotes)
+pub fn set_notes(notes: &mut [AttemptNotes], node: u32, now: AttemptNotes)
     requires { node < length notes.old }
     ensures { notes.new ≡ slice_set notes.old node now }
 {
     notes[node as usize] = now;
-}
-
-/// What a record makes of the notes.
-pub fn note(plan: &Plan, notes: &mut [AttemptNotes], entry: Record)
-    requires many { length notes.old ≡ suc (count_of plan.now) }
-    requires node { IsOfNode plan.now entry }
-    ensures { notes.new ≡ notes_after notes.old entry }
-{
-    let _plan = plan;
-    match entry {
-        Record::Launch(key, number) => {
-            let now = with_launch(notes_of(notes, key.node), key, number);
-            set_notes(notes, key.node, now);
-        }
-        Record::End(key, outcome) => {
-            let now = with_end(notes_of(notes, key.node), key.phase, outcome);
-            set_notes(notes, key.node, now);
-        }
-        _ => {}
-    }
 }
 
 /// Notes before any record.

@@ -1,17 +1,15 @@
 //! The nodes that may start, best first, so that what is to be done next is found at once.
 
-ghost use Rattle.std.specs.Prelude.{◌≡◌, ◌<◌, ◌≤◌, ℕ, suc, true, length, not, IfOk, IfErr, []};
-ghost use Rattle.std.specs.List.{Contains, list_all};
-ghost use Rattle.dag_graph.specs.Graph.{children_of};
+ghost use Rattle.std.specs.Prelude.{◌≡◌, ◌<◌, ◌≤◌, ◌∷◌, ℕ, suc, true, false, length, not, slice_set, IfOk, IfErr, []};
+ghost use Rattle.std.specs.List.{Contains};
 ghost use Rattle.ready_queue.specs.declared.Member.{Member};
 ghost use Rattle.run_plan.specs.Plan.{node_at, count_of};
-ghost use Rattle.sched_core.specs.Core.{AreFresh};
-ghost use Rattle.sched_core.specs.Limits.{IsOfNode, member_of};
-ghost use Rattle.sched_core.specs.Queued.{done_at, waits, AreMembers, IsQueued, IsMore, IsAdded, IsRequeued};
+ghost use Rattle.sched_core.specs.Limits.{member_of};
+ghost use Rattle.sched_core.specs.States.{AreMany, AreNew, is_ready_by, is_ready_at};
+ghost use Rattle.sched_core.specs.Queued.{AreMembers, IsQueued, IsSet};
 
 use crate::CoreFault;
-use crate::nodes::{is_done_at, run_of};
-use node_machine::{NodeRun, Record};
+use crate::states::{Looked, NodeState, States};
 use ready_queue::{Member, ReadyQueue};
 use run_plan::Plan;
 use std::alloc::Global;
@@ -30,144 +28,113 @@ fn member_of(plan: &Plan, node: u32) -> Member
 fn enqueue(plan: &Plan, queue: &mut ReadyQueue, node: u32)
     requires node { node < count_of plan.now }
     requires are { AreMembers plan.now queue.old }
+    requires absent { Contains queue.old.members (member_of plan.now node) → ⊥ }
     ensures are { AreMembers plan.now queue.new }
-    ensures more { IsMore queue.old.members queue.new.members }
-    ensures added { Contains queue.new.members (member_of plan.now node) }
+    ensures set { IsSet plan.now node true queue.old.members queue.new.members }
 {
     let member = member_of(plan, node);
     let _ = queue.members();
-    if !queue.contains(member) {
-        let _ = queue.add(member);
-    }
+    let _ = queue.add(member);
 }
 
 /// The node is no member any more.
 fn dequeue(plan: &Plan, queue: &mut ReadyQueue, node: u32)
-    requires node { node ≤ count_of plan.now }
+    requires node { node < count_of plan.now }
     requires are { AreMembers plan.now queue.old }
     ensures are { AreMembers plan.now queue.new }
-    ensures others { (member : Member) → Contains queue.old.members member
-        → (member.node ≡ node → ⊥) → Contains queue.new.members member }
+    ensures set { IsSet plan.now node false queue.old.members queue.new.members }
 {
-    let _ = queue.remove(member_of(plan, node));
+    let member = member_of(plan, node);
+    let _ = queue.members();
+    let _ = queue.remove(member);
 }
 
-/// Whether all parents of a node are done. The last in plan order is asked first, since it tends to
-/// be done last: so most answers take one look.
-pub fn parents_done_at(plan: &Plan, runs: &[NodeRun], node: u32) -> bool
-    requires many { length runs.now ≡ suc (count_of plan.now) }
-    requires node { node ≤ count_of plan.now }
-    ensures { result ≡ list_all (done_at plan.now runs.now) (node_at plan.now node).parents }
+/// Whether a node is a member is told, and whether it is one from here on.
+fn requeue(plan: &Plan, queue: &mut ReadyQueue, node: u32, was: bool, now: bool)
+    requires node { node < count_of plan.now }
+    requires are { AreMembers plan.now queue.old }
+    requires there { was ≡ true → Contains queue.old.members (member_of plan.now node) }
+    requires absent { was ≡ false → Contains queue.old.members (member_of plan.now node) → ⊥ }
+    ensures are { AreMembers plan.now queue.new }
+    ensures set { IsSet plan.now node now queue.old.members queue.new.members }
 {
-    let parents = plan.spec(node).parents();
-    let mut left = parents.len();
-    while left > 0 {
-        left -= 1;
-        let parent = parents[left];
-        if !is_done_at(plan.spec(parent), &run_of(runs, parent)) {
-            return false;
-        }
+    if was == now {
+        return;
     }
-    true
-}
-
-fn waits(plan: &Plan, runs: &[NodeRun], node: u32) -> bool
-    requires many { length runs.now ≡ suc (count_of plan.now) }
-    requires node { node < count_of plan.now }
-    ensures { result ≡ waits plan.now runs.now node }
-{
-    !plan.spec(node).is_done()
-        && run_of(runs, node).wants().is_some()
-        && parents_done_at(plan, runs, node)
-}
-
-/// The node is a member from here on, if it waits.
-fn enqueue_waiting(plan: &Plan, runs: &[NodeRun], queue: &mut ReadyQueue, node: u32)
-    requires many { length runs.now ≡ suc (count_of plan.now) }
-    requires node { node < count_of plan.now }
-    requires are { AreMembers plan.now queue.old }
-    ensures are { AreMembers plan.now queue.new }
-    ensures more { IsMore queue.old.members queue.new.members }
-    ensures added { IsAdded plan.now runs.now node queue.new.members }
-{
-    if waits(plan, runs, node) {
+    if now {
         enqueue(plan, queue, node);
+    } else {
+        dequeue(plan, queue, node);
     }
 }
 
-fn enqueue_all(plan: &Plan, runs: &[NodeRun], queue: &mut ReadyQueue)
-    requires many { length runs.now ≡ suc (count_of plan.now) }
+/// Whether an ordinary node may be launched, by its state.
+pub fn is_ready_by(plan: &Plan, aborted: bool, node: u32, state: &NodeState) -> bool
+    requires { node ≤ count_of plan.now }
+    ensures { result ≡ is_ready_by (node_at plan.now node).done aborted state.now.run state.now.parents_left }
+{
+    !aborted
+        && state.parents_left == 0
+        && !plan.spec(node).is_done()
+        && state.run.wants().is_some()
+        && !state.run.is_running()
+}
+
+/// A node's state is put back, and the queue follows it.
+pub fn settle(
+    plan: &Plan,
+    aborted: bool,
+    states: &mut States,
+    queue: &mut ReadyQueue,
+    was: bool,
+    looked: Looked,
+)
+    requires node { looked.node < suc (count_of plan.now) }
+    requires many { AreMany plan.now states.old }
+    requires was { looked.node < count_of plan.now
+        → was ≡ is_ready_at plan.now aborted states.old.runs states.old.left looked.node }
+    requires queued { IsQueued plan.now aborted states.old.runs states.old.left queue.old }
+    ensures states { states.new ≡ record {
+      runs = slice_set states.old.runs looked.node looked.state.run;
+      notes = slice_set states.old.notes looked.node looked.state.notes;
+      left = slice_set states.old.left looked.node looked.state.parents_left;
+      looks = states.old.looks;
+    } }
+    ensures many { AreMany plan.now states.new }
+    ensures queued { IsQueued plan.now aborted states.new.runs states.new.left queue.new }
+{
+    let node = looked.node();
+    if node < plan.count() {
+        let now = is_ready_by(plan, aborted, node, &looked.state);
+        requeue(plan, queue, node, was, now);
+        states.put(looked);
+    } else {
+        states.put(looked);
+    }
+}
+
+fn enqueue_all(plan: &Plan, states: &States, queue: &mut ReadyQueue)
+    requires many { AreMany plan.now states.now }
     requires are { AreMembers plan.now queue.old }
-    ensures are { AreMembers plan.now queue.new }
-    ensures added { (node : ℕ) → node < count_of plan.now
-        → IsAdded plan.now runs.now node queue.new.members }
+    requires none { queue.old.members ≡ [] }
+    ensures queued { IsQueued plan.now false states.now.runs states.now.left queue.new }
 {
     for node in 0..plan.count() {
-        enqueue_waiting(plan, runs, queue, node);
-    }
-}
-
-fn enqueue_children(plan: &Plan, runs: &[NodeRun], queue: &mut ReadyQueue, node: u32)
-    requires many { length runs.now ≡ suc (count_of plan.now) }
-    requires node { node < count_of plan.now }
-    requires are { AreMembers plan.now queue.old }
-    ensures are { AreMembers plan.now queue.new }
-    ensures more { IsMore queue.old.members queue.new.members }
-    ensures added { (child : ℕ) → Contains (children_of plan.now.graph.dag node) child
-        → IsAdded plan.now runs.now child queue.new.members }
-{
-    let graph = plan.graph();
-    for child in graph.children(node) {
-        enqueue_waiting(plan, runs, queue, *child);
-    }
-}
-
-/// What the end of a phase makes of the queue.
-fn enqueue_after_end(plan: &Plan, runs: &[NodeRun], queue: &mut ReadyQueue, node: u32)
-    requires many { length runs.now ≡ suc (count_of plan.now) }
-    requires are { AreMembers plan.now queue.old }
-    ensures are { AreMembers plan.now queue.new }
-    ensures more { IsMore queue.old.members queue.new.members }
-    ensures own { node < count_of plan.now → IsAdded plan.now runs.now node queue.new.members }
-    ensures children { node < count_of plan.now → done_at plan.now runs.now node ≡ true
-        → (child : ℕ) → Contains (children_of plan.now.graph.dag node) child
-        → IsAdded plan.now runs.now child queue.new.members }
-{
-    if node < plan.count() {
-        enqueue_waiting(plan, runs, queue, node);
-        if is_done_at(plan.spec(node), &run_of(runs, node)) {
-            enqueue_children(plan, runs, queue, node);
-        }
-    }
-}
-
-/// What a record makes of the queue, once it made these of the nodes. It takes no memory.
-pub fn requeue(plan: &Plan, runs: &[NodeRun], queue: &mut ReadyQueue, entry: Record)
-    requires many { length runs.now ≡ suc (count_of plan.now) }
-    requires node { IsOfNode plan.now entry }
-    requires are { AreMembers plan.now queue.old }
-    ensures are { AreMembers plan.now queue.new }
-    ensures requeued { IsRequeued plan.now runs.now entry queue.old.members queue.new.members }
-{
-    match entry {
-        Record::Life => enqueue_all(plan, runs, queue),
-        Record::Launch(key, _) => dequeue(plan, queue, key.node),
-        Record::End(key, _) => enqueue_after_end(plan, runs, queue, key.node),
-        Record::Finish(_) => {}
+        let now = is_ready_by(plan, false, node, &states.read(node));
+        requeue(plan, queue, node, false, now);
     }
 }
 
 /// The queue before any record.
-pub fn fresh_queue(alloc: Global, plan: &Plan, runs: &[NodeRun]) -> Result<ReadyQueue, CoreFault>
-    requires { AreFresh plan.now runs.now }
-    ensures ok { IfOk result (λ queue. IsQueued plan.now [] queue) }
+pub fn fresh_queue(alloc: Global, plan: &Plan, states: &States) -> Result<ReadyQueue, CoreFault>
+    requires { AreMany plan.now states.now }
+    ensures ok { IfOk result (λ queue. IsQueued plan.now false states.now.runs states.now.left queue) }
     ensures err { IfErr result (λ fault. fault ≡ CoreFault.Memory) }
 {
-    let _graph = plan.graph();
     let mut queue = ReadyQueue::new(alloc);
     if queue.reserve(plan.count() as usize + 1).is_err() {
         return Err(CoreFault::Memory);
     }
-    enqueue_all(plan, runs, &mut queue);
+    enqueue_all(plan, states, &mut queue);
     Ok(queue)
 }

@@ -6,23 +6,26 @@ ghost use Rattle.node_machine.specs.Story.{may_end_with, phase_number};
 ghost use Rattle.run_plan.specs.Plan.{node_at, count_of, all_below};
 ghost use Rattle.sched_core.specs.Run.{written, history, next, is_done, is_in_error, attempts_in, value_in, has_abort_value, is_aborted, outstanding, is_among, is_free, is_nothing, is_ready, is_final_ready, may_launch, job_launches, launch_number, status_of_abort, exit_status, is_over, is_open, may_follow, is_lawful, needs_rescue};
 ghost use Rattle.sched_core.specs.Fate.{shown};
-ghost use Rattle.sched_core.specs.Core.{Progress, Shows, Takes, aborted_in, is_running, has_key_of, runs_after, aborted_after, jobs_after, fault_after, better_of, AreMarks, IsBestBelow};
+ghost use Rattle.sched_core.specs.Core.{Progress, is_running, fault_after, better_of, AreMarks, IsBestBelow};
+ghost use Rattle.sched_core.specs.States.{IsStateOf};
+ghost use Rattle.sched_core.specs.Kept.{place_of, IsLookedFor};
+ghost use Rattle.sched_core.specs.Looks.{stops, most_looks, further_looks};
 ghost use Rattle.sched_core.specs.Choices.{launchable, startable, IsChoice};
 ghost use Rattle.sched_core.specs.Limits.{lets_in};
 ghost use Rattle.sched_core.specs.Queued.{AreWaiting};
 ghost use Rattle.sched_core.specs.Commands.{facts_in};
 
+use crate::advancing::advance;
 use crate::facts::noted_facts;
 use crate::nodes::{
-    both, count_and_one, count_failed, count_jobs, end_phase, fault_by, fresh_runs,
-    fresh_throttles, history_of, is_done_at, is_job, is_key, is_met_by, last_is_finish,
-    last_is_open, launch_phase, may_end, next_at, push_in_room, run_of, status_by, stop_all,
-    stop_at_abort, throttle,
+    both, count_and_one, count_if, count_jobs, done_at_first, either, fault_by, fresh_throttles,
+    history_of, is_done_at, is_job, is_key, last_is_finish, last_is_open, may_end, next_at,
+    push_in_room, status_after, throttle,
 };
-use crate::notes::{AttemptNotes, fresh_notes, note, notes_of};
-use crate::ready::{fresh_queue, parents_done_at, requeue};
+use crate::ready::{fresh_queue, is_ready_by};
+use crate::states::{Looked, NodeState, States};
 use crate::{Choice, CoreFault};
-use node_machine::{Ended, Key, NodeRun, Outcome, Record, State};
+use node_machine::{Ended, Key, Outcome, Record, State};
 use node_specs::PhaseFacts;
 use ready_queue::{Member, ReadyQueue};
 use run_plan::Plan;
@@ -34,12 +37,16 @@ use throttles::{Limits, Throttles};
 pub struct Core<'a> {
     plan: &'a Plan,
     records: Vec<Record>,
-    runs: Vec<NodeRun>,
+    states: States,
     aborted: bool,
+    /// the exit status that an abort gave the run; 1 where there was none
+    stop_status: u8,
+    /// the launches of jobs
     jobs: u64,
     throttles: Throttles,
-    notes: Vec<AttemptNotes>,
+    /// the ordinary nodes in error, and those that are done
     failed: u32,
+    done: u32,
     queue: ReadyQueue,
 }
 
@@ -49,12 +56,13 @@ impl Drop for Core<'_> {
         let Core {
             plan: _,
             records: _,
-            runs: _,
+            states: _,
             aborted: _,
+            stop_status: _,
             jobs: _,
             throttles: _,
-            notes: _,
             failed: _,
+            done: _,
             queue: _,
         } = self;
     }
@@ -63,44 +71,20 @@ impl Drop for Core<'_> {
 impl<'a> Model for Core<'a> {
     ghost use Rattle.std.specs.Prelude.{◌-◌, vec_len, vec_capacity};
     ghost use Rattle.sched_core.specs.Run.{written};
-    ghost use Rattle.sched_core.specs.Core.{Progress, Shows};
-    ghost use Rattle.sched_core.specs.Limits.{IsThrottled};
-    ghost use Rattle.sched_core.specs.Notes.{IsNoted};
-    ghost use Rattle.sched_core.specs.Queued.{IsQueued};
+    ghost use Rattle.sched_core.specs.Core.{Progress};
+    ghost use Rattle.sched_core.specs.Kept.{IsKept};
 
     ghost Value = { Progress };
 
-    ghost view = { λ a. record { plan = a.plan.now; limits = a.throttles.limits; past = written a.records.items; room = vec_capacity a.records - vec_len a.records } };
+    ghost view = { λ a. record {
+      plan = a.plan.now;
+      limits = a.throttles.limits;
+      past = written a.records.items;
+      room = vec_capacity a.records - vec_len a.records;
+      looks = a.states.looks;
+    } };
 
-    ghost invariant = { λ a. Shows a.plan.now (written a.records.items) a.runs.items a.aborted a.jobs
-        × IsThrottled a.plan.now (written a.records.items) a.throttles
-        × IsNoted a.plan.now (written a.records.items) a.notes.items a.failed
-        × IsQueued a.plan.now (written a.records.items) a.queue };
-}
-
-/// What a record makes of the nodes; the answer is the flag for an abort.
-fn advance(plan: &Plan, runs: &mut [NodeRun], aborted: bool, entry: Record) -> bool
-    requires many { length runs.old ≡ suc (count_of plan.now) }
-    requires takes { Takes plan.now runs.old entry }
-    requires flag { aborted ≡ aborted_in plan.now runs.old }
-    ensures runs { runs.new ≡ runs_after plan.now runs.old aborted entry }
-    ensures flag { result ≡ aborted_after plan.now runs.old aborted entry }
-{
-    match entry {
-        Record::Life => {
-            stop_all(runs);
-            aborted
-        }
-        Record::Launch(key, _) => {
-            launch_phase(runs, key);
-            aborted
-        }
-        Record::End(key, outcome) => {
-            end_phase(runs, key.node, outcome);
-            stop_at_abort(plan, runs, aborted, key.node)
-        }
-        Record::Finish(_) => aborted,
-    }
+    ghost invariant = { λ a. IsKept a.plan.now (written a.records.items) a.states a.aborted a.stop_status a.jobs a.throttles a.failed a.done a.queue };
 }
 
 /// The better of two phases, of which the second is of a later node.
@@ -153,14 +137,39 @@ impl<'a> Core<'a> {
         &self.records
     }
 
+    /// A node's state, for a call that changes none.
+    fn state_of(&self, node: u32) -> NodeState
+        requires { node ≤ count_of self.now.plan }
+        ensures { IsStateOf self.now.plan self.now.past node result }
+    {
+        let _graph = self.plan.graph();
+        self.states.read(node)
+    }
+
+    fn is_done_by(&self, node: u32, state: &NodeState) -> bool
+        requires node { node ≤ count_of self.now.plan }
+        requires state { IsStateOf self.now.plan self.now.past node state.now }
+        ensures { result ≡ is_done self.now.plan self.now.past node }
+    {
+        self.keeps_the_law();
+        is_done_at(self.plan().spec(node), &state.run)
+    }
+
+    fn next_by(&self, node: u32, state: &NodeState) -> Option<Key>
+        requires node { node ≤ count_of self.now.plan }
+        requires state { IsStateOf self.now.plan self.now.past node state.now }
+        ensures { result ≡ next self.now.plan self.now.past node }
+    {
+        self.keeps_the_law();
+        next_at(self.plan().spec(node), node, &state.run)
+    }
+
     /// Whether a node is done, from the start or after a good last attempt.
     pub fn is_done(&self, node: u32) -> bool
         requires { node ≤ count_of self.now.plan }
         ensures { result ≡ is_done self.now.plan self.now.past node }
     {
-        let plan = self.plan;
-        let run = run_of(&self.runs, node);
-        is_done_at(plan.spec(node), &run)
+        self.is_done_by(node, &self.state_of(node))
     }
 
     /// A node's next phase.
@@ -168,9 +177,7 @@ impl<'a> Core<'a> {
         requires { node ≤ count_of self.now.plan }
         ensures { result ≡ next self.now.plan self.now.past node }
     {
-        let plan = self.plan;
-        let run = run_of(&self.runs, node);
-        next_at(plan.spec(node), node, &run)
+        self.next_by(node, &self.state_of(node))
     }
 
     /// The value of the last attempt of a node that ended.
@@ -178,8 +185,8 @@ impl<'a> Core<'a> {
         requires { node ≤ count_of self.now.plan }
         ensures { result ≡ value_in self.now.plan self.now.past node }
     {
-        let run = run_of(&self.runs, node);
-        run.last_value()
+        self.keeps_the_law();
+        self.state_of(node).run.last_value()
     }
 
     /// How many attempts of a node ended.
@@ -187,8 +194,8 @@ impl<'a> Core<'a> {
         requires { node ≤ count_of self.now.plan }
         ensures { result ≡ attempts_in self.now.plan self.now.past node }
     {
-        let run = run_of(&self.runs, node);
-        run.attempts_ended()
+        self.keeps_the_law();
+        self.state_of(node).run.attempts_ended()
     }
 
     /// Whether a phase of the node is outstanding.
@@ -196,8 +203,14 @@ impl<'a> Core<'a> {
         requires { node ≤ count_of self.now.plan }
         ensures { result ≡ is_running self.now.plan self.now.past node }
     {
-        let run = run_of(&self.runs, node);
-        run.is_running()
+        self.state_of(node).run.is_running()
+    }
+
+    /// How many states of nodes were looked at to apply records; it stays at the greatest number.
+    pub fn looks(&self) -> u64
+        ensures { result ≡ self.now.looks }
+    {
+        self.states.looks()
     }
 
     pub fn is_over(&self) -> bool
@@ -236,47 +249,49 @@ impl<'a> Core<'a> {
         requires { node ≤ count_of self.now.plan }
         ensures { result ≡ list_all (is_done self.now.plan self.now.past) (node_at self.now.plan node).parents }
     {
-        let _graph = self.plan.graph();
-        parents_done_at(self.plan, &self.runs, node)
+        for parent in self.plan().spec(node).parents() {
+            if !self.is_done(*parent) {
+                return false;
+            }
+        }
+        true
     }
 
     /// Whether a node has a next phase, and it is not outstanding.
-    fn is_free(&self, node: u32) -> bool
-        requires { node ≤ count_of self.now.plan }
+    fn is_free_by(&self, node: u32, state: &NodeState) -> bool
+        requires node { node ≤ count_of self.now.plan }
+        requires state { IsStateOf self.now.plan self.now.past node state.now }
         ensures { result ≡ is_free self.now.plan self.now.past (next self.now.plan self.now.past node) }
     {
-        let _records = &self.records;
-        match self.next(node) {
-            Some(_) => !self.is_running(node),
+        self.keeps_the_law();
+        match self.next_by(node, state) {
+            Some(_) => !state.run.is_running(),
             None => false,
         }
     }
 
-    #[tactic(auto, unfolding(crate::specs::Run::is_ready))]
-    fn is_ready(&self, node: u32) -> bool
-        requires { node ≤ count_of self.now.plan }
+    fn is_ready_by(&self, node: u32, state: &NodeState) -> bool
+        requires node { node < count_of self.now.plan }
+        requires state { IsStateOf self.now.plan self.now.past node state.now }
         ensures { result ≡ is_ready self.now.plan self.now.past node }
     {
-        !self.aborted() && self.parents_done(node) && self.is_free(node)
+        self.keeps_the_law();
+        is_ready_by(self.plan(), self.aborted(), node, state)
     }
 
-    /// The nodes that may be ready, best first: each that is stands among them.
+    /// The ordinary nodes that are ready, best first.
     fn waiting(&self) -> &[Member]
         ensures { AreWaiting self.now.plan self.now.past result.now }
     {
         let _records = &self.records;
+        let _graph = self.plan.graph();
         self.queue.members()
     }
 
     fn nothing_ready(&self) -> bool
         ensures { result ≡ all_below (λ node. not (is_ready self.now.plan self.now.past node)) (count_of self.now.plan) }
     {
-        for member in self.waiting() {
-            if self.is_ready(member.node) {
-                return false;
-            }
-        }
-        true
+        self.waiting().is_empty()
     }
 
     /// Whether nothing is outstanding.
@@ -297,27 +312,35 @@ impl<'a> Core<'a> {
         self.nothing_running()
     }
 
-    /// Whether the next phase of the FINAL node may be launched: it is its turn.
     #[tactic(auto, unfolding(crate::specs::Run::is_final_ready))]
-    pub fn is_final_ready(&self) -> bool
+    fn is_final_ready_by(&self, state: &NodeState) -> bool
+        requires { IsStateOf self.now.plan self.now.past (count_of self.now.plan) state.now }
         ensures { result ≡ is_final_ready self.now.plan self.now.past }
     {
         let plan = self.plan();
         plan.has_final()
-            && self.is_free(plan.count())
+            && self.is_free_by(plan.count(), state)
             && self.no_ordinary_running()
             && (self.aborted() || self.nothing_ready())
     }
 
+    /// Whether the next phase of the FINAL node may be launched: it is its turn.
+    pub fn is_final_ready(&self) -> bool
+        ensures { result ≡ is_final_ready self.now.plan self.now.past }
+    {
+        self.is_final_ready_by(&self.state_of(self.plan().count()))
+    }
+
     #[tactic(auto, unfolding(crate::specs::Run::may_launch))]
-    fn may_launch(&self, node: u32) -> bool
+    fn may_launch_by(&self, node: u32, state: &NodeState) -> bool
+        requires node { node ≤ count_of self.now.plan }
+        requires state { IsStateOf self.now.plan self.now.past node state.now }
         ensures { result ≡ may_launch self.now.plan self.now.past node }
     {
-        let count = self.plan().count();
-        if node < count {
-            self.is_ready(node)
+        if node < self.plan().count() {
+            self.is_ready_by(node, state)
         } else {
-            node == count && self.is_final_ready()
+            self.is_final_ready_by(state)
         }
     }
 
@@ -330,7 +353,19 @@ impl<'a> Core<'a> {
         if key.node > self.plan().count() {
             return false;
         }
-        both(self.is_running(key.node), is_key(self.next(key.node), key))
+        self.is_outstanding_by(key, &self.state_of(key.node))
+    }
+
+    fn is_outstanding_by(&self, key: &Key, state: &NodeState) -> bool
+        requires node { key.now.node ≤ count_of self.now.plan }
+        requires state { IsStateOf self.now.plan self.now.past key.now.node state.now }
+        ensures { result ≡ is_among key.now (outstanding self.now.plan self.now.past) }
+    {
+        self.keeps_the_law();
+        both(
+            state.run.is_running(),
+            is_key(self.next_by(key.node, state), key),
+        )
     }
 
     /// A node's phase that may be launched.
@@ -339,67 +374,48 @@ impl<'a> Core<'a> {
         ensures is { result ≡ launchable self.now.plan self.now.past node }
         ensures node { IfSome result (λ key. key.node ≡ node) }
     {
-        if self.may_launch(node) {
-            self.next(node)
+        let state = self.state_of(node);
+        if self.may_launch_by(node, &state) {
+            self.next_by(node, &state)
         } else {
             None
         }
     }
 
-    fn nothing_to_launch(&self) -> bool
+    /// Whether nothing may be launched, by the state of FINAL's place.
+    fn nothing_to_launch_by(&self, state: &NodeState) -> bool
+        requires { IsStateOf self.now.plan self.now.past (count_of self.now.plan) state.now }
         ensures { result ≡ all_below (λ node. not (may_launch self.now.plan self.now.past node)) (suc (count_of self.now.plan)) }
     {
-        for node in 0..self.plan().count() + 1 {
-            if self.may_launch(node) {
-                return false;
-            }
-        }
-        true
+        both(!self.is_final_ready_by(state), self.nothing_ready())
     }
 
     fn all_done(&self) -> bool
         ensures { result ≡ all_below (is_done self.now.plan self.now.past) (count_of self.now.plan) }
     {
-        for node in 0..self.plan().count() {
-            if !self.is_done(node) {
-                return false;
-            }
-        }
-        true
-    }
-
-    fn has_abort_value(&self, node: u32) -> bool
-        requires { node ≤ count_of self.now.plan }
-        ensures { result ≡ has_abort_value self.now.plan self.now.past node }
-    {
-        is_met_by(
-            self.plan().spec(node).course().abort_on,
-            self.last_value(node),
-        )
+        let _records = &self.records;
+        self.done == self.plan.count()
     }
 
     fn status_of_abort(&self) -> u8
         ensures { result ≡ status_of_abort self.now.plan self.now.past (count_of self.now.plan) }
     {
-        let mut left = self.plan().count();
-        while left > 0 {
-            let node = left - 1;
-            if self.has_abort_value(node) {
-                let spec = self.plan().spec(node);
-                return status_by(spec.abort_return(), spec.course().abort_on);
-            }
-            left = node;
-        }
-        1
+        let _records = &self.records;
+        self.stop_status
     }
 
-    /// The exit status of the run if it ends here.
-    pub fn verdict(&self) -> u8
+    /// The exit status of the run if it ends here, by the state of FINAL's place.
+    fn verdict_by(&self, state: &NodeState) -> u8
+        requires { IsStateOf self.now.plan self.now.past (count_of self.now.plan) state.now }
         ensures { result ≡ exit_status self.now.plan self.now.past }
     {
         let plan = self.plan();
         if plan.has_final() {
-            if self.is_done(plan.count()) { 0 } else { 1 }
+            if self.is_done_by(plan.count(), state) {
+                0
+            } else {
+                1
+            }
         } else if self.aborted() {
             self.status_of_abort()
         } else if self.all_done() {
@@ -407,6 +423,13 @@ impl<'a> Core<'a> {
         } else {
             1
         }
+    }
+
+    /// The exit status of the run if it ends here.
+    pub fn verdict(&self) -> u8
+        ensures { result ≡ exit_status self.now.plan self.now.past }
+    {
+        self.verdict_by(&self.state_of(self.plan().count()))
     }
 
     /// Whether a node is not done, and no phase of it is to come.
@@ -426,38 +449,56 @@ impl<'a> Core<'a> {
         self.aborted() || !self.all_done() || (plan.has_final() && self.is_in_error(plan.count()))
     }
 
+    /// The place of the node that a record is judged by: its own, and FINAL's for the end of the run.
+    fn place_of(&self, entry: &Record) -> u32
+        ensures is { result ≡ place_of self.now.plan entry.now }
+        ensures within { result ≤ count_of self.now.plan }
+    {
+        let count = self.plan().count();
+        match entry {
+            Record::Launch(key, _) | Record::End(key, _) => {
+                if key.node < count { key.node } else { count }
+            }
+            _ => count,
+        }
+    }
+
+    /// Whether a record may follow, by the state of its place.
     #[tactic(auto, unfolding(crate::specs::Run::may_follow))]
-    fn follows(&self, entry: &Record) -> bool
+    fn follows(&self, entry: &Record, state: &NodeState) -> bool
+        requires { IsStateOf self.now.plan self.now.past (place_of self.now.plan entry.now) state.now }
         ensures { result ≡ may_follow self.now.plan self.now.past entry.now }
     {
         match entry {
             Record::Life => !self.is_over(),
-            Record::Launch(key, number) => self.launch_follows(key, *number),
-            Record::End(key, outcome) => self.end_follows(key, *outcome),
+            Record::Launch(key, number) => self.launch_follows(key, *number, state),
+            Record::End(key, outcome) => self.end_follows(key, *outcome, state),
             Record::Finish(status) => {
                 self.is_open()
                     && self.nothing_running()
-                    && self.nothing_to_launch()
-                    && *status == self.verdict()
+                    && self.nothing_to_launch_by(state)
+                    && *status == self.verdict_by(state)
             }
         }
     }
 
     #[tactic(auto, unfolding(crate::specs::Run::may_follow))]
-    fn launch_follows(&self, key: &Key, number: u64) -> bool
+    fn launch_follows(&self, key: &Key, number: u64, state: &NodeState) -> bool
+        requires { IsStateOf self.now.plan self.now.past (place_of self.now.plan (Record.Launch key.now number)) state.now }
         ensures { result ≡ may_follow self.now.plan self.now.past (Record.Launch key.now number) }
     {
         if key.node > self.plan().count() {
             return false;
         }
         self.is_open()
-            && self.may_launch(key.node)
-            && is_key(self.next(key.node), key)
+            && self.may_launch_by(key.node, state)
+            && is_key(self.next_by(key.node, state), key)
             && number == self.launch_number(key)
     }
 
     #[tactic(auto, unfolding(crate::specs::Run::may_follow))]
-    fn end_follows(&self, key: &Key, outcome: Outcome) -> bool
+    fn end_follows(&self, key: &Key, outcome: Outcome, state: &NodeState) -> bool
+        requires { IsStateOf self.now.plan self.now.past (place_of self.now.plan (Record.End key.now outcome)) state.now }
         ensures { result ≡ may_follow self.now.plan self.now.past (Record.End key.now outcome) }
     {
         let _records = &self.records;
@@ -465,7 +506,7 @@ impl<'a> Core<'a> {
             return false;
         }
         self.is_open()
-            && self.is_outstanding(key)
+            && self.is_outstanding_by(key, state)
             && may_end(self.plan().spec(key.node), key.phase, outcome)
     }
 
@@ -474,37 +515,78 @@ impl<'a> Core<'a> {
         ensures ok { IsOk result ↔ IsTrue (may_follow self.now.plan self.now.past entry.now) }
         ensures err { IfErr result (λ fault. fault ≡ fault_after self.now.past) }
     {
-        if self.follows(entry) {
+        if self.follows(entry, &self.state_of(self.place_of(entry))) {
             Ok(())
         } else {
             Err(fault_by(self.is_over()))
         }
     }
 
-    fn add(&mut self, entry: Record)
+    /// Lends the state of a place, which is a look.
+    fn look(&mut self, node: u32) -> Looked
+        requires { node ≤ count_of self.old.plan }
+        ensures node { result.node ≡ node }
+        ensures state { IsStateOf self.old.plan self.old.past node result.state }
+        ensures unchanged { self.new ≡ record self.old { looks = self.new.looks } }
+        ensures looks { self.new.looks ≤ self.old.looks + 1 }
+    {
+        let _graph = self.plan.graph();
+        self.states.look(node)
+    }
+
+    /// Adds a record that may follow, whose node's state was lent.
+    fn keep(&mut self, looked: Option<Looked>, entry: Record)
+        requires room { 0 < self.old.room }
+        requires lawful { IsTrue (may_follow self.old.plan self.old.past entry) }
+        requires looked { IsLookedFor self.old.plan self.old.past entry looked }
+        ensures plan { self.new.plan ≡ self.old.plan }
+        ensures limits { self.new.limits ≡ self.old.limits }
+        ensures past { self.new.past ≡ entry ∷ self.old.past }
+        ensures room { self.old.room ≤ self.new.room + 1 }
+        ensures looks { self.new.looks ≤ self.old.looks + further_looks self.old.plan entry (stops self.old.plan self.old.past entry) }
+    {
+        let plan = self.plan;
+        let _more = count_and_one(&self.records);
+        let _graph = plan.graph();
+        let _nodes = plan.count();
+        self.jobs = count_jobs(self.jobs, entry);
+        let turn = advance(
+            plan,
+            self.aborted,
+            &mut self.states,
+            &mut self.queue,
+            looked,
+            entry,
+        );
+        self.aborted = either(self.aborted, turn.aborts);
+        self.stop_status = status_after(plan, self.stop_status, turn.aborts, entry);
+        self.failed = count_if(self.failed, turn.is_stuck);
+        self.done = count_if(self.done, turn.is_done);
+        throttle(plan, &mut self.throttles, entry, turn.aborts);
+        push_in_room(&mut self.records, entry);
+    }
+
+    /// Adds a record that is known to be one that may follow. It takes no memory.
+    pub fn add(&mut self, entry: Record)
         requires room { 0 < self.old.room }
         requires lawful { IsTrue (may_follow self.old.plan self.old.past entry) }
         ensures plan { self.new.plan ≡ self.old.plan }
         ensures limits { self.new.limits ≡ self.old.limits }
         ensures past { self.new.past ≡ entry ∷ self.old.past }
         ensures room { self.old.room ≤ self.new.room + 1 }
+        ensures looks { self.new.looks ≤ self.old.looks + most_looks self.old.plan self.old.past entry }
     {
-        let plan = self.plan;
-        let _more = count_and_one(&self.records);
-        let _graph = plan.graph();
-        let _nodes = plan.count();
-        let was_aborted = self.aborted;
-        self.jobs = count_jobs(self.jobs, entry);
-        note(plan, &mut self.notes, entry);
-        self.aborted = advance(plan, &mut self.runs, self.aborted, entry);
-        self.failed = count_failed(plan, &self.runs, self.failed, entry);
-        requeue(plan, &self.runs, &mut self.queue, entry);
-        let stops = both(self.aborted, !was_aborted);
-        throttle(plan, &mut self.throttles, entry, stops);
-        push_in_room(&mut self.records, entry);
+        if let Record::Life = entry {
+            self.keep(None, entry);
+        } else {
+            let place = self.place_of(&entry);
+            let looked = self.look(place);
+            self.keep(Some(looked), entry);
+        }
     }
 
-    /// Adds a record that may follow. It takes no memory.
+    /// Adds a record that may follow. It takes no memory. A record that is refused changes nothing
+    /// but how many states were looked at.
     pub fn apply(&mut self, entry: Record) -> Result<(), CoreFault>
         requires { 0 < self.old.room }
         ensures lawful { IsOk result ↔ IsTrue (may_follow self.old.plan self.old.past entry) }
@@ -512,14 +594,25 @@ impl<'a> Core<'a> {
         ensures limits { self.new.limits ≡ self.old.limits }
         ensures past { OnOk result (self.new.past ≡ entry ∷ self.old.past) }
         ensures room { OnOk result (self.old.room ≤ self.new.room + 1) }
-        ensures unchanged { OnErr result (self.new ≡ self.old) }
+        ensures unchanged { OnErr result (self.new ≡ record self.old { looks = self.new.looks }) }
         ensures err { IfErr result (λ fault. fault ≡ fault_after self.old.past) }
+        // What a record looks at is bounded by what it touches.
+        ensures looks { self.new.looks ≤ self.old.looks + most_looks self.old.plan self.old.past entry }
     {
-        let answer = self.accepts(&entry);
-        if answer.is_ok() {
-            self.add(entry);
+        if let Record::Life = entry {
+            if self.is_over() {
+                return Err(CoreFault::Finished);
+            }
+            self.keep(None, entry);
+            return Ok(());
         }
-        answer
+        let place = self.place_of(&entry);
+        let looked = self.look(place);
+        if !self.follows(&entry, &looked.state) {
+            return Err(fault_by(self.is_over()));
+        }
+        self.keep(Some(looked), entry);
+        Ok(())
     }
 
     /// Makes room for so many records more.
@@ -527,6 +620,7 @@ impl<'a> Core<'a> {
         ensures plan { self.new.plan ≡ self.old.plan }
         ensures limits { self.new.limits ≡ self.old.limits }
         ensures past { self.new.past ≡ self.old.past }
+        ensures looks { self.new.looks ≡ self.old.looks }
         ensures ok { OnOk result (count ≤ self.new.room) }
         ensures room { self.old.room ≤ self.new.room }
         ensures err { IfErr result (λ fault. fault ≡ CoreFault.Memory) }
@@ -537,22 +631,23 @@ impl<'a> Core<'a> {
 
     /// A run with no records.
     pub fn new(alloc: Global, plan: &'a Plan, limits: Limits) -> Result<Core<'a>, CoreFault>
-        ensures ok { IfOk result (λ core. (core.plan ≡ plan.now) × (core.limits ≡ limits) × (core.past ≡ [])) }
+        ensures ok { IfOk result (λ core. (core.plan ≡ plan.now) × (core.limits ≡ limits) × (core.past ≡ []) × (core.looks ≡ 0)) }
         ensures err { IfErr result (λ fault. fault ≡ CoreFault.Memory) }
     {
-        let runs = fresh_runs(alloc, plan)?;
+        let _graph = plan.graph();
+        let states = States::new(alloc, plan)?;
         let throttles = fresh_throttles(alloc, plan, limits)?;
-        let notes = fresh_notes(alloc, plan)?;
-        let queue = fresh_queue(alloc, plan, &runs)?;
+        let queue = fresh_queue(alloc, plan, &states)?;
         Ok(Core {
             plan,
             records: Vec::new(alloc),
-            runs,
+            states,
             aborted: false,
+            stop_status: 1,
             jobs: 0,
             throttles,
-            notes,
             failed: 0,
+            done: done_at_first(plan),
             queue,
         })
     }
@@ -638,7 +733,7 @@ impl<'a> Core<'a> {
         ensures { result ≡ facts_in self.now.plan self.now.past key.now }
     {
         self.keeps_the_law();
-        let notes = notes_of(&self.notes, key.node);
+        let notes = self.states.read(key.node).notes;
         noted_facts(self.plan().spec(key.node), notes, self.aborted, self.failed)
     }
 

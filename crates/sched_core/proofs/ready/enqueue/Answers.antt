@@ -4,12 +4,12 @@ use Rattle.sched_core.proofs.ready.enqueue.Goals as goal
 pub add-requires : goal.add-requires
 add-requires c = queue-room c.args.plan.now c.args.queue.now c.members.ensures.ordered c.requires.are
 
-pub returns-then-not-contains-clause-are : goal.returns-then-not-contains-clause-are
-returns-then-not-contains-clause-are c =
+pub returns-clause-are : goal.returns-clause-are
+returns-clause-are c =
     (added-queue c.args.plan.now c.args.queue.now c.add.new.self c.args.node c.member_of-member.result c.add.result c.member_of-member.ensures c.requires.node c.requires.are
-    c.add.ensures.added c.add.ensures.room c.add.ensures.unchanged).0
+    c.requires.absent c.add.ensures.refused c.add.ensures.added c.add.ensures.room).0
 
-pub returns-then-not-contains-clause-more : goal.returns-then-not-contains-clause-more
-returns-then-not-contains-clause-more c =
+pub returns-clause-set : goal.returns-clause-set
+returns-clause-set c =
     (added-queue c.args.plan.now c.args.queue.now c.add.new.self c.args.node c.member_of-member.result c.add.result c.member_of-member.ensures c.requires.node c.requires.are
-    c.add.ensures.added c.add.ensures.room c.add.ensures.unchanged).1
+    c.requires.absent c.add.ensures.refused c.add.ensures.added c.add.ensures.room).1

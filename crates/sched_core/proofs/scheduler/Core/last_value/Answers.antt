@@ -1,13 +1,9 @@
-use Rattle.std.proofs.Common.{◌≡◌, ◌∙◌, ◌<◌, suc, ap, arith, List}
-use Rattle.run_plan.specs.Plan.{count_of}
+use Rattle.std.proofs.Common.{◌∙◌, ap}
 use Rattle.node_machine.specs.NodeProgress.{NodeProgress}
-use Rattle.sched_core.specs.Core.{Progress, run_at}
-use Rattle.sched_core.proofs.Leaf.{value-shown}
+use Rattle.sched_core.proofs.Shown.{stand-value}
 use Rattle.sched_core.proofs.scheduler.Core.last_value.Goals as goal
 
 pub returns : goal.returns
 returns c =
-    let p = ap (λ (v : Progress). count_of v.plan) c.self.view_is in
-    let lt : c.args.node < suc (count_of c.self.inside.plan.now) = omega arith in
-    let run : c.run_of-run.result ≡ run_at c.self.inside.runs.items c.args.node = c.run_of-run.ensures ∙ ap (λ (l : List NodeProgress). run_at l c.args.node) c.deref.ensures.value in
-    rw (← c.self.view_is) (c.last_value.ensures.is ∙ value-shown _ _ _ _ _ c.self.invariant.0 c.args.node lt c.run_of-run.result run)
+    c.last_value.ensures.is ∙ ap (λ (r : NodeProgress). r.stand.value) c.state_of.ensures.run
+    ∙ stand-value c.args.self.now.plan c.args.self.now.past c.keeps_the_law.ensures c.args.node
