@@ -1,5 +1,5 @@
 -- What stands beside a DAG file, and what is told of it.
-use Rattle.std.specs.Prelude.{◌≡◌, ◌≤◌, ◌+◌, ℕ, Bool, nat_lt, List, ◌++◌, codes, String, if◌then◌else◌}
+use Rattle.std.specs.Prelude.{◌≡◌, ◌≤◌, ◌+◌, ℕ, Bool, nat_lt, List, ◌++◌, codes, string_bytes, String, if◌then◌else◌}
 use Rattle.std.specs.Global.{Global}
 use Rattle.rescue_file.specs.Numbered.{IsNumber}
 use Rattle.event_journal.specs.declared.fault.JournalFault.{JournalFault}
@@ -19,6 +19,11 @@ journal_name_of top = top ++ codes ".journal"
 pub data IsFileFault : RunFault → Type 0 where
   file_refused : (file : String Global) → IsFileFault (FileRefused file)
   reading_had_no_memory : IsFileFault Memory
+
+-- standard input, which is asked for by the path `-`, can't be read; or memory ran out
+pub data IsInputFault (path : List ℕ) : RunFault → Type 0 where
+  input_refused : (file : String Global) → path ≡ codes "-" → string_bytes file ≡ codes "-" → IsInputFault path (FileRefused file)
+  input_had_no_memory : IsInputFault path Memory
 
 -- Why it is not told which round this is: the journal can't be read; its header has a number that no rescue file has; the system
 -- refuses the folder; memory ran out.

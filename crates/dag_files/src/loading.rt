@@ -1,8 +1,8 @@
 //! The files of a DAG, read from the disk.
 
-ghost use Rattle.std.specs.Prelude.{◌≡◌, IfErr};
+ghost use Rattle.std.specs.Prelude.{◌≡◌, codes, IfErr};
 ghost use Rattle.dag_texts.specs.declared.fault.RunFault.TheVariants.{Memory};
-ghost use Rattle.dag_files.specs.Beside.{IsFileFault};
+ghost use Rattle.dag_files.specs.Beside.{IsInputFault};
 
 use dag_reader::{Command, ReadFault, Text, Word, read_dag};
 use dag_texts::RunFault;
@@ -43,7 +43,7 @@ pub fn files_of<R: Files + Input + AllocGlobal>(
     top: &str,
     reading: Reading,
 ) -> Result<FileSet, RunFault>
-    ensures refused { IfErr result IsFileFault }
+    ensures refused { IfErr result (IsInputFault top.now) }
 {
     let bytes = read_top(rt, top)?;
     files_from(rt, "", top, bytes, reading)
@@ -205,7 +205,7 @@ fn dir_text(dir: &Option<Word>) -> &str {
 
 /// The bytes of the DAG file, or of standard input where its path is `-`.
 fn read_top<R: Files + Input + AllocGlobal>(rt: &R, path: &str) -> Result<Option<Vec<u8>>, RunFault>
-    ensures { IfErr result IsFileFault }
+    ensures { IfErr result (IsInputFault path.now) }
 {
     if path == "-" {
         return Ok(Some(read_input(rt)?));
@@ -230,7 +230,7 @@ fn read_file<R: Files + AllocGlobal>(
 }
 
 fn read_input<R: Input + AllocGlobal>(rt: &R) -> Result<Vec<u8>, RunFault>
-    ensures { IfErr result IsFileFault }
+    ensures { IfErr result (IsInputFault (codes "-")) }
 {
     let mut bytes = Vec::new(rt.alloc());
     match rt.reader().read_to_end(&mut bytes) {

@@ -116,7 +116,7 @@ fn run_on<R: Processes + Files<File = File> + Clock + AllocGlobal + Copy + Drop>
             text: led.text,
             status: led.status,
         }),
-        Err((_journal, fault)) => Err(in_run(fault)),
+        Err((_journal, (_rescue, fault))) => Err(in_run(fault)),
     }
 }
 

@@ -5,7 +5,7 @@ use Rattle.splices.specs.declared.file_set.FileSet.{FileSet}
 use Rattle.throttles.specs.declared.Limits.{Limits}
 use Rattle.command_line.specs.Requests.{Asked, checks, runs, tells_status, audits, rehearses, no_limits, limits_in, AreLimits}
 use Rattle.command_line.specs.declared.request.RunOptions.{RunOptions}
-use Rattle.dag_files.specs.Beside.{IsFileFault}
+use Rattle.dag_files.specs.Beside.{IsFileFault, IsInputFault}
 use Rattle.dag_texts.specs.Checked.{IsCheckOf, IsCheckFault}
 use Rattle.dag_texts.specs.declared.fault.RunFault.{RunFault}
 use Rattle.dag_texts.specs.declared.warnings.Answer.{Answer}
@@ -39,8 +39,18 @@ abbrev pub asked_of : Question → List ℕ → Asked
 asked_of Status path = tells_status path
 asked_of Audit path = audits path
 
--- Why a request is refused: the system refuses the folder or a file, or memory ran out; or for a cause of the call that it is for.
+-- the path of the DAG file
+abbrev pub dag_of : Asked → List ℕ
+dag_of (checks path) = path
+dag_of (runs path options) = path
+dag_of (tells_status path) = path
+dag_of (audits path) = path
+dag_of (rehearses path outcomes limits) = path
+
+-- Why a request is refused: the system refuses standard input, where its path asks for that, or the folder or a file, or memory ran out; or
+-- for a cause of the call that it is for.
 pub data IsRefusal : Asked → RunFault → Type 0 where
+  input_not_read : (asked : Asked) (fault : RunFault) → IsInputFault (dag_of asked) fault → IsRefusal asked fault
   not_read : (asked : Asked) (fault : RunFault) → IsFileFault fault → IsRefusal asked fault
   not_checked : (path : List ℕ) (files : FileSet) (fault : RunFault) → IsCheckFault (bytes_of files) path fault → IsRefusal (checks path) fault
   not_run : (path : List ℕ) (options : RunOptions) (fault : RunFault) → IsRunFault path options fault → IsRefusal (runs path options) fault

@@ -7,6 +7,7 @@ pub mod Walks
 pub mod Rounds
 pub mod Handing
 pub mod Images
+pub mod Lasts
 pub mod Phases
 pub mod Outcomes
 pub mod Scripts

@@ -1,4 +1,5 @@
 pub mod Calls
+pub mod Example
 pub mod Scripts
 pub mod Drives
 pub mod Moments

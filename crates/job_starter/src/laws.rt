@@ -13,13 +13,13 @@ ghost use Rattle.sched_core.specs.Lives.{HasOutcomesOf};
 ghost use Rattle.sched_core.specs.Choices.{IsChoice};
 ghost use Rattle.sched_core.specs.declared.Choice.TheVariants as choices;
 ghost use Rattle.event_journal.specs.Image.{Header};
-ghost use Rattle.run_manager.specs.Chain.{ReadsForInputs};
+ghost use Rattle.run_manager.specs.Chain.{ReadsForInputs, Leaves, life_records};
 ghost use Rattle.job_starter.specs.declared.Call.{Call};
 ghost use Rattle.job_starter.specs.declared.driving.DriveFault.{DriveFault};
 ghost use Rattle.job_starter.specs.Calls.{running};
 ghost use Rattle.job_starter.specs.Drives.{AreInStep, Drives, IsHalted, IsHaltedBy, IsStopped};
 ghost use Rattle.job_starter.specs.Handed.{HandsAll, HandsAllButOne};
-ghost use Rattle.job_starter.specs.Moments.{IsMomentOfRun, IsLifeAt};
+ghost use Rattle.job_starter.specs.Moments.{IsMomentOfRun, IsLastMoment, IsLifeAt};
 ghost use Rattle.job_starter.specs.Scripts.{IsScripted};
 
 use crate::Starter;
@@ -46,12 +46,18 @@ pub fn hand_over<S: Starter>()
 /// by a crash, or behind a fault: what it recorded, what it handed over and the image that it left make it a life of
 /// the run, of the bytes that the manager found.
 pub fn stops<S: Starter>()
-    ensures { (limits : Limits) (plan : Plan) (starter : S) (past : List Record)
+    ensures life { (limits : Limits) (plan : Plan) (starter : S) (past : List Record)
         (told : List Call) (fault : Option DriveFault) (kept : List Record) (last : List Call)
         (header : Header) (found image : List ℕ) →
         header.digest ≡ plan.digest → ReadsForInputs plan past found →
         (stop : IsMomentOfRun limits plan (S.may_tell starter) (Life ∷ past) told fault kept last header image) →
         IsLifeAt past told found image stop }
+    // Behind the call: by the records that it kept, an image is one that their life leaves.
+    ensures leaves { (limits : Limits) (plan : Plan) (starter : S) (past : List Record)
+        (told : List Call) (fault : Option DriveFault) (kept : List Record) (last : List Call)
+        (header : Header) (image : List ℕ) → header.digest ≡ plan.digest →
+        IsLastMoment limits plan (S.may_tell starter) (Life ∷ past) told fault kept last header image →
+        Leaves plan (life_records past kept) image }
 {}
 
 /// A manager that began a run or went on with it is in step with a starter of no running child.

@@ -5,6 +5,7 @@
 #![tactic(auto)]
 
 mod driving;
+pub mod examples;
 mod keys;
 pub mod laws;
 mod records;

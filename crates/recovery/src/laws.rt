@@ -1,6 +1,6 @@
 //! Laws of the definitions alone. No program calls them.
 
-ghost use Rattle.std.specs.Prelude.{◌≡◌, ℕ, ◌<◌, true, false, List, [], ◌∷◌, ◌++◌, map, Ok, None, IsTrue};
+ghost use Rattle.std.specs.Prelude.{◌≡◌, ◌⊎◌, ℕ, ◌<◌, true, false, List, [], ◌∷◌, ◌++◌, map, Ok, None, IsTrue};
 ghost use Rattle.std.specs.List.{Contains};
 ghost use Rattle.node_machine.specs.declared.Key.{Key};
 ghost use Rattle.node_machine.specs.declared.Phase.{Phase};
@@ -15,10 +15,10 @@ ghost use Rattle.sched_core.specs.Lives.{IsRunBy};
 ghost use Rattle.node_machine.specs.declared.Record.{Record};
 ghost use Rattle.node_machine.specs.declared.Record.TheVariants.{Life};
 ghost use Rattle.event_journal.specs.Image.{Header, header_of, replay_of};
-ghost use Rattle.run_manager.specs.Managed.{Managed, plan_of, past_of, read_of, WithOrWithout, ReadsBeforeOrAfter};
-ghost use Rattle.recovery.specs.Recovery.{IsMomentOfBegin, IsRecovered};
+ghost use Rattle.run_manager.specs.Managed.{Managed, plan_of, past_of, ReadsBeforeOrAfter};
+ghost use Rattle.recovery.specs.Recovery.{IsMomentOfBegin, IsMomentOfRecovery, IsRecovered};
 ghost use Rattle.run_manager.specs.Lives.{LifeRecords, AreLives};
-ghost use Rattle.run_manager.specs.Chain.{Command, key_of, ManagerLife, IsLifeOf, AreManagerLives, HandsOver, Leaves, life_records, life_of};
+ghost use Rattle.run_manager.specs.Chain.{Command, key_of, ManagerLife, IsLifeOf, AreManagerLives, HandsOver, Leaves, ReadsForInputs, life_records, life_of, by_what_it_left};
 
 use event_journal::Disk;
 
@@ -33,6 +33,12 @@ pub fn lives()
     ensures grows { (plan : Plan) (last : LifeRecords) (before : List LifeRecords) →
         AreLives plan (last ∷ before) → (earlier : LifeRecords) → Contains before earlier →
         (more : List Record) × (last.held ≡ more ++ earlier.held) }
+    // A record that the last life left and was not told to be there counts too, as the run's end: by what it
+    // left these are lives as well.
+    ensures left { (plan : Plan) (last : ManagerLife) (before : List ManagerLife)
+        (past : List Record) → AreManagerLives plan (last ∷ before) →
+        ReadsForInputs plan past last.left →
+        AreManagerLives plan (by_what_it_left last past ∷ before) }
     ensures fates { (plan : Plan) (table : Table) (last : ManagerLife) (before : List ManagerLife) →
         AreManagerLives plan (last ∷ before) → IsRunBy plan table last.records.held →
         AreFates plan table (shown plan last.records.held) }
@@ -48,39 +54,44 @@ pub fn lives()
         command ≡ command_by plan table key.node key.attempt key.phase }
 {}
 
-/// What the calls of a manager ensure makes a life of the run, of the bytes that it found: it began
-/// on a place that reads as Fresh, or it recovered, and then its calls added records of its own.
+/// What the calls of a manager ensure, behind a fault as at their end, makes a life of the run, of
+/// the bytes that it found: it began on a place that reads as Fresh, or it recovered, and then its
+/// calls added records of its own.
 pub fn one_life<D: Disk + Drop>()
     ensures begun { (disk : D) (manager now : Managed D) (own : List Record)
         (handed : List Command) (left : List ℕ) → replay_of (D.seen disk) ≡ Ok None →
         past_of manager ≡ Life ∷ [] → past_of now ≡ own ++ past_of manager →
         IsTrue (is_lawful (plan_of now) (past_of now)) →
         HandsOver (plan_of now) (life_records [] (past_of now)) handed →
-        Leaves (plan_of now) (past_of now) left →
+        Leaves (plan_of now) (life_records [] (past_of now)) left →
         IsLifeOf (plan_of now) (life_of (D.seen disk) (life_records [] (past_of now)) handed left) }
-    ensures recovered { (disk : D) (manager now : Managed D) (own : List Record)
+    ensures recovered { (disk : D) (manager now : Managed D) (past own : List Record)
         (handed : List Command) (left : List ℕ) → IsRecovered D.seen D.may_leave disk manager →
-        plan_of now ≡ plan_of manager → past_of now ≡ own ++ past_of manager →
-        IsTrue (is_lawful (plan_of now) (past_of now)) →
-        HandsOver (plan_of now) (life_records (past_of manager) (past_of now)) handed →
-        Leaves (plan_of now) (past_of now) left →
-        (past : List Record) × (past_of manager ≡ Life ∷ past)
-        × IsLifeOf (plan_of now) (life_of (D.seen disk) (life_records past (past_of now)) handed left) }
+        past_of manager ≡ Life ∷ past → plan_of now ≡ plan_of manager →
+        past_of now ≡ own ++ past_of manager → IsTrue (is_lawful (plan_of now) (past_of now)) →
+        HandsOver (plan_of now) (life_records past (past_of now)) handed →
+        Leaves (plan_of now) (life_records past (past_of now)) left →
+        IsLifeOf (plan_of now) (life_of (D.seen disk) (life_records past (past_of now)) handed left) }
 {}
 
-/// Whatever image a manager's call leaves when it is cut short, it is one that a life of the run
-/// leaves: with `begin`, which is called where nothing is but what reads as Fresh; with `recover`;
-/// with a call that adds a record.
-pub fn stops()
-    ensures in_begin { (plan : Plan) (used next : ℕ) (image : List ℕ) →
-        IsMomentOfBegin (λ c. replay_of c ≡ Ok None) (header_of used next plan.digest) image →
-        Leaves plan [] image }
-    ensures in_recover { (plan : Plan) (header : Header) (past : List Record) (image : List ℕ) →
-        header.digest ≡ plan.digest → WithOrWithout (read_of header past) Life image →
-        Leaves plan past image }
-    ensures in_a_call { (plan : Plan) (header : Header) (past : List Record) (entry : Record)
-        (image : List ℕ) → header.digest ≡ plan.digest →
-        ReadsBeforeOrAfter header past entry image → Leaves plan past image }
+/// A manager that stopped while it began a run, or went on with one, left an image from before its
+/// call, so that it is no life; or it is a life that holds what it found. Where a call that adds a
+/// record is cut short, or refused by the disk, the image is one that a life leaves.
+pub fn stops<D: Disk + Drop>()
+    ensures in_begin { (disk : D) (plan : Plan) (used next : ℕ) (image : List ℕ) →
+        replay_of (D.seen disk) ≡ Ok None →
+        IsMomentOfBegin (D.may_leave disk) (header_of used next plan.digest) image →
+        D.may_leave disk image
+        ⊎ IsLifeOf plan (life_of (D.seen disk) (life_records [] []) [] image) }
+    ensures in_recover { (disk : D) (plan : Plan) (image : List ℕ) →
+        IsMomentOfRecovery plan (D.may_leave disk) (replay_of (D.seen disk)) image →
+        D.may_leave disk image ⊎ ((past : List Record)
+        × IsLifeOf plan (life_of (D.seen disk) (life_records past past) [] image)) }
+    ensures in_a_call { (plan : Plan) (header : Header) (records : LifeRecords) (own : List Record)
+        (entry : Record) (image : List ℕ) → header.digest ≡ plan.digest →
+        records.held ≡ own ++ Life ∷ records.begun →
+        IsTrue (is_lawful plan (entry ∷ records.held)) →
+        ReadsBeforeOrAfter header records.held entry image → Leaves plan records image }
 {}
 
 /// Two runs over such lives, whose plans and tables agree on a node and all above it, agree on that

@@ -30,20 +30,6 @@ use Rattle.run_leader.specs.Moments.{IsMomentOfLead, IsLastOfLead}
 use Rattle.run_leader.specs.Rounds.{HasBegun, IsBegunBy, BeginsOn, IsJournaled, IsMomentOfOpening, IsRound, IsRoundOnDisk}
 use Rattle.run_leader.proofs.Ends.{end-hands}
 
--- a run that isn't begun wrote nothing, unless its disk told the fault
-pub begin-untouched : {D : Type 0} (failures capacity : D → ℕ) (honest : D → Type 0) (seen : D → List ℕ) (may_leave : D → List ℕ → Type 0) (moment : D → ℕ) (left_since : D → ℕ → List ℕ → Type 0)
-    (slots : ℕ) (old new : D) (fault : ManagerFault) → honest old → (slots ≡ 0 → ⊥) → IsBeginFault failures capacity honest slots old new fault
-    → (fault ≡ faults.Memory → IsUntouched seen may_leave moment left_since old new) → IsToldByDisk fault ⊎ IsUntouched seen may_leave moment left_since old new
-begin-untouched failures capacity honest seen may_leave moment left_since slots old new _ premise some (begin_failed rises) untouched = inl (inl refl)
-begin-untouched failures capacity honest seen may_leave moment left_since slots old new _ premise some (begin_had_no_room small) untouched = inl (inr refl)
-begin-untouched failures capacity honest seen may_leave moment left_since slots old new _ premise some (begin_had_no_slot zero) untouched = absurd (some zero)
-begin-untouched failures capacity honest seen may_leave moment left_since slots old new _ premise some begin_had_no_memory untouched = inr (untouched refl)
-begin-untouched failures capacity honest seen may_leave moment left_since slots old new _ premise some (begun_before fault is dishonest) untouched = absurd (dishonest premise)
-
-pub of-faults : {X E : Type 0} (P Q S : E → Type 0) (result : Result X E) → ((fault : E) → P fault → Q fault → S fault) → IfErr result P → IfErr result Q → IfErr result S
-of-faults P Q S (Ok x) more p q = tt
-of-faults P Q S (Err fault) more p q = more fault p q
-
 -- a whole journal of an honest disk counts the records
 pub counts-records : {D : Type 0} (honest : D → Type 0) (seen : D → List ℕ) (may_leave : D → List ℕ → Type 0) (manager : Managed D)
     → Agree honest seen may_leave (past_of manager) manager.journal → is_broken manager.journal ≡ false → honest (disk_of manager) → journal_count manager.journal ≡ length (past_of manager)

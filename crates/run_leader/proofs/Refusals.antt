@@ -30,11 +30,11 @@ ends-going plan past h = open-going past (and_parts _ _ (and_parts _ _ (and_part
 -- why the rescue file of a run that may end and needs one isn't written
 pub seal-fault : {R : Type 0} (failures capacity : R → ℕ) (plan : Plan) (past : List Record) (old new : R) {fault : ManagerFault}
     → may_end plan past ≡ true → needs_rescue plan past ≡ true → IsRescueFault failures capacity plan past old new fault
-    → IsTrue (needs_rescue_now plan past) × IsSealFault failures capacity plan past old fault
+    → IsTrue (needs_rescue_now plan past) × IsSealFault failures capacity plan past old new fault
 seal-fault failures capacity plan past old new ends needs (run_over over same) = absurd (false≢true (sym (ends-going plan past ends) ∙ over))
 seal-fault failures capacity plan past old new ends needs (not_now going unneeded same) = absurd (false≢true (sym unneeded ∙ and_from _ _ ends needs))
-seal-fault failures capacity plan past old new ends needs (no_memory same) = (and_from _ _ ends needs, text_had_no_memory)
-seal-fault failures capacity plan past old new ends needs (disk_failed rises) = (and_from _ _ ends needs, rescue_failed new rises)
+seal-fault failures capacity plan past old new ends needs (no_memory same) = (and_from _ _ ends needs, text_had_no_memory same)
+seal-fault failures capacity plan past old new ends needs (disk_failed rises) = (and_from _ _ ends needs, rescue_failed rises)
 seal-fault failures capacity plan past old new ends needs (disk_full small) = (and_from _ _ ends needs, rescue_had_no_room small)
 
 -- what is to be done next is to finish, so that the run may end, in the plan of the manager then

@@ -1,5 +1,5 @@
 -- By which faults a round is stopped.
-use Rattle.std.proofs.Common.{◌≡◌, ◌∙◌, ℕ, true, false, List, Result, Ok, Err, IfErr, sym}
+use Rattle.std.proofs.Common.{◌≡◌, ◌∙◌, ℕ, true, false, List, Option, Result, Ok, Err, IfErr, sym}
 use Rattle.std.proofs.lemmas.Bool.{false≢true}
 use Rattle.node_machine.specs.declared.Key.{Key}
 use Rattle.node_machine.specs.declared.Outcome.{Outcome}
@@ -25,11 +25,11 @@ module _ {D : Type 0} (honest : D → Type 0) (failures capacity : D → ℕ) wh
       → IsRefusal failures capacity plan past entry old new fault → IsManagerStop fault
   cause-stops plan past entry old new _ may whole (run_over over same) = stopped_by_end
   cause-stops plan past entry old new _ may whole (may_not_follow going refused same) = absurd (false≢true (sym refused ∙ may))
-  cause-stops plan past entry old new _ may whole (no_memory same) = stopped_by_memory
-  cause-stops plan past entry old new _ may whole (journal_broken broken same) = absurd (false≢true (sym whole ∙ broken))
-  cause-stops plan past entry old new _ may whole (no_slot is full same) = stopped_by_slots
-  cause-stops plan past entry old new _ may whole (disk_failed is rises breaks) = stopped_by_disk
-  cause-stops plan past entry old new _ may whole (disk_full is slot small breaks) = stopped_by_room
+  cause-stops plan past entry old new _ may whole (no_memory follows same) = stopped_by_memory
+  cause-stops plan past entry old new _ may whole (journal_broken follows broken same) = absurd (false≢true (sym whole ∙ broken))
+  cause-stops plan past entry old new _ may whole (no_slot follows is full same) = stopped_by_slots
+  cause-stops plan past entry old new _ may whole (disk_failed follows is rises breaks) = stopped_by_disk
+  cause-stops plan past entry old new _ may whole (disk_full follows is slot small breaks) = stopped_by_room
 
   refused-stops : (is_own : Record → Type 0) (old manager : Managed D) (fault : ManagerFault) → is_broken old.journal ≡ false
       → IsRecordRefused honest failures capacity is_own old manager fault → IsManagerStop fault
@@ -43,21 +43,21 @@ module _ {D : Type 0} (honest : D → Type 0) (failures capacity : D → ℕ) wh
   drive-stops before now old manager _ whole no_memory_for_command = tt
   drive-stops before now old manager _ whole (record_refused {fault = fault} r) = refused-stops IsOfRun old manager fault whole r
 
-seal-stops : {R : Type 0} (failures capacity : R → ℕ) (plan : Plan) (past : List Record) (disk : R) (fault : ManagerFault) → IsSealFault failures capacity plan past disk fault → IsManagerStop fault
-seal-stops failures capacity plan past disk _ text_had_no_memory = stopped_by_memory
-seal-stops failures capacity plan past disk _ (rescue_failed left rises) = stopped_by_disk
-seal-stops failures capacity plan past disk _ (rescue_had_no_room small) = stopped_by_room
+seal-stops : {R : Type 0} (failures capacity : R → ℕ) (plan : Plan) (past : List Record) (disk left : R) (fault : ManagerFault) → IsSealFault failures capacity plan past disk left fault → IsManagerStop fault
+seal-stops failures capacity plan past disk left _ (text_had_no_memory same) = stopped_by_memory
+seal-stops failures capacity plan past disk left _ (rescue_failed rises) = stopped_by_disk
+seal-stops failures capacity plan past disk left _ (rescue_had_no_room small) = stopped_by_room
 
 begin-stops : {D : Type 0} (failures capacity : D → ℕ) (honest : D → Type 0) (slots : ℕ) (old new : D) (fault : ManagerFault) → IsBeginFault failures capacity honest slots old new fault → IsManagerStop fault
 begin-stops failures capacity honest slots old new _ (begin_failed rises) = stopped_by_disk
 begin-stops failures capacity honest slots old new _ (begin_had_no_room small) = stopped_by_room
-begin-stops failures capacity honest slots old new _ (begin_had_no_slot zero) = stopped_by_slots
+begin-stops failures capacity honest slots old new _ (begin_had_no_slot zero same) = stopped_by_slots
 begin-stops failures capacity honest slots old new _ begin_had_no_memory = stopped_by_memory
 begin-stops failures capacity honest slots old new _ (begun_before fault is dishonest) = stopped_by_image fault is
 
 module _ {D R : Type 0} (honest : D → Type 0) (seen : D → List ℕ) (may_leave : D → List ℕ → Type 0) (moment : D → ℕ) (left_since : D → ℕ → List ℕ → Type 0)
-    (failures capacity : D → ℕ) (rescue_failures rescue_capacity : R → ℕ) (before now : ℕ) (plan : Plan) (slots : ℕ) (limits : Limits)
-    (may : List Call → Key → Outcome → Type 0) (told heard : List Call) (disk left : D) (rescue : R) where
+    (failures capacity : D → ℕ) (rescue_honest : R → Type 0) (rescue_may_leave : R → List ℕ → Type 0) (rescue_failures rescue_capacity : R → ℕ) (before now : ℕ) (plan : Plan) (slots : ℕ) (limits : Limits)
+    (may : List Call → Key → Outcome → Type 0) (told heard : List Call) (disk left : D) (rescue : R) (rest : Option R) where
   recovery-stops : (fault : ManagerFault) → IsOpeningFault failures capacity honest seen plan slots GoOn disk left fault → IsManagerStop fault
   recovery-stops _ (recovery_failed rises) = stopped_by_disk
   recovery-stops _ (no_journal fault is reads) = stopped_by_image fault is
@@ -72,13 +72,13 @@ module _ {D R : Type 0} (honest : D → Type 0) (seen : D → List ℕ) (may_lea
   opening-stops GoOn fault why = recovery-stops fault why
 
   lead-stops : (old manager : Managed D) (fault : DriveFault) → is_broken old.journal ≡ false
-      → IsLeadFault honest failures capacity rescue_failures rescue_capacity before now may old manager told heard rescue fault → MayStop fault
-  lead-stops old manager _ whole (stopped {fault = fault} why rest) = drive-stops honest failures capacity before now old manager fault whole why
-  lead-stops old manager _ whole (not_sealed {fault = fault} at needs why) = seal-stops rescue_failures rescue_capacity (plan_of manager) (past_of manager) rescue fault why
-  lead-stops old manager _ whole (end_refused {fault = fault} at why) = refused-stops honest failures capacity (IsEndOf (plan_of manager) (past_of manager)) old manager fault whole why
-  lead-stops old manager _ whole (no_memory_for_report ended) = tt
+      → IsLeadFault honest failures capacity rescue_honest rescue_may_leave rescue_failures rescue_capacity before now may old manager told heard rescue rest fault → MayStop fault
+  lead-stops old manager _ whole (stopped {fault = fault} why steps same) = drive-stops honest failures capacity before now old manager fault whole why
+  lead-stops old manager _ whole (not_sealed {fault = fault} left is at needs why) = seal-stops rescue_failures rescue_capacity (plan_of manager) (past_of manager) rescue left fault why
+  lead-stops old manager _ whole (end_refused {fault = fault} at why rescued) = refused-stops honest failures capacity (IsEndOf (plan_of manager) (past_of manager)) old manager fault whole why
+  lead-stops old manager _ whole (no_memory_for_report ended rescued) = tt
 
   pub round-stops : (start : Start) (fault : DriveFault)
-      → IsRoundRefusal honest seen may_leave moment left_since failures capacity rescue_failures rescue_capacity before now plan slots start limits may told heard disk left rescue fault → MayStop fault
-  round-stops start _ (not_opened {fault = fault} same why untouched moments) = opening-stops start fault why
+      → IsRoundRefusal honest seen may_leave moment left_since failures capacity rescue_honest rescue_may_leave rescue_failures rescue_capacity before now plan slots start limits may told heard disk left rescue rest fault → MayStop fault
+  round-stops start _ (not_opened {fault = fault} same kept why untouched moments) = opening-stops start fault why
   round-stops start _ (not_led {fault = fault} opened manager is same why disks) = lead-stops opened manager fault is.whole why

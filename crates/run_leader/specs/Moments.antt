@@ -1,5 +1,5 @@
 -- What a crash may leave of a run, at any moment of the call that leads it to its end.
-use Rattle.std.specs.Prelude.{◌≡◌, ◌⊎◌, ℕ, List, ◌++◌, Option, IsTrue}
+use Rattle.std.specs.Prelude.{◌≡◌, ◌⊎◌, ℕ, List, ◌++◌, Option, Some, None, Result, Ok, Err, IsTrue}
 use Rattle.node_machine.specs.declared.Key.{Key}
 use Rattle.node_machine.specs.declared.Outcome.{Outcome}
 use Rattle.throttles.specs.declared.Limits.{Limits}
@@ -14,6 +14,11 @@ use Rattle.job_starter.specs.declared.driving.DriveFault.{DriveFault}
 use Rattle.job_starter.specs.Handed.{handed}
 use Rattle.job_starter.specs.Moments.{IsOlderPart, MayHold, IsMomentOfRun, IsLastMoment}
 use Rattle.run_leader.specs.Led.{DrivesToEnd}
+
+-- the fault of an answer that hands something back
+abbrev pub fault_behind : {T A : Type 0} → Result T (A × DriveFault) → Option DriveFault
+fault_behind (Ok done) = None
+fault_behind (Err refused) = Some refused.1
 
 -- A moment at which the end of the run is recorded, behind all of its steps and calls: the image has the end.
 pub record IsMomentOfEnd (limits : Limits) (plan : Plan) (may : List Call → Key → Outcome → Type 0) (past : List Record) (told : List Call)

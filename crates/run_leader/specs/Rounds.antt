@@ -48,7 +48,7 @@ IsBegunBy GoOn begun = Unit {0}
 -- while a round is opened: an image from before, or a moment of a run that begins, or of one that is recovered
 abbrev pub IsMomentOfOpening : Start → Plan → (List ℕ → Type 0) → List ℕ → List ℕ → Type 0
 IsMomentOfOpening (Begin used next) plan before found = IsMomentOfBegin before (header_of used next plan.digest)
-IsMomentOfOpening GoOn plan before found = IsMomentOfRecovery before (replay_of found)
+IsMomentOfOpening GoOn plan before found = IsMomentOfRecovery plan before (replay_of found)
 
 -- What a round makes of the journal's disk: a crash at any moment leaves one from before it, a moment of its opening, or one of the
 -- run that it leads, of these inputs; and a crash behind it none that lacks a record that is kept.

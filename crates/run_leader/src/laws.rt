@@ -6,10 +6,10 @@ ghost use Rattle.run_plan.specs.Plan.{Plan};
 ghost use Rattle.node_machine.specs.declared.Record.{Record};
 ghost use Rattle.node_machine.specs.declared.Record.TheVariants.{Life};
 ghost use Rattle.event_journal.specs.Image.{Header};
-ghost use Rattle.run_manager.specs.Chain.{ReadsForInputs};
+ghost use Rattle.run_manager.specs.Chain.{ReadsForInputs, Leaves, life_records};
 ghost use Rattle.job_starter.specs.declared.Call.{Call};
 ghost use Rattle.job_starter.specs.declared.driving.DriveFault.{DriveFault};
-ghost use Rattle.run_leader.specs.Moments.{IsMomentOfEnd, IsLifeAtEnd};
+ghost use Rattle.run_leader.specs.Moments.{IsMomentOfEnd, IsLastOfLead, IsLifeAtEnd};
 
 use job_starter::Starter;
 
@@ -17,10 +17,16 @@ use job_starter::Starter;
 /// a fault: it is a life of the run, of the bytes that the manager found, as at each other moment
 /// (job_starter's law `stops`).
 pub fn stops_at_end<S: Starter>()
-    ensures { (limits : Limits) (plan : Plan) (starter : S) (past : List Record)
+    ensures life { (limits : Limits) (plan : Plan) (starter : S) (past : List Record)
         (told : List Call) (fault : Option DriveFault) (kept : List Record) (last : List Call)
         (header : Header) (found image : List ℕ) →
         header.digest ≡ plan.digest → ReadsForInputs plan past found →
         (stop : IsMomentOfEnd limits plan (S.may_tell starter) (Life ∷ past) told fault kept last header image) →
         IsLifeAtEnd past told found image stop }
+    // Behind the call: by the records that it kept, an image is one that their life leaves.
+    ensures leaves { (limits : Limits) (plan : Plan) (starter : S) (past : List Record)
+        (told : List Call) (fault : Option DriveFault) (kept : List Record) (last : List Call)
+        (header : Header) (image : List ℕ) → header.digest ≡ plan.digest →
+        IsLastOfLead limits plan (S.may_tell starter) (Life ∷ past) told fault kept last header image →
+        Leaves plan (life_records past kept) image }
 {}

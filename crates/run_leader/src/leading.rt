@@ -7,10 +7,10 @@ ghost use Rattle.sched_core.specs.Run.{is_over};
 ghost use Rattle.job_starter.specs.Drives.{AreInStep, limits_of};
 ghost use Rattle.job_starter.specs.Calls.{running};
 ghost use Rattle.job_starter.specs.Handed.{HandsAll, HandsAllButOne};
-ghost use Rattle.job_starter.specs.Moments.{fault_in, AtAnyMoment, AtTheEnd, UnlessDiskFault, StaysAcknowledged, KeepsDisk};
+ghost use Rattle.job_starter.specs.Moments.{AtAnyMoment, AtTheEnd, UnlessDiskFault, StaysAcknowledged, KeepsDisk};
 ghost use Rattle.run_leader.specs.Causes.{IsSealFault, IsLeadFault};
 ghost use Rattle.run_leader.specs.Led.{GoOnFrom, IsLed, DrivesToEnd};
-ghost use Rattle.run_leader.specs.Moments.{IsMomentOfLead, IsLastOfLead};
+ghost use Rattle.run_leader.specs.Moments.{fault_behind, IsMomentOfLead, IsLastOfLead};
 
 use event_journal::Disk;
 use job_starter::{DriveFault, Starter, drive};
@@ -34,20 +34,20 @@ fn sealed<D: Disk + Drop, R: Disk + Drop>(
     alloc: Global,
     manager: &Manager<'_, D>,
     rescue: R,
-) -> Result<Sealed<R>, ManagerFault>
+) -> Result<Sealed<R>, (R, ManagerFault)>
     requires ends { IsTrue (may_end (plan_of manager.now) (past_of manager.now)) }
     ensures sealed { IfOk result (λ seal.
         IsSealOf R.honest R.may_leave (plan_of manager.now) (past_of manager.now) seal) }
-    ensures refused { IfErr result (λ fault.
+    ensures refused { IfErr result (λ e.
         IsTrue (needs_rescue_now (plan_of manager.now) (past_of manager.now))
-        × IsSealFault R.faults R.capacity (plan_of manager.now) (past_of manager.now) rescue fault) }
+        × IsSealFault R.faults R.capacity (plan_of manager.now) (past_of manager.now) rescue e.0 e.1) }
 {
-    if !manager.core().needs_rescue() {
-        return manager.no_rescue();
+    if manager.core().needs_rescue() {
+        return manager.write_rescue(alloc, rescue);
     }
-    match manager.write_rescue(alloc, rescue) {
+    match manager.no_rescue() {
         Ok(seal) => Ok(seal),
-        Err((_rescue, fault)) => Err(fault),
+        Err(fault) => Err((rescue, fault)),
     }
 }
 
@@ -57,14 +57,15 @@ fn sealed<D: Disk + Drop, R: Disk + Drop>(
 /// # Errors
 /// Those of `drive`; `Manager` with `Memory` or the fault of the disk where the rescue file that the
 /// run needs can't be written, and with that of `Manager::finish`; `Memory` for the text. What was
-/// recorded stays, and a later manager goes on from there; no child runs when the call returns.
+/// recorded stays, and a later manager goes on from there; no child runs when the call returns. The
+/// rescue file's disk comes back, but where the run came to its last step and needs none.
 pub fn lead<D: Disk + Drop, R: Disk + Drop, S: Starter>(
     alloc: Global,
     manager: &mut Manager<'_, D>,
     plan: &Plan,
     starter: &mut S,
     rescue: R,
-) -> Result<Led<R>, DriveFault>
+) -> Result<Led<R>, (Option<R>, DriveFault)>
     requires own { plan.now ≡ plan_of manager.old }
     requires in_step { AreInStep (plan_of manager.old) (past_of manager.old) (S.told starter.old) }
     requires unfinished { IsFalse (is_over (past_of manager.old)) }
@@ -87,34 +88,34 @@ pub fn lead<D: Disk + Drop, R: Disk + Drop, S: Starter>(
     // `stops`, and `stops_at_end`), and behind it none of the records that are kept is missing.
     ensures any_moment { AtAnyMoment D.honest D.seen D.may_leave D.moment D.left_since
         manager.old manager.new (IsMomentOfLead (limits_of manager.old) (plan_of manager.old)
-        (S.may_tell starter.old) (past_of manager.old) (S.told starter.old) (fault_in result)
+        (S.may_tell starter.old) (past_of manager.old) (S.told starter.old) (fault_behind result)
         (past_of manager.new) (S.told starter.new)) }
     ensures left { AtTheEnd D.honest D.seen D.may_leave manager.old manager.new
         (IsLastOfLead (limits_of manager.old) (plan_of manager.old)
-        (S.may_tell starter.old) (past_of manager.old) (S.told starter.old) (fault_in result)
+        (S.may_tell starter.old) (past_of manager.old) (S.told starter.old) (fault_behind result)
         (past_of manager.new) (S.told starter.new)) }
-    ensures acknowledged { UnlessDiskFault (fault_in result)
+    ensures acknowledged { UnlessDiskFault (fault_behind result)
         (StaysAcknowledged D.honest D.seen D.may_leave manager.old manager.new) }
     ensures disk { KeepsDisk D.honest D.faults D.capacity manager.old manager.new }
-    ensures refused { IfErr result (IsLeadFault D.honest D.faults D.capacity R.faults R.capacity
-        (S.faults starter.old) (S.faults starter.new) (S.may_tell starter.old) manager.old manager.new
-        (S.told starter.old) (S.told starter.new) rescue) }
+    ensures refused { IfErr result (λ e. IsLeadFault D.honest D.faults D.capacity R.honest R.may_leave
+        R.faults R.capacity (S.faults starter.old) (S.faults starter.new) (S.may_tell starter.old)
+        manager.old manager.new (S.told starter.old) (S.told starter.new) rescue e.0 e.1) }
     // The rescue file that the run owes is on its disk.
     ensures rescued { IfOk result (λ led.
         IsRescued R.honest R.may_leave plan.now (past_of manager.new) led.rescue) }
 {
     let end = match drive(alloc, manager, plan, starter) {
         Ok(end) => end,
-        Err(fault) => return Err(fault),
+        Err(fault) => return Err((Some(rescue), fault)),
     };
     manager.core().keeps_the_law();
     let seal = match sealed(alloc, manager, rescue) {
         Ok(seal) => seal,
-        Err(fault) => return Err(DriveFault::Manager(fault)),
+        Err((rescue, fault)) => return Err((Some(rescue), DriveFault::Manager(fault))),
     };
     let rescue = match manager.finish(seal) {
         Ok(rescue) => rescue,
-        Err((_seal, fault)) => return Err(DriveFault::Manager(fault)),
+        Err((seal, fault)) => return Err((seal.into_disk(), DriveFault::Manager(fault))),
     };
     match run_text(alloc, manager.core(), end.verdict) {
         Ok(text) => Ok(Led {
@@ -122,6 +123,6 @@ pub fn lead<D: Disk + Drop, R: Disk + Drop, S: Starter>(
             status: end.verdict,
             rescue,
         }),
-        Err(_) => Err(DriveFault::Memory),
+        Err(_) => Err((rescue, DriveFault::Memory)),
     }
 }

@@ -1,4 +1,5 @@
 pub mod Chain
+pub mod Example
 pub mod Faults
 pub mod Lives
 pub mod Managed

@@ -5,6 +5,7 @@
 #![tactic(auto)]
 
 mod calls;
+pub mod examples;
 mod fault;
 mod manager;
 mod seal;

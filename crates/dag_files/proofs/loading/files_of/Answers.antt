@@ -1,6 +1,6 @@
-use Rattle.dag_files.specs.Beside.{IsFileFault, reading_had_no_memory}
+use Rattle.dag_files.specs.Beside.{IsInputFault, input_had_no_memory}
 use Rattle.dag_files.proofs.RunFaults.{memory-alone}
 use Rattle.dag_files.proofs.loading.files_of.Goals as goal
 
 pub returns : goal.returns
-returns g c = record { refused = memory-alone IsFileFault reading_had_no_memory c.files_from.result c.files_from.ensures }
+returns g c = record { refused = memory-alone (IsInputFault c.args.top.now) input_had_no_memory c.files_from.result c.files_from.ensures }

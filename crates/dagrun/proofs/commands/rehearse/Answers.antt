@@ -2,7 +2,7 @@ use Rattle.std.proofs.Common.{ap, ◌∙◌, is_some}
 use Rattle.std.proofs.lemmas.Result.{IfOk-weaker}
 use Rattle.dag_texts.proofs.Refusals.{weaker}
 use Rattle.dag_files.proofs.RunFaults.{by-fault}
-use Rattle.dagrun.specs.Answered.{IsRefusal, not_read, not_rehearsed}
+use Rattle.dagrun.specs.Answered.{IsRefusal, input_not_read, not_read, not_rehearsed}
 use Rattle.dagrun.proofs.commands.rehearse.Goals as goal
 
 pub returns-in_err-table-clause-refused : goal.returns-in_err-table-clause-refused
@@ -11,7 +11,7 @@ returns-in_err-table-clause-refused g c = by-fault (IsRefusal _) c.in_err-table.
 
 pub returns-in_err-files-clause-refused : goal.returns-in_err-files-clause-refused
 returns-in_err-files-clause-refused g c = by-fault (IsRefusal _) c.in_err-files.field-0.0
-    (not_read _ _ c.in_err-files.ensures.refused) c.from_residual-in_err-files.result c.from_residual-in_err-files.ensures.1
+    (input_not_read _ _ c.in_err-files.ensures.refused) c.from_residual-in_err-files.result c.from_residual-in_err-files.ensures.1
 
 pub returns-clause-report : goal.returns-clause-report
 returns-clause-report g c = IfOk-weaker c.rehearse_text.result _ _

@@ -1,10 +1,11 @@
 use Rattle.std.proofs.Common.{arith, inr, [], ◌∷◌}
 use Rattle.node_machine.specs.declared.Record.TheVariants.{Life}
 use Rattle.job_starter.proofs.Handing.{halted-hands, halted-adds}
+use Rattle.job_starter.proofs.Lasts.{leaves-kept}
 use Rattle.job_starter.proofs.laws.stops.Goals as goal
 
-pub returns : goal.returns
-returns g c limits plan starter past told fault kept last header found image digest reads stop =
+pub returns-clause-life : goal.returns-clause-life
+returns-clause-life g c limits plan starter past told fault kept last header found image digest reads stop =
     let may = g.S.Starter.may_tell starter in
     let hands = halted-hands limits plan may (Life ∷ past) told stop.held stop.heard stop.halted in
     let adds = halted-adds limits plan may (Life ∷ past) told stop.held stop.heard stop.halted in
@@ -16,6 +17,13 @@ returns g c limits plan starter past told fault kept last header found image dig
         goes_on = inr adds;
         lawful = stop.lawful;
         hands_over = (hands.rest, hands.commands);
-        leaves = ([], omega arith, inr (header, stop.reads, digest));
+        leaves = record { added = []; few = omega arith; goes_on = inr adds; lawful = stop.lawful; reads = inr (header, stop.reads, digest) };
       };
     }
+
+pub returns-clause-leaves : goal.returns-clause-leaves
+returns-clause-leaves g c limits plan starter past told fault kept last header image digest stop =
+    let may = g.S.Starter.may_tell starter in
+    let moment = stop.moment in
+    leaves-kept plan past kept moment.held fault header image moment.part stop.all
+    (halted-adds limits plan may (Life ∷ past) told moment.held moment.heard moment.halted) moment.lawful digest moment.reads

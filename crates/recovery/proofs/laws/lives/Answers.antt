@@ -1,7 +1,7 @@
 use Rattle.sched_core.proofs.Finished.{state-done}
 use Rattle.sched_core.proofs.LivesLemmas.{table-fates}
 use Rattle.std.proofs.Common.{sym}
-use Rattle.run_manager.proofs.Chains.{lives-by-records, lives-grow, handed-over}
+use Rattle.run_manager.proofs.Chains.{lives-by-records, lives-grow, lives-left, handed-over}
 use Rattle.recovery.proofs.laws.lives.Goals as goal
 
 pub returns-clause-by_records : goal.returns-clause-by_records
@@ -9,6 +9,9 @@ returns-clause-by_records c plan lives are = lives-by-records plan lives are
 
 pub returns-clause-grows : goal.returns-clause-grows
 returns-clause-grows c plan last before lives earlier is_there = lives-grow plan before last lives earlier is_there.0 is_there.1 is_there.2
+
+pub returns-clause-left : goal.returns-clause-left
+returns-clause-left c plan last before past are reads = lives-left plan last before past are reads
 
 pub returns-clause-fates : goal.returns-clause-fates
 returns-clause-fates c plan table last before are run = table-fates plan table last.records.held run

@@ -1,39 +1,67 @@
-use Rattle.std.proofs.Common.{◌≡◌, ◌∙◌, ℕ, List, [], ◌∷◌, Ok, None, inl, inr, refl, arith}
+use Rattle.std.proofs.Common.{◌≡◌, ◌∙◌, ℕ, true, List, [], ◌∷◌, ◌++◌, Ok, None, inl, inr, refl, sym, ap, subst, arith}
+use Rattle.std.proofs.lemmas.List.{append-nil}
 use Rattle.run_plan.specs.Plan.{Plan}
 use Rattle.node_machine.specs.declared.Record.{Record}
 use Rattle.node_machine.specs.declared.Record.TheVariants.{Life}
+use Rattle.sched_core.specs.Run.{is_lawful}
 use Rattle.event_journal.specs.Image.{Header, header_of, replay_of}
-use Rattle.run_manager.specs.Managed.{Reads, read_of, WithOrWithout, ReadsBeforeOrAfter}
-use Rattle.recovery.specs.Recovery.{IsMomentOfBegin}
-use Rattle.run_manager.specs.Chain.{Leaves}
-use Rattle.recovery.proofs.Lives.{with_life}
+use Rattle.event_journal.specs.Journal.{with_record}
+use Rattle.run_manager.specs.Managed.{Reads}
+use Rattle.run_manager.specs.Lives.{LifeRecords, GoesOn}
+use Rattle.run_manager.specs.Chain.{IsLifeOf, Leaves, ReadsForInputs, commands_in, life_of, life_records}
+use Rattle.recovery.specs.Recovery.{MayGoOn}
+use Rattle.std.proofs.lemmas.Bool.{and_parts}
+use Rattle.recovery.proofs.Lives.{with_life, life_lawful}
 use Rattle.recovery.proofs.laws.stops.Goals as goal
 
-without : (plan : Plan) (header : Header) (past : List Record) (image : List ℕ) → header.digest ≡ plan.digest → Reads header past image → Leaves plan past image
-without plan header past image inputs reads = ([], omega arith, inr (header, reads, inputs))
+-- an image of these records, or of these and one more
+without : (plan : Plan) (records : LifeRecords) (image : List ℕ) → GoesOn records.begun records.held → is_lawful plan records.held ≡ true
+    → ReadsForInputs plan records.held image → Leaves plan records image
+without plan records image goes lawful reads = record { added = []; few = omega arith; goes_on = goes; lawful = lawful; reads = reads }
 
-with_one : (plan : Plan) (header : Header) (past : List Record) (entry : Record) (image : List ℕ) → header.digest ≡ plan.digest → Reads header (entry ∷ past) image → Leaves plan past image
-with_one plan header past entry image inputs reads = (entry ∷ [], omega arith, inr (header, reads, inputs))
+with_one : (plan : Plan) (records : LifeRecords) (entry : Record) (image : List ℕ) → GoesOn records.begun (entry ∷ records.held) → is_lawful plan (entry ∷ records.held) ≡ true
+    → ReadsForInputs plan (entry ∷ records.held) image → Leaves plan records image
+with_one plan records entry image goes lawful reads = record { added = entry ∷ []; few = omega arith; goes_on = goes; lawful = lawful; reads = reads }
 
-in_begin : (plan : Plan) (used next : ℕ) (image : List ℕ) → IsMomentOfBegin (λ c. replay_of c ≡ Ok None) (header_of used next plan.digest) image → Leaves plan [] image
-in_begin plan used next image (inl (inl fresh)) = ([], omega arith, inl (fresh, refl))
-in_begin plan used next image (inl (inr (inl fresh))) = ([], omega arith, inl (fresh, refl))
-in_begin plan used next image (inl (inr (inr reads))) = without plan (header_of used next plan.digest) [] image refl reads
-in_begin plan used next image (inr reads) = with_one plan (header_of used next plan.digest) [] Life image refl reads
-
-in_recover : (plan : Plan) (header : Header) (past : List Record) (image : List ℕ) → header.digest ≡ plan.digest → WithOrWithout (read_of header past) Life image → Leaves plan past image
-in_recover plan header past image inputs (inl reads) = without plan header past image inputs reads
-in_recover plan header past image inputs (inr reads) = with_one plan header past Life image inputs (reads ∙ with_life header past)
-
-in_a_call : (plan : Plan) (header : Header) (past : List Record) (entry : Record) (image : List ℕ) → header.digest ≡ plan.digest → ReadsBeforeOrAfter header past entry image → Leaves plan past image
-in_a_call plan header past entry image inputs (inl reads) = without plan header past image inputs reads
-in_a_call plan header past entry image inputs (inr reads) = with_one plan header past entry image inputs reads
+-- a life that holds what it found
+idle : (plan : Plan) (found : List ℕ) (past : List Record) (image : List ℕ) → ReadsForInputs plan past found → is_lawful plan past ≡ true
+    → Leaves plan (life_records past past) image → IsLifeOf plan (life_of found (life_records past past) [] image)
+idle plan found past image reads lawful leaves = record {
+  reads = reads;
+  goes_on = inl refl;
+  lawful = lawful;
+  hands_over = ([], sym (append-nil (commands_in plan past)));
+  leaves = leaves;
+}
 
 pub returns-clause-in_begin : goal.returns-clause-in_begin
-returns-clause-in_begin c plan used next image moment = in_begin plan used next image moment
+returns-clause-in_begin g c disk plan used next image fresh (inl (inl was)) = inl was
+returns-clause-in_begin g c disk plan used next image fresh (inl (inr (inl none))) =
+    inr (idle plan (g.D.Disk.seen disk) [] image (inl (fresh, refl)) refl (without plan (life_records [] []) image (inl refl) refl (inl (none, refl))))
+returns-clause-in_begin g c disk plan used next image fresh (inl (inr (inr reads))) =
+    inr (idle plan (g.D.Disk.seen disk) [] image (inl (fresh, refl)) refl (without plan (life_records [] []) image (inl refl) refl (inr (header_of used next plan.digest, reads, refl))))
+returns-clause-in_begin g c disk plan used next image fresh (inr reads) =
+    inr (idle plan (g.D.Disk.seen disk) [] image (inl (fresh, refl)) refl
+    (with_one plan (life_records [] []) Life image (inr ([], refl)) (life_lawful plan [] refl refl) (inr (header_of used next plan.digest, reads, refl))))
 
 pub returns-clause-in_recover : goal.returns-clause-in_recover
-returns-clause-in_recover c plan header past image inputs moment = in_recover plan header past image inputs moment
+returns-clause-in_recover g c disk plan image (inl was) = inl was
+returns-clause-in_recover g c disk plan image (inr (goes, inl same)) =
+    inr (
+      goes.past,
+      idle plan (g.D.Disk.seen disk) goes.past image (inr (goes.header, goes.is, goes.inputs)) goes.lawful
+          (without plan (life_records goes.past goes.past) image (inl refl) goes.lawful (inr (goes.header, same ∙ goes.is, goes.inputs))),
+    )
+returns-clause-in_recover g c disk plan image (inr (goes, inr more)) =
+    inr (
+      goes.past,
+      idle plan (g.D.Disk.seen disk) goes.past image (inr (goes.header, goes.is, goes.inputs)) goes.lawful
+          (with_one plan (life_records goes.past goes.past) Life image (inr ([], refl)) (life_lawful plan goes.past goes.unfinished goes.lawful)
+          (inr (goes.header, more ∙ ap (with_record Life) goes.is ∙ with_life goes.header goes.past, goes.inputs))),
+    )
 
 pub returns-clause-in_a_call : goal.returns-clause-in_a_call
-returns-clause-in_a_call c plan header past entry image inputs moment = in_a_call plan header past entry image inputs moment
+returns-clause-in_a_call g c plan header records own entry image inputs held lawful (inl reads) =
+    without plan records image (inr (own, held)) (and_parts _ _ lawful).0 (inr (header, reads, inputs))
+returns-clause-in_a_call g c plan header records own entry image inputs held lawful (inr reads) =
+    with_one plan records entry image (inr (entry ∷ own, ap (λ (l : List Record). entry ∷ l) held)) lawful (inr (header, reads, inputs))

@@ -1,22 +1,37 @@
-use Rattle.std.proofs.Common.{arith, inr, [], ◌∷◌, ◌++◌, ◌∙◌, ap, sym}
+use Rattle.std.proofs.Common.{arith, inl, inr, [], ◌∷◌, ◌++◌, ◌∙◌, ap, sym}
 use Rattle.std.proofs.lemmas.List.{append-nil}
 use Rattle.node_machine.specs.declared.Record.TheVariants.{Life}
 use Rattle.run_manager.specs.Chain.{commands_in}
+use Rattle.job_starter.proofs.Handing.{halted-adds}
+use Rattle.job_starter.proofs.Lasts.{leaves-kept}
 use Rattle.run_leader.proofs.Ends.{end-hands, end-adds}
 use Rattle.run_leader.proofs.laws.stops_at_end.Goals as goal
 
-pub returns : goal.returns
-returns g c limits plan starter past told fault kept last header found image digest reads stop =
+pub returns-clause-life : goal.returns-clause-life
+returns-clause-life g c limits plan starter past told fault kept last header found image digest reads stop =
     let may = g.S.Starter.may_tell starter in
     let hands = end-hands limits plan may (Life ∷ past) told stop.held last stop.ended in
+    let adds = end-adds limits plan may (Life ∷ past) told stop.held last stop.ended in
     record {
       own = hands.own;
       are = hands.are;
       life = record {
         reads = reads;
-        goes_on = inr (end-adds limits plan may (Life ∷ past) told stop.held last stop.ended);
+        goes_on = inr adds;
         lawful = stop.lawful;
         hands_over = ([], hands.commands ∙ ap (λ l. commands_in plan past ++ l) (sym (append-nil hands.own)));
-        leaves = ([], omega arith, inr (header, stop.reads, digest));
+        leaves = record { added = []; few = omega arith; goes_on = inr adds; lawful = stop.lawful; reads = inr (header, stop.reads, digest) };
       };
     }
+
+pub returns-clause-leaves : goal.returns-clause-leaves
+returns-clause-leaves g c limits plan starter past told fault kept last header image digest (inl stop) =
+    let may = g.S.Starter.may_tell starter in
+    let moment = stop.moment in
+    leaves-kept plan past kept moment.held fault header image moment.part stop.all
+    (halted-adds limits plan may (Life ∷ past) told moment.held moment.heard moment.halted) moment.lawful digest moment.reads
+returns-clause-leaves g c limits plan starter past told fault kept last header image digest (inr stop) =
+    let may = g.S.Starter.may_tell starter in
+    let end = stop.0 in
+    leaves-kept plan past kept end.held fault header image end.part stop.1
+    (end-adds limits plan may (Life ∷ past) told end.held last end.ended) end.lawful digest end.reads

@@ -1,4 +1,4 @@
-use Rattle.std.proofs.Common.{◌≡◌, ◌∷◌, true, List, Some, None, inl, inr, refl, ap, sym, ◌∙◌, subst}
+use Rattle.std.proofs.Common.{◌≡◌, ◌∷◌, true, rules, List, Some, None, inl, inr, refl, ap, sym, ◌∙◌, subst}
 use Rattle.std.proofs.lemmas.Bool.{and_from}
 use Rattle.run_plan.specs.Plan.{Plan}
 use Rattle.sched_core.specs.Core.{Progress}
@@ -176,11 +176,11 @@ returns-in-Ok-run_text-clause-steps g c =
     c.in-Ok.end.verdict c.in-Ok.ensures.steps c.in-Ok.ensures.over c.in-Ok-finish.ensures.past
 
 pub returns-in-Err-clause-refused : goal.returns-in-Err-clause-refused
-returns-in-Err-clause-refused g c = was_stopped c.in-Err.ensures.refused c.in-Err.ensures.stopped
+returns-in-Err-clause-refused g c = was_stopped c.in-Err.ensures.refused c.in-Err.ensures.stopped refl
 
 pub returns-in-Err-sealed-clause-refused : goal.returns-in-Err-sealed-clause-refused
 returns-in-Err-sealed-clause-refused g c =
-    not_sealed (record { status = c.in-Ok.end.verdict; steps = c.in-Ok.ensures.steps; chosen = c.in-Ok.ensures.over }) c.in-Err-sealed.ensures.refused.0 c.in-Err-sealed.ensures.refused.1
+    not_sealed c.in-Err-sealed.rescue refl (record { status = c.in-Ok.end.verdict; steps = c.in-Ok.ensures.steps; chosen = c.in-Ok.ensures.over }) c.in-Err-sealed.ensures.refused.0 c.in-Err-sealed.ensures.refused.1
 
 pub returns-in-Err-finish-clause-refused : goal.returns-in-Err-finish-clause-refused
 returns-in-Err-finish-clause-refused g c =
@@ -191,7 +191,9 @@ returns-in-Err-finish-clause-refused g c =
     c.in-Ok.ensures.disk c.in-Ok.ensures.counts c.in-Err-finish.ensures.plan c.in-Err-finish.ensures.past_err
     (ends-now (limits_of c.args.manager.now) (plan_of c.args.manager.now) (plan_of c.drive.new.manager) c.in-Ok.ensures.plan (past_of c.drive.new.manager) c.in-Ok.end.verdict c.in-Ok.ensures.over c.in-Ok.ensures.ready)
     (end-refusal g.D.Disk.faults g.D.Disk.capacity (plan_of c.drive.new.manager) (past_of c.drive.new.manager) _ c.drive.new.manager.journal c.finish.new.self.journal c.in-Err-finish.fault c.in-Ok-sealed.ensures.sealed.count c.in-Err-finish.ensures.refused))
+    (search rules)
 
 pub returns-in-Err-run_text-clause-refused : goal.returns-in-Err-run_text-clause-refused
 returns-in-Err-run_text-clause-refused g c =
     no_memory_for_report (to-end (limits_of c.args.manager.now) (plan_of c.args.manager.now) (plan_of c.drive.new.manager) c.in-Ok.ensures.plan (g.S.Starter.may_tell c.args.starter.now) (past_of c.args.manager.now) (past_of c.drive.new.manager) _ (g.S.Starter.told c.args.starter.now) (g.S.Starter.told c.drive.new.starter) c.in-Ok.end.verdict c.in-Ok.ensures.steps c.in-Ok.ensures.over c.in-Ok-finish.ensures.past)
+    (search rules)

@@ -33,23 +33,23 @@ returns-in-Err-lead-clause-refused g c =
     })
     (sym c.into_disk-in-Err-lead.ensures) c.in-Err-lead.ensures.refused
     (λ h. on-disk g.D.Disk.seen g.D.Disk.may_leave g.D.Disk.moment g.D.Disk.left_since c.args.start c.args.limits c.args.plan.now (g.S.Starter.may_tell c.args.starter.now)
-    (g.S.Starter.told c.args.starter.now) (Some c.in-Err-lead.fault) (past_of c.lead.new.manager) (g.S.Starter.told c.lead.new.starter) c.args.disk c.into_disk-in-Err-lead.result c.in-Ok.manager c.lead.new.manager
+    (g.S.Starter.told c.args.starter.now) (Some c.in-Err-lead.refused.1) (past_of c.lead.new.manager) (g.S.Starter.told c.lead.new.starter) c.args.disk c.into_disk-in-Err-lead.result c.in-Ok.manager c.lead.new.manager
     c.in-Ok.ensures.limits c.in-Ok.ensures.plan c.into_disk-in-Err-lead.ensures (c.in-Ok.ensures.journaled h) (c.in-Ok.ensures.any_moment h)
     (λ header was. c.in-Err-lead.ensures.any_moment (c.in-Ok.ensures.keeps h) header was) (λ header was. c.in-Err-lead.ensures.left (c.in-Ok.ensures.keeps h) header was))
 
 pub returns-in-Err-clause-refused : goal.returns-in-Err-clause-refused
-returns-in-Err-clause-refused g c = not_opened refl c.in-Err.ensures.refused c.in-Err.ensures.untouched c.in-Err.ensures.any_moment_err
+returns-in-Err-clause-refused g c = not_opened refl refl c.in-Err.ensures.refused c.in-Err.ensures.untouched c.in-Err.ensures.any_moment_err
 
 pub returns-in-Err-clause-stops : goal.returns-in-Err-clause-stops
 returns-in-Err-clause-stops g c =
-    round-stops g.D.Disk.honest g.D.Disk.seen g.D.Disk.may_leave g.D.Disk.moment g.D.Disk.left_since g.D.Disk.faults g.D.Disk.capacity g.R.Disk.faults g.R.Disk.capacity (g.S.Starter.faults c.args.starter.now) (g.S.Starter.faults c.args.starter.now)
-    c.args.plan.now 16777216 c.args.limits (g.S.Starter.may_tell c.args.starter.now) (g.S.Starter.told c.args.starter.now) (g.S.Starter.told c.args.starter.now) c.args.disk _ c.args.rescue c.args.start _
-    (not_opened refl c.in-Err.ensures.refused c.in-Err.ensures.untouched c.in-Err.ensures.any_moment_err)
+    round-stops g.D.Disk.honest g.D.Disk.seen g.D.Disk.may_leave g.D.Disk.moment g.D.Disk.left_since g.D.Disk.faults g.D.Disk.capacity g.R.Disk.honest g.R.Disk.may_leave g.R.Disk.faults g.R.Disk.capacity (g.S.Starter.faults c.args.starter.now) (g.S.Starter.faults c.args.starter.now)
+    c.args.plan.now 16777216 c.args.limits (g.S.Starter.may_tell c.args.starter.now) (g.S.Starter.told c.args.starter.now) (g.S.Starter.told c.args.starter.now) c.args.disk _ c.args.rescue _ c.args.start _
+    (not_opened refl refl c.in-Err.ensures.refused c.in-Err.ensures.untouched c.in-Err.ensures.any_moment_err)
 
 pub returns-in-Err-lead-clause-stops : goal.returns-in-Err-lead-clause-stops
 returns-in-Err-lead-clause-stops g c =
-    round-stops g.D.Disk.honest g.D.Disk.seen g.D.Disk.may_leave g.D.Disk.moment g.D.Disk.left_since g.D.Disk.faults g.D.Disk.capacity g.R.Disk.faults g.R.Disk.capacity (g.S.Starter.faults c.args.starter.now) (g.S.Starter.faults c.lead.new.starter)
-    c.args.plan.now 16777216 c.args.limits (g.S.Starter.may_tell c.args.starter.now) (g.S.Starter.told c.args.starter.now) (g.S.Starter.told c.lead.new.starter) c.args.disk _ c.args.rescue c.args.start c.in-Err-lead.fault
+    round-stops g.D.Disk.honest g.D.Disk.seen g.D.Disk.may_leave g.D.Disk.moment g.D.Disk.left_since g.D.Disk.faults g.D.Disk.capacity g.R.Disk.honest g.R.Disk.may_leave g.R.Disk.faults g.R.Disk.capacity (g.S.Starter.faults c.args.starter.now) (g.S.Starter.faults c.lead.new.starter)
+    c.args.plan.now 16777216 c.args.limits (g.S.Starter.may_tell c.args.starter.now) (g.S.Starter.told c.args.starter.now) (g.S.Starter.told c.lead.new.starter) c.args.disk _ c.args.rescue _ c.args.start c.in-Err-lead.refused.1
     (not_led c.in-Ok.manager c.lead.new.manager
     (record {
       plan_is = c.in-Ok.ensures.plan;
@@ -64,7 +64,7 @@ returns-in-Err-lead-clause-stops g c =
     })
     (sym c.into_disk-in-Err-lead.ensures) c.in-Err-lead.ensures.refused
     (λ h. on-disk g.D.Disk.seen g.D.Disk.may_leave g.D.Disk.moment g.D.Disk.left_since c.args.start c.args.limits c.args.plan.now (g.S.Starter.may_tell c.args.starter.now)
-    (g.S.Starter.told c.args.starter.now) (Some c.in-Err-lead.fault) (past_of c.lead.new.manager) (g.S.Starter.told c.lead.new.starter) c.args.disk c.into_disk-in-Err-lead.result c.in-Ok.manager c.lead.new.manager
+    (g.S.Starter.told c.args.starter.now) (Some c.in-Err-lead.refused.1) (past_of c.lead.new.manager) (g.S.Starter.told c.lead.new.starter) c.args.disk c.into_disk-in-Err-lead.result c.in-Ok.manager c.lead.new.manager
     c.in-Ok.ensures.limits c.in-Ok.ensures.plan c.into_disk-in-Err-lead.ensures (c.in-Ok.ensures.journaled h) (c.in-Ok.ensures.any_moment h)
     (λ header was. c.in-Err-lead.ensures.any_moment (c.in-Ok.ensures.keeps h) header was) (λ header was. c.in-Err-lead.ensures.left (c.in-Ok.ensures.keeps h) header was)))
 

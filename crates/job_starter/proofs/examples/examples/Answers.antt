@@ -1,0 +1,68 @@
+use Rattle.std.proofs.Common.{◌≡◌, ◌∙◌, sym, inl, inr, ℕ, zero, suc, Bool, true, false, if◌then◌else◌, List, [], ◌∷◌, Some, None, refl}
+use Rattle.std.specs.Int.Signed.{<ℤ_irrefl}
+use Rattle.std.proofs.Math.Nat.{lt_irrefl}
+use Rattle.node_machine.specs.declared.Key.{Key}
+use Rattle.node_machine.specs.declared.Outcome.TheVariants.{Exit, NoStart}
+use Rattle.node_machine.specs.declared.Record.{Record}
+use Rattle.node_machine.specs.declared.Record.TheVariants.{Life}
+use Rattle.node_machine.specs.Story.{story, attempts_after, next_after, is_good_after, value_after}
+use Rattle.node_specs.specs.Commands.{command_of}
+use Rattle.sched_core.specs.Run.{is_aborted, is_ready, is_final_ready, may_launch, may_follow}
+use Rattle.sched_core.specs.Limits.{IsBetter}
+use Rattle.sched_core.specs.Choices.{startable, if_let_in}
+use Rattle.event_journal.specs.Slot.{record_in, guess}
+use Rattle.event_journal.specs.Image.{replay_of, records_of}
+use Rattle.run_manager.specs.Example.{one_node, end_of_a, first_held, second_held}
+use Rattle.job_starter.specs.Drives.{IsHeld, starts, ends, no_step, one_more, clean}
+use Rattle.job_starter.specs.Example.{unlimited, its_calls}
+use Rattle.job_starter.proofs.examples.examples.Goals as goal
+
+-- where no node is, nothing starts
+either : (past : List Record) (b : Bool) → if_let_in unlimited one_node past (if b then None else None) ≡ None
+either past true = refl
+either past false = refl
+
+-- A runs, and no other node is there
+held : IsHeld unlimited one_node second_held
+unfolding story attempts_after next_after is_good_after value_after is_aborted is_ready is_final_ready may_launch
+held zero = refl
+held (suc zero) = refl
+held (suc (suc node)) = either second_held (may_launch one_node second_held (suc (suc node)))
+
+no_other : (node : ℕ) → startable unlimited one_node (Life ∷ first_held) (suc node) ≡ None
+unfolding story attempts_after next_after is_good_after value_after is_aborted is_ready is_final_ready may_launch
+no_other zero = refl
+no_other (suc node) = either (Life ∷ first_held) (may_launch one_node (Life ∷ first_held) (suc (suc node)))
+
+none-some : (key : Key) → None ≡ Some key → ⊥
+none-some key is = cc
+
+exits : Exit 0 ≡ NoStart → ⊥
+exits is = cc
+
+-- and none is better than A
+never_better : (node : ℕ) (other : Key) → startable unlimited one_node (Life ∷ first_held) node ≡ Some other → IsBetter one_node node 0 → ⊥
+never_better zero other is (inl before) = <ℤ_irrefl before
+never_better zero other is (inr before) = lt_irrefl 0 before.1
+never_better (suc node) other is before = none-some other (sym (no_other node) ∙ is)
+
+pub returns : goal.returns
+unfolding story attempts_after next_after is_good_after value_after is_aborted is_ready is_final_ready may_launch may_follow replay_of records_of record_in guess command_of
+returns c = record {
+  moment = record {
+    held = end_of_a ∷ second_held;
+    heard = its_calls;
+    lawful = refl;
+    halted = record {
+      between = end_of_a ∷ second_held;
+      heard = its_calls;
+      steps = one_more
+          (one_more no_step (starts (record { same = refl; children = refl }) (refl, never_better) refl refl (Exit 0, exits, refl)))
+          (ends (record { same = refl; children = refl }) held refl refl);
+      cut = clean;
+    };
+    part = ([], refl);
+    answered = ([], refl);
+    reads = refl;
+  };
+}
