@@ -6,9 +6,7 @@ trap 'rm -rf "$work"' EXIT
 # Which program: DAGRUN names another one than that of these sources.
 program=${DAGRUN-}
 if [ -z "$program" ]; then
-    (cd "$top/examples" && "$top/dagrun" check diamond.dag >/dev/null)
-    program=$top/crates/dagrun/out/dagrun
-    if "$top/dist.sh" --check >/dev/null 2>&1; then program=$top/dist/dagrun; fi
+    program=$top/$("$top/build")
 fi
 program=$(realpath -- "$program")
 

@@ -1,4 +1,4 @@
-# What ./dagrun, ./dist.sh and ./test share. They set `top`, the folder of the repository.
+# What ./build, ./dist.sh and ./test share. They set `top`, the folder of the repository.
 program=crates/dagrun/out/dagrun
 
 # The crates of this repository that crate $1 stands on, lowest first, and the crate itself.

@@ -3,8 +3,6 @@
 set -u
 cd -- "$(dirname -- "${BASH_SOURCE[0]}")/.." || exit 1
 dagrun=$PWD/dagrun
-# Where the shipped program is of other sources, this call builds one and says so.
-"$dagrun" rehearse examples/diamond.dag >/dev/null || exit 1
 folder=.
 passed=0
 failed=0
