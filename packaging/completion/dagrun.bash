@@ -1,0 +1,39 @@
+# bash completion for dagrun; made by packaging/generate.py.
+_dagrun() {
+    local word=${COMP_WORDS[COMP_CWORD]} before=${COMP_WORDS[COMP_CWORD - 1]} command='' options='' values='' dag='' place
+    COMPREPLY=()
+    # --option=value is three words to bash.
+    if [ "$word" = '=' ]; then word=''; elif [ "$before" = '=' ]; then before=${COMP_WORDS[COMP_CWORD - 2]}; fi
+    for ((place = 1; place < COMP_CWORD; place++)); do
+        case $command:${COMP_WORDS[place]} in
+        :run|:status|:audit|:check|:rehearse) command=${COMP_WORDS[place]} ;;
+        ?*:*.dag | rehearse:-) dag=${COMP_WORDS[place]} ;;
+        esac
+    done
+    case $before in
+        --autorescue) values='0 1' ;;
+        --maxjobs|--maxpost|--maxpre) return ;;
+    esac
+    if [ -n "$values" ]; then
+        COMPREPLY=($(compgen -W "$values" -- "$word"))
+        return
+    fi
+    case $command in
+        '') options='run status audit check rehearse --help' ;;
+        run) options='--maxjobs --maxpre --maxpost --autorescue --help' ;;
+        status) options='--help' ;;
+        audit) options='--help' ;;
+        check) options='--help' ;;
+        rehearse) options='--maxjobs --maxpre --maxpost --help' ;;
+    esac
+    if [ -z "$command" ] || [[ $word == -* ]]; then
+        COMPREPLY=($(compgen -W "$options" -- "$word"))
+        return
+    fi
+    # DAG files and folders, and any file where there are none, or where the DAG file stands already.
+    local IFS=$'\n'
+    compopt -o filenames 2>/dev/null
+    if [ -z "$dag" ]; then COMPREPLY=($(compgen -f -X '!*.dag' -- "$word") $(compgen -d -- "$word")); fi
+    if [ ${#COMPREPLY[@]} -eq 0 ]; then COMPREPLY=($(compgen -f -- "$word")); fi
+}
+complete -F _dagrun dagrun

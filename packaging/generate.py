@@ -1,0 +1,230 @@
+#!/usr/bin/env python3
+"""Makes the manual pages (packaging/man) and the completions (packaging/completion) of the program's own help texts, which are
+made from the table of its command line, and of the prose in packaging/pages.
+
+    packaging/generate.py [PROGRAM]             writes them
+    packaging/generate.py --check [PROGRAM]     says which would change, and ends with status 1 where one would"""
+import os
+import re
+import subprocess
+import sys
+
+HERE = os.path.dirname(os.path.abspath(__file__))
+# What an option's value is called in a synopsis; a number otherwise.
+VALUES = {"autorescue": ["0", "1"]}
+
+
+class Help:
+    """A help text of clap: what the command does, and its commands, arguments and options with the line of each."""
+
+    def __init__(self, program, command):
+        words = [program, *([command] if command else []), "--help"]
+        done = subprocess.run(words, capture_output=True, text=True, timeout=60)
+        lines = done.stderr.splitlines()
+        self.command = command
+        self.about = lines[0]
+        self.parts = {"Commands": [], "Arguments": [], "Options": []}
+        part = None
+        for line in lines:
+            if line.startswith("Usage: "):
+                self.usage = line[len("Usage: ") :].split()
+            elif line.endswith(":") and line[:-1] in self.parts:
+                part = self.parts[line[:-1]]
+            elif line.startswith("  "):
+                part.append(re.split(r"  +", line.strip(), maxsplit=1))
+
+    def options(self):
+        """The names of the options that take a value, each with its line."""
+        named = ((re.fullmatch(r"--(\w+) <\w+>", name), text) for name, text in self.parts["Options"])
+        return [(found[1], text) for found, text in named if found]
+
+    def arguments(self):
+        return [(name.strip("<>[]"), name.startswith("<"), text) for name, text in self.parts["Arguments"]]
+
+
+def roff(text):
+    return text.replace("\\", "\\e").replace("-", "\\-").replace("'", "\\(aq").replace("`", "\\(ga")
+
+
+def page_of(command):
+    return f"dagrun-{command}" if command else "dagrun"
+
+
+def value_of(option):
+    return "|".join(VALUES[option]) if option in VALUES else "N"
+
+
+def synopsis(told):
+    words = [f"\\fB{roff(' '.join(filter(None, ['dagrun', told.command])))}\\fR"]
+    words += [f"[\\fB\\-\\-{name}\\fR\\~\\fI{value_of(name)}\\fR]" for name, _ in told.options()]
+    words += [f"\\fI{name}\\fR" if needed else f"[\\fI{name}\\fR]" for name, needed, _ in told.arguments()]
+    if not told.command:
+        words.append("\\fICOMMAND\\fR ..")
+    return " ".join(words)
+
+
+def items(pairs):
+    return "\n".join(f".TP\n{name}\n{roff(text)}" for name, text in pairs)
+
+
+def options(told):
+    pairs = [(f"\\fI{name}\\fR", text) for name, _, text in told.arguments()]
+    pairs += [(f"\\fB\\-\\-{name}\\fR \\fI{value_of(name)}\\fR", text) for name, text in told.options()]
+    pairs.append(("\\fB\\-h\\fR, \\fB\\-\\-help\\fR", "Print help, on standard error; the exit status is 125"))
+    return items(pairs)
+
+
+def commands(told):
+    return items((f"\\fB{name}\\fR", f"{text}: dagrun-{name}(1)") for name, text in told.parts["Commands"])
+
+
+def see(told, names):
+    others = [page_of(name) for name in ["", *names] if name != told.command]
+    return ",\n".join(f".BR {roff(name)} (1)" for name in others).replace(" (1),", " (1),")
+
+
+def page(told, names):
+    with open(os.path.join(HERE, "pages", page_of(told.command) + ".1")) as file:
+        text = file.read()
+    about = told.about[0].lower() + told.about[1:]
+    made = {
+        "@name@": f"{roff(page_of(told.command))} \\- {roff(about)}",
+        "@synopsis@": synopsis(told),
+        "@options@": options(told),
+        "@commands@": commands(told),
+        "@see@": see(told, names),
+    }
+    for place, text_of in made.items():
+        text = text.replace(place, text_of)
+    return ".\\\" Made by packaging/generate.py.\n" + text
+
+
+def bash(top, helps):
+    cases = "".join(
+        f"        {told.command}) options='{' '.join(['--' + name for name, _ in told.options()] + ['--help'])}' ;;\n" for told in helps
+    )
+    values = "".join(f"        --{name}) values='{' '.join(words)}' ;;\n" for name, words in sorted(VALUES.items()))
+    numbers = sorted({name for told in helps for name, _ in told.options() if name not in VALUES})
+    return f"""# bash completion for dagrun; made by packaging/generate.py.
+_dagrun() {{
+    local word=${{COMP_WORDS[COMP_CWORD]}} before=${{COMP_WORDS[COMP_CWORD - 1]}} command='' options='' values='' dag='' place
+    COMPREPLY=()
+    # --option=value is three words to bash.
+    if [ "$word" = '=' ]; then word=''; elif [ "$before" = '=' ]; then before=${{COMP_WORDS[COMP_CWORD - 2]}}; fi
+    for ((place = 1; place < COMP_CWORD; place++)); do
+        case $command:${{COMP_WORDS[place]}} in
+        {'|'.join(':' + told.command for told in helps)}) command=${{COMP_WORDS[place]}} ;;
+        ?*:*.dag | rehearse:-) dag=${{COMP_WORDS[place]}} ;;
+        esac
+    done
+    case $before in
+{values}        {'|'.join('--' + name for name in numbers)}) return ;;
+    esac
+    if [ -n "$values" ]; then
+        COMPREPLY=($(compgen -W "$values" -- "$word"))
+        return
+    fi
+    case $command in
+        '') options='{' '.join(told.command for told in helps)} --help' ;;
+{cases}    esac
+    if [ -z "$command" ] || [[ $word == -* ]]; then
+        COMPREPLY=($(compgen -W "$options" -- "$word"))
+        return
+    fi
+    # DAG files and folders, and any file where there are none, or where the DAG file stands already.
+    local IFS=$'\\n'
+    compopt -o filenames 2>/dev/null
+    if [ -z "$dag" ]; then COMPREPLY=($(compgen -f -X '!*.dag' -- "$word") $(compgen -d -- "$word")); fi
+    if [ ${{#COMPREPLY[@]}} -eq 0 ]; then COMPREPLY=($(compgen -f -- "$word")); fi
+}}
+complete -F _dagrun dagrun
+"""
+
+
+def quoted(text):
+    """As a word in single quotes, of zsh and of fish; in descriptions of zsh's _arguments brackets and colons are escaped."""
+    return text.replace("\\", "\\\\").replace("'", "'\\''")
+
+
+def zsh(top, helps):
+    about = dict(top.parts["Commands"])
+    escaped = lambda text: quoted(text).replace("[", "\\[").replace("]", "\\]").replace(":", "\\:")
+    listed = "".join(f"        '{told.command}:{escaped(about[told.command])}'\n" for told in helps)
+    cases = ""
+    for told in helps:
+        lines = ["'(-h --help)'{-h,--help}'[Print help]'"]
+        for name, text in told.options():
+            values = f"({' '.join(VALUES[name])})" if name in VALUES else ""
+            lines.append(f"'--{name}=[{escaped(text)}]:{value_of(name).replace('|', ' or ')}:{values}'")
+        for place, (name, needed, _) in enumerate(told.arguments(), 1):
+            colons = ":" if needed else "::"
+            files = '_files -g "*.dag"' if name == "DAG" else "_files"
+            lines.append(f"'{place}{colons}{name}:{files}'")
+        joined = " \\\n                ".join(lines)
+        cases += f"        {told.command})\n            _arguments \\\n                {joined}\n            ;;\n"
+    return f"""#compdef dagrun
+# zsh completion for dagrun; made by packaging/generate.py.
+_dagrun() {{
+    local -a commands
+    commands=(
+{listed}    )
+    if (( CURRENT == 2 )); then
+        _describe -t commands command commands
+        return
+    fi
+    (( CURRENT-- ))
+    shift words
+    case $words[1] in
+{cases}    esac
+}}
+_dagrun "$@"
+"""
+
+
+def fish(top, helps):
+    lines = ["# fish completion for dagrun; made by packaging/generate.py."]
+    for name, text in top.parts["Commands"]:
+        lines.append(f"complete -c dagrun -n __fish_use_subcommand -f -a {name} -d '{text}'")
+    lines.append("complete -c dagrun -s h -l help -f -d 'Print help'")
+    for told in helps:
+        here = f"complete -c dagrun -n '__fish_seen_subcommand_from {told.command}'"
+        for name, text in told.options():
+            values = f" -a '{' '.join(VALUES[name])}'" if name in VALUES else ""
+            lines.append(f"{here} -l {name} -x{values} -d '{text}'")
+    return "\n".join(lines) + "\n"
+
+
+def made(program):
+    """The files that are made, by their paths, each with its text."""
+    top = Help(program, "")
+    names = [name for name, _ in top.parts["Commands"]]
+    helps = [Help(program, name) for name in names]
+    files = {f"man/{page_of(told.command)}.1": page(told, names) for told in [top, *helps]}
+    files["completion/dagrun.bash"] = bash(top, helps)
+    files["completion/dagrun.zsh"] = zsh(top, helps)
+    files["completion/dagrun.fish"] = fish(top, helps)
+    return files
+
+
+def main():
+    words = sys.argv[1:]
+    check = words[:1] == ["--check"]
+    program = os.path.abspath((words[1:] if check else words)[0]) if len(words) > check else os.path.join(HERE, "../dist/dagrun")
+    files = made(program)
+    there = {f"{folder}/{name}" for folder in ("man", "completion") for name in os.listdir(os.path.join(HERE, folder))}
+    differ = sorted(there - set(files))
+    for path, text in files.items():
+        full = os.path.join(HERE, path)
+        if os.path.exists(full) and open(full).read() == text:
+            continue
+        differ.append(path)
+        if not check:
+            with open(full, "w") as file:
+                file.write(text)
+    if check and differ:
+        print("packaging/generate.py makes these anew:", *differ)
+        sys.exit(1)
+
+
+if __name__ == "__main__":
+    main()
