@@ -91,5 +91,85 @@ check unknown_command 125 '' 'dagrun: L2 UnknownCommand -:1:1' <<<'FOO A'
 check name_declared_twice 125 '' 'dagrun: S4 DuplicateName -:2:5' <<<$'JOB A a.sub\nJOB A b.sub'
 check_full refused_output rehearse examples/diamond.dag
 
+# Examples with real programs are run in a copy of what git would keep of their folder.
+copies=$(mktemp -d)
+trap 'rm -rf "$copies"' EXIT
+
+# copied NAME: a new copy of that example, in which the checks behind it call dagrun
+copied() {
+    folder=$copies/examples/$1
+    rm -rf "$folder"
+    if ! git ls-files -coz --exclude-standard "examples/$1" 2>/dev/null | xargs -0 cp --parents -t "$copies" 2>/dev/null; then
+        mkdir -p "$copies/examples"
+        cp -r "examples/$1" "$folder"
+    fi
+}
+
+# told NAME FOUND WANTED
+told() {
+    if [ "$2" = "$3" ]; then
+        passed=$((passed + 1))
+    else
+        failed=$((failed + 1))
+        printf 'FAILED %s: found\n%s\nwanted\n%s\n' "$1" "$2" "$3"
+    fi
+}
+
+# ran NAME DAG STATUS: the DAG of that name in the copy ends so, and prints what its file of that name says
+ran() {
+    check "$1" "$3" "$(cat "$folder/$2.expected")$newline" '' run "${4:-$2}.dag"
+}
+
+copied sweep
+told sweep_made "$("$folder/make_sweep.sh")" "$(cat "$folder/sweep.dag")"
+ran sweep sweep 0
+told sweep_table "$(cat "$folder/table.txt")" "$(cat "$folder/table.expected")"
+
+copied pipelines
+ran pipelines pipelines 0
+told pipelines_compared "$(cat "$folder/compare.txt")" "$(cat "$folder/compare.expected")"
+
+copied report
+ran report_of_a_failure first 1 report
+told report_text "$(cat "$folder/report.txt")" 'failed steps: 1'
+ran report_of_all_done second 0 report
+told report_text_of_all_done "$(cat "$folder/report.txt")" 'all is done'
+
+copied already
+ran already_there already 0
+told fetched "$(LC_ALL=C sort "$folder/fetched.log")" "index${newline}readme"
+told lines_of_all "$(tr -d ' ' <"$folder/lines.txt")" 6
+
+# The manager is killed while the second step works, and what is left of that is killed as systemd or a stop of the machine does it.
+copied nightly
+export DAGRUN=$dagrun
+: >"$folder/hold"
+(cd -- "$folder" && exec "$dagrun" run nightly.dag) >/dev/null 2>&1 &
+manager=$!
+for ((turn = 0; turn < 600; turn++)); do
+    if [ -s "$folder/index.works" ]; then break; fi
+    sleep 0.1
+done
+kill -KILL "$manager"
+wait "$manager" 2>/dev/null
+kill -KILL "$(cat "$folder/index.works")"
+rm "$folder/hold"
+"$folder/nightly.sh" --resume
+told nightly_status "$?" 0
+told nightly_resumed "$(cat "$folder/last.txt")" "$(cat "$folder/nightly.expected")"
+told nightly_once_each "$(cat "$folder/done.log" "$folder/index.txt")" "copied${newline}thinned${newline}an index"
+"$folder/nightly.sh" --resume
+told nothing_to_resume "$? $(wc -l <"$folder/done.log")" '0 2'
+"$folder/nightly.sh"
+told nightly_anew "$? $(wc -l <"$folder/done.log")" '0 4'
+
+if command -v python3 >/dev/null; then
+    copied nbody
+    ran nbody nbody 0
+    told nbody_order "$(cat "$folder/order.txt")" "$(cat "$folder/order.expected")"
+else
+    echo 'skipped nbody: python3 is not installed'
+fi
+
 printf '%s passed, %s failed\n' "$passed" "$failed"
 [ "$failed" = 0 ]
