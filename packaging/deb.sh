@@ -13,7 +13,7 @@ stage=$(mktemp -d)
 trap 'rm -rf "$stage"' EXIT
 chmod 755 "$stage"
 
-"$top/install.sh" "$stage/usr" >/dev/null
+"$top/install.sh" --condor "$stage/usr" >/dev/null
 # Where Debian has zsh look for completions of packages.
 mkdir -p "$stage/usr/share/zsh/vendor-completions" "$stage/usr/share/doc/dagrun" "$stage/DEBIAN"
 mv "$stage/usr/share/zsh/site-functions/_dagrun" "$stage/usr/share/zsh/vendor-completions/_dagrun"

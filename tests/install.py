@@ -1,6 +1,6 @@
 #!/usr/bin/env python3
-"""What stands around the program: ./dagrun and ./build, what install.sh installs and removes, the manual pages, the completions and
-the Debian package. Each row works in a folder of its own.
+"""What stands around the program: ./dagrun and ./build, what install.sh installs and removes, the manual pages, the completions, the
+Debian package and condor_submit_dag. Each row works in a folder of its own.
 
     tests/install.py [WORD]     WORD: only the rows whose name holds it
 
@@ -11,6 +11,7 @@ import shutil
 import subprocess
 import sys
 import tempfile
+import time
 
 TOP = os.path.realpath(os.path.join(os.path.dirname(__file__), ".."))
 SHIPPED = os.path.join(TOP, "dist/dagrun")
@@ -304,6 +305,214 @@ def debian_package(folder):
     same([path for path in files_below(root) if path.startswith("usr")], [])
 
 
+SUBMIT = os.path.join(TOP, "packaging/condor_submit_dag")
+TOLD = "File for submitting this DAG: x.dag.condor.sub\nOutput of the manager:        x.dag.dagman.out\n"
+
+
+def wait_for(what):
+    for _ in range(1200):
+        if what():
+            return
+        time.sleep(0.05)
+    raise AssertionError("it did not come in a minute")
+
+
+def shell_job(path, script):
+    write(f"{path}.sh", script)
+    name = os.path.basename(path)
+    write(f"{path}.sub", f"executable = /bin/sh\narguments = {name}.sh\nqueue\n")
+
+
+def submitted_in_the_background(folder):
+    needs("flock")
+    write(f"{folder}/x.dag", "JOB A a.sub\n")
+    shell_job(f"{folder}/a", "while [ ! -e go ]; do sleep 0.05; done\necho done >>a.out\n")
+    said, told, status = call(folder, SUBMIT, "-MaxJobs", "2", "--update_submit", "-notif", "never", "x.dag")
+    same((re.sub("[0-9]+", "N", said), told, status), (f"{TOLD}N job(s) submitted to cluster N.\n", "", 0))
+    same(os.path.exists(f"{folder}/x.dag.lock"), True)
+    # While it works there is no second one, by whichever command.
+    same(call(folder, SUBMIT, "x.dag"), ("", "condor_submit_dag: a manager works on x.dag\n", 1))
+    wait_for(lambda: os.path.exists(f"{folder}/x.dag.journal"))
+    same(call(folder, SHIPPED, "run", "x.dag"), ("", "dagrun: X2 FileRefused x.dag.lock\n", 125))
+    same(os.path.exists(f"{folder}/x.dag.lock"), True)
+    write(f"{folder}/go", "")
+    wait_for(lambda: not os.path.exists(f"{folder}/x.dag.lock"))
+    lines = open(f"{folder}/x.dag.dagman.out").read().splitlines()
+    same(lines[1:3], ["A DONE attempts=1 value=0", "result 0"])
+    same(re.fullmatch(r"[0-9/]+ [0-9:]+ \*\*\*\* dagrun \(condor_DAGMAN\) pid [0-9]+ EXITING WITH STATUS 0", lines[3]) is not None, True)
+    same("arguments = run --maxjobs 2 x.dag\n" in open(f"{folder}/x.dag.condor.sub").read(), True)
+    same(open(f"{folder}/a.out").read(), "done\n")
+
+
+def rounds_of_condor_submit_dag(folder):
+    needs("flock")
+    write(f"{folder}/x.dag", "JOB A a.sub\nJOB B b.sub\nPARENT A CHILD B\n")
+    shell_job(f"{folder}/a", "echo A >>ran\n")
+    shell_job(f"{folder}/b", "echo B >>ran; test -e good\n")
+
+    def submitted(*options):
+        same(call(folder, SUBMIT, "-wait", *options, "x.dag")[:2], (TOLD, ""))
+        same(os.path.exists(f"{folder}/x.dag.lock"), False)
+        ran = open(f"{folder}/ran").read().split()
+        os.remove(f"{folder}/ran")
+        rescues = [name for name in sorted(os.listdir(folder)) if "rescue" in name]
+        return "".join(ran), [name[len("x.dag.") :] for name in rescues]
+
+    same(submitted(), ("AB", ["rescue001"]))
+    same(submitted(), ("B", ["rescue001", "rescue002"]))
+    same(submitted("-autorescue", "0"), ("AB", ["rescue001", "rescue002", "rescue003"]))
+    same(submitted("-dorescue", "2"), ("B", ["rescue001", "rescue002", "rescue003", "rescue003.old"]))
+    write(f"{folder}/good", "")
+    same(submitted("-f"), ("AB", ["rescue001.old", "rescue002.old", "rescue003.old"]))
+    statuses = re.findall("STATUS ([0-9]+)", open(f"{folder}/x.dag.dagman.out").read())
+    same(statuses, ["1", "1", "1", "1", "0"])
+    # The status is that of the run, and 1 where dagrun refuses.
+    write(f"{folder}/x.dag", "JOB A a.sub\nJOB B b.sub\nABORT-DAG-ON A 0 RETURN 42\n")
+    same(call(folder, SUBMIT, "-wait", "x.dag")[2], 42)
+    write(f"{folder}/x.dag.rescue001", "no line of a rescue file\n")
+    same(call(folder, SUBMIT, "-wait", "x.dag")[2], 1)
+    same("E1 BadLine x.dag.rescue001:1" in open(f"{folder}/x.dag.dagman.out").read(), True)
+    same(os.path.exists(f"{folder}/x.dag.lock"), False)
+
+
+def behind_a_killed_manager(folder):
+    """What a manager leaves that was killed with the script is gone on with, and its lock goes behind it."""
+    needs("flock")
+    write(f"{folder}/x.dag", "JOB A a.sub\nJOB B b.sub\nPARENT A CHILD B\n")
+    shell_job(f"{folder}/a", "echo A >>ran\n")
+    shell_job(f"{folder}/b", "echo B >>ran; while [ ! -e go ]; do sleep 0.05; done\n")
+    manager = subprocess.Popen([SHIPPED, "run", "x.dag"], cwd=folder, stdout=subprocess.DEVNULL)
+    wait_for(lambda: os.path.exists(f"{folder}/ran") and open(f"{folder}/ran").read() == "A\nB\n")
+    manager.kill()
+    manager.wait()
+    write(f"{folder}/go", "")
+    same(call(folder, SUBMIT, "-wait", "x.dag"), (TOLD, "", 0))
+    same(open(f"{folder}/ran").read(), "A\nB\nB\n")
+    same(os.path.exists(f"{folder}/x.dag.lock"), False)
+
+
+def options_of_condor_submit_dag(folder):
+    needs("flock")
+    write(f"{folder}/below/x.dag", "JOB A a.sub\n")
+    shell_job(f"{folder}/below/a", "pwd >>ran\n")
+    os.mkdir(f"{folder}/outputs")
+    said, told, status = call(folder, SUBMIT, "-usedagdir", "-wait", "-outfile_dir", "outputs", "below/x.dag")
+    same((said.splitlines()[0], told, status), ("File for submitting this DAG: x.dag.condor.sub", "", 0))
+    same(open(f"{folder}/below/ran").read(), f"{folder}/below\n")
+    same(os.listdir(f"{folder}/outputs"), ["x.dag.dagman.out"])
+    os.remove(f"{folder}/below/x.dag.journal")
+    same(call(f"{folder}/below", SUBMIT, "-no_submit", "x.dag"), (TOLD, "", 0))
+    same(sorted(os.listdir(f"{folder}/below")), ["a.sh", "a.sub", "ran", "x.dag", "x.dag.condor.sub"])
+    refusals = [
+        (["-alwaysrunpost", "x.dag"], "-alwaysrunpost is not done by dagrun"),
+        (["-config", "c", "x.dag"], "-config is not done by dagrun"),
+        (["-maxj"], "a word is missing behind -maxj"),
+        (["-maxjobs", "many", "x.dag"], "-maxjobs many: a number is expected"),
+        (["-no_such", "x.dag"], "-no_such is no option that is known here"),
+        (["x.dag", "y.dag"], "one DAG file is run at a time, and y.dag is a second one"),
+        (["y.dag"], "there is no file y.dag"),
+        (["-dorescuefrom", "7", "x.dag"], "there is no file x.dag.rescue007"),
+        (["a.sub"], "the DAG is refused: L2 UnknownCommand a.sub:1:1"),
+    ]
+    for words, line in refusals:
+        same(call(f"{folder}/below", SUBMIT, *words), ("", f"condor_submit_dag: {line}\n", 1))
+    same(sorted(os.listdir(f"{folder}/below")), ["a.sh", "a.sub", "ran", "x.dag", "x.dag.condor.sub"])
+
+
+def condor_submit_dag_is_installed_apart(folder):
+    needs("flock")
+    settings = dict(os.environ, HOME=folder)
+    said, told, status = call(folder, f"{TOP}/install.sh", "--condor", "here", env=settings)
+    same((told, status), ("", 0))
+    same(f'export PATH="{folder}/here/lib/dagrun/condor:$PATH"' in said, True)
+    same(files_below(f"{folder}/here"), sorted(INSTALLED + ["lib/dagrun/condor/condor_submit_dag"]))
+    write(f"{folder}/x.dag", "JOB A a.sub\n")
+    shell_job(f"{folder}/a", "")
+    submit = f"{folder}/here/lib/dagrun/condor/condor_submit_dag"
+    same(call(folder, submit, "-wait", "x.dag", env=with_path("/usr/bin", "/bin")), (TOLD, "", 0))
+    same(f"executable = {folder}/here/bin/dagrun\n" in open(f"{folder}/x.dag.condor.sub").read(), True)
+    same(call(folder, f"{TOP}/install.sh", "--remove", "here", env=settings)[1:], ("", 0))
+    same(files_below(f"{folder}/here"), [])
+    same(os.path.exists(f"{folder}/here/lib/dagrun"), False)
+
+
+NIPYPE = """
+import glob, os, sys, time
+import nipype.pipeline.plugins.dagman as dagman
+from nipype import Function, JoinNode, Node, Workflow
+
+# The plugin looks every 5 seconds whether the lock is gone, and first after 10; here it looks at once, and often.
+waits = time.sleep
+dagman.time = type("Clock", (), {"sleep": staticmethod(lambda _: waits(0.05))})
+
+def square(number, bad):
+    if number == bad:
+        raise ValueError(number)
+    return number * number
+
+def total(numbers):
+    return sum(numbers)
+
+flow = Workflow(name="flow", base_dir=os.getcwd())
+squares = Node(Function(input_names=["number", "bad"], output_names=["square"], function=square), name="squares")
+squares.iterables = ("number", [1, 2, 3])
+squares.inputs.bad = int(sys.argv[2])
+totals = JoinNode(Function(input_names=["numbers"], output_names=["sum"], function=total),
+                  name="totals", joinsource="squares", joinfield="numbers")
+flow.connect(squares, "square", totals, "numbers")
+flow.run(plugin="CondorDAGMan", plugin_args={"block": sys.argv[1] == "block", "dagman_args": "-maxjobs 4"})
+"""
+
+
+def nipype_of():
+    """A python that has nipype."""
+    for python in (sys.executable, "/usr/bin/python3"):
+        if os.path.exists(python) and call("/", python, "-c", "import importlib.util as u, sys; sys.exit(not u.find_spec('nipype'))")[2] == 0:
+            return python
+    raise Skipped("nipype is not installed")
+
+
+def with_nipype(folder, *words):
+    needs("flock")
+    python = nipype_of()
+    write(f"{folder}/flow.py", NIPYPE)
+    settings = dict(with_path(os.path.dirname(SUBMIT), os.environ["PATH"]), HOME=folder, NIPYPE_NO_ET="1", NO_ET="1")
+    said, told, status = call(folder, python, "flow.py", *words, env=settings)
+    if status != 0:
+        raise AssertionError(said + told)
+    [dag] = [path for path in files_below(folder) if path.endswith(".dag")]
+    return f"{folder}/{dag}"
+
+
+def result_of(folder):
+    """What the joining node of nipype's flow came to."""
+    results = [path for path in files_below(folder) if path.endswith("totals/result_totals.pklz")]
+    script = "import sys; from nipype.utils.filemanip import loadpkl; print(loadpkl(sys.argv[1]).outputs.sum)"
+    return [call(folder, nipype_of(), "-c", script, f"{folder}/{path}")[0] for path in results]
+
+
+def nipype_waits(folder):
+    dag = with_nipype(folder, "block", "0")
+    same(os.path.exists(f"{dag}.lock"), False)
+    same(result_of(folder), ["14\n"])
+
+
+def nipype_goes_on_by_itself(folder):
+    dag = with_nipype(folder, "leave", "0")
+    wait_for(lambda: not os.path.exists(f"{dag}.lock"))
+    same(result_of(folder), ["14\n"])
+    same("EXITING WITH STATUS 0" in open(f"{dag}.dagman.out").read(), True)
+
+
+def nipype_with_a_node_that_fails(folder):
+    dag = with_nipype(folder, "block", "2")
+    same(result_of(folder), [])
+    report = open(f"{dag}.dagman.out").read()
+    same(sorted(re.findall("^[0-9]+ (DONE|ERROR|NOT_READY)", report, re.M)), ["DONE", "DONE", "ERROR", "NOT_READY"])
+    same("EXITING WITH STATUS 1" in report, True)
+    same(open(f"{dag}.rescue001").read().count("\nDONE "), 2)
+
+
 ROWS = [
     dagrun_runs_the_shipped_program,
     build_proves_what_it_finds,
@@ -317,6 +526,14 @@ ROWS = [
     completion_of_zsh,
     completion_of_fish,
     debian_package,
+    submitted_in_the_background,
+    rounds_of_condor_submit_dag,
+    behind_a_killed_manager,
+    options_of_condor_submit_dag,
+    condor_submit_dag_is_installed_apart,
+    nipype_waits,
+    nipype_goes_on_by_itself,
+    nipype_with_a_node_that_fails,
 ]
 
 

@@ -74,7 +74,7 @@ def run(case, program, folder):
             file.write(text)
         if text.startswith("#!"):
             os.chmod(path, 0o755)
-    settings = dict(os.environ, PATH=f"{os.path.dirname(program)}:{os.environ['PATH']}", LC_ALL="C")
+    settings = dict(os.environ, PATH=f"{os.path.dirname(program)}:{TOP}/packaging:{os.environ['PATH']}", LC_ALL="C")
     for transcript in case.transcripts:
         found = []
         for command in re.findall(r"^\$ (.*)$", transcript, re.M):
