@@ -14,6 +14,7 @@ refuse() {
     exit 1
 }
 
+usage='usage: ./install.sh [--condor] [PREFIX], ./install.sh --remove [PREFIX]'
 action=install
 condor=
 prefix=
@@ -21,7 +22,11 @@ for word in "$@"; do
     case $word in
     --remove) action=remove ;;
     --condor) condor=yes ;;
-    -*) refuse "usage: ./install.sh [--condor] [PREFIX], ./install.sh --remove [PREFIX]" ;;
+    -h | --help)
+        echo "$usage"
+        exit 0
+        ;;
+    -*) refuse "$usage" ;;
     *)
         if [ -n "$prefix" ]; then refuse "one PREFIX is expected, and $word is a second one"; fi
         prefix=$word
@@ -30,6 +35,7 @@ for word in "$@"; do
 done
 if [ -z "$prefix" ]; then prefix=${HOME:?where to install is not said, and HOME is not set}/.local; fi
 if [[ $prefix != /* ]]; then prefix=$PWD/$prefix; fi
+prefix=${prefix%/}
 
 # Each file: how it may be used, where it stands here, and where below PREFIX.
 files=(

@@ -150,8 +150,7 @@ for ((turn = 0; turn < 600; turn++)); do
     if [ -s "$folder/index.works" ]; then break; fi
     sleep 0.1
 done
-kill -KILL "$manager"
-wait "$manager" 2>/dev/null
+{ kill -KILL "$manager" && wait "$manager"; } 2>/dev/null
 kill -KILL "$(cat "$folder/index.works")"
 rm "$folder/hold"
 "$folder/nightly.sh" --resume

@@ -8,6 +8,7 @@ A row that needs a program that is not installed says so and is not counted. The
 import os
 import re
 import shutil
+import signal
 import subprocess
 import sys
 import tempfile
@@ -326,13 +327,13 @@ def shell_job(path, script):
 def submitted_in_the_background(folder):
     needs("flock")
     write(f"{folder}/x.dag", "JOB A a.sub\n")
-    shell_job(f"{folder}/a", "while [ ! -e go ]; do sleep 0.05; done\necho done >>a.out\n")
+    shell_job(f"{folder}/a", ": >a.works\nwhile [ ! -e go ]; do sleep 0.05; done\necho done >>a.out\n")
     said, told, status = call(folder, SUBMIT, "-MaxJobs", "2", "--update_submit", "-notif", "never", "x.dag")
     same((re.sub("[0-9]+", "N", said), told, status), (f"{TOLD}N job(s) submitted to cluster N.\n", "", 0))
     same(os.path.exists(f"{folder}/x.dag.lock"), True)
     # While it works there is no second one, by whichever command.
     same(call(folder, SUBMIT, "x.dag"), ("", "condor_submit_dag: a manager works on x.dag\n", 1))
-    wait_for(lambda: os.path.exists(f"{folder}/x.dag.journal"))
+    wait_for(lambda: os.path.exists(f"{folder}/a.works"))
     same(call(folder, SHIPPED, "run", "x.dag"), ("", "dagrun: X2 FileRefused x.dag.lock\n", 125))
     same(os.path.exists(f"{folder}/x.dag.lock"), True)
     write(f"{folder}/go", "")
@@ -373,6 +374,23 @@ def rounds_of_condor_submit_dag(folder):
     same(call(folder, SUBMIT, "-wait", "x.dag")[2], 1)
     same("E1 BadLine x.dag.rescue001:1" in open(f"{folder}/x.dag.dagman.out").read(), True)
     same(os.path.exists(f"{folder}/x.dag.lock"), False)
+
+
+def stopped_by_its_number(folder):
+    needs("flock")
+    write(f"{folder}/x.dag", "JOB A a.sub\n")
+    shell_job(f"{folder}/a", ": >a.works\nwhile [ ! -e go ]; do sleep 0.05; done\n")
+    said, told, status = call(folder, SUBMIT, "x.dag")
+    same((told, status), ("", 0))
+    wait_for(lambda: os.path.exists(f"{folder}/a.works"))
+    os.kill(int(re.search("cluster ([0-9]+)", said)[1]), signal.SIGTERM)
+    wait_for(lambda: not os.path.exists(f"{folder}/x.dag.lock"))
+    same("EXITING WITH STATUS 2" in open(f"{folder}/x.dag.dagman.out").read(), True)
+    same(call(folder, SHIPPED, "audit", "x.dag"), ("audit no F3 Unfinished\n", "", 1))
+    write(f"{folder}/go", "")
+    # The script may hold its file a moment longer than the lock.
+    wait_for(lambda: call(folder, "flock", "-n", "x.dag.condor.sub", "true")[2] == 0)
+    same(call(folder, SUBMIT, "-wait", "x.dag"), (TOLD, "", 0))
 
 
 def behind_a_killed_manager(folder):
@@ -528,6 +546,7 @@ ROWS = [
     debian_package,
     submitted_in_the_background,
     rounds_of_condor_submit_dag,
+    stopped_by_its_number,
     behind_a_killed_manager,
     options_of_condor_submit_dag,
     condor_submit_dag_is_installed_apart,
