@@ -26,8 +26,7 @@ INSTALLED = sorted(
         *(f"share/man/man1/{page}" for page in PAGES),
     ]
 )
-# What examples/sweep calls, and what install.sh may use, besides bash.
-TOOLS_OF_SWEEP = "cat cut sort uniq".split()
+# What install.sh may use besides bash.
 COREUTILS = "dirname readlink install rm rmdir uname".split()
 DIAMOND = "JOB A a.sub\nJOB B b.sub\nJOB C c.sub\nJOB D d.sub\nPARENT A CHILD B C\nPARENT B C CHILD D\n"
 
@@ -50,7 +49,7 @@ def same(found, wanted):
 def call(folder, *words, **settings):
     """What a command prints, what it tells, and its exit status."""
     settings.setdefault("stdin", subprocess.DEVNULL)
-    done = subprocess.run(words, cwd=folder, capture_output=True, text=True, timeout=120, **settings)
+    done = subprocess.run(words, cwd=folder, capture_output=True, text=True, timeout=600, **settings)
     return done.stdout, done.stderr, done.returncode
 
 
@@ -160,19 +159,6 @@ def installed_and_removed(folder):
     same(files_below(f"{folder}/some where"), [])
     said, told, status = call(folder, f"{TOP}/install.sh", "--elsewhere", env=settings)
     same((said, told.startswith("install.sh: usage: "), status), ("", True, 1))
-
-
-def the_sweep_with_bash_and_coreutils(folder):
-    """What a first user does: installed, and then 200 points are run."""
-    bare = f"{folder}/bare"
-    os.mkdir(bare)
-    for name in ["bash", "env", *COREUTILS, *TOOLS_OF_SWEEP]:
-        os.symlink(shutil.which(name), f"{bare}/{name}")
-    settings = dict(with_path(f"{folder}/home/.local/bin", bare), HOME=f"{folder}/home")
-    same(call(folder, f"{TOP}/install.sh", env=settings)[1:], ("", 0))
-    shutil.copytree(f"{TOP}/examples/sweep", f"{folder}/sweep", ignore=shutil.ignore_patterns("*.journal*", "*.rescue*", "points"))
-    expected = open(f"{TOP}/examples/sweep/sweep.expected").read()
-    same(call(f"{folder}/sweep", "dagrun", "run", "sweep.dag", env=settings), (expected, "", 0))
 
 
 def what_the_program_needs(folder):
@@ -311,11 +297,11 @@ TOLD = "File for submitting this DAG: x.dag.condor.sub\nOutput of the manager:  
 
 
 def wait_for(what):
-    for _ in range(1200):
+    for _ in range(6000):
         if what():
             return
         time.sleep(0.05)
-    raise AssertionError("it did not come in a minute")
+    raise AssertionError("it did not come in five minutes")
 
 
 def shell_job(path, script):
@@ -535,7 +521,6 @@ ROWS = [
     dagrun_runs_the_shipped_program,
     build_proves_what_it_finds,
     installed_and_removed,
-    the_sweep_with_bash_and_coreutils,
     what_the_program_needs,
     an_older_system,
     generated_texts,

@@ -80,7 +80,7 @@ def run(case, program, folder):
         for command in re.findall(r"^\$ (.*)$", transcript, re.M):
             found.append("$ " + command)
             done = subprocess.run(
-                ["bash", "-c", command], cwd=folder, env=settings, text=True, timeout=60,
+                ["bash", "-c", command], cwd=folder, env=settings, text=True, timeout=600,
                 stdin=subprocess.DEVNULL, stdout=subprocess.PIPE, stderr=subprocess.STDOUT,
             )
             found.append(done.stdout.rstrip("\n"))
