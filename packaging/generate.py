@@ -10,7 +10,7 @@ import subprocess
 import sys
 
 HERE = os.path.dirname(os.path.abspath(__file__))
-# What an option's value is called in a synopsis; a number otherwise.
+# The values of options that take one of a few.
 VALUES = {"autorescue": ["0", "1"]}
 
 
@@ -20,7 +20,7 @@ class Help:
     def __init__(self, program, command):
         words = [program, *([command] if command else []), "--help"]
         done = subprocess.run(words, capture_output=True, text=True, timeout=60)
-        lines = done.stderr.splitlines()
+        lines = (done.stderr or done.stdout).splitlines()
         self.command = command
         self.about = lines[0]
         self.parts = {"Commands": [], "Arguments": [], "Options": []}
@@ -34,9 +34,14 @@ class Help:
                 part.append(re.split(r"  +", line.strip(), maxsplit=1))
 
     def options(self):
-        """The names of the options that take a value, each with its line."""
-        named = ((re.fullmatch(r"--(\w+) <\w+>", name), text) for name, text in self.parts["Options"])
-        return [(found[1], text) for found, text in named if found]
+        """The options but --help: its name, what its value is called, or None where it takes none, and its line."""
+        found = []
+        for words, text in self.parts["Options"]:
+            _, name, value = re.fullmatch(r"(-\w, )?--([\w-]+)(?: <([^>]+)>)?", words).groups()
+            if name != "help":
+                # clap calls a value as its option where it has no other name; all of these are numbers.
+                found.append((name, value and ("|".join(VALUES[name]) if name in VALUES else "N" if value == name else value), text))
+        return found
 
     def arguments(self):
         return [(name.strip("<>[]"), name.startswith("<"), text) for name, text in self.parts["Arguments"]]
@@ -50,13 +55,14 @@ def page_of(command):
     return f"dagrun-{command}" if command else "dagrun"
 
 
-def value_of(option):
-    return "|".join(VALUES[option]) if option in VALUES else "N"
+def option_of(name, value):
+    """An option with its value, as a page shows it."""
+    return f"\\fB\\-\\-{roff(name)}\\fR" + (f"\\ \\fI{value}\\fR" if value else "")
 
 
 def synopsis(told):
     words = [f"\\fB{roff(' '.join(filter(None, ['dagrun', told.command])))}\\fR"]
-    words += [f"[\\fB\\-\\-{name}\\fR\\~\\fI{value_of(name)}\\fR]" for name, _ in told.options()]
+    words += [f"[{option_of(name, value)}]" for name, value, _ in told.options()]
     words += [f"\\fI{name}\\fR" if needed else f"[\\fI{name}\\fR]" for name, needed, _ in told.arguments()]
     if not told.command:
         words.append("\\fICOMMAND\\fR ..")
@@ -69,7 +75,7 @@ def items(pairs):
 
 def options(told):
     pairs = [(f"\\fI{name}\\fR", text) for name, _, text in told.arguments()]
-    pairs += [(f"\\fB\\-\\-{name}\\fR \\fI{value_of(name)}\\fR", text) for name, text in told.options()]
+    pairs += [(option_of(name, value), text) for name, value, text in told.options()]
     pairs.append(("\\fB\\-h\\fR, \\fB\\-\\-help\\fR", "Print help, on standard error; the exit status is 125"))
     return items(pairs)
 
@@ -101,10 +107,10 @@ def page(told, names):
 
 def bash(top, helps):
     cases = "".join(
-        f"        {told.command}) options='{' '.join(['--' + name for name, _ in told.options()] + ['--help'])}' ;;\n" for told in helps
+        f"        {told.command}) options='{' '.join(['--' + name for name, _, _ in told.options()] + ['--help'])}' ;;\n" for told in helps
     )
     values = "".join(f"        --{name}) values='{' '.join(words)}' ;;\n" for name, words in sorted(VALUES.items()))
-    numbers = sorted({name for told in helps for name, _ in told.options() if name not in VALUES})
+    others = sorted({name for told in helps for name, value, _ in told.options() if value and name not in VALUES})
     return f"""# bash completion for dagrun; made by packaging/generate.py.
 _dagrun() {{
     local word=${{COMP_WORDS[COMP_CWORD]}} before=${{COMP_WORDS[COMP_CWORD - 1]}} command='' options='' values='' dag='' place
@@ -118,7 +124,7 @@ _dagrun() {{
         esac
     done
     case $before in
-{values}        {'|'.join('--' + name for name in numbers)}) return ;;
+{values}        {'|'.join('--' + name for name in others)}) return ;;
     esac
     if [ -n "$values" ]; then
         COMPREPLY=($(compgen -W "$values" -- "$word"))
@@ -141,21 +147,27 @@ complete -F _dagrun dagrun
 """
 
 
-def quoted(text):
-    """As a word in single quotes, of zsh and of fish; in descriptions of zsh's _arguments brackets and colons are escaped."""
-    return text.replace("\\", "\\\\").replace("'", "'\\''")
+def escaped(text):
+    """As a description within single quotes of zsh, where brackets and colons have a meaning."""
+    for character in "\\[]:":
+        text = text.replace(character, "\\" + character)
+    return text.replace("'", "'\\''")
+
+
+def quoted_in_fish(text):
+    return text.replace("\\", "\\\\").replace("'", "\\'")
 
 
 def zsh(top, helps):
     about = dict(top.parts["Commands"])
-    escaped = lambda text: quoted(text).replace("[", "\\[").replace("]", "\\]").replace(":", "\\:")
     listed = "".join(f"        '{told.command}:{escaped(about[told.command])}'\n" for told in helps)
     cases = ""
     for told in helps:
         lines = ["'(-h --help)'{-h,--help}'[Print help]'"]
-        for name, text in told.options():
+        for name, value, text in told.options():
             values = f"({' '.join(VALUES[name])})" if name in VALUES else ""
-            lines.append(f"'--{name}=[{escaped(text)}]:{value_of(name).replace('|', ' or ')}:{values}'")
+            taken = f":{value.replace('|', ' or ')}:{values}" if value else ""
+            lines.append(f"'--{name}{'=' if value else ''}[{escaped(text)}]{taken}'")
         for place, (name, needed, _) in enumerate(told.arguments(), 1):
             colons = ":" if needed else "::"
             files = '_files -g "*.dag"' if name == "DAG" else "_files"
@@ -184,13 +196,13 @@ _dagrun "$@"
 def fish(top, helps):
     lines = ["# fish completion for dagrun; made by packaging/generate.py."]
     for name, text in top.parts["Commands"]:
-        lines.append(f"complete -c dagrun -n __fish_use_subcommand -f -a {name} -d '{text}'")
+        lines.append(f"complete -c dagrun -n __fish_use_subcommand -f -a {name} -d '{quoted_in_fish(text)}'")
     lines.append("complete -c dagrun -s h -l help -f -d 'Print help'")
     for told in helps:
         here = f"complete -c dagrun -n '__fish_seen_subcommand_from {told.command}'"
-        for name, text in told.options():
+        for name, value, text in told.options():
             values = f" -a '{' '.join(VALUES[name])}'" if name in VALUES else ""
-            lines.append(f"{here} -l {name} -x{values} -d '{text}'")
+            lines.append(f"{here} -l {name}{' -x' if value else ''}{values} -d '{quoted_in_fish(text)}'")
     return "\n".join(lines) + "\n"
 
 
