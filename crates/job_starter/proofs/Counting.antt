@@ -1,5 +1,5 @@
 -- Why a starter refuses a call, as its counts of refusals go on.
-use Rattle.std.proofs.Common.{arith, inl, inr, ◌≡◌, ◌≤◌, ℕ, List, [], subst, sym}
+use Rattle.std.proofs.Common.{arith, inl, inr, ◌≡◌, ◌≤◌, ℕ, List, [], subst}
 use Rattle.event_journal.specs.Disk.{IsOneMore}
 use Rattle.job_starter.specs.declared.Call.{Call}
 use Rattle.job_starter.specs.declared.StartFault.{StartFault}

@@ -27,7 +27,7 @@ use Rattle.event_journal.proofs.Moments as moments
 use Rattle.run_manager.specs.Managed.{Reads}
 use Rattle.job_starter.proofs.Handing.{driven, drives-adds, halted-adds}
 use Rattle.run_leader.specs.Led.{GoOnFrom, IsLed, DrivesToEnd}
-use Rattle.run_leader.specs.Moments.{IsMomentOfEnd, IsMomentOfLead, IsLastOfLead}
+use Rattle.run_leader.specs.Moments.{IsMomentOfLead, IsLastOfLead}
 
 aborted-after : (plan : Plan) (past : List Record) (status : ℕ) → is_aborted plan (Finish status ∷ past) ≡ is_aborted plan past
 unfolding is_aborted

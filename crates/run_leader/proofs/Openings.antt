@@ -1,5 +1,5 @@
 -- A round that was opened and led to its end.
-use Rattle.std.proofs.Common.{◌≡◌, ◌⊎◌, ℕ, false, List, [], ◌∷◌, length, Option, Some, None, Result, Ok, Err, IfErr, inl, inr, refl, sym, ap, ◌∙◌, subst}
+use Rattle.std.proofs.Common.{◌≡◌, ◌⊎◌, ℕ, false, List, [], ◌∷◌, length, Option, None, inl, inr, sym, ap, ◌∙◌, subst}
 use Rattle.throttles.specs.declared.Limits.{Limits}
 use Rattle.node_machine.specs.declared.Key.{Key}
 use Rattle.node_machine.specs.declared.Outcome.{Outcome}
@@ -11,15 +11,12 @@ use Rattle.event_journal.specs.Disk.{LeavesOnly}
 use Rattle.event_journal.specs.Image.{Header, Found}
 use Rattle.event_journal.specs.Journal.{is_broken, journal_count}
 use Rattle.event_journal.proofs.Moments as moments
-use Rattle.run_manager.specs.declared.fault.ManagerFault.{ManagerFault}
-use Rattle.run_manager.specs.declared.fault.ManagerFault.TheVariants as faults
-use Rattle.run_manager.specs.Faults.{IsToldByDisk}
 use Rattle.run_manager.specs.Managed.{Managed, plan_of, past_of, disk_of, Agree, IsAcknowledged}
 use Rattle.run_manager.specs.Chain.{ReadsForInputs}
 use Rattle.run_manager.specs.Seal.{IsRescued}
 use Rattle.run_manager.proofs.Chains.{same_found}
 use Rattle.run_manager.proofs.Sealing.{counted}
-use Rattle.recovery.specs.Recovery.{IsNewLife, IsUntouched, IsBeginFault, begin_failed, begin_had_no_room, begin_had_no_slot, begin_had_no_memory, begun_before}
+use Rattle.recovery.specs.Recovery.{IsNewLife}
 use Rattle.job_starter.specs.declared.Call.{Call}
 use Rattle.job_starter.specs.declared.driving.DriveFault.{DriveFault}
 use Rattle.job_starter.specs.Drives.{limits_of}

@@ -1,5 +1,5 @@
 -- Why a run isn't led to its end.
-use Rattle.std.proofs.Common.{◌≡◌, ℕ, true, false, ◌&&◌, inl, inr, List, [], ◌∷◌, length, sym, ap, ◌∙◌, subst}
+use Rattle.std.proofs.Common.{◌≡◌, ℕ, true, false, inl, inr, List, [], ◌∷◌, length, sym, ◌∙◌, subst}
 use Rattle.std.specs.Prelude.{IsTrue, IfErr, Result, Ok, Err}
 use Rattle.std.proofs.lemmas.Bool.{and_parts, and_from, false≢true, not-true}
 use Rattle.run_plan.specs.Plan.{Plan}

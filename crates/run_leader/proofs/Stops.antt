@@ -1,5 +1,5 @@
 -- By which faults a round is stopped.
-use Rattle.std.proofs.Common.{◌≡◌, ◌∙◌, ℕ, true, false, List, Option, Result, Ok, Err, IfErr, sym}
+use Rattle.std.proofs.Common.{◌≡◌, ◌∙◌, ℕ, true, false, List, Option, sym}
 use Rattle.std.proofs.lemmas.Bool.{false≢true}
 use Rattle.node_machine.specs.declared.Key.{Key}
 use Rattle.node_machine.specs.declared.Outcome.{Outcome}
@@ -11,7 +11,7 @@ use Rattle.event_journal.specs.declared.journal.Journal.{Journal}
 use Rattle.event_journal.specs.Journal.{is_broken}
 use Rattle.run_manager.specs.declared.fault.ManagerFault.{ManagerFault}
 use Rattle.run_manager.specs.Managed.{Managed, plan_of, past_of, IsRefusal, run_over, may_not_follow, no_memory, journal_broken, no_slot, disk_failed, disk_full}
-use Rattle.recovery.specs.Recovery.{IsBeginFault, begin_failed, begin_had_no_room, begin_had_no_slot, begin_had_no_memory, begun_before, IsRecoveryFault, recovery_failed, no_journal, foreign_record, run_finished, recovery_had_no_memory, no_slot_for_life, no_room_for_life}
+use Rattle.recovery.specs.Recovery.{IsBeginFault, begin_failed, begin_had_no_room, begin_had_no_slot, begin_had_no_memory, begun_before, recovery_failed, no_journal, foreign_record, run_finished, recovery_had_no_memory, no_slot_for_life, no_room_for_life}
 use Rattle.job_starter.specs.declared.Call.{Call}
 use Rattle.job_starter.specs.declared.driving.DriveFault.{DriveFault}
 use Rattle.job_starter.specs.Causes.{IsRecordRefused, IsOfRun, IsDriveFault, no_memory_for_child, no_ending_told, no_memory_for_command, record_refused}

@@ -1,5 +1,5 @@
-use Rattle.std.proofs.Common.{◌≡◌, Bool, true, false, Some, arith, ◌&&◌, not, inl, inr, refl, sym, ap, ◌∙◌, subst}
-use Rattle.std.proofs.lemmas.Bool.{and_parts, not-true, false≢true}
+use Rattle.std.proofs.Common.{◌≡◌, true, Some, arith, ◌&&◌, not, inl, inr, refl, sym, ap, ◌∙◌, subst}
+use Rattle.std.proofs.lemmas.Bool.{and_parts, not-true}
 use Rattle.run_plan.specs.Plan.{Plan}
 use Rattle.sched_core.specs.Run.{is_aborted}
 use Rattle.run_manager.specs.Managed.{plan_of, past_of}

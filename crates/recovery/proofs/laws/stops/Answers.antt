@@ -1,15 +1,13 @@
-use Rattle.std.proofs.Common.{◌≡◌, ◌∙◌, ℕ, true, List, [], ◌∷◌, ◌++◌, Ok, None, inl, inr, refl, sym, ap, subst, arith}
+use Rattle.std.proofs.Common.{◌≡◌, ◌∙◌, ℕ, true, List, [], ◌∷◌, inl, inr, refl, sym, ap, arith}
 use Rattle.std.proofs.lemmas.List.{append-nil}
 use Rattle.run_plan.specs.Plan.{Plan}
 use Rattle.node_machine.specs.declared.Record.{Record}
 use Rattle.node_machine.specs.declared.Record.TheVariants.{Life}
 use Rattle.sched_core.specs.Run.{is_lawful}
-use Rattle.event_journal.specs.Image.{Header, header_of, replay_of}
+use Rattle.event_journal.specs.Image.{header_of}
 use Rattle.event_journal.specs.Journal.{with_record}
-use Rattle.run_manager.specs.Managed.{Reads}
 use Rattle.run_manager.specs.Lives.{LifeRecords, GoesOn}
 use Rattle.run_manager.specs.Chain.{IsLifeOf, Leaves, ReadsForInputs, commands_in, life_of, life_records}
-use Rattle.recovery.specs.Recovery.{MayGoOn}
 use Rattle.std.proofs.lemmas.Bool.{and_parts}
 use Rattle.recovery.proofs.Lives.{with_life, life_lawful}
 use Rattle.recovery.proofs.laws.stops.Goals as goal

@@ -1,4 +1,4 @@
-use Rattle.std.proofs.Common.{refl, sym, ap, ◌∙◌, Some, None, string_bytes}
+use Rattle.std.proofs.Common.{refl, sym, ap, Some, None, string_bytes}
 use Rattle.run_manager.specs.Managed.{past_of}
 use Rattle.job_starter.specs.Calls.{running}
 use Rattle.run_leader.specs.Causes.{not_opened, not_led}
