@@ -1,20 +1,12 @@
 -- Places in a queue.
-use Rattle.std.proofs.Common.{◌≡◌, ◌≢◌, ℕ, suc, ◌+◌, ◌-◌, ◌/◌, ◌<◌, ◌≤◌, ◌⊎◌, ◌↔◌, inl, inr, Bool, true, false, ◌==◌, List, length, get_or, refl, sym, ap, ◌∙◌, subst, arith, eqb-true, IsTrue, Option, Some, None}
-use Rattle.std.specs.Prelude.{ℤ, ◌<ℤ◌, ◌≤ℤ◌, nat_lt}
-use Rattle.std.specs.List.{Contains, insert, remove}
-use Rattle.std.proofs.lemmas.Bool.{eqb-false, ltb-true, ltb-false}
+use Rattle.std.proofs.Common.{◌≡◌, ◌≢◌, ℕ, ◌+◌, ◌<◌, ◌≤◌, inl, inr, Bool, true, false, List, length, get_or, sym, ◌∙◌, subst, arith, Some}
+use Rattle.std.specs.Prelude.{ℤ, ◌≤ℤ◌}
+use Rattle.std.specs.List.{Contains, insert}
 use Rattle.std.proofs.lemmas.Int.{ints, by_lt_z}
 use Rattle.std.proofs.lemmas.List.{get_or_default}
-use Rattle.std.proofs.lemmas.List.Edits.{length-insert, length-remove, get_or-insert_at, get_or-insert_below, get_or-insert_above, get_or-remove_below, get_or-remove_above}
 use Rattle.ready_queue.specs.declared.Member.{Member}
 use Rattle.ready_queue.specs.Queue.{ComesBefore, IsOrdered, IsPlaceOf, IsBest}
-
-by_lt : {P : Type 0} (a b : ℕ) → (a < b → P) → (b ≤ a → P) → P
-by_lt {P} a b less more = go (nat_lt a b) refl
-  where
-    go : (t : Bool) → nat_lt a b ≡ t → P
-    go true e = less (ltb-true a b e)
-    go false e = more (ltb-false a b e)
+use Rattle.ready_queue.proofs.Edits.{by_lt, pairs-insert}
 
 pub trans : (a b c : Member) → ComesBefore a b → ComesBefore b c → ComesBefore a c
 trans a b c (inl x) (inl y) = inl (omega (arith, ints))
@@ -71,68 +63,12 @@ at-place members member place ordered p k lt e =
     (λ less. absurd (p.behind place member (omega arith) (omega arith) (subst (ComesBefore (get_or members place member)) e (ordered place k member less lt))))
     (λ ge. let i : k ≡ place = omega arith in (omega arith, subst (λ n. get_or members n member ≡ member) i e)))
 
--- the list stays in order
+-- a member that is new goes to its place
 pub insert-ordered : (members : List Member) (member : Member) (place : ℕ) (more : List Member) → IsOrdered members → IsPlaceOf members member place
     → (Contains members member → ⊥) → more ≡ insert members place member → IsOrdered more
 insert-ordered members member place more ordered p absent e =
-    subst IsOrdered (sym e) (λ i j d lt len. go i j d lt (subst (λ n. j < n) (length-insert members place member p.within) len))
-  where
-    after : (k : ℕ) (d : Member) → place ≤ k → k < length members → ComesBefore member (get_or members k d)
-    after k d le lt = either (get_or members k d) member (p.behind k d le lt)
-        (λ same_is. absent (k, lt, get_or_default members k member d lt ∙ same_is))
-
-    below : (k : ℕ) (d : Member) → k < place → get_or (insert members place member) k d ≡ get_or members k d
-    below k d lt = get_or-insert_below members place member d k lt p.within
-
-    there : (d : Member) → get_or (insert members place member) place d ≡ member
-    there d = get_or-insert_at members place member d p.within
-
-    above : (k m : ℕ) (d : Member) → k ≡ m + 1 → place ≤ m → get_or (insert members place member) k d ≡ get_or members m d
-    above k m d s le = ap (λ i. get_or (insert members place member) i d) s ∙ get_or-insert_above members place member d m le p.within
-
-    pair : (i j : ℕ) (d x y : Member) → get_or (insert members place member) i d ≡ x → get_or (insert members place member) j d ≡ y → ComesBefore x y
-        → ComesBefore (get_or (insert members place member) i d) (get_or (insert members place member) j d)
-    pair i j d x y ex ey b = subst (λ m. ComesBefore m (get_or (insert members place member) j d)) (sym ex) (subst (ComesBefore x) (sym ey) b)
-
-    at-j : (i j : ℕ) (d : Member) → i < j → j < length members + 1 → i < place → ComesBefore (get_or (insert members place member) i d) (get_or (insert members place member) j d)
-    at-j i j d lt len less =
-        by_lt j place
-        (λ jl. pair i j d _ _ (below i d less) (below j d jl) (ordered i j d lt (let w = p.within in omega arith)))
-        (λ jg. by_lt place j
-        (λ jm. pair i j d _ _ (below i d less) (above j (j - 1) d (omega arith) (omega arith)) (ordered i (j - 1) d (omega arith) (omega arith)))
-        (λ je. let s : place ≡ j = omega arith in pair i j d _ _ (below i d less) (ap (λ q. get_or (insert members place member) q d) (sym s) ∙ there d) (p.before i d less)))
-
-    go : (i j : ℕ) (d : Member) → i < j → j < length members + 1 → ComesBefore (get_or (insert members place member) i d) (get_or (insert members place member) j d)
-    go i j d lt len =
-        by_lt i place (λ less. at-j i j d lt len less)
-        (λ ge. by_lt place i
-        (λ more. pair i j d _ _ (above i (i - 1) d (omega arith) (omega arith)) (above j (j - 1) d (omega arith) (omega arith)) (ordered (i - 1) (j - 1) d (omega arith) (omega arith)))
-        (λ le.
-        let s : place ≡ i = omega arith in
-        pair i j d _ _ (ap (λ q. get_or (insert members place member) q d) (sym s) ∙ there d) (above j (j - 1) d (omega arith) (omega arith)) (after (j - 1) d (omega arith) (omega arith))))
-
-pub remove-ordered : (members : List Member) (place : ℕ) (less : List Member) → IsOrdered members → place < length members
-    → less ≡ remove members place → IsOrdered less
-remove-ordered members place less ordered inside e =
-    subst IsOrdered (sym e) (λ i j d lt len. go i j d lt (let l = length-remove members place inside in omega arith))
-  where
-    below : (k : ℕ) (d : Member) → k < place → get_or (remove members place) k d ≡ get_or members k d
-    below k d lt = get_or-remove_below members place d k lt inside
-
-    above : (k : ℕ) (d : Member) → place ≤ k → get_or (remove members place) k d ≡ get_or members (k + 1) d
-    above k d le = get_or-remove_above members place d k le inside
-
-    pair : (i j : ℕ) (d x y : Member) → get_or (remove members place) i d ≡ x → get_or (remove members place) j d ≡ y → ComesBefore x y
-        → ComesBefore (get_or (remove members place) i d) (get_or (remove members place) j d)
-    pair i j d x y ex ey b = subst (λ m. ComesBefore m (get_or (remove members place) j d)) (sym ex) (subst (ComesBefore x) (sym ey) b)
-
-    go : (i j : ℕ) (d : Member) → i < j → j + 1 < length members → ComesBefore (get_or (remove members place) i d) (get_or (remove members place) j d)
-    go i j d lt len =
-        by_lt i place
-        (λ il. by_lt j place
-        (λ jl. pair i j d _ _ (below i d il) (below j d jl) (ordered i j d lt (omega arith)))
-        (λ jg. pair i j d _ _ (below i d il) (above j d jg) (ordered i (j + 1) d (omega arith) len)))
-        (λ ig. pair i j d _ _ (above i d ig) (above j d (omega arith)) (ordered (i + 1) (j + 1) d (omega arith) len))
+    subst IsOrdered (sym e) (pairs-insert ComesBefore members place member p.within ordered p.before
+    (λ k d le lt. either (get_or members k d) member (p.behind k d le lt) (λ same_is. absent (k, lt, get_or_default members k member d lt ∙ same_is))))
 
 -- the first that is allowed is the best
 pub first-best : (answers : ℕ → Bool → Type 0) (members : List Member) (place : ℕ) (z : Member) → IsOrdered members → place < length members

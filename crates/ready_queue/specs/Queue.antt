@@ -1,6 +1,6 @@
 -- A queue of the nodes that may start, best first.
-use Rattle.std.specs.Prelude.{◌≡◌, ℕ, ◌<◌, ◌≤◌, ℤ, ◌<ℤ◌, ◌⊎◌, Bool, true, false, List, length, slice_index_or, Option, Some, None}
-use Rattle.std.specs.List.{Contains}
+use Rattle.std.specs.Prelude.{◌≡◌, ◌≢◌, ℕ, ◌<◌, ◌≤◌, ◌<ℤ◌, ◌⊎◌, Bool, true, false, List, length, map, slice_index_or, Option, Some, None}
+use Rattle.std.specs.List.{AllPairs, Contains}
 use Rattle.ready_queue.specs.declared.Member.{Member}
 
 -- the members, best first, and how many more need no memory
@@ -14,8 +14,28 @@ ComesBefore member other = (other.priority <ℤ member.priority) ⊎ ((member.pr
 
 -- each member stands before the later ones
 abbrev pub IsOrdered : List Member → Type 0
-IsOrdered members = (i j : ℕ) (d : Member) → i < j → j < length members
-    → ComesBefore (slice_index_or members i d) (slice_index_or members j d)
+IsOrdered members = AllPairs ComesBefore members
+
+-- no two members are of one node
+abbrev pub AreApart : List Member → Type 0
+AreApart members = AllPairs (λ (member other : Member). member.node ≢ other.node) members
+
+-- the nodes of these members
+abbrev pub nodes_of : List Member → List ℕ
+nodes_of members = map (λ (member : Member). member.node) members
+
+-- each of these numbers is less than the later ones
+abbrev pub AreRising : List ℕ → Type 0
+AreRising nodes = AllPairs (λ node other. node < other) nodes
+
+-- members in order, each node once, and beside them their nodes in plan order
+pub record IsIndexed (members : List Member) (nodes : List ℕ) : Type 0 where
+  pub ordered : IsOrdered members
+  pub apart : AreApart members
+  pub rising : AreRising nodes
+  pub many : length nodes ≡ length members
+  pub has : (node : ℕ) → Contains (nodes_of members) node → Contains nodes node
+  pub only : (node : ℕ) → Contains nodes node → Contains (nodes_of members) node
 
 -- where a test has such answers: of the members at whose node it answers true, the one that stands before the others; none
 -- where it answers false at each

@@ -2,12 +2,15 @@
 //! come first in plan order.
 #![tactic(auto)]
 
-ghost use Rattle.std.specs.Prelude.{◌≡◌, ◌<◌, ◌≤◌, ◌+◌, ℕ, [], ◌↔◌, length, slice_index_or, IsTrue, IsOk, IfOk, IfErr, OnOk, OnErr, vec_len, vec_capacity};
+ghost use Rattle.std.specs.Prelude.{◌≡◌, ◌<◌, ◌≤◌, ◌+◌, ℕ, [], ◌↔◌, length, slice_index_or, IsTrue, IsOk, IfErr, OnOk, OnErr};
 ghost use Rattle.std.specs.List.{Contains, insert, remove};
 ghost use Rattle.ready_queue.specs.declared.Member.{Member};
 ghost use Rattle.ready_queue.specs.declared.QueueFault.TheVariants.{Present, Absent, Memory};
-ghost use Rattle.ready_queue.specs.Queue.{ComesBefore, IsOrdered, IsBest, IsPlaceOf};
+ghost use Rattle.ready_queue.specs.Queue.{nodes_of, ComesBefore, IsOrdered, AreApart, IsBest, IsPlaceOf};
 
+mod nodes;
+
+use nodes::{add_node, has_node, insert_in_room, remove_at, remove_node};
 use std::alloc::{AllocError, AllocFailed, Global};
 use std::marker::Model;
 use thiserror::Error;
@@ -22,7 +25,7 @@ pub struct Member {
 /// Why a call of a queue is refused.
 #[derive(Clone, Copy, Debug, PartialEq, Eq, Error)]
 pub enum QueueFault {
-    /// What is added is a member already.
+    /// The node that is added is there already, at whatever priority.
     #[error("Q1 Present")]
     Present,
     /// What is removed is no member.
@@ -49,21 +52,26 @@ impl<T: Drop> From<AllocFailed<T>> for QueueFault {
     }
 }
 
-/// Nodes with their priorities, best first. A place is found by halving.
+/// Nodes with their priorities, best first, each node once. A place is found by halving.
 #[derive(Drop)]
 pub struct ReadyQueue {
     members: Vec<Member>,
+    /// the nodes of the members, in plan order
+    nodes: Vec<u32>,
 }
 
 impl Model for ReadyQueue {
-    ghost use Rattle.std.specs.Prelude.{◌-◌, vec_len, vec_capacity};
-    ghost use Rattle.ready_queue.specs.Queue.{Queue, IsOrdered};
+    ghost use Rattle.std.specs.Prelude.{◌-◌, min, vec_len, vec_capacity};
+    ghost use Rattle.ready_queue.specs.Queue.{Queue, IsIndexed};
 
     ghost Value = { Queue };
 
-    ghost view = { λ a. record { members = a.members.items; room = vec_capacity a.members - vec_len a.members } };
+    ghost view = { λ a. record {
+      members = a.members.items;
+      room = min (vec_capacity a.members - vec_len a.members) (vec_capacity a.nodes - vec_len a.nodes);
+    } };
 
-    ghost invariant = { λ a. IsOrdered a.members.items };
+    ghost invariant = { λ a. IsIndexed a.members.items a.nodes.items };
 }
 
 /// Whether one member stands before another.
@@ -118,6 +126,7 @@ impl ReadyQueue {
     {
         ReadyQueue {
             members: Vec::new(alloc),
+            nodes: Vec::new(alloc),
         }
     }
 
@@ -129,6 +138,7 @@ impl ReadyQueue {
         ensures err { IfErr result (λ fault. fault ≡ Memory) }
     {
         self.members.reserve(count)?;
+        self.nodes.reserve(count)?;
         Ok(())
     }
 
@@ -136,7 +146,9 @@ impl ReadyQueue {
     pub fn members(&self) -> &[Member]
         ensures is { result.now ≡ self.now.members }
         ensures ordered { IsOrdered self.now.members }
+        ensures apart { AreApart self.now.members }
     {
+        let _nodes = &self.nodes;
         &self.members
     }
 
@@ -148,21 +160,22 @@ impl ReadyQueue {
         is_there(&self.members, member, place)
     }
 
-    /// Adds a member, at its place. It takes no memory.
+    /// Adds a node that is not there, at its place. It takes no memory.
     pub fn add(&mut self, member: Member) -> Result<(), QueueFault>
         requires { 0 < self.old.room }
-        ensures refused { IsOk result ↔ (Contains self.old.members member → ⊥) }
+        ensures refused { IsOk result ↔ (Contains (nodes_of self.old.members) member.node → ⊥) }
         ensures added { OnOk result ((place : ℕ) × (place ≤ length self.old.members)
             × (self.new.members ≡ insert self.old.members place member)) }
         ensures room { self.old.room ≤ self.new.room + 1 }
         ensures unchanged { OnErr result (self.new ≡ self.old) }
         ensures err { IfErr result (λ fault. fault ≡ Present) }
     {
-        let place = place_of(&self.members, member);
-        if is_there(&self.members, member, place) {
+        if has_node(&self.nodes, member.node) {
             return Err(QueueFault::Present);
         }
+        let place = place_of(&self.members, member);
         insert_in_room(&mut self.members, place, member);
+        add_node(&mut self.nodes, member.node);
         Ok(())
     }
 
@@ -182,6 +195,7 @@ impl ReadyQueue {
             return Err(QueueFault::Absent);
         }
         remove_at(&mut self.members, place);
+        remove_node(&mut self.nodes, member.node);
         Ok(())
     }
 
@@ -191,6 +205,7 @@ impl ReadyQueue {
         ensures room { self.old.room + length self.old.members ≤ self.new.room }
     {
         self.members.clear();
+        self.nodes.clear();
     }
 
     /// The best of the members whose nodes are allowed, or none where none is.
@@ -214,23 +229,4 @@ fn best_in<F: Fn(u32) -> bool>(members: &[Member], allowed: F) -> Option<Member>
         }
     }
     None
-}
-
-fn insert_in_room(members: &mut Vec<Member>, place: usize, member: Member)
-    requires place { place ≤ vec_len members.old }
-    requires room { vec_len members.old < vec_capacity members.old }
-    ensures items { members.new.items ≡ insert members.old.items place member }
-    ensures len { vec_len members.new ≡ vec_len members.old + 1 }
-    ensures capacity { vec_capacity members.old ≤ vec_capacity members.new }
-{
-    let _ = members.insert(place, member);
-}
-
-fn remove_at(members: &mut Vec<Member>, place: usize)
-    requires { place < vec_len members.old }
-    ensures items { members.new.items ≡ remove members.old.items place }
-    ensures len { vec_len members.new + 1 ≡ vec_len members.old }
-    ensures capacity { vec_capacity members.old ≤ vec_capacity members.new }
-{
-    let _ = members.remove(place);
 }
