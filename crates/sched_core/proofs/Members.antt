@@ -8,65 +8,13 @@ use Rattle.std.proofs.lemmas.List.{get_or_default, length-map}
 use Rattle.std.proofs.lemmas.List.Edits.{length-insert, length-remove, get_or-insert_at, get_or-insert_below, get_or-insert_above, get_or-remove_below, get_or-remove_above}
 use Rattle.std.proofs.lemmas.Map.Steps.{length-le_from_distinct_below}
 use Rattle.ready_queue.specs.declared.Member.{Member}
-use Rattle.ready_queue.specs.Queue.{Queue, ComesBefore, IsOrdered}
+use Rattle.ready_queue.specs.Queue.{Queue, ComesBefore, IsOrdered, nodes_of}
 use Rattle.ready_queue.proofs.Places.{not-itself}
+use Rattle.ready_queue.proofs.Indexed.{member-of}
+use Rattle.ready_queue.proofs.Edits.{kept-insert, new-insert, insert-cases, kept-remove, from-remove, pairs-removed}
 use Rattle.run_plan.specs.Plan.{Plan, count_of}
 use Rattle.sched_core.specs.Limits.{member_of}
 use Rattle.sched_core.specs.Queued.{AreMembers, IsSet}
-
-pub by_lt : {P : Type 0} (a b : ℕ) → (a < b → P) → (b ≤ a → P) → P
-by_lt {P} a b less more = go (nat_lt a b) refl
-  where
-    go : (t : Bool) → nat_lt a b ≡ t → P
-    go true e = less (ltb-true a b e)
-    go false e = more (ltb-false a b e)
-
--- a member more
-pub kept-insert : (members : List Member) (place : ℕ) (new : Member) → place ≤ length members → (member : Member) → Contains members member → Contains (insert members place new) member
-kept-insert members place new within member has =
-    let long = length-insert members place new within in
-    by_lt has.0 place
-    (λ lt. (has.0, (let l = has.1 in omega (arith, l, long)), get_or-insert_below members place new member has.0 lt within ∙ has.2))
-    (λ ge. (has.0 + 1, (let l = has.1 in omega (arith, l, long)), get_or-insert_above members place new member has.0 ge within ∙ has.2))
-
-pub insert-cases : (members : List Member) (place : ℕ) (new : Member) → place ≤ length members → (member : Member) → Contains (insert members place new) member → (new ≡ member) ⊎ Contains members member
-insert-cases members place new within member has =
-    let long = length-insert members place new within in
-    by_lt has.0 place
-    (λ lt. inr (has.0, omega (arith, lt, within), sym (get_or-insert_below members place new member has.0 lt within) ∙ has.2))
-    (λ ge. by_lt place has.0
-    (λ gt. inr (
-      has.0 - 1,
-      (let l = has.1 in omega (arith, l, long, gt)),
-      (let k : has.0 ≡ (has.0 - 1) + 1 = omega (arith, gt) in
-          sym (ap (λ i. get_or (insert members place new) i member) k ∙ get_or-insert_above members place new member (has.0 - 1) (omega (arith, gt)) within) ∙ has.2),
-    ))
-    (λ le. let k : place ≡ has.0 = omega (arith, ge, le) in
-    inl (sym (get_or-insert_at members place new member within) ∙ ap (λ i. get_or (insert members place new) i member) k ∙ has.2)))
-
--- a member less
-pub kept-remove : (members : List Member) (place : ℕ) (old : Member) → place < length members → get_or members place old ≡ old
-    → (member : Member) → Contains members member → (old ≡ member → ⊥) → Contains (remove members place) member
-kept-remove members place old inside is member has differs =
-    let long = length-remove members place inside in
-    by_lt has.0 place
-    (λ lt. (has.0, omega (arith, lt, long, inside), get_or-remove_below members place member has.0 lt inside ∙ has.2))
-    (λ ge. by_lt place has.0
-    (λ gt. (
-      has.0 - 1,
-      (let l = has.1 in omega (arith, l, long, gt)),
-      (let k : (has.0 - 1) + 1 ≡ has.0 = omega (arith, gt) in
-          get_or-remove_above members place member (has.0 - 1) (omega (arith, gt)) inside ∙ ap (λ i. get_or members i member) k ∙ has.2),
-    ))
-    (λ le. let k : place ≡ has.0 = omega (arith, ge, le) in
-    absurd (differs (sym is ∙ get_or_default members place old member inside ∙ ap (λ i. get_or members i member) k ∙ has.2))))
-
-pub from-remove : (members : List Member) (place : ℕ) → place < length members → (member : Member) → Contains (remove members place) member → Contains members member
-from-remove members place inside member has =
-    let long = length-remove members place inside in
-    by_lt has.0 place
-    (λ lt. (has.0, omega (arith, lt, inside), sym (get_or-remove_below members place member has.0 lt inside) ∙ has.2))
-    (λ ge. (has.0 + 1, (let l = has.1 in omega (arith, l, long)), sym (get_or-remove_above members place member has.0 ge inside) ∙ has.2))
 
 -- Members in order, each of a node of its own below a number, are no more than that.
 tail-has : (x : Member) (xs : List Member) (member : Member) → Contains xs member → Contains (x ∷ xs) member
@@ -130,40 +78,33 @@ are-less plan old new place are inside is room = record {
   room = room (suc (count_of plan)) are.room;
 }
 
--- a member that was taken out stands nowhere else
-gone-remove : (members : List Member) (place : ℕ) (old : Member) → IsOrdered members → place < length members → get_or members place old ≡ old
-    → Contains (remove members place) old → ⊥
-gone-remove members place old ordered inside is has =
-    let long = length-remove members place inside in
-    by_lt has.0 place
-    (λ lt. not-itself old (subst (ComesBefore old) is
-    (subst (λ m. ComesBefore m (get_or members place old)) (sym (get_or-remove_below members place old has.0 lt inside) ∙ has.2) (ordered has.0 place old lt inside))))
-    (λ ge. not-itself old (subst (λ m. ComesBefore m old) is
-    (subst (ComesBefore (get_or members place old)) (sym (get_or-remove_above members place old has.0 ge inside) ∙ has.2)
-    (ordered place (has.0 + 1) old (omega (arith, ge)) (let l = has.1 in omega (arith, l, long, inside))))))
-
 -- a queue whose members stay
 pub same-set : (plan : Plan) (node : ℕ) (now : Bool) (members : List Member) → (now ≡ true → Contains members (member_of plan node))
     → (now ≡ false → Contains members (member_of plan node) → ⊥) → IsSet plan node now members members
 same-set plan node now members there absent = record { kept = λ m has differs. has; others = λ m has differs. has; there = there; absent = absent }
 
+-- where a node is there, its member is
+of-node : (plan : Plan) (queue : Queue) (node : ℕ) → AreMembers plan queue → Contains (nodes_of queue.members) node → Contains queue.members (member_of plan node)
+of-node plan queue node are has =
+    let found = member-of queue.members node has in
+    subst (Contains queue.members) ((are.each found.0 found.1).1 ∙ ap (member_of plan) found.2) found.1
+
 -- what adding a node's member makes of a queue
 pub added-queue : (plan : Plan) (old new : Queue) (node : ℕ) (member : Member) (r : Result Unit QueueFault) → member ≡ member_of plan node → node < count_of plan → AreMembers plan old
-    → (Contains old.members (member_of plan node) → ⊥) → (IsOk r ↔ (Contains old.members member → ⊥))
+    → (Contains old.members (member_of plan node) → ⊥) → (IsOk r ↔ (Contains (nodes_of old.members) member.node → ⊥))
     → OnOk r ((place : ℕ) × (place ≤ length old.members) × (new.members ≡ insert old.members place member)) → old.room ≤ new.room + 1
     → AreMembers plan new × IsSet plan node true old.members new.members
 added-queue plan old new node member (Err e) is lt are absent refused added room =
-    absurd (false≢true (refused.1 (λ has. absent (subst (Contains old.members) is has))))
+    absurd (false≢true (refused.1 (λ has. absent (of-node plan old node are
+    (subst (Contains (nodes_of old.members)) (ap (λ (m : Member). m.node) is) has)))))
 added-queue plan old new node member (Ok x) is lt are absent refused added room =
-    let at : new.members ≡ insert old.members added.0 (member_of plan node) = added.2 ∙ ap (insert old.members added.0) is in
-    let long = length-insert old.members added.0 (member_of plan node) added.1 in (
+    let at : new.members ≡ insert old.members added.0 (member_of plan node) = added.2 ∙ ap (insert old.members added.0) is in (
       are-more plan old new node added.0 are lt added.1 at room,
       record {
         kept = λ m has differs. subst (λ ms. Contains ms m) (sym at) (kept-insert old.members added.0 (member_of plan node) added.1 m has);
         others = λ m has differs. ⊎_elim (λ (same : member_of plan node ≡ m). absurd (differs (ap (λ (k : Member). k.node) (sym same)))) (λ before. before)
             (insert-cases old.members added.0 (member_of plan node) added.1 m (subst (λ ms. Contains ms m) at has));
-        there = λ t. subst (λ ms. Contains ms (member_of plan node)) (sym at)
-            (added.0, (let w = added.1 in omega (arith, w, long)), get_or-insert_at old.members added.0 (member_of plan node) (member_of plan node) added.1);
+        there = λ t. subst (λ ms. Contains ms (member_of plan node)) (sym at) (new-insert old.members added.0 (member_of plan node) added.1);
         absent = λ f. absurd (false≢true (sym f));
       },
     )
@@ -182,8 +123,8 @@ removed-queue plan old new node member (Ok x) is ordered are refused removed fre
             (kept-remove old.members removed.0 member removed.1 removed.2 m has (λ one. differs (sym (ap (λ (k : Member). k.node) (sym is ∙ one)))));
         others = λ m has differs. from-remove old.members removed.0 removed.1 m (subst (λ ms. Contains ms m) removed.3 has);
         there = λ t. absurd (false≢true t);
-        absent = λ f has. gone-remove old.members removed.0 member ordered removed.1 removed.2
-            (subst (Contains (remove old.members removed.0)) (sym is) (subst (λ ms. Contains ms (member_of plan node)) removed.3 has));
+        absent = λ f has. ⊎_elim (not-itself member) (not-itself member)
+            (pairs-removed ComesBefore old.members removed.0 member removed.1 removed.2 ordered member (subst (Contains (remove old.members removed.0)) (sym is) (subst (λ ms. Contains ms (member_of plan node)) removed.3 has)));
       },
     )
 removed-queue plan old new node member (Err e) is ordered are refused removed freed same = (

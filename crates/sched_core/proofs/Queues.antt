@@ -33,7 +33,7 @@ use Rattle.sched_core.proofs.Sound.{Held, sound}
 use Rattle.sched_core.proofs.Shown.{stand-next, stand-done}
 use Rattle.sched_core.proofs.Moves.{launchable-next}
 use Rattle.sched_core.proofs.Leaf.{free-shown}
-use Rattle.sched_core.proofs.Members.{by_lt}
+use Rattle.ready_queue.proofs.Edits.{by_lt}
 use Rattle.sched_core.proofs.Undone.{none-left, undone-same}
 
 -- a state as the records have it

@@ -10,7 +10,7 @@ use Rattle.run_plan.specs.Plan.{Plan, node_at, count_of}
 use Rattle.sched_core.specs.Limits.{member_of}
 use Rattle.sched_core.specs.States.{is_ready_by, is_ready_at}
 use Rattle.sched_core.specs.Queued.{AreMembers, IsQueued, IsSet}
-use Rattle.sched_core.proofs.Members.{by_lt}
+use Rattle.ready_queue.proofs.Edits.{by_lt}
 use Rattle.sched_core.proofs.Sweeps.{run_at-same, run_at-other}
 
 -- an element after its own change, after another's, and set to what it is

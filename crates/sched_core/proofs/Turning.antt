@@ -16,7 +16,7 @@ use Rattle.sched_core.specs.Bound.{all_nodes}
 use Rattle.sched_core.specs.Run.{is_met}
 use Rattle.sched_core.specs.States.{AreLeft, left_at, done_at, undone_in}
 use Rattle.sched_core.specs.Turns.{times}
-use Rattle.sched_core.proofs.Members.{by_lt}
+use Rattle.ready_queue.proofs.Edits.{by_lt}
 use Rattle.sched_core.proofs.Sweeps.{run_at-same, run_at-other, run_at-stopped}
 use Rattle.sched_core.proofs.Settling.{at-same, at-other, set-own, by_same}
 use Rattle.sched_core.proofs.Taking.{one-abort}
