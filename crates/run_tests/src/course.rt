@@ -93,6 +93,7 @@ fn best_first(rt: &impl Abort, queue: &mut ReadyQueue) -> Result<(), Fail> {
     same(&rt, queue.best_where(|node| node != 1), Some(member(0, 0)));
     assert!(rt; queue.best_where(|_| false).is_none());
     same(rt, queue.add(member(0, 0)), Err(QueueFault::Present));
+    same(rt, queue.add(member(0, 7)), Err(QueueFault::Present));
     same(rt, queue.remove(member(9, 0)), Err(QueueFault::Absent));
     queue.remove(member(0, 0))?;
     same(rt, queue.members().len(), 2);
