@@ -84,7 +84,7 @@ fn member(node: u32, priority: i32) -> Member {
 
 /// Best first: by priority, then in plan order.
 fn best_first(rt: &impl Abort, queue: &mut ReadyQueue) -> Result<(), Fail> {
-    queue.reserve(4)?;
+    queue.reserve(5)?;
     queue.add(member(2, 0))?;
     queue.add(member(0, 0))?;
     queue.add(member(1, 5))?;
