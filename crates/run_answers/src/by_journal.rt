@@ -39,7 +39,9 @@ fn used_in(alloc: Global, journal: Option<&[u8]>) -> Result<u16, RunFault>
     match Journal::peek(alloc, &mut disk) {
         Ok(Some(peek)) => Ok(peek.used),
         Ok(None) => Ok(0),
+        // A disk in memory tells that it was refused memory as a failure.
         Err(JournalFault::Memory) => Err(RunFault::Memory),
+        Err(JournalFault::Device) => Err(RunFault::Memory),
         Err(_) => Ok(0),
     }
 }
