@@ -138,6 +138,16 @@ told report_text "$(cat "$folder/report.txt")" 'failed steps: 1'
 ran report_of_all_done second 0 report
 told report_text_of_all_done "$(cat "$folder/report.txt")" 'all is done'
 
+# The third round goes back to the first one's rescue file.
+copied back
+ran back_first first 1 back
+echo 2 >"$folder/degree.txt"
+ran back_second second 1 back
+echo 3 >"$folder/degree.txt"
+check back_to_the_first 0 "$(cat "$folder/third.expected")$newline" '' run --dorescuefrom 1 back.dag
+told back_report "$(cat "$folder/report.txt")" "model${newline}fit of degree 3"
+told back_rescues "$(cd -- "$folder" && echo back.dag.rescue*)" 'back.dag.rescue001 back.dag.rescue002.old'
+
 copied already
 ran already_there already 0
 told fetched "$(LC_ALL=C sort "$folder/fetched.log")" "index${newline}readme"

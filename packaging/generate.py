@@ -11,7 +11,7 @@ import sys
 
 HERE = os.path.dirname(os.path.abspath(__file__))
 # The values of options that take one of a few.
-VALUES = {"autorescue": ["0", "1"]}
+VALUES = {"autorescue": ["0", "1"], "orphans": ["kill", "wait", "leave"]}
 
 
 class Help:
@@ -111,6 +111,10 @@ def bash(top, helps):
     )
     values = "".join(f"        --{name}) values='{' '.join(words)}' ;;\n" for name, words in sorted(VALUES.items()))
     others = sorted({name for told in helps for name, value, _ in told.options() if value and name not in VALUES})
+    # Of a command that names no file the words are commands, or none that are known.
+    names = {told.command: [name for name, _, _ in told.arguments()] for told in helps}
+    plain = [command for command, of_it in names.items() if "DAG" not in of_it and "COMMAND" not in of_it]
+    of_commands = [command for command, of_it in names.items() if "COMMAND" in of_it]
     return f"""# bash completion for dagrun; made by packaging/generate.py.
 _dagrun() {{
     local word=${{COMP_WORDS[COMP_CWORD]}} before=${{COMP_WORDS[COMP_CWORD - 1]}} command='' options='' values='' dag='' place
@@ -137,6 +141,13 @@ _dagrun() {{
         COMPREPLY=($(compgen -W "$options" -- "$word"))
         return
     fi
+    case $command in
+        {'|'.join(of_commands)})
+            COMPREPLY=($(compgen -W '{' '.join(told.command for told in helps)}' -- "$word"))
+            return
+            ;;
+        {'|'.join(plain)}) return ;;
+    esac
     # DAG files and folders, and any file where there are none, or where the DAG file stands already.
     local IFS=$'\\n'
     compopt -o filenames 2>/dev/null
@@ -170,7 +181,8 @@ def zsh(top, helps):
             lines.append(f"'--{name}{'=' if value else ''}[{escaped(text)}]{taken}'")
         for place, (name, needed, _) in enumerate(told.arguments(), 1):
             colons = ":" if needed else "::"
-            files = '_files -g "*.dag"' if name == "DAG" else "_files"
+            commands = f"({' '.join(told.command for told in helps)})"
+            files = {"DAG": '_files -g "*.dag"', "OUTCOMES": "_files", "COMMAND": commands}.get(name, "")
             lines.append(f"'{place}{colons}{name}:{files}'")
         joined = " \\\n                ".join(lines)
         cases += f"        {told.command})\n            _arguments \\\n                {joined}\n            ;;\n"

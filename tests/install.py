@@ -5,6 +5,8 @@ Debian package and condor_submit_dag. Each row works in a folder of its own.
     tests/install.py [WORD]     WORD: only the rows whose name holds it
 
 A row that needs a program that is not installed says so and is not counted. The last line is 'N passed, M failed'."""
+import html
+import json
 import os
 import re
 import shutil
@@ -224,13 +226,29 @@ def completed(folder, line):
     return sorted(said.split("\n")[:-1]) if said != "\n" else []
 
 
+def graphviz_reads_a_graph(folder):
+    """What `graph` prints is a picture with just these names, whatever characters they have."""
+    needs("dot")
+    names = ['a"b', "c\\\\d", "e\\", "f&amp;g", "<b>h</b>", "\u00e9{}|;", "node", "n->m"]
+    write(f"{folder}/x.dag", "".join(f"JOB {name} a.sub\n" for name in names) + 'SPLICE "S" y.dag\nPARENT a"b CHILD "S"\nFINAL F f.sub\n')
+    write(f"{folder}/y.dag", "JOB T\\ t.sub\n")
+    text, told, status = call(folder, SHIPPED, "graph", "x.dag")
+    same((told, status), ("", 0))
+    picture, told, status = call(folder, "dot", "-Tjson", input=text, stdin=None)
+    same((told, status), ("", 0))
+    found = json.loads(picture)
+    labels = [html.unescape(node["label"]).replace("\\\\", "\\") for node in found["objects"]]
+    same(sorted(labels), sorted([*names, '"S"', "T\\", "F"]))
+    same(len(found["edges"]), 1)
+
+
 def completion_of_bash(folder):
     for name in ("one.dag", "two words.dag", "one.outcomes"):
         write(f"{folder}/{name}", "")
     os.mkdir(f"{folder}/below")
-    same(completed(folder, "dagrun "), ["--help", "audit", "check", "rehearse", "run", "status"])
+    same(completed(folder, "dagrun "), ["--help", "audit", "check", "explain", "graph", "help", "rehearse", "run", "status", "version"])
     same(completed(folder, "dagrun r"), ["rehearse", "run"])
-    same(completed(folder, "dagrun run --"), ["--autorescue", "--help", "--maxjobs", "--maxpost", "--maxpre"])
+    same(completed(folder, "dagrun run --"), ["--autorescue", "--dorescuefrom", "--help", "--maxjobs", "--maxpost", "--maxpre", "--orphans"])
     same(completed(folder, "dagrun rehearse --max"), ["--maxjobs", "--maxpost", "--maxpre"])
     same(completed(folder, "dagrun status --m"), [])
     same(completed(folder, "dagrun run --autorescue "), ["0", "1"])
@@ -240,6 +258,9 @@ def completion_of_bash(folder):
     same(completed(folder, "dagrun run --maxjobs 3 t"), ["two words.dag"])
     same(completed(folder, "dagrun rehearse one.dag one"), ["one.dag", "one.outcomes"])
     same(completed(folder, "dagrun status one.o"), ["one.outcomes"])
+    same(completed(folder, "dagrun graph t"), ["two words.dag"])
+    same(completed(folder, "dagrun help r"), ["rehearse", "run"])
+    same((completed(folder, "dagrun explain "), completed(folder, "dagrun version ")), ([], []))
     # As bash finds it: the word's own function.
     said = call(folder, "bash", "--norc", "-c", f". {TOP}/packaging/completion/dagrun.bash; complete -p dagrun")
     same(said, ("complete -F _dagrun dagrun\n", "", 0))
@@ -348,11 +369,23 @@ def rounds_of_condor_submit_dag(folder):
     same(submitted(), ("AB", ["rescue001"]))
     same(submitted(), ("B", ["rescue001", "rescue002"]))
     same(submitted("-autorescue", "0"), ("AB", ["rescue001", "rescue002", "rescue003"]))
-    same(submitted("-dorescue", "2"), ("B", ["rescue001", "rescue002", "rescue003", "rescue003.old"]))
+    same(submitted("-dorescue", "02"), ("B", ["rescue001", "rescue002", "rescue003", "rescue003.old"]))
+    same("arguments = run --dorescuefrom 2 x.dag\n" in open(f"{folder}/x.dag.condor.sub").read(), True)
     write(f"{folder}/good", "")
     same(submitted("-f"), ("AB", ["rescue001.old", "rescue002.old", "rescue003.old"]))
     statuses = re.findall("STATUS ([0-9]+)", open(f"{folder}/x.dag.dagman.out").read())
     same(statuses, ["1", "1", "1", "1", "0"])
+    # A round goes back once the run has ended; with -force it does where that was cut short, too. The journal without its last record:
+    journal = open(f"{folder}/x.dag.journal", "rb").read()[:-33] + b"\0"
+    open(f"{folder}/x.dag.journal", "wb").write(journal)
+    os.rename(f"{folder}/x.dag.rescue002.old", f"{folder}/x.dag.rescue002")
+    os.rename(f"{folder}/x.dag.rescue003.old", f"{folder}/x.dag.rescue003")
+    same(call(folder, SUBMIT, "-wait", "-dorescuefrom", "2", "x.dag"), (TOLD, "", 1))
+    same("dagrun: E6 Unfinished\n" in open(f"{folder}/x.dag.dagman.out").read(), True)
+    same(open(f"{folder}/x.dag.journal", "rb").read(), journal)
+    same(submitted("-force", "-dorescuefrom", "2"), ("B", ["rescue001.old", "rescue002", "rescue003.old"]))
+    same(open(f"{folder}/x.dag.journal.old", "rb").read(), journal)
+    os.remove(f"{folder}/x.dag.rescue002")
     # The status is that of the run, and 1 where dagrun refuses.
     write(f"{folder}/x.dag", "JOB A a.sub\nJOB B b.sub\nABORT-DAG-ON A 0 RETURN 42\n")
     same(call(folder, SUBMIT, "-wait", "x.dag")[2], 42)
@@ -404,7 +437,8 @@ def options_of_condor_submit_dag(folder):
     same((said.splitlines()[0], told, status), ("File for submitting this DAG: x.dag.condor.sub", "", 0))
     same(open(f"{folder}/below/ran").read(), f"{folder}/below\n")
     same(os.listdir(f"{folder}/outputs"), ["x.dag.dagman.out"])
-    os.remove(f"{folder}/below/x.dag.journal")
+    for name in ("journal", "log"):
+        os.remove(f"{folder}/below/x.dag.{name}")
     same(call(f"{folder}/below", SUBMIT, "-no_submit", "x.dag"), (TOLD, "", 0))
     same(sorted(os.listdir(f"{folder}/below")), ["a.sh", "a.sub", "ran", "x.dag", "x.dag.condor.sub"])
     refusals = [
@@ -525,6 +559,7 @@ ROWS = [
     an_older_system,
     generated_texts,
     manual_pages,
+    graphviz_reads_a_graph,
     completion_of_bash,
     completion_of_zsh,
     completion_of_fish,

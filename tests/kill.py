@@ -1,7 +1,9 @@
 """Kills `run` by SIGKILL at random moments until it finishes, in rounds (tests/kill.sh says how it is called).
 
-The graph has 200 short jobs, 20 rows of 10, each row above the next; each job appends a line to a file of its own, and one of
-them fails. After each kill the children that the manager left are waited for, and the journal is read: its records are those
+The graph has 200 short jobs in rows, each above the next: one job, 64 that are launched together, and then rows of ten; each job
+appends a line to a file of its own, and one of them fails. After each kill the next manager is called at once, which has to end the
+children that the last one left: a job that finds an earlier copy of itself at work says so, and none may. The journal is read each
+time: its records are those
 that were there before, and perhaps more; no phase has two ends or is launched behind its end; a job whose end was recorded has
 not run since. In the end the report, the exit status and the rescue file are those of a run that is not killed,
 and the audit of the journal says the same of each node."""
@@ -16,10 +18,18 @@ import time
 
 from journals import check_records, ended_in, is_finished, records_in
 
-WIDTH = 10
-ROWS = 20
-NAMES = [f"n{i}" for i in range(WIDTH * ROWS)]
+SIZES = [1, 64] + [10] * 13 + [5]
+NAMES = [f"n{i}" for i in range(sum(SIZES))]
 FAILING = "n157"
+# A job that works has a file that names its process; an orphan that has ended, but that nobody asks how, works no more.
+JOB = f"""if read last <works/$1 2>/dev/null && read stat </proc/$last/stat 2>/dev/null && [ "${{stat##*) }}" = "${{stat##*) [ZX]}}" ]
+then echo $1 >>copies; fi
+echo $$ >works/$1
+echo ran >>runs/$1
+sleep 0.01
+[ $1 != {FAILING} ] || exit 4
+rm works/$1
+"""
 
 
 def write(folder, name, text):
@@ -30,13 +40,17 @@ def write(folder, name, text):
 def make_graph(folder):
     lines = [f"JOB {name} job.sub" for name in NAMES]
     lines += [f'VARS {name} me="{name}"' for name in NAMES]
-    for row in range(1, ROWS):
-        parents, children = (NAMES[r * WIDTH : (r + 1) * WIDTH] for r in (row - 1, row))
-        lines.append(f"PARENT {' '.join(parents)} CHILD {' '.join(children)}")
+    first, parents = 0, []
+    for size in SIZES:
+        children = NAMES[first : first + size]
+        if parents:
+            lines.append(f"PARENT {' '.join(parents)} CHILD {' '.join(children)}")
+        first, parents = first + size, children
     write(folder, "x.dag", "\n".join(lines) + "\n")
     write(folder, "job.sub", "executable = /bin/sh\narguments = job.sh $(me)\nqueue\n")
-    write(folder, "job.sh", f"echo ran >> runs/$1\nsleep 0.01\n[ $1 != {FAILING} ] || exit 4\n")
-    os.mkdir(os.path.join(folder, "runs"))
+    write(folder, "job.sh", JOB)
+    for name in ("runs", "works"):
+        os.mkdir(os.path.join(folder, name))
 
 
 def runs_in(folder):
@@ -63,41 +77,52 @@ def adopt_orphans():
         sys.exit("this system does not hand orphans over")
 
 
-def wait_for_group(group):
-    """Waits for the children of a manager that was killed."""
+def collect(folder):
+    """Asks how orphans that have ended did, so that they don't pile up, and refuses copies of a job that works."""
     try:
-        while True:
-            os.waitpid(-group, 0)
+        while os.waitpid(-1, os.WNOHANG)[0]:
+            pass
     except ChildProcessError:
-        return
+        pass
+    if os.path.exists(os.path.join(folder, "copies")):
+        with open(os.path.join(folder, "copies")) as file:
+            sys.exit(f"copies of jobs ran at one time: {file.read().split()}")
 
 
 def one_round(program, folder, longest):
-    """Kills runs until one finishes; answers its report, and how many were killed."""
-    before, kills, settled = [], 0, {}
+    """Kills runs until one finishes; answers its report, and how many were killed.
+
+    A manager that is killed before anything of it has ended only begins anew what it launched: so the next one has more time."""
+    before, kills, settled, time_left = [], 0, {}, longest
     while True:
         manager = subprocess.Popen(
             [program, "run", "x.dag"], cwd=folder, stdout=subprocess.PIPE, stderr=subprocess.PIPE, start_new_session=True, text=True
         )
         try:
-            text, faults = manager.communicate(timeout=random.uniform(0.005, longest))
+            text, faults = manager.communicate(timeout=random.uniform(0.005, time_left))
+            if kills and faults == "dagrun: X2 FileRefused x.dag.lock\n":
+                # A child that has not come to its own program has the lock for a moment yet.
+                time.sleep(0.01)
+                continue
             if faults:
                 sys.exit(f"run is refused: {faults}")
             status = manager.returncode
         except subprocess.TimeoutExpired:
             kills += 1
             manager.kill()
-            # An orphan holds the ends of the pipes: so they are not read to their end before it is gone.
+            # An orphan that has not come to its own program holds the ends of the pipes: they are not read to their ends.
             manager.wait()
-            wait_for_group(manager.pid)
-            manager.communicate()
+            for pipe in (manager.stdout, manager.stderr):
+                pipe.close()
             status = None
+        collect(folder)
         records = records_in(folder)
         check_records(records, before)
         counts = runs_in(folder)
         for name, count in settled.items():
             if counts[name] != count:
                 sys.exit(f"{name} ran again though its end was recorded")
+        time_left = longest if len(ended_in(records)) > len(ended_in(before)) else 1.5 * time_left
         settled = {NAMES[key[0]]: counts[NAMES[key[0]]] for key in ended_in(records)}
         before = records
         if status is None and is_finished(records):

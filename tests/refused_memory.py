@@ -141,14 +141,14 @@ def main():
         subprocess.run(["cc", "-shared", "-fPIC", "-O1", "-o", library, os.path.join(HERE, "refuse_memory.c"), "-ldl"], check=True)
         fresh, second = os.path.join(work, "fresh"), os.path.join(work, "second")
         shutil.copytree(os.path.join(HERE, "every"), fresh)
-        for words in (("check", "x.dag"), ("rehearse", "x.dag", "x.outcomes")):
+        for words in (("check", "x.dag"), ("rehearse", "x.dag", "x.outcomes"), ("graph", "x.dag"), ("explain", "L2"), ("help", "run")):
             each(words[0], step, Reading(fresh, library, program, *words))
         each("run", step, Running(fresh, library, work, program))
         shutil.copytree(fresh, second)
         call(second, library, 0, program, "run", "x.dag")
         each("run of a second round", step, Running(second, library, work, program))
         call(second, library, 0, program, "run", "x.dag")
-        for name in ("status", "audit"):
+        for name in ("status", "audit", "graph"):
             each(name, step, Reading(second, library, program, name, "x.dag"))
         each("writer", step, Writing(work, library, writer))
 

@@ -5,6 +5,7 @@
 
 Values are worked out by hand from the rules in docs/MANUAL.md. The last line is 'N passed, M failed'."""
 import contextlib
+import fcntl
 import os
 import re
 import shutil
@@ -15,10 +16,10 @@ import sys
 import tempfile
 import time
 
+from journals import HEADER, SLOT, slots_in
+
 DIAMOND = "JOB A a.sub\nJOB B b.sub\nJOB C c.sub\nJOB D d.sub\nPARENT A CHILD B C\nPARENT B C CHILD D\n"
 ALL_DONE = "".join(f"{name} DONE attempts=1 value=0\n" for name in "ABCD") + "result 0\n"
-# The header of a journal, and the slots behind it.
-HEADER, SLOT = 64, 32
 
 
 class Folder:
@@ -65,8 +66,10 @@ class Folder:
         return done.stdout.decode(), done.stderr.decode(), done.returncode
 
     def cut_journal(self, records):
-        """Leaves so many records of the journal."""
-        self.write("x.dag.journal", self.read("x.dag.journal")[: HEADER + SLOT * records] + b"\0")
+        """Leaves so many records of the journal, each alone behind its gate."""
+        journal = self.read("x.dag.journal")
+        kept = [journal[at : at + SLOT] for at in slots_in(journal)[0][:records]]
+        self.write("x.dag.journal", journal[:HEADER] + b"".join(kept) + b"\0")
 
     def wait_for(self, name):
         for _ in range(1000):
@@ -78,7 +81,7 @@ class Folder:
     def wait_for_launch(self, count):
         """Waits until the journal has so many records."""
         for _ in range(1000):
-            if self.there("x.dag.journal") and len(self.read("x.dag.journal")) > HEADER + SLOT * count:
+            if self.there("x.dag.journal") and len(slots_in(self.read("x.dag.journal"))[0]) >= count:
                 return
             time.sleep(0.01)
         raise AssertionError(f"there are no {count} records after ten seconds")
@@ -90,6 +93,11 @@ def slot(kind, phase=0, outcome=0, node=0, attempt=0, value=0, number=0):
 
 
 LIFE = slot(1)
+
+
+def batch(*records):
+    """Records that are acknowledged together."""
+    return struct.pack(">BBBB28x", 0x4F, 5, 0, len(records)) + b"".join(records)
 
 
 def launched(node, number):
@@ -122,8 +130,10 @@ def diamond(folder):
     folder.write("x.dag", DIAMOND)
     folder.echo(*"abcd")
     same(folder.call("run", "x.dag"), (ALL_DONE, "", 0))
-    # Life, four launches, four endings, Finish, and the closed gate.
-    same(len(folder.read("x.dag.journal")), HEADER + SLOT * 10 + 1)
+    # Life, four launches, those of B and C in one batch, which has a slot of its own, four endings, Finish, and the closed gate.
+    same(len(folder.read("x.dag.journal")), HEADER + SLOT * 11 + 1)
+    places, batches = slots_in(folder.read("x.dag.journal"))
+    same((len(places), batches), (10, 1))
     same(folder.there("x.dag.rescue001"), False)
     same(folder.read("d.out"), b"d\n")
     same(folder.call("status", "x.dag"), (ALL_DONE.replace("result 0\n", ""), "", 0))
@@ -190,7 +200,8 @@ def endings(folder):
 
 def told_endings(folder):
     """Each ending of a child: an exit code, or 256 and a signal."""
-    folder.shell("a", "read c < n; [ $c -lt 256 ] || kill -$((c-256)) $$; exit $c\n")
+    folder.write("code.sh", 'read c < "$1"; [ $c -lt 256 ] || kill -$((c-256)) $$; exit $c\n')
+    folder.write("a.sub", "executable = /bin/sh\narguments = code.sh n\nqueue\n")
     for code, value in ((0, 0), (1, 1), (7, 7), (125, 125), (255, 255), (265, -9), (271, -15)):
         folder.write("n", f"{code}\n")
         folder.write(f"{code}.dag", "JOB A a.sub\n")
@@ -209,13 +220,18 @@ def what_can_not_be_started(folder):
         same(folder.call("run", f"{number}.dag"), (report, "", 1))
 
 
+# Makes its own file and waits for another one; after so many turns, which take a twentieth of a second, it takes its own away.
+GATE = ': > "$1"; i=0; while [ ! -e "$2" ]; do i=$((i+1)); if [ $i -gt %d ]; then rm -f "$1"; exit 9; fi; sleep 0.05; done; exit 0\n'
+
+
 def an_abort_kills(folder):
-    """A leaves once B's file is there; B would take it away within two seconds."""
+    """A leaves once B's file is there; B would take it away after ten seconds."""
     folder.shell("a", "i=0; while [ ! -e b ]; do i=$((i+1)); if [ $i -gt 200 ]; then exit 9; fi; sleep 0.05; done; exit 7\n")
-    folder.shell("b", ": > b; sleep 2; rm -f b\n")
+    folder.write("gate.sh", GATE % 200)
+    folder.write("b.sub", "executable = /bin/sh\narguments = gate.sh b x\nqueue\n")
     folder.write("x.dag", "JOB A a.sub\nJOB B b.sub\nABORT-DAG-ON A 7\n")
     same(folder.call("run", "x.dag"), ("A ERROR attempts=1 value=7\nB READY attempts=0 value=-\nresult 7\n", "", 7))
-    time.sleep(3)
+    time.sleep(12)
     same(folder.there("b"), True)
 
 
@@ -240,8 +256,7 @@ def streams_and_environment(folder):
 
 
 def two_wait_for_each_other(folder):
-    gate = ': > "$1"; i=0; while [ ! -e "$2" ]; do i=$((i+1)); if [ $i -gt 40 ]; then rm -f "$1"; exit 9; fi; sleep 0.05; done; exit 0\n'
-    folder.write("gate.sh", gate)
+    folder.write("gate.sh", GATE % 200)
     folder.write("x.dag", "JOB A a.sub\nJOB B b.sub\n")
     for one, other in ("ab", "ba"):
         folder.write(f"{one}.sub", f"executable = /bin/sh\narguments = gate.sh {one} {other}\nqueue\n")
@@ -249,28 +264,46 @@ def two_wait_for_each_other(folder):
     for name in ("a", "b", "x.dag.journal"):
         os.remove(folder.at(name))
     both_fail = "A ERROR attempts=1 value=9\nB ERROR attempts=1 value=9\nresult 1\n"
-    same(folder.call("run", "x.dag", "--maxjobs", "1"), (both_fail, "", 1))
     folder.write("y.dag", "JOB A a.sub\nJOB B b.sub\nCATEGORY A c\nCATEGORY B c\nMAXJOBS c 1\n")
     same(folder.call("run", "y.dag"), (both_fail, "", 1))
+    folder.write("gate.sh", GATE % 20)
+    same(folder.call("run", "x.dag", "--maxjobs", "1"), (both_fail, "", 1))
 
 
 def two_runs_agree(folder):
     """Two DAGs that agree on A and B: these end alike in both, and each launch of a run has the next number, whichever node it is of."""
     folder.write("x.sh", "case $1-$2 in B-0 | X-*) exit 1 ;; Y-*) exit 2 ;; Z-*) kill -6 $$ ;; esac\n")
-    folder.write("x.sub", "executable = /bin/sh\narguments = x.sh $(JOB) $(RETRY)\noutput = $(JOB).$(Cluster).out\nqueue\n")
+    job = "executable = /bin/sh\narguments = x.sh $(JOB) $(RETRY)\n"
+    folder.write("x.sub", job + "output = $(JOB).$(Cluster).out\nqueue\n")
+    folder.write("b.sub", job + "output = b.$(Cluster).out\nqueue\n")
     both = "A DONE attempts=1 value=0\nB DONE attempts=2 value=0\n"
     for dag, report, outputs in (
-        ("JOB A x.sub\nJOB B x.sub\nJOB Y x.sub\nPARENT A CHILD B\nRETRY B 1\n",
-         both + "Y ERROR attempts=1 value=2\nresult 1\n", "A.1 B.2 B.3 Y.4"),
-        ("JOB X x.sub\nJOB A x.sub\nJOB B x.sub\nJOB Z x.sub\nPARENT A CHILD B\nRETRY B 1\nRETRY X 2\n",
-         "X ERROR attempts=3 value=1\n" + both + "Z ERROR attempts=1 value=-6\nresult 1\n", "A.4 B.5 B.6 X.1 X.2 X.3 Z.7"),
+        ("JOB A x.sub\nJOB B b.sub\nJOB Y x.sub\nPARENT A CHILD B\nRETRY B 1\n",
+         both + "Y ERROR attempts=1 value=2\nresult 1\n", "A.1 Y.4 b.2 b.3"),
+        ("JOB X x.sub\nJOB A x.sub\nJOB B b.sub\nJOB Z x.sub\nPARENT A CHILD B\nRETRY B 1\nRETRY X 2\n",
+         "X ERROR attempts=3 value=1\n" + both + "Z ERROR attempts=1 value=-6\nresult 1\n", "A.4 X.1 X.2 X.3 Z.7 b.5 b.6"),
     ):
+        for name in os.listdir(folder.path):
+            if name[1:] not in (".sh", ".sub"):
+                os.remove(folder.at(name))
         folder.write("x.dag", dag)
         same(folder.call("run", "--maxjobs", "1", "x.dag"), (report, "", 1))
         same(sorted(name for name in os.listdir(folder.path) if name.endswith(".out")), [f"{it}.out" for it in outputs.split()])
-        for name in os.listdir(folder.path):
-            if not name.startswith("x.s"):
-                os.remove(folder.at(name))
+        same(marks_in(folder), ["A", "B"])
+    # Three crashes of the second, each behind a launch: twice of X, then of B.
+    for records in (4, 8, 16):
+        folder.cut_journal(records)
+        os.remove(folder.at("x.dag.rescue001"))
+        same(folder.call("run", "--maxjobs", "1", "x.dag"), (report, "", 1))
+        same(marks_in(folder), ["A", "B"])
+    journal = folder.read("x.dag.journal")
+    same([place for place in range(HEADER, len(journal) - 1, SLOT) if journal[place : place + SLOT] == LIFE], [HEADER + SLOT * place for place in (0, 4, 8, 16)])
+    audited(folder, report.replace("result 1\n", "audit ok"))
+
+
+def marks_in(folder):
+    """The nodes that the rescue file of number 1 marks."""
+    return re.findall(r"^DONE (.*)$", folder.read("x.dag.rescue001").decode(), re.M)
 
 
 def an_abort_and_final(folder):
@@ -301,8 +334,8 @@ def a_first_life_of_four_records(folder):
     same(folder.call("status", "x.dag"), (report, "", 0))
     same(folder.call("run", "x.dag"), (ALL_DONE, "", 0))
     same([folder.there(f"{name}.out") for name in "abcd"], [False, True, True, True])
-    # The four records, Life, launches and ends of B, C and D, Finish.
-    same(len(folder.read("x.dag.journal")), HEADER + SLOT * 12 + 1)
+    # The four records, Life, launches and ends of B, C and D, Finish; the launches of B and C are a batch, which has a slot of its own.
+    same(len(folder.read("x.dag.journal")), HEADER + SLOT * 13 + 1)
 
 
 def a_life_of_one_launch(folder):
@@ -403,9 +436,16 @@ def a_foreign_record(folder):
     folder.call("run", "x.dag")
     journal = folder.read("x.dag.journal")
     # Life, the launch of A, and then the launch of B in place of the end of A.
-    folder.write("x.dag.journal", journal[: HEADER + SLOT * 2] + journal[HEADER + SLOT * 3 : HEADER + SLOT * 4] + b"\0")
+    folder.write("x.dag.journal", journal[: HEADER + SLOT * 2] + launched(1, 2) + b"\0")
     refused(folder, ("run", "x.dag"), "M2 Foreign 2")
     refused(folder, ("status", "x.dag"), "M2 Foreign 2")
+    # Its slot is told: a batch has one before those of its records. B is launched while it runs; D ends that was not launched.
+    begun = journal[:HEADER] + LIFE + launched(0, 1) + exited(0, 0)
+    for number, records in ((6, batch(launched(1, 2), launched(2, 3)) + launched(1, 4)), (5, batch(launched(1, 2), exited(3, 0)))):
+        folder.write("x.dag.journal", begun + records + b"\0")
+        refused(folder, ("run", "x.dag"), f"M2 Foreign {number}")
+        refused(folder, ("status", "x.dag"), f"M2 Foreign {number}")
+        same(folder.call("audit", "x.dag"), (f"audit no F2 NotARun {number}\n", "", 1))
 
 
 def audited(folder, answer):
@@ -486,6 +526,10 @@ def audit_of_an_abort(folder):
     report = "A DONE attempts=1 value=0\nB READY attempts=0 value=-\nC READY attempts=0 value=-\nresult 5\n"
     same(folder.call("run", "x.dag"), (report, warning, 5))
     same(folder.call("audit", "x.dag"), ("audit no F5 Aborted\n", warning, 1))
+    # Life, the launches of A, B and C in one batch, the end of A, Finish.
+    same((len(folder.read("x.dag.journal")), slots_in(folder.read("x.dag.journal"))[1]), (289, 1))
+    rescue = "# Rescue DAG file\n# Total number of Nodes: 3\n# Nodes premarked DONE: 1\n\nDONE A\n"
+    same(folder.read("x.dag.rescue001").decode(), rescue)
     # Without Finish the run is not finished; with the end of C, of which nothing is outstanding behind the abort, it is none.
     journal = folder.read("x.dag.journal")
     last = len(journal) - SLOT - 1
@@ -629,6 +673,31 @@ def limits_of_a_call(folder):
             os.remove(folder.at(f"most.{kind}"))
 
 
+def limits_of_the_environment(folder):
+    """DAGRUN_MAXJOBS and the like stand for options of `run` that are not given."""
+    folder.write("x.dag", "JOB A a.sub\nJOB B b.sub\nSCRIPT PRE A true\n")
+    folder.echo("a", "b")
+
+    def limits(own, *words):
+        done = subprocess.run([folder.program, *words], cwd=folder.path, capture_output=True, timeout=60, env={**os.environ, **own})
+        if done.returncode == 125:
+            same((done.stdout, done.stderr != b""), (b"", True))
+            return None
+        found = fields_of(folder)[0][4]
+        return " ".join(found[kind] for kind in ("jobs", "pre", "post"))
+
+    every = {"DAGRUN_MAXJOBS": "2", "DAGRUN_MAXPRE": "3", "DAGRUN_MAXPOST": "4"}
+    same(limits({}, "run", "x.dag"), "0 0 0")
+    same(limits(every, "run", "x.dag"), "2 3 4")
+    same(limits(every, "run", "--maxpre", "0", "x.dag", "--maxpost=7"), "2 0 7")
+    same(limits({"DAGRUN_MAXJOBS": ""}, "run", "x.dag"), "0 0 0")
+    same(limits({"DAGRUN_MAXJOBS": "many"}, "run", "x.dag"), None)
+    same(limits({"DAGRUN_MAXJOBS": "65536"}, "run", "x.dag"), None)
+    # Other commands pass them over.
+    done = subprocess.run([folder.program, "check", "x.dag"], cwd=folder.path, capture_output=True, timeout=60, env={**os.environ, "DAGRUN_MAXJOBS": "many"})
+    same((done.stdout, done.returncode), (b"ok nodes=2 edges=0 final=no\n", 0))
+
+
 def words_that_are_no_request(folder):
     folder.write("x.dag", "JOB A a.sub\n")
     folder.echo("a")
@@ -642,13 +711,359 @@ def words_that_are_no_request(folder):
         ("rehearse", "x.dag", "--maxjobs=1", "--maxjobs=1"),
         ("check", "x.dag", "--maxjobs", "1"),
         ("run", "x.dag", "--autorescue", "2"),
+        ("run", "x.dag", "--dorescuefrom", "65536"),
+        ("run", "x.dag", "--dorescuefrom=-1"),
+        ("run", "x.dag", "--dorescuefrom"),
+        ("rehearse", "x.dag", "--dorescuefrom", "1"),
+        ("run", "x.dag", "--orphans"),
+        ("run", "x.dag", "--orphans", "end"),
+        ("rehearse", "x.dag", "--orphans", "kill"),
         ("status",),
+        ("graph",),
+        ("graph", "x.dag", "y.dag"),
+        ("explain", "L99"),
+        ("explain", "L1", "L2"),
+        ("help", "fly"),
+        ("help", "run", "status"),
+        ("version", "x.dag"),
     ):
         report, told, status = folder.call(*words)
         same((words, report, told != "", status), (words, "", True, 125))
     for words in (("x.dag",), ("--maxjobs", "3", "x.dag", "--maxpre=0"), ("x.dag", "--maxpost=65535", "--maxpre", "+2")):
         same(folder.call("rehearse", *words), ("A DONE attempts=1 value=0\nresult 0\n", "", 0))
     same(sorted(os.listdir(folder.path)), ["a.sub", "x.dag"])
+
+
+def help_and_version(folder):
+    """`help` is what --help says, with examples behind it, on standard output."""
+    for command in ("run", "status", "audit", "check", "rehearse", "graph", "explain", "help", "version"):
+        page = folder.call(command, "--help")
+        same((page[0], page[2]), ("", 125))
+        text, told, status = folder.call("help", command)
+        same((told, status), ("", 0))
+        same(text[: len(page[1])], page[1])
+        examples = text[len(page[1]) :].splitlines()
+        same(examples[:2], ["", "Examples:"])
+        same([f"dagrun {command}" in line for line in examples[2:]], [True] * len(examples[2:]))
+        same(len(examples) > 2, True)
+    text, told, status = folder.call("help")
+    same((text.startswith(folder.call("--help")[1] + "\nExamples:\n"), told, status), (True, "", 0))
+    text, told, status = folder.call("version")
+    same((re.fullmatch(r"dagrun \d+\.\d+\.\d+\n", text) is not None, told, status), (True, "", 0))
+    same(os.listdir(folder.path), [])
+
+
+def a_picture_of_a_run(folder):
+    """`graph` while nodes run and behind that, by the journal; a journal of other files colours nothing."""
+    states = {"done": "palegreen", "in error": "lightcoral", "its job runs": "lightskyblue", "its PRE script runs": "lightskyblue",
+              "its POST script runs": "lightskyblue", "ready": "khaki", "waits": "white"}
+
+    def drawn(text):
+        found = re.findall(r'^    "(.)" \[label="\1"(, peripheries=2)?(?:, fillcolor=(\w+), tooltip="([\w ]+)")?\];$', text, re.M)
+        same([colour for _, _, colour, _ in found], [states.get(words, "") for *_, words in found])
+        return [(name, words) for name, *_, words in found]
+
+    lines = DIAMOND + "FINAL F f.sub\nJOB P a.sub\nSCRIPT PRE P pre.sh\nSCRIPT POST P post.sh\n"
+    folder.write("x.dag", lines)
+    folder.echo("a", "b", "d", "f")
+    folder.shell("c", f"{folder.program} graph x.dag > during; exit 3\n")
+    for name in ("pre", "post"):
+        folder.write(f"{name}.sh", f"#!/bin/sh\n{folder.program} graph x.dag > {name}\n")
+        os.chmod(folder.at(f"{name}.sh"), 0o755)
+    text, told, status = folder.call("graph", "x.dag")
+    same((drawn(text), told, status), ([(name, "") for name in "ABCDPF"], "", 0))
+    same(folder.call("run", "--maxjobs", "1", "x.dag")[1:], ("", 0))
+    same(dict(drawn(folder.read("pre").decode()))["P"], "its PRE script runs")
+    same(dict(drawn(folder.read("post").decode()))["P"], "its POST script runs")
+    during = dict(drawn(folder.read("during").decode()))
+    same([during[name] for name in "ACDF"], ["done", "its job runs", "waits", "waits"])
+    journal = folder.read("x.dag.journal")
+    behind = list(zip("ABCDPF", ("done", "done", "in error", "waits", "done", "done")))
+    text, told, status = folder.call("graph", "x.dag")
+    same((drawn(text), told, status), (behind, "", 0))
+    same(re.findall(r'^    "(.)" -> "(.)";$', text, re.M), [("A", "B"), ("A", "C"), ("B", "D"), ("C", "D")])
+    # Of another DAG the journal says nothing, and of other bytes neither.
+    folder.write("x.dag", lines + "JOB E a.sub\n")
+    same(folder.call("status", "x.dag"), ("", "dagrun: J5 OtherInputs\n", 125))
+    text, told, status = folder.call("graph", "x.dag")
+    same((drawn(text), told, status), ([(name, "") for name in "ABCDPEF"], "", 0))
+    folder.write("x.dag", lines)
+    folder.write("x.dag.journal", changed(journal, HEADER + SLOT + 1, 9))
+    same(folder.call("graph", "x.dag"), ("", "dagrun: J9 BadSlot 1\n", 125))
+    os.remove(folder.at("x.dag.journal"))
+    os.mkdir(folder.at("x.dag.journal"))
+    same(folder.call("graph", "x.dag"), ("", "dagrun: X2 FileRefused x.dag.journal\n", 125))
+
+
+def fields_of(folder, name="x.dag.log"):
+    """The lines of a log: event, node, phase, attempt, and the details; each line begins with a time and is whole."""
+    lines = []
+    for line in folder.read(name).decode().splitlines(keepends=True):
+        moment, event, node, phase, attempt, process, *details = line.rstrip("\n").split("\t")
+        same((re.fullmatch(r"\d{4}-\d\d-\d\dT\d\d:\d\d:\d\d\.\d{3}Z", moment) is not None, line[-1]), (True, "\n"))
+        same(process.isdigit() or process == "-", True)
+        lines.append((event, node, phase, attempt, dict(detail.split("=", 1) for detail in details)))
+    return lines
+
+
+def events_of(folder, name="x.dag.log"):
+    return [" ".join(line[:4]) for line in fields_of(folder, name)]
+
+
+def a_log(folder):
+    """What a log tells of failures and of FINAL, in the order of what happened."""
+    folder.write("x.dag", "JOB A a.sub\nJOB B b.sub\nJOB C c.sub\nJOB D d.sub\nFINAL F f.sub\nRETRY A 1\nSCRIPT PRE C pre.sh it's two\n")
+    folder.shell("a", "[ -e ran ] && exit 3\n: > ran\nkill -9 $$\n")
+    folder.write("b.sub", "executable = /no/such\nqueue\n")
+    folder.write("c.sub", "executable = /bin/true\nqueue\n")
+    folder.write("d.sub", "executable = /bin/echo\narguments = \"x 'it''s a y' z\"\ninitialdir = sub\noutput = d out\nerror = d out\nqueue\n")
+    folder.echo("f")
+    os.mkdir(folder.at("sub"))
+    report = "A ERROR attempts=2 value=3\nB ERROR attempts=1 value=-1001\nC ERROR attempts=1 value=-1001\nD DONE attempts=1 value=0\nF DONE attempts=1 value=0\nresult 0\n"
+    same(folder.call("run", "--maxjobs", "1", "x.dag"), (report, "", 0))
+    here = os.path.realpath(folder.path)
+    lines = fields_of(folder)
+    events = [" ".join(line[:4]) for line in lines]
+    same(events[0], "life - - -")
+    life = {"start": "begin", "dag": "x.dag", "folder": here, "nodes": "5", "done": "0", "jobs": "1", "pre": "0", "post": "0"}
+    same(lines[0][4], {**life, "children": "1024", "rescue": "0", "next": "1"})
+    same(events[-4:], ["final F JOB 0", "start F JOB 0", "end F JOB 0", "finish - - -"])
+    same(lines[-1][4], {"status": "0", "done": "2", "error": "3", "ready": "0", "not_ready": "0"})
+    told = {event: line[4] for event, line in zip(events, lines)}
+    same([told["end A JOB 0"].get("signal"), told["end A JOB 0"].get("name"), told["end A JOB 1"].get("exit")], ["9", "SIGKILL", "3"])
+    same([told["notstarted B JOB 0"][key] for key in ("what", "path", "command")], ["program", "/no/such", "/no/such"])
+    same("No such file" in told["notstarted B JOB 0"]["reason"], True)
+    same(told["notstarted C PRE 0"]["command"], here + r"/pre.sh 'it'\''s' two")
+    wanted = {"command": r"/bin/echo x 'it'\''s a y' z", "folder": f"{here}/sub", "output": f"'{here}/sub/d out'", "error": f"'{here}/sub/d out'"}
+    same(told["start D JOB 0"], wanted)
+    same(float(told["end D JOB 0"]["seconds"]) < 5, True)
+    same(folder.there("x.dag.children"), False)
+    # A round behind it has a log of its own.
+    before = folder.read("x.dag.log")
+    folder.call("run", "x.dag")
+    same(folder.read("x.dag.log.old"), before)
+    same(events_of(folder)[0], "life - - -")
+
+
+def a_log_that_can_not_be_written(folder):
+    folder.write("x.dag", DIAMOND)
+    folder.echo(*"abcd")
+    os.makedirs(folder.at("x.dag.log"))
+    os.makedirs(folder.at("x.dag.log.old/some"))
+    same(folder.call("run", "x.dag"), (ALL_DONE, "", 0))
+    os.rmdir(folder.at("x.dag.log"))
+    os.symlink("/dev/full", folder.at("x.dag.log"))
+    folder.cut_journal(4)
+    same(folder.call("run", "x.dag"), (ALL_DONE, "", 0))
+
+
+def what_was_refused(folder):
+    """The log names the path of what could not be opened, and the system's reason."""
+    folder.write("a.txt", "no program\n")
+    here = os.path.realpath(folder.path)
+    for number, (lines, what, path, reason) in enumerate((
+        ("a.txt", "program", "a.txt", "Permission denied"),
+        ("/bin/echo\ninput = none", "input", "none", "No such file"),
+        ("/bin/echo\noutput = none/x", "output", "none/x", "No such file"),
+        ("/bin/echo\noutput = y\nerror = none/x", "error", "none/x", "No such file"),
+        ("/bin/echo\ninitialdir = none", "folder", "none", "No such file"),
+    )):
+        folder.write("a.sub", f"executable = {lines}\nqueue\n")
+        folder.write(f"{number}.dag", "JOB A a.sub\n")
+        same(folder.call("run", f"{number}.dag"), ("A ERROR attempts=1 value=-1001\nresult 1\n", "", 1))
+        told = fields_of(folder, f"{number}.dag.log")[1]
+        same(told[:4], ("notstarted", "A", "JOB", "0"))
+        same((told[4]["what"], told[4]["path"], reason in told[4]["reason"]), (what, f"{here}/{path}", True))
+
+
+def an_abort_in_the_log(folder):
+    folder.write("x.dag", "JOB A a.sub\nJOB B b.sub\nABORT-DAG-ON A 7\n")
+    folder.shell("a", "while [ ! -e b ]; do sleep 0.02; done; exit 7\n")
+    folder.shell("b", ": > b; exec sleep 30\n")
+    same(folder.call("run", "x.dag"), ("A ERROR attempts=1 value=7\nB READY attempts=0 value=-\nresult 7\n", "", 7))
+    same(events_of(folder), ["life - - -", "start A JOB 0", "start B JOB 0", "end A JOB 0", "abort - - -", "killed B JOB 0", "finish - - -"])
+
+
+def left_running(folder):
+    """A manager is killed while a child of it sleeps; answers the child's process. Another one would end at once."""
+    folder.shell("a", "if [ -e again ]; then exit 0; fi\necho $$ > process\nmv process begun\nexec sleep 100\n")
+    return left(folder)
+
+
+def left(folder):
+    """A manager is killed once its child has written its number into the file `begun`; answers that."""
+    folder.write("x.dag", "JOB A a.sub\n")
+    first = folder.start("run", "x.dag")
+    folder.wait_for("begun")
+    first.kill()
+    first.wait(timeout=30)
+    # The orphan has them too: they are not read to their ends.
+    first.stdout.close()
+    first.stderr.close()
+    process = int(folder.read("begun"))
+    same(runs_still(process), True)
+    folder.write("again", "")
+    return process
+
+
+def stat_of(process):
+    """What the system tells of a process, from its state on."""
+    with open(f"/proc/{process}/stat") as file:
+        return file.read().rsplit(")", 1)[1].split()
+
+
+def runs_still(process):
+    return os.path.exists(f"/proc/{process}/stat") and stat_of(process)[0] not in "ZX"
+
+
+ONE_DONE = "A DONE attempts=1 value=0\nresult 0\n"
+
+
+def orphans_in(folder, name="x.dag.log"):
+    return [line[4]["done"] for line in fields_of(folder, name) if line[0] == "orphan"]
+
+
+def an_orphan_is_killed(folder):
+    process = left_running(folder)
+    # A line of the manager, of what it was about to start, and of the process.
+    lines = [line.split("\t") for line in folder.read("x.dag.children").decode().splitlines()]
+    same([line[:1] + line[3:] for line in lines[1:]], [["next", "0", "/bin/sh a.sh"], [str(process), "A", "JOB", "0"]])
+    same((lines[0][0], len(lines[0])), ("manager", 7))
+    same(folder.call("run", "x.dag"), (ONE_DONE, "", 0))
+    same((runs_still(process), orphans_in(folder), folder.there("x.dag.children")), (False, ["killed"], False))
+    same(events_of(folder), ["life - - -", "start A JOB 0", "orphan A JOB 0", "life - - -", "start A JOB 0", "end A JOB 0", "finish - - -"])
+
+
+def an_orphan_with_an_odd_name(folder):
+    """The system tells of a process by its name, too, which may look like what stands behind it."""
+    name = "odd) Z 1 1 1 (it's"
+    folder.write(name, "#!/bin/sh\nif [ -e again ]; then exit 0; fi\nmkfifo never\necho $$ > process\nmv process begun\nread word < never\n")
+    os.chmod(folder.at(name), 0o755)
+    folder.write("a.sub", f"executable = {name}\narguments = \"'tab\there' '' back\\slash\"\nqueue\n")
+    process = left(folder)
+    # The system keeps fifteen bytes of a name.
+    with open(f"/proc/{process}/comm") as file:
+        same(file.read(), name[:15] + "\n")
+    same(folder.call("run", "x.dag"), (ONE_DONE, "", 0))
+    same((runs_still(process), orphans_in(folder)), (False, ["killed"]))
+    here = os.path.realpath(folder.path)
+    same(fields_of(folder)[1][4]["command"], "'" + here + r"/odd) Z 1 1 1 (it'\''s' " + r"$'tab\there' '' 'back\slash'")
+
+
+def a_child_that_was_being_started(folder):
+    """A manager is killed once its child runs, and before its process is noted: the child is found by its words."""
+    folder.write("x.dag", "JOB A a.sub\n")
+    folder.shell("a", "if [ -e again ]; then exit 0; fi\nmkfifo never\necho $$ > process\nmv process begun\nread word < never\n")
+    # The lines of the manager, of what comes next, and of the process.
+    words = ["strace", "-qqq", "-e", "trace=write", "-P", folder.at("x.dag.children"), "-e", "inject=write:signal=SIGKILL:when=3"]
+    done = subprocess.run([*words, "-o", "/dev/null", folder.program, "run", "x.dag"], cwd=folder.path, capture_output=True, timeout=60)
+    same(done.returncode != 0, True)
+    folder.wait_for("begun")
+    process = int(folder.read("begun"))
+    same((runs_still(process), [line.split("\t")[0] for line in folder.read("x.dag.children").decode().splitlines()]), (True, ["manager", "next"]))
+    folder.write("again", "")
+    # Others of the group are left alone: one with other words, and one whose parent is of the group.
+    others = [subprocess.Popen(["sleep", "100"]), subprocess.Popen(["/bin/sh", "-c", "read word", "/bin/sh", "a.sh"], stdin=subprocess.PIPE)]
+    try:
+        same(folder.call("run", "x.dag"), (ONE_DONE, "", 0))
+        same((runs_still(process), orphans_in(folder), [other.poll() for other in others]), (False, ["killed"], [None, None]))
+    finally:
+        for other in others:
+            other.kill()
+            other.wait()
+
+
+def an_orphan_is_left(folder):
+    process = left_running(folder)
+    try:
+        same(folder.call("run", "--orphans", "leave", "x.dag"), (ONE_DONE, "", 0))
+        same((runs_still(process), orphans_in(folder)), (True, ["left"]))
+        # It is still known: the next call, which begins a round, kills it.
+        same(folder.call("run", "x.dag"), (ONE_DONE, "", 0))
+        same((runs_still(process), orphans_in(folder, "x.dag.log.old")), (False, ["left", "killed"]))
+    finally:
+        if runs_still(process):
+            os.kill(process, signal.SIGKILL)
+
+
+def an_orphan_is_waited_for(folder):
+    process = left_running(folder)
+    second = folder.start("run", "--orphans=wait", "x.dag")
+    time.sleep(0.5)
+    same((second.poll(), runs_still(process), folder.read("x.dag.log").count(b"life")), (None, True, 1))
+    os.kill(process, signal.SIGTERM)
+    same(second.communicate(timeout=30), (ONE_DONE.encode(), b""))
+    same(orphans_in(folder), ["waited"])
+
+
+def another_process_of_that_number(folder):
+    """A process that has the number of a child that is gone began at another time, or since the machine did: it is left alone."""
+    process = left_running(folder)
+    fields = folder.read("x.dag.children").decode().splitlines(keepends=True)[-1].split("\t")
+    os.kill(process, signal.SIGKILL)
+    other = subprocess.Popen(["sleep", "100"])
+    try:
+        began = stat_of(other.pid)[19]
+        for line in ([fields[1], fields[2]], [began, "another-boot"]):
+            folder.write("x.dag.children", "\t".join([str(other.pid), *line, *fields[3:]]))
+            same(folder.call("run", "x.dag"), (ONE_DONE, "", 0))
+            same((other.poll(), orphans_in(folder)), (None, []))
+        folder.write("x.dag.children", "\t".join([str(other.pid), began, *fields[2:]]))
+        same(folder.call("run", "x.dag"), (ONE_DONE, "", 0))
+        same(other.wait(timeout=10), -signal.SIGKILL)
+    finally:
+        other.kill()
+        other.wait()
+
+
+def children_that_can_not_be_read(folder):
+    folder.write("x.dag", DIAMOND)
+    folder.echo(*"abcd")
+    os.mkdir(folder.at("x.dag.children"))
+    refused(folder, ("run", "x.dag"), "X2 FileRefused x.dag.children")
+    same(folder.there("x.dag.journal"), False)
+    os.rmdir(folder.at("x.dag.children"))
+    folder.write("x.dag.children", "1\t2\n12\n\nno process at all\n")
+    same(folder.call("run", "x.dag"), (ALL_DONE, "", 0))
+
+
+def closed_streams(folder):
+    """Where 0, 1 or 2 is closed at the start, no file of the run becomes one of them, and no child has another."""
+    folder.write("x.dag", "JOB A a.sub\n")
+    folder.write("a.sub", "executable = /bin/sh\narguments = look.sh\noutput = out\nqueue\n")
+    folder.write("look.sh", 'for i in 0 1 2 3 4 5 6 7 8 9; do if [ -e /proc/$$/fd/$i ]; then printf "$i "; fi; done\n')
+    for closed in ("0<&-", "1>&-", "2>&-", "0<&- 1>&- 2>&-"):
+        for name in ("x.dag.journal", "x.dag.log", "x.dag.lock"):
+            if folder.there(name):
+                os.remove(folder.at(name))
+        done = subprocess.run(["sh", "-c", f'exec "$0" run x.dag {closed}', folder.program], cwd=folder.path, capture_output=True, timeout=60)
+        report = b"" if "1>&-" in closed else ONE_DONE.encode()
+        same((closed, done.stdout, done.stderr, done.returncode), (closed, report, b"", 0))
+        # sh itself has the script that it reads as 10.
+        same(folder.read("out"), b"0 1 2 ")
+        # The journal is as it is elsewhere: Life, launch, end, Finish, and the closed gate.
+        same(len(folder.read("x.dag.journal")), HEADER + SLOT * 4 + 1)
+        same((folder.read("x.dag.lock"), len(events_of(folder))), (b"", 4))
+
+
+def no_process_to_be_had(folder):
+    """More children than the user may have processes: they are started as others end."""
+    names = [f"n{number}" for number in range(40)]
+    folder.write("x.dag", "".join(f"JOB {name} a.sub\n" for name in names))
+    folder.write("a.sub", "executable = /bin/sleep\narguments = 0.3\nqueue\n")
+    report = "".join(f"{name} DONE attempts=1 value=0\n" for name in names) + "result 0\n"
+    shutil.copy(folder.program, folder.at("program"))
+    as_another = {}
+    if os.getuid() == 0:
+        # The superuser has no such limit; nobody else runs as this user.
+        user = 54321
+        for path in (folder.path, *(folder.at(name) for name in os.listdir(folder.path))):
+            os.chown(path, user, user)
+        as_another = {"user": user, "group": user, "extra_groups": []}
+    words = ["prlimit", "--nproc=12", folder.at("program"), "run", "x.dag"]
+    done = subprocess.run(words, cwd=folder.path, capture_output=True, timeout=60, **as_another)
+    same((done.stdout.decode(), done.stderr, done.returncode), (report, b"", 0))
+    same("hold" in {line[0] for line in fields_of(folder)}, True)
 
 
 def in_another_folder(folder):
@@ -658,7 +1073,7 @@ def in_another_folder(folder):
     folder.echo("a")
     same(folder.call("run", "dags/x.dag"), ("A DONE attempts=1 value=0\nresult 0\n", "", 0))
     same(sorted(os.listdir(folder.path)), ["a.out", "a.sub", "dags"])
-    same(sorted(os.listdir(folder.at("dags"))), ["x.dag", "x.dag.journal", "x.dag.lock"])
+    same(sorted(os.listdir(folder.at("dags"))), ["x.dag", "x.dag.journal", "x.dag.lock", "x.dag.log"])
 
 
 def the_example(folder):
@@ -674,6 +1089,240 @@ def the_example(folder):
     report = "numbers DONE attempts=0 value=-\nsquares DONE attempts=0 value=-\ncubes DONE attempts=1 value=0\ntable DONE attempts=1 value=0\nresult 0\n"
     same(folder.call("run", "examples/flow/flow.dag"), (report, "", 0))
     same(folder.read("examples/flow/table.txt"), b"1\t1\t1\n2\t4\t8\n3\t9\t27\n4\t16\t64\n5\t25\t125\n")
+
+
+def three_rounds(folder):
+    """Three rounds of a diamond whose C ends with 3, then 4, then 0."""
+    folder.write("x.dag", DIAMOND)
+    folder.echo(*"abd")
+    folder.shell("c", "echo ran >> c.ran\nread code < code\nexit $code\n")
+    for code, done, report in (
+        (3, "attempts=1 value=0", "C ERROR attempts=1 value=3\nD NOT_READY attempts=0 value=-\nresult 1\n"),
+        (4, "attempts=0 value=-", "C ERROR attempts=1 value=4\nD NOT_READY attempts=0 value=-\nresult 1\n"),
+        (0, "attempts=0 value=-", "C DONE attempts=1 value=0\nD DONE attempts=1 value=0\nresult 0\n"),
+    ):
+        folder.write("code", f"{code}\n")
+        same(folder.call("run", "x.dag"), (f"A DONE {done}\nB DONE {done}\n{report}", "", 1 if code else 0))
+        yield code
+
+
+RESCUE_OF_TWO = b"# Rescue DAG file\n# Total number of Nodes: 4\n# Nodes premarked DONE: 2\n\nDONE A\nDONE B\n"
+
+
+def rescues(folder):
+    """The rescue files of x.dag by their numbers, and what stands in each."""
+    return {name[len("x.dag.rescue") :]: folder.read(name) for name in os.listdir(folder.path) if name.startswith("x.dag.rescue")}
+
+
+def everything(folder):
+    """The files of a folder, but for the log of the round, which has times, and the names of the processes that were started."""
+    names = [name for name in os.listdir(folder.path) if ".dag.log" not in name and not name.endswith(".children")]
+    return {name: folder.read(name) for name in names if os.path.isfile(folder.at(name))}
+
+
+def back_to_the_first_round(folder):
+    for code in three_rounds(folder):
+        same(rescues(folder), {3: {"001": RESCUE_OF_TWO}, 4: {"001": RESCUE_OF_TWO, "002": RESCUE_OF_TWO}, 0: {"001": RESCUE_OF_TWO, "002": RESCUE_OF_TWO}}[code])
+        if code == 3:
+            for name in ("a.out", "b.out"):
+                os.remove(folder.at(name))
+    os.remove(folder.at("d.out"))
+    # The second file is told from a new one by a comment.
+    folder.write("x.dag.rescue002", b"# the second\n" + RESCUE_OF_TWO)
+    folder.write("x.dag.rescue002.old", b"an older one\n")
+    before = everything(folder)
+    for number in (7, 0, 3, 1000, 65535):
+        refused(folder, ("run", "--dorescuefrom", str(number), "x.dag"), f"E4 NotThere {number}")
+        same(everything(folder), before)
+    folder.write("code", "5\n")
+    folder.write("c.ran", "")
+    report = "A DONE attempts=0 value=-\nB DONE attempts=0 value=-\nC ERROR attempts=1 value=5\nD NOT_READY attempts=0 value=-\n"
+    # The option passes --autorescue over.
+    same(folder.call("run", "--autorescue=0", "--dorescuefrom", "1", "x.dag"), (report + "result 1\n", "", 1))
+    same(rescues(folder), {"001": RESCUE_OF_TWO, "002": RESCUE_OF_TWO, "002.old": b"# the second\n" + RESCUE_OF_TWO})
+    same(folder.read("c.ran"), b"ran\n")
+    same([folder.there(f"{name}.out") for name in "abd"], [False] * 3)
+    same(folder.read("x.dag.journal.old"), before["x.dag.journal"])
+    same(folder.read("x.dag.journal")[4:8], b"\0\1\0\2")
+    audited(folder, report + "audit ok")
+
+
+def rescue_numbers_with_gaps(folder):
+    """Rescue files 001, 003 and 999, and older ones with .old behind their names, which count for nothing."""
+    folder.write("x.dag", DIAMOND)
+    folder.echo(*"abd")
+    folder.shell("c", "exit 3\n")
+    texts = {number: f"# {number}\nDONE A\nDONE B\n".encode() for number in ("001", "003", "999")}
+    report = "A DONE attempts=0 value=-\nB DONE attempts=0 value=-\nC ERROR attempts=1 value=3\nD NOT_READY attempts=0 value=-\nresult 1\n"
+
+    def begun_from(number):
+        for name in os.listdir(folder.path):
+            if name.startswith(("x.dag.rescue", "x.dag.journal")):
+                os.remove(folder.at(name))
+        for name, text in texts.items():
+            folder.write(f"x.dag.rescue{name}", text)
+        same(folder.call("run", "x.dag", f"--dorescuefrom={number}"), (report, "", 1))
+        return rescues(folder)
+
+    same(begun_from(1), {"001": texts["001"], "002": RESCUE_OF_TWO, "003.old": texts["003"], "999.old": texts["999"]})
+    same(begun_from(3), {"001": texts["001"], "003": texts["003"], "004": RESCUE_OF_TWO, "999.old": texts["999"]})
+    # 999 is read, and written again.
+    same(begun_from(999), {"001": texts["001"], "003": texts["003"], "999": RESCUE_OF_TWO})
+    same(folder.read("x.dag.journal")[4:8], b"\3\xe7\3\xe7")
+    for name in list(rescues(folder)):
+        os.rename(folder.at(f"x.dag.rescue{name}"), folder.at(f"x.dag.rescue{name}.old"))
+    folder.call("run", "x.dag")
+    same(folder.read("x.dag.journal")[4:8], b"\0\0\0\1")
+
+
+def refusals_of_going_back(folder):
+    """Each cause stands before those that come later, and changes nothing."""
+    for _ in three_rounds(folder):
+        pass
+    journal = folder.read("x.dag.journal")
+
+    def is_refused(number, line):
+        before = everything(folder)
+        refused(folder, ("run", "--dorescuefrom", str(number), "x.dag"), line)
+        same(everything(folder), before)
+
+    # A fault of the rescue file that is read; the lock, which another process holds.
+    folder.write("x.dag.rescue001", "DONE A\nDONE Q\n")
+    is_refused(1, "E2 UnknownNode x.dag.rescue001:2")
+    folder.write("x.dag.rescue001", RESCUE_OF_TWO)
+    with open(folder.at("x.dag.lock")) as lock:
+        fcntl.flock(lock, fcntl.LOCK_EX)
+        is_refused(1, "X2 FileRefused x.dag.lock")
+    os.rename(folder.at("d.sub"), folder.at("d.away"))
+    is_refused(1, "P1 MissingFile d.sub")
+    # A run that has not ended, even where its header has a number that no rescue file has.
+    folder.cut_journal(2)
+    is_refused(1, "E6 Unfinished")
+    folder.write("x.dag.journal", journal[:4] + b"\x03\xe8\0\0" + folder.read("x.dag.journal")[8:])
+    is_refused(1, "E6 Unfinished")
+    folder.write("x.dag.journal", b"a" * 66)
+    is_refused(1, "J3 NotAJournal")
+    is_refused(3, "E4 NotThere 3")
+    folder.write("x.dag", DIAMOND + "PARENT D CHILD A\n")
+    is_refused(3, "G1 Cycle A B D")
+    folder.write("x.dag", DIAMOND)
+    os.rename(folder.at("d.away"), folder.at("d.sub"))
+    # Without a journal, and with one in which nothing stands yet, a round begins.
+    folder.write("x.dag.journal", b"J")
+    same(folder.call("run", "--dorescuefrom", "1", "x.dag")[1:], ("", 0))
+    same(sorted(rescues(folder)), ["001", "002.old"])
+    # Nothing is to be seen of a call that is refused in a folder where no run was.
+    for name in ("x.dag.journal", "x.dag.journal.old", "x.dag.lock"):
+        os.remove(folder.at(name))
+    is_refused(2, "E4 NotThere 2")
+    same(folder.there("x.dag.lock"), False)
+
+
+def folders_in_the_place_of_rescue_files(folder):
+    for _ in three_rounds(folder):
+        pass
+    os.remove(folder.at("x.dag.rescue002"))
+    os.mkdir(folder.at("x.dag.rescue002"))
+    # It is there, and can't be read.
+    before = everything(folder)
+    refused(folder, ("run", "--dorescuefrom", "2", "x.dag"), "X2 FileRefused x.dag.rescue002")
+    same(everything(folder), before)
+    # A file can't be replaced by a folder; those of higher numbers have their other names by then, and the same call goes on.
+    folder.write("x.dag.rescue003", RESCUE_OF_TWO)
+    folder.write("x.dag.rescue002.old", "")
+    refused(folder, ("run", "--dorescuefrom", "1", "x.dag"), "X2 FileRefused x.dag.rescue002")
+    same(sorted(name for name in os.listdir(folder.path) if "rescue" in name), ["x.dag.rescue001", "x.dag.rescue002", "x.dag.rescue002.old", "x.dag.rescue003.old"])
+    same(folder.read("x.dag.journal"), before["x.dag.journal"])
+    os.remove(folder.at("x.dag.rescue002.old"))
+    same(folder.call("run", "--dorescuefrom", "1", "x.dag")[1:], ("", 0))
+    same(sorted(name for name in os.listdir(folder.path) if "rescue" in name), ["x.dag.rescue001", "x.dag.rescue002.old", "x.dag.rescue003.old"])
+    same(os.path.isdir(folder.at("x.dag.rescue002.old")), True)
+
+
+def a_folder_that_may_not_be_written(folder):
+    """No name in it may be changed: nothing is, and once it may be written the same call goes on."""
+    for _ in three_rounds(folder):
+        pass
+    program = folder.at("program")
+    shutil.copy(folder.program, program)
+    as_another = {}
+    if os.getuid() == 0:
+        # The superuser may write anywhere.
+        nobody = 65534
+        for name in os.listdir(folder.path):
+            os.chown(folder.at(name), nobody, nobody)
+        os.chown(folder.path, nobody, nobody)
+        as_another = {"user": nobody, "group": nobody, "extra_groups": []}
+
+    def call():
+        words = [program, "run", "--dorescuefrom", "1", "x.dag"]
+        done = subprocess.run(words, cwd=folder.path, capture_output=True, timeout=60, **as_another)
+        return done.stderr.decode(), done.returncode
+
+    before = everything(folder)
+    os.chmod(folder.path, 0o555)
+    try:
+        same(call(), ("dagrun: X2 FileRefused x.dag.rescue002\n", 125))
+        same(everything(folder), before)
+        # Nor may a file be made in it: the lock is the first.
+        os.chmod(folder.path, 0o755)
+        os.remove(folder.at("x.dag.lock"))
+        os.chmod(folder.path, 0o555)
+        same(call(), ("dagrun: X2 FileRefused x.dag.lock\n", 125))
+    finally:
+        os.chmod(folder.path, 0o755)
+    same(call(), ("", 0))
+    same(sorted(rescues(folder)), ["001", "002.old"])
+
+
+def cut_short_while_going_back(folder):
+    """A run is killed, or its call fails, as it renames a file or syncs the folder before the round begins; the same call goes on."""
+    for _ in three_rounds(folder):
+        pass
+    for number in ("002", "003", "004"):
+        folder.write(f"x.dag.rescue{number}", RESCUE_OF_TWO + f"# {number}\n".encode())
+    folder.write("code", "5\n")
+    words = ["run", "--dorescuefrom", "1", "x.dag"]
+
+    def tried(fault):
+        with tempfile.TemporaryDirectory() as path:
+            copy = Folder(folder.program, os.path.join(path, "copy"))
+            shutil.copytree(folder.path, copy.path)
+            tracing = ["strace", "-qqq", "-e", "trace=rename,fsync", "-e", "signal=none", "-o", os.path.join(path, "calls"), *fault]
+            done = subprocess.run([*tracing, copy.program, *words], cwd=copy.path, capture_output=True, timeout=60)
+            calls = [line for line in open(os.path.join(path, "calls")).read().splitlines() if ".dag.log" not in line]
+            cut = (done.stdout.decode(), done.stderr.decode(), done.returncode)
+            between = everything(copy)
+            if fault and done.returncode not in (0, 1):
+                cut = copy.call(*words)
+            return done, cut, calls, between, everything(copy)
+
+    _, wanted, calls, _, ends = tried([])
+    same(wanted[2], 1)
+    renamed = [number for number, line in enumerate(calls) if line.startswith("rename")]
+    # Three rescue files, the highest first, the sync of the folder, and the journal.
+    same([calls[number].split('"')[1][-3:] for number in renamed], ["004", "003", "002", "nal"])
+    same(renamed, [renamed[0], renamed[0] + 1, renamed[0] + 2, renamed[0] + 4])
+    numbers = ["002", "003", "004"]
+    old = {number: folder.read(f"x.dag.rescue{number}") for number in numbers}
+    syncs = sum(line.startswith("fsync") for line in calls[: renamed[0]])
+    for call, count in (("rename", 4), ("fsync", 2)):
+        for number in range(1, count + 1):
+            place = number if call == "rename" else number + syncs
+            for how in ("signal=SIGKILL", "error=EIO", "error=ENOSPC"):
+                done, answer, _, between, found = tried(["-e", f"inject={call}:{how}:when={place}"])
+                if how.startswith("error"):
+                    same((done.stdout, done.returncode), (b"", 125))
+                    same(re.fullmatch(r"dagrun: X2 FileRefused [^\n]+\n", done.stderr.decode()) is not None, True)
+                else:
+                    same(done.returncode != 1, True)
+                # At any moment each of them stands under one of its two names, and those of lower numbers have kept theirs.
+                put_away = [f"x.dag.rescue{it}.old" in between for it in numbers]
+                same(put_away, sorted(put_away))
+                for it, away in zip(numbers, put_away):
+                    same(between.get(f"x.dag.rescue{it}.old" if away else f"x.dag.rescue{it}"), old[it])
+                    same(f"x.dag.rescue{it}" in between, not away)
+                same((answer, found), (wanted, ends))
 
 
 def the_order_of_the_disk(folder):
@@ -736,14 +1385,34 @@ ROWS = [
     audit_of_a_failing_final,
     audit_behind_a_rescue_file,
     refusals_of_audit,
+    back_to_the_first_round,
+    rescue_numbers_with_gaps,
+    refusals_of_going_back,
+    folders_in_the_place_of_rescue_files,
+    a_folder_that_may_not_be_written,
     a_second_manager,
     stopped_by_sigterm,
     stopped_by_sigint,
     an_orphan_holds_no_lock,
     limits_of_a_call,
+    limits_of_the_environment,
     words_that_are_no_request,
+    help_and_version,
+    a_picture_of_a_run,
     in_another_folder,
     the_example,
+    a_log,
+    a_log_that_can_not_be_written,
+    what_was_refused,
+    an_abort_in_the_log,
+    an_orphan_is_killed,
+    an_orphan_with_an_odd_name,
+    an_orphan_is_left,
+    an_orphan_is_waited_for,
+    another_process_of_that_number,
+    children_that_can_not_be_read,
+    closed_streams,
+    no_process_to_be_had,
 ]
 
 
@@ -751,9 +1420,9 @@ def main():
     program = os.path.realpath(sys.argv[1])
     rows = list(ROWS)
     if shutil.which("strace"):
-        rows.append(the_order_of_the_disk)
+        rows += [the_order_of_the_disk, cut_short_while_going_back, a_child_that_was_being_started]
     else:
-        print("strace is not installed: the order in which the disk is written is not looked at")
+        print("strace is not installed: the order in which the disk is written is not looked at, and no call of going back is cut short, and no child while it is started")
     if len(sys.argv) > 2:
         rows = [row for row in rows if sys.argv[2] in row.__name__]
     failed = 0

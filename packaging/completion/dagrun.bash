@@ -6,30 +6,42 @@ _dagrun() {
     if [ "$word" = '=' ]; then word=''; elif [ "$before" = '=' ]; then before=${COMP_WORDS[COMP_CWORD - 2]}; fi
     for ((place = 1; place < COMP_CWORD; place++)); do
         case $command:${COMP_WORDS[place]} in
-        :run|:status|:audit|:check|:rehearse) command=${COMP_WORDS[place]} ;;
+        :run|:status|:audit|:check|:rehearse|:graph|:explain|:help|:version) command=${COMP_WORDS[place]} ;;
         ?*:*.dag | rehearse:-) dag=${COMP_WORDS[place]} ;;
         esac
     done
     case $before in
         --autorescue) values='0 1' ;;
-        --maxjobs|--maxpost|--maxpre) return ;;
+        --orphans) values='kill wait leave' ;;
+        --dorescuefrom|--maxjobs|--maxpost|--maxpre) return ;;
     esac
     if [ -n "$values" ]; then
         COMPREPLY=($(compgen -W "$values" -- "$word"))
         return
     fi
     case $command in
-        '') options='run status audit check rehearse --help' ;;
-        run) options='--maxjobs --maxpre --maxpost --autorescue --help' ;;
+        '') options='run status audit check rehearse graph explain help version --help' ;;
+        run) options='--maxjobs --maxpre --maxpost --autorescue --dorescuefrom --orphans --help' ;;
         status) options='--help' ;;
         audit) options='--help' ;;
         check) options='--help' ;;
         rehearse) options='--maxjobs --maxpre --maxpost --help' ;;
+        graph) options='--help' ;;
+        explain) options='--help' ;;
+        help) options='--help' ;;
+        version) options='--help' ;;
     esac
     if [ -z "$command" ] || [[ $word == -* ]]; then
         COMPREPLY=($(compgen -W "$options" -- "$word"))
         return
     fi
+    case $command in
+        help)
+            COMPREPLY=($(compgen -W 'run status audit check rehearse graph explain help version' -- "$word"))
+            return
+            ;;
+        explain|version) return ;;
+    esac
     # DAG files and folders, and any file where there are none, or where the DAG file stands already.
     local IFS=$'\n'
     compopt -o filenames 2>/dev/null

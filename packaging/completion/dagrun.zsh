@@ -8,6 +8,10 @@ _dagrun() {
         'audit:Says whether a journal is that of a finished run, and what its nodes came to'
         'check:Reads a DAG file with its splices, and says whether it is right'
         'rehearse:Runs a DAG file at the outcomes of a table, and starts no program'
+        'graph:Draws the graph of a DAG, coloured by where its nodes stand, for graphviz'
+        'explain:Says what the code of a fault means, with an example, and what to do'
+        'help:Says how a command is called, with examples'
+        'version:Says which version this is'
     )
     if (( CURRENT == 2 )); then
         _describe -t commands command commands
@@ -23,6 +27,8 @@ _dagrun() {
                 '--maxpre=[How many PRE scripts may run at once]:N:' \
                 '--maxpost=[How many POST scripts may run at once]:N:' \
                 '--autorescue=[0\: a new round reads no rescue file]:0 or 1:(0 1)' \
+                '--dorescuefrom=[Begins a new round by the rescue file of this number; those of higher numbers are renamed to .old]:N:' \
+                '--orphans=[What is done with processes that a manager which was killed left running; kill where it is not given \[possible values\: kill, wait, leave\]]:kill or wait or leave:(kill wait leave)' \
                 '1:DAG:_files -g "*.dag"'
             ;;
         status)
@@ -48,6 +54,25 @@ _dagrun() {
                 '--maxpost=[How many POST scripts may run at once]:N:' \
                 '1:DAG:_files -g "*.dag"' \
                 '2::OUTCOMES:_files'
+            ;;
+        graph)
+            _arguments \
+                '(-h --help)'{-h,--help}'[Print help]' \
+                '1:DAG:_files -g "*.dag"'
+            ;;
+        explain)
+            _arguments \
+                '(-h --help)'{-h,--help}'[Print help]' \
+                '1::CODE:'
+            ;;
+        help)
+            _arguments \
+                '(-h --help)'{-h,--help}'[Print help]' \
+                '1::COMMAND:(run status audit check rehearse graph explain help version)'
+            ;;
+        version)
+            _arguments \
+                '(-h --help)'{-h,--help}'[Print help]'
             ;;
     esac
 }

@@ -1,18 +1,20 @@
 -- What the words of a command line ask for.
-use Rattle.std.specs.Prelude.{◌≡◌, ◌<◌, ℕ, List, Option, Some, None}
+use Rattle.std.specs.Prelude.{◌≡◌, ◌<◌, ℕ, List, Option, Some, None, string_bytes}
 use Rattle.std.specs.Option.{option_map}
 use Rattle.throttles.specs.declared.Limits.{Limits}
 use Rattle.command_line.specs.declared.request.RunOptions.{RunOptions}
 use Rattle.command_line.specs.declared.request.Request.{Request}
-use Rattle.command_line.specs.declared.request.Request.TheVariants.{Check, Run, Status, Audit, Rehearse}
+use Rattle.command_line.specs.declared.request.Request.TheVariants.{Check, Run, Status, Audit, Rehearse, Graph, Page}
 
--- a command with its words: the path of the DAG file first
+-- a command with its words: the path of the DAG file first; or the page that is to be printed, which the words alone determine
 pub data Asked : Type 0 where
   checks : List ℕ → Asked
   runs : List ℕ → RunOptions → Asked
   tells_status : List ℕ → Asked
   audits : List ℕ → Asked
   rehearses : List ℕ → Option (List ℕ) → Limits → Asked
+  draws : List ℕ → Asked
+  shows : List ℕ → Asked
 
 -- what a request asks for
 abbrev pub asked_by : Request → Asked
@@ -21,6 +23,8 @@ asked_by (Run dag options) = runs dag.now options
 asked_by (Status dag) = tells_status dag.now
 asked_by (Audit dag) = audits dag.now
 asked_by (Rehearse dag outcomes limits) = rehearses dag.now (option_map (λ t. t.now) outcomes) limits
+asked_by (Graph dag) = draws dag.now
+asked_by (Page text) = shows (string_bytes text)
 
 -- no limits but that on all children
 abbrev pub no_limits : Limits
@@ -40,3 +44,5 @@ limits_in (runs dag options) = Some options.limits
 limits_in (tells_status dag) = None
 limits_in (audits dag) = None
 limits_in (rehearses dag outcomes limits) = Some limits
+limits_in (draws dag) = None
+limits_in (shows text) = None

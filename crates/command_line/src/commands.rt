@@ -1,5 +1,7 @@
 //! The commands and their options, as clap reads them.
 
+use crate::request::{WordsFault, told};
+use clap::error::ErrorKind;
 use clap::{Arg, ArgAction, Command, value_parser};
 use std::alloc::{AllocError, Global};
 
@@ -11,9 +13,11 @@ enum Kind {
     /// A word that may be there.
     Optional,
     /// An option with a number from 0 to 65,535.
-    Limit,
+    Number,
     /// An option with 0 or 1.
     Switch,
+    /// An option with one of these words.
+    Choice(&'static [&'static str]),
 }
 
 /// An argument: its name, what it may be, and its line in the help.
@@ -23,11 +27,12 @@ struct ArgumentRow {
     help: &'static str,
 }
 
-/// A command: its name, its line in the help, and its arguments.
+/// A command: its name, its line in the help, its arguments, and lines that show how it is called.
 struct CommandRow {
     name: &'static str,
     about: &'static str,
     arguments: &'static [ArgumentRow],
+    examples: &'static str,
 }
 
 const FILE: ArgumentRow = ArgumentRow {
@@ -50,19 +55,19 @@ const TABLE: ArgumentRow = ArgumentRow {
 
 const JOBS: ArgumentRow = ArgumentRow {
     name: "maxjobs",
-    kind: Kind::Limit,
+    kind: Kind::Number,
     help: "How many jobs may run at once; 0 is no limit",
 };
 
 const PRE: ArgumentRow = ArgumentRow {
     name: "maxpre",
-    kind: Kind::Limit,
+    kind: Kind::Number,
     help: "How many PRE scripts may run at once",
 };
 
 const POST: ArgumentRow = ArgumentRow {
     name: "maxpost",
-    kind: Kind::Limit,
+    kind: Kind::Number,
     help: "How many POST scripts may run at once",
 };
 
@@ -72,33 +77,110 @@ const AUTORESCUE: ArgumentRow = ArgumentRow {
     help: "0: a new round reads no rescue file",
 };
 
-static COMMANDS: [CommandRow; 5] = [
+const DORESCUEFROM: ArgumentRow = ArgumentRow {
+    name: "dorescuefrom",
+    kind: Kind::Number,
+    help: "Begins a new round by the rescue file of this number; those of higher numbers are renamed to .old",
+};
+
+const CODE: ArgumentRow = ArgumentRow {
+    name: "CODE",
+    kind: Kind::Optional,
+    help: "The code of a fault, as in `dagrun: L2 UnknownCommand ..`; without it all are listed",
+};
+
+const COMMAND: ArgumentRow = ArgumentRow {
+    name: "COMMAND",
+    kind: Kind::Optional,
+    help: "A command; without it all are listed",
+};
+
+const ORPHANS: ArgumentRow = ArgumentRow {
+    name: "orphans",
+    kind: Kind::Choice(&["kill", "wait", "leave"]),
+    help: "What is done with processes that a manager which was killed left running; kill where it is not given",
+};
+
+static COMMANDS: [CommandRow; 9] = [
     CommandRow {
         name: "run",
         about: "Runs a DAG file, or goes on with a run that was cut short",
-        arguments: &[FILE, JOBS, PRE, POST, AUTORESCUE],
+        arguments: &[FILE, JOBS, PRE, POST, AUTORESCUE, DORESCUEFROM, ORPHANS],
+        examples: "  dagrun run x.dag                    runs x.dag, or goes on with its round
+  dagrun run --maxjobs 4 x.dag        with 4 jobs at once at most
+  dagrun run --dorescuefrom 1 x.dag   goes back to x.dag.rescue001
+",
     },
     CommandRow {
         name: "status",
         about: "Says where each node of a run stands, by its journal",
         arguments: &[FILE],
+        examples: "  dagrun status x.dag                 where each node stands, also while it runs
+  watch dagrun status x.dag           again and again
+",
     },
     CommandRow {
         name: "audit",
         about: "Says whether a journal is that of a finished run, and what its nodes came to",
         arguments: &[FILE],
+        examples: "  dagrun audit x.dag                  what the journal of the last round stands for
+",
     },
     CommandRow {
         name: "check",
         about: "Reads a DAG file with its splices, and says whether it is right",
         arguments: &[FILE_OR_INPUT],
+        examples: "  dagrun check x.dag                  whether x.dag and its submit files are right
+  make-dag | dagrun check -           the same of a DAG that a program writes
+",
     },
     CommandRow {
         name: "rehearse",
         about: "Runs a DAG file at the outcomes of a table, and starts no program",
         arguments: &[FILE_OR_INPUT, TABLE, JOBS, PRE, POST],
+        examples: "  dagrun rehearse x.dag               the course of a run in which all goes well
+  dagrun rehearse x.dag table         the same, where table has the line: A 0 JOB 1
+",
+    },
+    CommandRow {
+        name: "graph",
+        about: "Draws the graph of a DAG, coloured by where its nodes stand, for graphviz",
+        arguments: &[FILE],
+        examples: "  dagrun graph x.dag | dot -Tsvg > x.svg   a picture, by graphviz
+",
+    },
+    CommandRow {
+        name: "explain",
+        about: "Says what the code of a fault means, with an example, and what to do",
+        arguments: &[CODE],
+        examples: "  dagrun explain                      the codes of all faults
+  dagrun explain L2                   what L2 says, an example, and what to do
+",
+    },
+    CommandRow {
+        name: "help",
+        about: "Says how a command is called, with examples",
+        arguments: &[COMMAND],
+        examples: "  dagrun help                         the commands
+  dagrun help run                     the options of run
+",
+    },
+    CommandRow {
+        name: "version",
+        about: "Says which version this is",
+        arguments: &[],
+        examples: "  dagrun version                      the version of this program
+",
     },
 ];
+
+/// What the help that names no command shows.
+const FIRST_EXAMPLES: &str = "  dagrun check x.dag      whether the files of x.dag are right
+  dagrun run x.dag        runs it, or goes on with its round
+  dagrun status x.dag     where each node stands
+  dagrun explain L2       what a fault says, and what to do
+  dagrun help run         how run is called
+";
 
 fn argument_of<'a>(alloc: Global, row: &ArgumentRow) -> Arg<'a> {
     let argument = Arg::new(alloc, row.name)
@@ -107,10 +189,11 @@ fn argument_of<'a>(alloc: Global, row: &ArgumentRow) -> Arg<'a> {
     match row.kind {
         Kind::Needed => argument.required(true),
         Kind::Optional => argument,
-        Kind::Limit => argument.long(row.name).value_parser(value_parser!(u16)),
+        Kind::Number => argument.long(row.name).value_parser(value_parser!(u16)),
         Kind::Switch => argument
             .long(row.name)
             .value_parser(value_parser!(u8).range(0..=1)),
+        Kind::Choice(words) => argument.long(row.name).value_parser(words),
     }
 }
 
@@ -140,4 +223,40 @@ pub(crate) fn dagrun_command<'a>(alloc: Global) -> Result<Command<'a>, AllocErro
         program = with_command(program, command_of(alloc, row))?;
     }
     Ok(program)
+}
+
+/// What shows how a command is called; for no command, how the commands that begin are.
+fn examples_of(command: Option<&str>) -> &'static str {
+    let Some(name) = command else {
+        return FIRST_EXAMPLES;
+    };
+    match COMMANDS.iter().find(|row| row.name == name) {
+        Some(row) => row.examples,
+        None => "",
+    }
+}
+
+/// How a command is called, or for no command which there are: clap's help text, and examples.
+///
+/// # Errors
+/// `Told` with clap's text where there is no such command; `Memory`.
+pub(crate) fn help_text(alloc: Global, command: Option<&str>) -> Result<String, WordsFault> {
+    let mut text = match command {
+        Some(name) => clap_help(alloc, &["dagrun", name, "--help"])?,
+        None => clap_help(alloc, &["dagrun", "--help"])?,
+    };
+    let examples = examples_of(command);
+    write!(text, "\nExamples:\n{examples}")?;
+    Ok(text)
+}
+
+/// Clap's answer to words that call for help.
+fn clap_help(alloc: Global, words: &[&str]) -> Result<String, WordsFault> {
+    match dagrun_command(alloc)?.try_get_matches_from(words) {
+        Ok(_) => Ok(String::new(alloc)),
+        Err(error) => match told(alloc, &error) {
+            WordsFault::Told(text) if error.kind() == ErrorKind::DisplayHelp => Ok(text),
+            fault => Err(fault),
+        },
+    }
 }

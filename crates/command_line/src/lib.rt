@@ -2,6 +2,7 @@
 #![tactic(auto)]
 
 mod commands;
+mod pages;
 mod request;
 
-pub use request::{Request, RunOptions, WordsFault, read_words};
+pub use request::{OrphanRule, Request, RunOptions, WordsFault, read_words};

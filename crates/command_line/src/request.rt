@@ -1,13 +1,17 @@
 //! What the words of a command line ask for.
 
-ghost use Rattle.std.specs.Prelude.{◌≡◌, ◌<◌, ◌≤◌, None, length, codes, IsOkAnd, IfOk, IfSome};
-ghost use Rattle.command_line.specs.Requests.{rehearses, asked_by, no_limits, limits_in, AreLimits};
+ghost use Rattle.std.specs.Prelude.{◌≡◌, ◌<◌, ◌≤◌, None, length, codes, IsOkAnd, IfOk, IfSome, string_bytes};
+ghost use Rattle.command_line.specs.Requests.{rehearses, shows, asked_by, no_limits, limits_in, AreLimits};
 
-use crate::commands::dagrun_command;
+use crate::commands::{dagrun_command, help_text};
+use crate::pages::explained;
 use clap::error::ErrorKind;
 use clap::{ArgMatches, Error};
 use std::alloc::{AllocError, Global};
 use throttles::Limits;
+
+/// What `version` prints.
+const VERSION: &str = "dagrun 0.1.0\n";
 
 /// No limits but that on all children.
 const NO_LIMITS: Limits = Limits {
@@ -17,6 +21,17 @@ const NO_LIMITS: Limits = Limits {
     children: 1024,
 };
 
+/// What is done with processes that an earlier manager left running.
+#[derive(Clone, Copy, Debug, PartialEq, Eq)]
+pub enum OrphanRule {
+    /// They are killed, and it is waited until they are gone.
+    Kill,
+    /// It is waited until they have ended.
+    Wait,
+    /// They are left as they are.
+    Leave,
+}
+
 /// How a run is to be done.
 #[derive(Clone, Copy, Debug, PartialEq, Eq)]
 pub struct RunOptions {
@@ -24,10 +39,15 @@ pub struct RunOptions {
     pub limits: Limits,
     /// Whether a new round reads the rescue file of the highest number.
     pub autorescue: bool,
+    /// The number of the rescue file by which a new round begins, in place of the highest, where one
+    /// is asked for; `autorescue` is passed over then.
+    pub dorescuefrom: Option<u16>,
+    /// What is done with processes that an earlier manager left running.
+    pub orphans: OrphanRule,
 }
 
 /// What the words of a command line ask for.
-#[derive(Clone, Copy, Debug)]
+#[derive(Debug, Drop)]
 pub enum Request<'a> {
     /// `check DAG`: the path of the DAG file, `-` for standard input.
     Check {
@@ -57,6 +77,17 @@ pub enum Request<'a> {
         outcomes: Option<&'a str>,
         limits: Limits,
     },
+
+    /// `graph DAG`: the path of the DAG file.
+    Graph {
+        dag: &'a str,
+    },
+
+    /// `explain [CODE]`, `help [COMMAND]` and `version`: the page that is to be printed, which the words
+    /// alone determine.
+    Page {
+        text: String,
+    },
 }
 
 /// Why the words of a command line are no request.
@@ -75,7 +106,7 @@ impl From<AllocError> for WordsFault {
 }
 
 /// What clap's error tells.
-fn told(alloc: Global, error: &Error) -> WordsFault {
+pub(crate) fn told(alloc: Global, error: &Error) -> WordsFault {
     if error.kind() == ErrorKind::OutOfMemory {
         return WordsFault::Memory;
     }
@@ -106,6 +137,15 @@ fn limits_of(found: &ArgMatches<'_>) -> Limits
     }
 }
 
+/// What is to be done with processes that were left running: they are killed, unless it is said.
+fn orphan_rule_of(found: &ArgMatches<'_>) -> OrphanRule {
+    match found.get_str("orphans") {
+        Some("wait") => OrphanRule::Wait,
+        Some("leave") => OrphanRule::Leave,
+        _ => OrphanRule::Kill,
+    }
+}
+
 /// The options of a run.
 fn options_of(found: &ArgMatches<'_>) -> RunOptions
     ensures { AreLimits result.limits }
@@ -113,6 +153,8 @@ fn options_of(found: &ArgMatches<'_>) -> RunOptions
     RunOptions {
         limits: limits_of(found),
         autorescue: found.get_one::<u8>("autorescue") != Some(0),
+        dorescuefrom: found.get_one::<u16>("dorescuefrom"),
+        orphans: orphan_rule_of(found),
     }
 }
 
@@ -132,24 +174,48 @@ fn bare_rehearsal<'a>() -> Request<'a>
     }
 }
 
+/// The request for a page.
+fn page<'a>(text: String) -> Request<'a>
+    ensures { asked_by result ≡ shows (string_bytes text) }
+{
+    Request::Page { text }
+}
+
+/// The request for the page that the words name.
+fn page_of<'a>(
+    alloc: Global,
+    command: &str,
+    found: &ArgMatches<'a>,
+) -> Result<Request<'a>, WordsFault>
+    ensures { IfOk result (λ request. IfSome (limits_in (asked_by request)) AreLimits) }
+{
+    match command {
+        "explain" => Ok(page(explained(alloc, found.get_str("CODE"))?)),
+        "help" => Ok(page(help_text(alloc, found.get_str("COMMAND"))?)),
+        _ => Ok(page(String::from_str(alloc, VERSION)?)),
+    }
+}
+
 /// The request that the matches of the words say.
-fn request_of<'a>(matches: &ArgMatches<'a>) -> Request<'a>
-    ensures { IfSome (limits_in (asked_by result)) AreLimits }
+fn request_of<'a>(alloc: Global, matches: &ArgMatches<'a>) -> Result<Request<'a>, WordsFault>
+    ensures { IfOk result (λ request. IfSome (limits_in (asked_by request)) AreLimits) }
 {
     match matches.subcommand() {
-        Some(("run", found)) => Request::Run {
+        Some(("run", found)) => Ok(Request::Run {
             dag: dag_of(found),
             options: options_of(found),
-        },
-        Some(("status", found)) => Request::Status { dag: dag_of(found) },
-        Some(("audit", found)) => Request::Audit { dag: dag_of(found) },
-        Some(("check", found)) => Request::Check { dag: dag_of(found) },
-        Some((_, found)) => Request::Rehearse {
+        }),
+        Some(("status", found)) => Ok(Request::Status { dag: dag_of(found) }),
+        Some(("audit", found)) => Ok(Request::Audit { dag: dag_of(found) }),
+        Some(("check", found)) => Ok(Request::Check { dag: dag_of(found) }),
+        Some(("rehearse", found)) => Ok(Request::Rehearse {
             dag: dag_of(found),
             outcomes: found.get_str("OUTCOMES"),
             limits: limits_of(found),
-        },
-        None => bare_rehearsal(),
+        }),
+        Some(("graph", found)) => Ok(Request::Graph { dag: dag_of(found) }),
+        Some((command, found)) => page_of(alloc, command, found),
+        None => Ok(bare_rehearsal()),
     }
 }
 
@@ -157,8 +223,8 @@ fn request_of<'a>(matches: &ArgMatches<'a>) -> Request<'a>
 /// others, they ask for a rehearsal of standard input.
 ///
 /// # Errors
-/// `Told` with clap's text, where the words are no command as clap reads them, or call for help;
-/// `Memory` where it was refused.
+/// `Told` with clap's text, where the words are no command as clap reads them, or call for help by an
+/// option, and where a page is asked for that there is not; `Memory` where it was refused.
 pub fn read_words<'a>(alloc: Global, words: &'a [&'a str]) -> Result<Request<'a>, WordsFault>
     // No words ask for `rehearse -`, with no table, and with no limits but that on all children.
     ensures no_words { length words.entry.now ≤ 1 → IsOkAnd result (λ request.
@@ -171,7 +237,7 @@ pub fn read_words<'a>(alloc: Global, words: &'a [&'a str]) -> Result<Request<'a>
     }
     let command = dagrun_command(alloc)?;
     match command.try_get_matches_from(words) {
-        Ok(matches) => Ok(request_of(&matches)),
+        Ok(matches) => request_of(alloc, &matches),
         Err(error) => Err(told(alloc, &error)),
     }
 }

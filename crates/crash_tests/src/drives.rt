@@ -43,10 +43,12 @@ fn drive_torn(rt: &impl Abort, alloc: Global, plan: &Plan) -> Result<(), Fail> {
     let Some(records) = records_of(alloc, disk.bytes(), plan.digest())? else {
         return Err(Fail::from("no journal"));
     };
+    // B and C are launched together.
     let due = Due {
         digest: plan.digest(),
         records: &records,
         plan: Some(plan),
+        together: 2,
     };
     same(rt, records.len(), 9);
     same(rt, torn_everywhere(rt, alloc, &[], &disk, 0, due)?, 10);

@@ -126,6 +126,7 @@ const DUE: Due<'static> = Due {
     digest: &DIGEST,
     records: &RECORDS,
     plan: None,
+    together: 1,
 };
 
 // Makes a journal on a disk with these bytes, call by call, each torn at each of its moments; so many

@@ -148,6 +148,7 @@ fn recovery_torn(rt: &impl Abort, alloc: Global, plan: &Plan, count: usize) -> R
         digest: plan.digest(),
         records: &records,
         plan: Some(plan),
+        together: 1,
     };
     same(rt, records.len().checked_sub(2), Some(count));
     let stage = torn_everywhere(rt, alloc, left.bytes(), &disk, 0, due)?;
@@ -164,6 +165,7 @@ fn all_torn(rt: &impl Abort, alloc: Global, plan: &Plan) -> Result<(), Fail> {
         digest: plan.digest(),
         records: &records,
         plan: Some(plan),
+        together: 1,
     };
     calls_torn(rt, alloc, plan, due)?;
     for count in 0..CALLS.len() {

@@ -15,12 +15,14 @@ pub const ROOM: usize = 100_000;
 /// How many records a journal of the tests may have.
 pub const SLOTS: u32 = 1000;
 
-/// What a journal is of: the digest of its inputs, all records that it comes to, and the plan of a manager's.
+/// What a journal is of: the digest of its inputs, all records that it comes to, the plan of a manager's, and how many records at
+/// most stand behind one gate.
 #[derive(Clone, Copy)]
 pub struct Due<'a> {
     pub digest: &'a [u8; 32],
     pub records: &'a [Record],
     pub plan: Option<&'a Plan>,
+    pub together: usize,
 }
 
 /// A disk with these bytes.
@@ -81,7 +83,7 @@ fn read_as(
 }
 
 // At the moment behind these events each image reads as what is synced or as what a read gives, which
-// goes at most one record further: the stage of what a read gives.
+// goes no more records further than stand behind one gate: the stage of what a read gives.
 fn stage_at(
     rt: &impl Abort,
     alloc: Global,
@@ -96,7 +98,7 @@ fn stage_at(
     let bytes = replayed(alloc, start, done)?;
     let before = stage_of(rt, alloc, &bytes, due)?;
     let after = stage_of(rt, alloc, &replayed(alloc, start, events)?, due)?;
-    assert!(rt; after == before || after.checked_sub(1) == Some(before));
+    assert!(rt; before <= after && after.saturating_sub(before) <= due.together);
     read_as(
         rt,
         alloc,

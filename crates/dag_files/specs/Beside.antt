@@ -1,5 +1,5 @@
 -- What stands beside a DAG file, and what is told of it.
-use Rattle.std.specs.Prelude.{◌≡◌, ◌≤◌, ◌+◌, ℕ, Bool, nat_lt, List, ◌++◌, codes, string_bytes, String, if◌then◌else◌}
+use Rattle.std.specs.Prelude.{◌≡◌, ◌≤◌, ◌+◌, ℕ, Bool, true, false, nat_lt, List, ◌++◌, Option, Some, None, is_some, codes, string_bytes, String, if◌then◌else◌}
 use Rattle.std.specs.Global.{Global}
 use Rattle.rescue_file.specs.Numbered.{IsNumber}
 use Rattle.event_journal.specs.declared.fault.JournalFault.{JournalFault}
@@ -9,7 +9,7 @@ use Rattle.dag_files.specs.declared.rounds.Journaled.{Journaled}
 use Rattle.dag_files.specs.declared.rounds.Journaled.TheVariants as journals
 use Rattle.dag_files.specs.declared.rounds.Round.{Round}
 use Rattle.dag_texts.specs.declared.fault.RunFault.{RunFault}
-use Rattle.dag_texts.specs.declared.fault.RunFault.TheVariants.{NotThere, InManager, FileRefused, Memory}
+use Rattle.dag_texts.specs.declared.fault.RunFault.TheVariants.{NotThere, Unfinished, InManager, FileRefused, Memory}
 
 -- `top.journal`
 abbrev pub journal_name_of : List ℕ → List ℕ
@@ -25,12 +25,25 @@ pub data IsInputFault (path : List ℕ) : RunFault → Type 0 where
   input_refused : (file : String Global) → path ≡ codes "-" → string_bytes file ≡ codes "-" → IsInputFault path (FileRefused file)
   input_had_no_memory : IsInputFault path Memory
 
--- Why it is not told which round this is: the journal can't be read; its header has a number that no rescue file has; the system
--- refuses the folder; memory ran out.
-pub data IsRoundFault : RunFault → Type 0 where
-  journal_not_read : (fault : JournalFault) → IsReadFault fault → IsRoundFault (InManager (manager.Journal fault))
-  no_such_number : (number : ℕ) → ¬ (IsNumber number) → IsRoundFault (NotThere number)
-  folder_not_read : (fault : RunFault) → IsFileFault fault → IsRoundFault fault
+-- the journal can't be read, or memory ran out
+pub data IsJournalFault : RunFault → Type 0 where
+  journal_refused : (fault : JournalFault) → IsReadFault fault → IsJournalFault (InManager (manager.Journal fault))
+  peeking_had_no_memory : IsJournalFault Memory
+
+-- where a round is to go back to a rescue file, its number is one that such a file can have
+abbrev pub MayGoBack : Option ℕ → Type 0
+MayGoBack None = Unit {0}
+MayGoBack (Some number) = IsNumber number
+
+-- Why it is not told which round this is, the first cause first. The rescue file is not there to which the round is to go back, if it is to:
+-- no file has its number, or it is missing; then, the journal can't be read; the run is to go back and has not ended; it is to go on, and the
+-- header of its journal has a number that no rescue file has; the system refuses the folder. Or memory ran out.
+pub data IsRoundFault (from : Option ℕ) : RunFault → Type 0 where
+  not_there : (number : ℕ) → from ≡ Some number → IsRoundFault from (NotThere number)
+  journal_not_read : (fault : RunFault) → MayGoBack from → IsJournalFault fault → IsRoundFault from fault
+  not_ended : (number : ℕ) → from ≡ Some number → IsNumber number → IsRoundFault from Unfinished
+  no_such_number : (number : ℕ) → from ≡ None → ¬ (IsNumber number) → IsRoundFault from (NotThere number)
+  folder_not_read : (fault : RunFault) → MayGoBack from → IsFileFault fault → IsRoundFault from fault
 
 -- the number behind the highest; 999 is written again
 abbrev pub number_behind : ℕ → ℕ
@@ -43,8 +56,21 @@ BeginsAnew journals.Finished = Unit {0}
 BeginsAnew journals.Unfinished = ⊥
 
 -- Which rescue files a round reads and writes: a new one reads that of the highest number, or none, which is 0, where this is asked for, and
--- writes the next; one that goes on keeps the numbers of its journal's header.
-pub data IsRoundBy (autorescue : Bool) (round : Round) : Type 0 where
-  begins_anew : (highest : ℕ) → highest ≤ 999 → BeginsAnew round.journal → round.used ≡ (if autorescue then highest else 0) →
-      round.next ≡ number_behind highest → IsRoundBy autorescue round
-  goes_on : round.journal ≡ journals.Unfinished → IsRoundBy autorescue round
+-- writes the next; one that goes back reads that of the number to which it is to go back, and writes the next; one that goes on keeps the
+-- numbers of its journal's header.
+pub data IsRoundBy (autorescue : Bool) (from : Option ℕ) (round : Round) : Type 0 where
+  begins_anew : (highest : ℕ) → from ≡ None → highest ≤ 999 → BeginsAnew round.journal → round.used ≡ (if autorescue then highest else 0) →
+      round.next ≡ number_behind highest → round.goes_back ≡ false → IsRoundBy autorescue from round
+  goes_back : (number : ℕ) → from ≡ Some number → IsNumber number → BeginsAnew round.journal → round.used ≡ number →
+      round.next ≡ number_behind number → round.goes_back ≡ true → IsRoundBy autorescue from round
+  goes_on : from ≡ None → round.journal ≡ journals.Unfinished → round.goes_back ≡ false → IsRoundBy autorescue from round
+
+-- the bytes of the rescue file of a round: none where it reads none, and some where it goes back
+pub record IsRescueOf (round : Round) (rescue : Option (List ℕ)) : Type 0 where
+  pub none_read : round.used ≡ 0 → rescue ≡ None
+  pub one_read : round.goes_back ≡ true → is_some rescue ≡ true
+
+-- Why it is not told which they are: the file is missing to which the round goes back; the system refuses it; memory ran out.
+pub data IsRescueFault (round : Round) : RunFault → Type 0 where
+  missing : round.goes_back ≡ true → IsRescueFault round (NotThere round.used)
+  rescue_not_read : (fault : RunFault) → IsFileFault fault → IsRescueFault round fault

@@ -6,6 +6,7 @@ ghost use Rattle.splices.specs.Paths.{join};
 ghost use Rattle.dag_texts.specs.declared.fault.RunFault.TheVariants.{Memory};
 ghost use Rattle.dag_files.specs.Beside.{journal_name_of, IsFileFault};
 
+use crate::rescues::numbers_above;
 use dag_reader::Text;
 use dag_texts::RunFault;
 use rescue_file::{pick_number, rescue_name};
@@ -47,11 +48,6 @@ pub fn journal_path(alloc: Global, top: &str) -> Result<Text, AllocError>
     ensures { IfOk result (λ name. name ≡ journal_name_of top.now) }
 {
     Text::joined(alloc, top, ".journal")
-}
-
-/// The path of the journal of the round before.
-fn old_journal_path(alloc: Global, top: &str) -> Result<Text, AllocError> {
-    Text::joined(alloc, top, ".journal.old")
 }
 
 /// The path of the file that a manager locks.
@@ -100,6 +96,22 @@ impl<'a> Place<'a> {
         path_in(alloc, self.folder, path)
     }
 
+    /// The names in the folder of the DAG file.
+    ///
+    /// # Errors
+    /// `FileRefused` with the folder that the system refuses to list; `Memory`.
+    fn names<R: Files + AllocGlobal + Clone + Drop>(&self, rt: &R) -> Result<Vec<Text>, RunFault>
+        ensures { IfErr result IsFileFault }
+    {
+        let alloc = rt.alloc();
+        let folder = folder_of(self.top);
+        let place = self.at(alloc, folder)?;
+        match names_in(rt, place.as_str()) {
+            Ok(names) => Ok(names),
+            Err(error) => Err(refused(alloc, folder, &error)),
+        }
+    }
+
     /// The highest number of a rescue file that is there, 0 for none.
     ///
     /// # Errors
@@ -108,13 +120,23 @@ impl<'a> Place<'a> {
         ensures highest { IfOk result (λ number. number ≤ 999) }
         ensures refused { IfErr result IsFileFault }
     {
+        let names = self.names(rt)?;
+        Ok(pick_number(names.as_slice(), base_of(self.top)))
+    }
+
+    /// Whether the rescue file of this number, which is from 1 to 999, is there. Where the system
+    /// doesn't tell, it is taken to be: what is refused is told as it is read.
+    ///
+    /// # Errors
+    /// `Memory` alone.
+    pub fn has_rescue<R: Files + AllocGlobal>(&self, rt: &R, number: u16) -> Result<bool, RunFault>
+        requires { IsNumber number }
+        ensures { IfErr result (λ fault. fault ≡ Memory) }
+    {
         let alloc = rt.alloc();
-        let folder = folder_of(self.top);
-        let place = self.at(alloc, folder)?;
-        match names_in(rt, place.as_str()) {
-            Ok(names) => Ok(pick_number(names.as_slice(), base_of(self.top))),
-            Err(error) => Err(refused(alloc, folder, &error)),
-        }
+        let path = rescue_path(alloc, self.top, number)?;
+        let place = self.at(alloc, path.as_str())?;
+        Ok(fs::exists(rt, place.as_str()).unwrap_or(true))
     }
 
     /// The bytes of the file of this path; none where it is missing.
@@ -175,6 +197,36 @@ impl<'a> Place<'a> {
         }
     }
 
+    /// Gives the file of a path another one, in place of the file that has it.
+    fn rename<R: Files + AllocGlobal>(&self, rt: &R, path: &str, new: &str) -> Result<(), RunFault>
+        ensures { IfErr result IsFileFault }
+    {
+        let alloc = rt.alloc();
+        let from = self.at(alloc, path)?;
+        let to = self.at(alloc, new)?;
+        match fs::rename(rt, from.as_str(), to.as_str()) {
+            Ok(()) => Ok(()),
+            Err(error) => Err(refused(alloc, path, &error)),
+        }
+    }
+
+    /// Brings the names in the folder of the DAG file to the disk; where the system refuses it, this
+    /// path is told.
+    fn sync_names<R: Files<File = File> + AllocGlobal>(
+        &self,
+        rt: &R,
+        path: &str,
+    ) -> Result<(), RunFault>
+        ensures { IfErr result IsFileFault }
+    {
+        let alloc = rt.alloc();
+        let folder = self.at(alloc, folder_of(self.top))?;
+        match sync_folder(rt, folder.as_str()) {
+            Ok(()) => Ok(()),
+            Err(error) => Err(refused(alloc, path, &error)),
+        }
+    }
+
     /// Gives the journal of a finished round its other name, in place of the one that has it, and
     /// syncs the folder.
     ///
@@ -188,17 +240,42 @@ impl<'a> Place<'a> {
     {
         let alloc = rt.alloc();
         let path = journal_path(alloc, self.top)?;
-        let old = old_journal_path(alloc, self.top)?;
-        let from = self.at(alloc, path.as_str())?;
-        let to = self.at(alloc, old.as_str())?;
-        if let Err(error) = fs::rename(rt, from.as_str(), to.as_str()) {
-            return Err(refused(alloc, path.as_str(), &error));
+        let old = Text::joined(alloc, self.top, ".journal.old")?;
+        self.rename(rt, path.as_str(), old.as_str())?;
+        self.sync_names(rt, path.as_str())
+    }
+
+    /// Adds `.old` to the name of the rescue file of this number, from 1 to 999, in place of the file
+    /// that has it.
+    fn put_rescue_away<R: Files + AllocGlobal>(&self, rt: &R, number: u16) -> Result<(), RunFault>
+        requires { IsNumber number }
+        ensures { IfErr result IsFileFault }
+    {
+        let alloc = rt.alloc();
+        let path = rescue_path(alloc, self.top, number)?;
+        let old = Text::joined(alloc, path.as_str(), ".old")?;
+        self.rename(rt, path.as_str(), old.as_str())
+    }
+
+    /// Adds `.old` to the names of the rescue files with higher numbers than this one, the highest
+    /// first, each in place of the file that has that name, and syncs the folder.
+    ///
+    /// # Errors
+    /// `FileRefused` with the folder where the system refuses to list or to sync it, or with the path of
+    /// the first file that it refuses to rename: those with lower numbers keep their names. `Memory`.
+    pub fn put_rescues_away<R: Files<File = File> + AllocGlobal + Clone + Drop>(
+        &self,
+        rt: &R,
+        from: u16,
+    ) -> Result<(), RunFault>
+        ensures { IfErr result IsFileFault }
+    {
+        let names = self.names(rt)?;
+        let numbers = numbers_above(rt.alloc(), names.as_slice(), base_of(self.top), from)?;
+        for number in numbers.iter() {
+            self.put_rescue_away(rt, *number)?;
         }
-        let folder = self.at(alloc, folder_of(self.top))?;
-        match sync_folder(rt, folder.as_str()) {
-            Ok(()) => Ok(()),
-            Err(error) => Err(refused(alloc, path.as_str(), &error)),
-        }
+        self.sync_names(rt, folder_of(self.top))
     }
 }
 

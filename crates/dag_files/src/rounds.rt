@@ -1,12 +1,13 @@
 //! Which round of a DAG a run is: what its journal and its rescue files say.
 
-ghost use Rattle.std.specs.Prelude.{◌≡◌, ◌≤◌, IfOk, IfErr, option_map, if◌then◌else◌};
+ghost use Rattle.std.specs.Prelude.{◌≡◌, ◌≤◌, Bool, true, None, Some, IfOk, IfErr, option_map, if◌then◌else◌};
 ghost use Rattle.event_journal.specs.Image.{IsRescueNumber};
+ghost use Rattle.rescue_file.specs.Numbered.{IsNumber};
 ghost use Rattle.dag_texts.specs.Planned.{in_line, named_by};
 ghost use Rattle.dag_texts.specs.declared.fault.RunFault.TheVariants.{Memory};
-ghost use Rattle.dag_files.specs.Beside.{IsRoundFault, IsRoundBy, number_behind};
+ghost use Rattle.dag_files.specs.Beside.{IsJournalFault, IsRoundFault, IsRoundBy, IsRescueOf, IsRescueFault, number_behind};
 
-use crate::beside::{LAST_NUMBER, Place, journal_path};
+use crate::beside::{LAST_NUMBER, Place, journal_path, rescue_path};
 use dag_reader::Text;
 use dag_texts::RunFault;
 use event_journal::{Journal, JournalFault, Peek};
@@ -37,6 +38,9 @@ pub struct Round {
     pub used: u16,
     /// The number of the rescue file that is written where one is needed.
     pub next: u16,
+    /// Whether it goes back to an earlier round: the rescue file is read that is asked for, and those
+    /// of higher numbers are put away first.
+    pub goes_back: bool,
 }
 
 /// The number behind the highest; 999 is written again.
@@ -74,42 +78,110 @@ pub fn disk_at<R: Files<File = File> + AllocGlobal + Copy + Drop>(
     Ok(FileDisk::at(rt, String::from_str(alloc, at.as_str())?))
 }
 
-/// The round that the journal and the rescue files that are there make of a run.
+/// What the header of a journal says, where there is a journal.
+fn peek_of<R: Files<File = File> + AllocGlobal + Copy + Drop>(
+    rt: R,
+    place: &Place<'_>,
+) -> Result<Option<Peek>, RunFault>
+    ensures { IfErr result IsJournalFault }
+{
+    let alloc = rt.alloc();
+    let mut disk = disk_at(rt, place, journal_path(alloc, place.top)?.as_str())?;
+    match Journal::peek(alloc, &mut disk) {
+        Ok(peek) => Ok(peek),
+        Err(JournalFault::Memory) => Err(RunFault::Memory),
+        Err(fault) => Err(RunFault::InManager(ManagerFault::Journal(fault))),
+    }
+}
+
+/// The round that the journal and the rescue files that are there make of a run. Where a number is
+/// given, a new round goes back to the rescue file of that number, whatever `autorescue` says.
 ///
 /// # Errors
-/// A journal that can't be read; a number in the header of an unfinished one that no rescue file
-/// has, that of the file read first; a folder that can't be listed.
+/// In this order: `NotThere` with the number that is given, where it is 0 or above 999 or its file is
+/// missing; a journal that can't be read; `Unfinished`, where a number is given and the journal's run
+/// has not ended; else a number in the header of such a journal that no rescue file has, that of the
+/// file read first; a folder that can't be listed.
 pub fn round_of<R: Files<File = File> + AllocGlobal + Copy + Drop>(
+    rt: R,
+    place: &Place<'_>,
+    autorescue: bool,
+    from: Option<u16>,
+) -> Result<Round, RunFault>
+    ensures numbers { IfOk result (λ round. IsRescueNumber round.next × (round.used ≤ 999)) }
+    ensures back { IfOk result (λ round. round.goes_back ≡ true → IsNumber round.used) }
+    ensures by { IfOk result (IsRoundBy autorescue from) }
+    ensures refused { IfErr result (IsRoundFault from) }
+{
+    match from {
+        Some(number) => round_behind(rt, place, number),
+        None => next_round(rt, place, autorescue),
+    }
+}
+
+/// The round that comes next.
+fn next_round<R: Files<File = File> + AllocGlobal + Copy + Drop>(
     rt: R,
     place: &Place<'_>,
     autorescue: bool,
 ) -> Result<Round, RunFault>
     ensures numbers { IfOk result (λ round. IsRescueNumber round.next × (round.used ≤ 999)) }
-    ensures by { IfOk result (IsRoundBy autorescue) }
-    ensures refused { IfErr result IsRoundFault }
+    ensures back { IfOk result (λ round. round.goes_back ≡ true → IsNumber round.used) }
+    ensures by { IfOk result (IsRoundBy autorescue None) }
+    ensures refused { IfErr result (IsRoundFault None) }
 {
-    let alloc = rt.alloc();
-    let mut disk = disk_at(rt, place, journal_path(alloc, place.top)?.as_str())?;
-    let journal = match Journal::peek(alloc, &mut disk) {
-        Ok(None) => Journaled::Nothing,
-        Ok(Some(peek)) if peek.finished => Journaled::Finished,
-        Ok(Some(peek)) => return unfinished(&peek),
-        Err(JournalFault::Memory) => return Err(RunFault::Memory),
-        Err(fault) => return Err(RunFault::InManager(ManagerFault::Journal(fault))),
+    let journal = match peek_of(rt, place)? {
+        None => Journaled::Nothing,
+        Some(peek) if peek.finished => Journaled::Finished,
+        Some(peek) => return unfinished(&peek),
     };
     let highest = place.highest(&rt)?;
     Ok(Round {
         journal,
         used: number_read(autorescue, highest),
         next: number_after(highest),
+        goes_back: false,
+    })
+}
+
+/// The round that goes back to the rescue file of this number.
+fn round_behind<R: Files<File = File> + AllocGlobal + Copy + Drop>(
+    rt: R,
+    place: &Place<'_>,
+    number: u16,
+) -> Result<Round, RunFault>
+    ensures numbers { IfOk result (λ round. IsRescueNumber round.next × (round.used ≤ 999)) }
+    ensures back { IfOk result (λ round. round.goes_back ≡ true → IsNumber round.used) }
+    ensures by { (autorescue : Bool) → IfOk result (IsRoundBy autorescue (Some number)) }
+    ensures refused { IfErr result (IsRoundFault (Some number)) }
+{
+    if number == 0 || number > LAST_NUMBER {
+        return Err(RunFault::NotThere(number));
+    }
+    if !place.has_rescue(&rt, number)? {
+        return Err(RunFault::NotThere(number));
+    }
+    let journal = match peek_of(rt, place)? {
+        None => Journaled::Nothing,
+        Some(peek) if peek.finished => Journaled::Finished,
+        Some(_) => return Err(RunFault::Unfinished),
+    };
+    // Before anything is changed: the folder is one that can be listed.
+    place.highest(&rt)?;
+    Ok(Round {
+        journal,
+        used: number,
+        next: number_after(number),
+        goes_back: true,
     })
 }
 
 /// The round of an unfinished journal, whose header has the numbers.
 fn unfinished(peek: &Peek) -> Result<Round, RunFault>
     ensures numbers { IfOk result (λ round. IsRescueNumber round.next × (round.used ≤ 999)) }
-    ensures unfinished { IfOk result (λ round. round.journal ≡ Journaled.Unfinished) }
-    ensures refused { IfErr result IsRoundFault }
+    ensures back { IfOk result (λ round. round.goes_back ≡ true → IsNumber round.used) }
+    ensures by { (autorescue : Bool) → IfOk result (IsRoundBy autorescue None) }
+    ensures refused { IfErr result (IsRoundFault None) }
 {
     if peek.used > LAST_NUMBER {
         return Err(RunFault::NotThere(peek.used));
@@ -121,7 +193,35 @@ fn unfinished(peek: &Peek) -> Result<Round, RunFault>
         journal: Journaled::Unfinished,
         used: peek.used,
         next: peek.next,
+        goes_back: false,
     })
+}
+
+/// The bytes of the rescue file that a round reads: none where it reads none, and where its file is
+/// missing by now, unless the round goes back to it.
+///
+/// # Errors
+/// `NotThere` with the number of a file that is missing where the round goes back to it; `FileRefused`
+/// with the path of a file that the system refuses to read; `Memory`.
+pub fn rescue_of<R: Files + AllocGlobal>(
+    rt: &R,
+    place: &Place<'_>,
+    round: &Round,
+) -> Result<Option<Vec<u8>>, RunFault>
+    requires used { round.now.used ≤ 999 }
+    requires back { round.now.goes_back ≡ true → IsNumber round.now.used }
+    ensures read { IfOk result (λ bytes. IsRescueOf round.now (option_map (λ b. b.items) bytes)) }
+    ensures refused { IfErr result (IsRescueFault round.now) }
+{
+    if round.used == 0 {
+        return Ok(None);
+    }
+    let path = rescue_path(rt.alloc(), place.top, round.used)?;
+    let bytes = place.read(rt, path.as_str())?;
+    if round.goes_back && bytes.is_none() {
+        return Err(RunFault::NotThere(round.used));
+    }
+    Ok(bytes)
 }
 
 /// The bytes, where there are some.

@@ -1,5 +1,5 @@
 -- What `run` prints.
-use Rattle.std.specs.Prelude.{◌≡◌, ℕ, List, [], ◌∷◌, Option, Some, None}
+use Rattle.std.specs.Prelude.{ℕ, List, [], ◌∷◌, Option, Some, None}
 use Rattle.splices.specs.FileSet.{bytes_of, entries_of}
 use Rattle.splices.specs.declared.file_set.FileSet.{FileSet}
 use Rattle.dag_graph.specs.Graph.{Network}
@@ -22,19 +22,15 @@ use Rattle.run_leader.specs.Causes.{IsManagerStop}
 use Rattle.dag_files.specs.declared.rounds.Journaled.{Journaled}
 use Rattle.dag_files.specs.declared.rounds.Journaled.TheVariants as journals
 use Rattle.dag_files.specs.declared.rounds.Round.{Round}
-use Rattle.dag_files.specs.Beside.{IsFileFault, IsRoundFault, IsRoundBy}
+use Rattle.dag_files.specs.Beside.{IsFileFault, IsRoundFault, IsRoundBy, IsRescueOf, IsRescueFault}
 use Rattle.dag_texts.specs.Planned.{IsGraphOf, IsGraphFault, IsPlanBy, IsPlanByFault, in_line, named_by}
 use Rattle.dag_texts.specs.Told.{IsToldOf}
 use Rattle.dag_texts.specs.declared.fault.RunFault.{RunFault}
 use Rattle.dag_texts.specs.declared.fault.RunFault.TheVariants.{InManager, StartMemory, WaitFault, Memory}
 
--- no rescue file is read where the number is 0
-abbrev pub IsRescueOf : ℕ → Option (List ℕ) → Type 0
-IsRescueOf used rescue = used ≡ 0 → rescue ≡ None
-
--- the plan of a graph and of the submit files of a set, with the rescue file of this number, or with none where it is 0
-abbrev pub IsPlannedRun : FileSet → Network → ℕ → Plan → Type 0
-IsPlannedRun set graph used plan = (rescue : Option (List ℕ)) × IsRescueOf used rescue × IsPlanBy (bytes_of set) (entries_of set) rescue graph plan
+-- the plan of a graph and of the submit files of a set, with the rescue file of this round, or with none where it reads none
+abbrev pub IsPlannedRun : FileSet → Network → Round → Plan → Type 0
+IsPlannedRun set graph round plan = (rescue : Option (List ℕ)) × IsRescueOf round rescue × IsPlanBy (bytes_of set) (entries_of set) rescue graph plan
 
 -- how the manager of a round begins, by its journal and by the numbers of its rescue files
 abbrev pub start_with : Journaled → ℕ → ℕ → Start
@@ -66,39 +62,51 @@ pub record IsLedRun (limits : Limits) (plan : Plan) (start : Start) (text : List
 pub record IsRunOf (path : List ℕ) (options : RunOptions) (text warnings : List ℕ) (status : ℕ) : Type 0 where
   pub files : FileSet
   pub round : Round
-  pub is_round : IsRoundBy options.autorescue round
+  pub is_round : IsRoundBy options.autorescue options.dorescuefrom round
   pub rescue : Option (List ℕ)
-  pub rescue_is : IsRescueOf round.used rescue
+  pub rescue_is : IsRescueOf round rescue
   pub told : IsToldOf (bytes_of files) (entries_of files) path rescue (λ plan. IsLedRun options.limits plan (start_by round) text status) warnings
 
--- Why the round has no plan: the system refuses the rescue file; a submit file, a text of a job or a line of the rescue file has a
--- fault, that of a line told with the name of the rescue file; memory ran out.
+-- Why it is not told which round this is and what its rescue file says, the first cause first: the second is met where the first is not.
+pub data IsFindingFault (options : RunOptions) : RunFault → Type 0 where
+  no_round : (fault : RunFault) → IsRoundFault options.dorescuefrom fault → IsFindingFault options fault
+  no_rescue : (round : Round) (fault : RunFault) → IsRoundBy options.autorescue options.dorescuefrom round → IsRescueFault round fault → IsFindingFault options fault
+
+-- Why the round has no plan: a submit file, a text of a job or a line of the rescue file has a fault, that of a line told with the name
+-- of the rescue file; memory ran out.
 pub data IsRoundPlanFault (files : FileSet) (path : List ℕ) (graph : Network) : RunFault → Type 0 where
-  rescue_not_read : (fault : RunFault) → IsFileFault fault → IsRoundPlanFault files path graph fault
   not_planned : (fault : RunFault) → IsPlanByFault (bytes_of files) (entries_of files) None graph fault → IsRoundPlanFault files path graph fault
   not_planned_with : (number : ℕ) (rescue : Option (List ℕ)) (fault : RunFault) → IsPlanByFault (bytes_of files) (entries_of files) rescue graph fault →
       IsRoundPlanFault files path graph (named_by (in_line fault) (Some (rescue_name_of path number)) fault)
+  planning_had_no_memory : IsRoundPlanFault files path graph Memory
 
--- Why a run is not led to its end: the journal of the round before can't be renamed; the manager refuses, for a disk or for what stands
--- on it; the starter refuses; or memory ran out.
+-- Why a run is not led to its end: what an earlier manager left running can't be ended, or a rescue file, or the journal of the round before,
+-- can't be renamed; the manager refuses, for a disk or for what stands on it; the starter refuses; or memory ran out.
 pub data IsStopFault : RunFault → Type 0 where
-  journal_not_renamed : (fault : RunFault) → IsFileFault fault → IsStopFault fault
+  not_cleared : (fault : RunFault) → IsFileFault fault → IsStopFault fault
   manager_refused : (fault : ManagerFault) → IsManagerStop fault → IsStopFault (InManager fault)
   no_memory_for_child : IsStopFault StartMemory
   no_ending_told : IsStopFault WaitFault
   leading_had_no_memory : IsStopFault Memory
 
+-- the plan of the round that the options ask for
+pub record IsPlannedFor (path : List ℕ) (options : RunOptions) : Type 0 where
+  pub files : FileSet
+  pub graph : Network
+  pub round : Round
+  pub plan : Plan
+  pub is_graph : IsGraphOf (bytes_of files) path graph
+  pub is_round : IsRoundBy options.autorescue options.dorescuefrom round
+  pub planned : IsPlannedRun files graph round plan
+
 -- Why `run` is refused, the first cause first. Each is met where those before it are not: the files make no graph; it is not
--- told which round this is; the round has no plan; another manager is at work, or the lock is refused; under the lock it is not
--- told again which round this is; the run is not led to its end.
+-- told which round this is, or what its rescue file says; the round has no plan; another manager is at work, or the lock is refused; under
+-- the lock it is not told again which round this is; the run is not led to its end.
 pub data IsRunFault (path : List ℕ) (options : RunOptions) : RunFault → Type 0 where
   no_graph : (files : FileSet) (fault : RunFault) → IsGraphFault (bytes_of files) path fault → IsRunFault path options fault
-  no_round : (files : FileSet) (graph : Network) (fault : RunFault) → IsGraphOf (bytes_of files) path graph → IsRoundFault fault → IsRunFault path options fault
+  not_found : (files : FileSet) (graph : Network) (fault : RunFault) → IsGraphOf (bytes_of files) path graph → IsFindingFault options fault → IsRunFault path options fault
   no_plan : (files : FileSet) (graph : Network) (fault : RunFault) → IsGraphOf (bytes_of files) path graph → IsRoundPlanFault files path graph fault → IsRunFault path options fault
-  not_alone : (files : FileSet) (graph : Network) (round : Round) (plan : Plan) (fault : RunFault) → IsGraphOf (bytes_of files) path graph → IsRoundBy options.autorescue round → IsPlannedRun files graph round.used plan →
-      IsFileFault fault → IsRunFault path options fault
-  no_round_again : (files : FileSet) (graph : Network) (round : Round) (plan : Plan) (fault : RunFault) → IsGraphOf (bytes_of files) path graph → IsRoundBy options.autorescue round → IsPlannedRun files graph round.used plan →
-      IsRoundFault fault → IsRunFault path options fault
-  not_led : (files : FileSet) (graph : Network) (round : Round) (plan : Plan) (fault : RunFault) → IsGraphOf (bytes_of files) path graph → IsRoundBy options.autorescue round → IsPlannedRun files graph round.used plan →
-      IsStopFault fault → IsRunFault path options fault
+  not_alone : (fault : RunFault) → IsPlannedFor path options → IsFileFault fault → IsRunFault path options fault
+  not_found_again : (fault : RunFault) → IsPlannedFor path options → IsFindingFault options fault → IsRunFault path options fault
+  not_led : (fault : RunFault) → IsPlannedFor path options → IsStopFault fault → IsRunFault path options fault
   no_memory : IsRunFault path options Memory

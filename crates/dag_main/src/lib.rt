@@ -2,6 +2,7 @@
 //! dag_texts and the rehearsals of rehearsal.
 #![tactic(auto)]
 
+mod beginning;
 mod runs;
 
 pub use command_line::RunOptions;

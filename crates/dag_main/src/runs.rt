@@ -1,29 +1,33 @@
 //! A run with children of the operating system.
 
-ghost use Rattle.std.specs.Prelude.{◌≡◌, ◌≤◌, IfOk, IfErr, string_bytes};
+ghost use Rattle.std.specs.Prelude.{◌≡◌, ◌≤◌, IfOk, IfErr, option_map, string_bytes};
 ghost use Rattle.splices.specs.FileSet.{bytes_of, entries_of};
 ghost use Rattle.event_journal.specs.Image.{IsRescueNumber};
 ghost use Rattle.run_leader.specs.Rounds.{IsNumbered};
 ghost use Rattle.dag_texts.specs.Planned.{IsPlanBy};
 ghost use Rattle.run_leader.specs.Causes.{MayStop};
-ghost use Rattle.dag_main.specs.Runs.{start_by, IsPlannedRun, IsLedRun, IsRunOf, IsRoundPlanFault, IsStopFault, IsRunFault};
+ghost use Rattle.dag_files.specs.Beside.{IsFileFault, IsRoundBy, IsRescueOf};
+ghost use Rattle.dag_main.specs.Runs.{start_by, IsPlannedRun, IsLedRun, IsRunOf, IsFindingFault, IsRoundPlanFault, IsStopFault, IsRunFault};
 
+use crate::beginning::{forget_children, life_of, settled, watcher_of};
 use command_line::RunOptions;
 use dag_files::{
-    Journaled, Place, Round, bytes_of, disk_at, files_in, journal_path, named, rescue_path,
-    round_of,
+    Journaled, Place, Round, bytes_of, disk_at, files_in, journal_path, named, rescue_of,
+    rescue_path, round_of,
 };
 use dag_graph::Graph;
 use dag_texts::{Answer, RunFault, graph_of, plan_by, warning_text};
 use job_starter::DriveFault;
 use journal_disks::FileDisk;
-use local_system::LocalSystem;
+use local_system::{ChildWatcher, LocalSystem};
 use node_machine::Verdict;
 use process_starter::ProcessStarter;
 use run_leader::{Start, run_round};
+use run_log::RunWatcher;
 use run_manager::ManagerFault;
 use run_plan::Plan;
 use splices::FileSet;
+use std::alloc::Global;
 use std::fs::File;
 use std::process::Processes;
 use std::rt::Files;
@@ -50,25 +54,25 @@ fn in_run(fault: DriveFault) -> RunFault
     }
 }
 
-/// The plan of a round, for which its rescue file is read.
-fn plan_of_round<R: Files<File = File> + AllocGlobal + Copy + Drop>(
-    rt: R,
+/// The plan of a round, with the bytes of its rescue file.
+fn plan_of_round(
+    alloc: Global,
     place: &Place<'_>,
     files: &FileSet,
     graph: Graph,
     round: &Round,
+    rescue: Option<&[u8]>,
 ) -> Result<Plan, RunFault>
     requires used { round.now.used ≤ 999 }
-    ensures plan { IfOk result (IsPlannedRun files.now graph round.now.used) }
+    requires rescue { IsRescueOf round.now (option_map (λ b. b.now) rescue) }
+    ensures plan { IfOk result (IsPlannedRun files.now graph round.now) }
     ensures refused { IfErr result (IsRoundPlanFault files.now place.now.top.now graph) }
 {
-    let alloc = rt.alloc();
     if round.used == 0 {
-        return plan_by(alloc, graph, files, None);
+        return plan_by(alloc, graph, files, rescue);
     }
     let path = rescue_path(alloc, place.top, round.used)?;
-    let bytes = place.read(&rt, path.as_str())?;
-    match plan_by(alloc, graph, files, bytes_of(&bytes)) {
+    match plan_by(alloc, graph, files, rescue) {
         Ok(plan) => Ok(plan),
         Err(fault) => Err(named(fault, Some(path))),
     }
@@ -89,28 +93,28 @@ fn start_of(round: &Round) -> Start
     }
 }
 
-/// Leads a round of a plan to its end on these disks, with children of this process, and answers what
-/// it prints.
-fn run_on<R: Processes + Files<File = File> + Clock + AllocGlobal + Copy + Drop>(
+/// Leads a round of a plan to its end on these disks, with children of this process of which the watcher
+/// is told, and answers what it prints.
+fn led_by<
+    R: Processes + Files<File = File> + Clock + AllocGlobal + Copy + Drop,
+    W: ChildWatcher + Drop,
+>(
     rt: R,
-    place: &Place<'_>,
+    folder: &str,
     plan: &Plan,
-    round: &Round,
+    start: Start,
     limits: Limits,
-    journal: FileDisk<R>,
-    rescue: FileDisk<R>,
+    disks: (FileDisk<R>, FileDisk<R>),
+    watcher: W,
 ) -> Result<Report, RunFault>
-    requires next { IsRescueNumber round.now.next }
-    ensures led { IfOk result (λ report. IsLedRun limits plan.now (start_by round.now)
+    requires numbered { IsNumbered start }
+    ensures led { IfOk result (λ report. IsLedRun limits plan.now start
         (string_bytes report.text) report.status) }
     ensures refused { IfErr result IsStopFault }
 {
     let alloc = rt.alloc();
-    let mut starter = ProcessStarter::new(LocalSystem::new(alloc, rt, place.folder)?);
-    if round.journal == Journaled::Finished {
-        place.put_journal_away(&rt)?;
-    }
-    let start = start_of(round);
+    let (journal, rescue) = disks;
+    let mut starter = ProcessStarter::new(LocalSystem::new(alloc, rt, folder, watcher)?);
     match run_round(alloc, journal, plan, start, limits, &mut starter, rescue) {
         Ok((_journal, led)) => Ok(Report {
             text: led.text,
@@ -120,16 +124,88 @@ fn run_on<R: Processes + Files<File = File> + Clock + AllocGlobal + Copy + Drop>
     }
 }
 
+/// Puts away what a new round is not to find: the rescue files of higher numbers than that to which it
+/// goes back, and the journal of the round before.
+fn put_away<R: Files<File = File> + AllocGlobal + Clone + Drop>(
+    rt: &R,
+    place: &Place<'_>,
+    round: &Round,
+) -> Result<(), RunFault>
+    ensures { IfErr result IsFileFault }
+{
+    if round.goes_back {
+        place.put_rescues_away(rt, round.used)?;
+    }
+    if round.journal == Journaled::Finished {
+        place.put_journal_away(rt)?;
+    }
+    Ok(())
+}
+
+/// Tells how a manager ended, and forgets its children.
+fn tell_end<R: Files<File = File> + Clock + AllocGlobal + Copy + Drop>(
+    rt: R,
+    place: &Place<'_>,
+    watcher: &mut RunWatcher<'_, R>,
+    ended: &Result<Report, RunFault>,
+    some_left: bool,
+) {
+    match ended {
+        Ok(report) => watcher.finishes(report.text.as_str(), report.status),
+        Err(fault) => {
+            if let Ok(line) = format!(in rt.alloc(); "{fault}") {
+                watcher.stops(line.as_str());
+            }
+        }
+    }
+    if !some_left && !watcher.has_let_go() {
+        forget_children(&rt, place);
+    }
+}
+
+/// Leads a round of a plan to its end on these disks, once no process of an earlier manager is in its
+/// way, and answers what it prints.
+fn run_on<R: Processes + Files<File = File> + Clock + AllocGlobal + Copy + Drop>(
+    rt: R,
+    place: &Place<'_>,
+    plan: &Plan,
+    round: &Round,
+    options: &RunOptions,
+    disks: (FileDisk<R>, FileDisk<R>),
+) -> Result<Report, RunFault>
+    requires next { IsRescueNumber round.now.next }
+    ensures led { IfOk result (λ report. IsLedRun options.now.limits plan.now (start_by round.now)
+        (string_bytes report.text) report.status) }
+    ensures refused { IfErr result IsStopFault }
+{
+    let left = settled(&rt, place, options.orphans)?;
+    put_away(&rt, place, round)?;
+    let mut watcher = watcher_of(rt, place, plan, round, left.as_str())?;
+    watcher.begins(&life_of(place, round, options));
+    let start = start_of(round);
+    let ended = led_by(
+        rt,
+        place.folder,
+        plan,
+        start,
+        options.limits,
+        disks,
+        &mut watcher,
+    );
+    tell_end(rt, place, &mut watcher, &ended, !left.is_empty());
+    ended
+}
+
 /// Runs a round of a plan on the disks beside the DAG file, and answers what it prints.
 fn run_planned<R: Processes + Files<File = File> + Clock + AllocGlobal + Copy + Drop>(
     rt: R,
     place: &Place<'_>,
     plan: &Plan,
     round: &Round,
-    limits: Limits,
+    options: &RunOptions,
 ) -> Result<Report, RunFault>
     requires next { IsRescueNumber round.now.next }
-    ensures led { IfOk result (λ report. IsLedRun limits plan.now (start_by round.now)
+    ensures led { IfOk result (λ report. IsLedRun options.now.limits plan.now (start_by round.now)
         (string_bytes report.text) report.status) }
     ensures refused { IfErr result IsStopFault }
 {
@@ -137,13 +213,32 @@ fn run_planned<R: Processes + Files<File = File> + Clock + AllocGlobal + Copy + 
     let rescue_name = rescue_path(alloc, place.top, round.next)?;
     let rescue = disk_at(rt, place, rescue_name.as_str())?;
     let journal = disk_at(rt, place, journal_path(alloc, place.top)?.as_str())?;
-    run_on(rt, place, plan, round, limits, journal, rescue)
+    run_on(rt, place, plan, round, options, (journal, rescue))
 }
 
-/// Whether the round is still the one that was found before the lock was taken: where it isn't,
-/// another manager was at work meanwhile.
-fn is_same(round: &Round, found: &Round) -> bool {
-    round.journal == found.journal && round.used == found.used && round.next == found.next
+/// The round that this run of a DAG is, and the bytes of the rescue file that it reads.
+///
+/// # Errors
+/// As `round_of`, and then as `rescue_of`.
+fn round_with_rescue<R: Files<File = File> + AllocGlobal + Copy + Drop>(
+    rt: R,
+    place: &Place<'_>,
+    options: &RunOptions,
+) -> Result<(Round, Option<Vec<u8>>), RunFault>
+    ensures numbers { IfOk result (λ found. IsRescueNumber found.0.next × (found.0.used ≤ 999)) }
+    ensures by { IfOk result (λ found. IsRoundBy options.now.autorescue options.now.dorescuefrom found.0) }
+    ensures rescue { IfOk result (λ found. IsRescueOf found.0 (option_map (λ b. b.items) found.1)) }
+    ensures refused { IfErr result (IsFindingFault options.now) }
+{
+    let round = round_of(rt, place, options.autorescue, options.dorescuefrom)?;
+    let rescue = rescue_of(&rt, place, &round)?;
+    Ok((round, rescue))
+}
+
+/// Whether the round and its rescue file are still those that were found before the lock was taken:
+/// where they aren't, another manager was at work meanwhile.
+fn is_same(round: &Round, rescue: &Option<Vec<u8>>, found: &(Round, Option<Vec<u8>>)) -> bool {
+    round == &found.0 && bytes_of(rescue) == bytes_of(&found.1)
 }
 
 /// Runs the DAG file of this path with children of this process. Relative paths are taken from the
@@ -152,18 +247,23 @@ fn is_same(round: &Round, found: &Round) -> bool {
 /// The journal stands beside the DAG file, under its name and `.journal`, and so do the rescue
 /// files, of which that with the highest number is read unless the options forbid it, and the next
 /// number is written. An unfinished run goes on, with the numbers of its header; behind a finished
-/// one a new round begins, and its journal is put away as `.journal.old`. The answer is the status
-/// text and `result N`, with status N.
+/// one a new round begins, and its journal is put away as `.journal.old`. Where the options ask for the
+/// rescue file of a number, a new round goes back to that one: it is read and the number behind it is
+/// written, and those of higher numbers are put away first, the highest first, with `.old` behind
+/// their names. The answer is the status text and `result N`, with status N.
 ///
 /// # Errors
 /// In this order, each before anything is started or changed: a fault of the files (`InFiles`), a
-/// cycle (`Cycle`), a journal that can't be read (`InManager`), a number in its header that no
-/// rescue file has (`NotThere`), a folder or a rescue file that the system refuses to read
-/// (`FileRefused`), the first fault of the submit files and the texts of jobs (`InPlan`) and then of
-/// the rescue file (`InRescue`), another manager that runs the DAG (`FileRefused` with the file that
-/// it has locked), and a journal that can't be renamed (`FileRefused`). Then those of the manager
-/// (`InManager`) and of the children (`StartMemory`, `WaitFault`); what was recorded stays. Want of memory may stand
-/// before any.
+/// cycle (`Cycle`), a rescue file that is asked for and not there (`NotThere`), a journal that can't be
+/// read (`InManager`), an unfinished run where a rescue file is asked for (`Unfinished`), else a number
+/// in its header that no rescue file has (`NotThere`), a folder or a rescue file that the system
+/// refuses to read (`FileRefused`), the first fault of the submit files and the texts of jobs
+/// (`InPlan`) and then of the rescue file (`InRescue`), another manager that runs the DAG
+/// (`FileRefused` with the file that it has locked). Then a process of an earlier manager that can't be
+/// ended (`FileRefused` with the file that names them), and a rescue file or a journal that can't be
+/// renamed (`FileRefused`); the same options go on from there. Then those of the manager
+/// (`InManager`) and of the children (`StartMemory`, `WaitFault`); what was recorded stays. Want of
+/// memory may stand before any.
 pub fn run_dag<R: Processes + Files<File = File> + Clock + AllocGlobal + Copy + Drop>(
     rt: R,
     folder: &str,
@@ -181,15 +281,15 @@ pub fn run_dag<R: Processes + Files<File = File> + Clock + AllocGlobal + Copy + 
     let place = Place { folder, top };
     let files = files_in(&rt, folder, top)?;
     let graph = graph_of(alloc, &files, top)?;
-    let round = round_of(rt, &place, options.autorescue)?;
-    let plan = plan_of_round(rt, &place, &files, graph, &round)?;
+    let (round, rescue) = round_with_rescue(rt, &place, options)?;
+    let plan = plan_of_round(alloc, &place, &files, graph, &round, bytes_of(&rescue))?;
     let _lock = place.lock(&rt)?;
-    let found = round_of(rt, &place, options.autorescue)?;
-    if !is_same(&round, &found) {
+    let found = round_with_rescue(rt, &place, options)?;
+    if !is_same(&round, &rescue, &found) {
         return Err(place.taken(alloc));
     }
     let warnings = warning_text(alloc, plan.graph().flat().warnings())?;
-    let report = run_planned(rt, &place, &plan, &round, options.limits)?;
+    let report = run_planned(rt, &place, &plan, &round, options)?;
     Ok(Answer {
         text: report.text,
         warnings,

@@ -13,7 +13,7 @@ use Rattle.run_plan.specs.declared.fault.PlanFault.{PlanFault}
 use Rattle.run_plan.specs.declared.fault.PlanFault.TheVariants as plans
 use Rattle.rescue_file.specs.declared.fault.RescueFault.{RescueFault}
 use Rattle.dag_texts.specs.declared.fault.RunFault.{RunFault}
-use Rattle.dag_texts.specs.declared.fault.RunFault.TheVariants.{InFiles, Cycle, InPlan, InTable, InRescue, NotThere, InManager, StartMemory, WaitFault, FileRefused, Memory}
+use Rattle.dag_texts.specs.declared.fault.RunFault.TheVariants.{InFiles, Cycle, InPlan, InTable, InRescue, NotThere, Unfinished, InManager, StartMemory, WaitFault, FileRefused, Memory}
 
 -- the graph of the files of a path
 pub record IsGraphOf (files : Files) (path : List ℕ) (graph : Network) : Type 0 where
@@ -72,6 +72,7 @@ in_line (InPlan fault) = rescue_line fault
 in_line (InTable fault) = None
 in_line (InRescue file fault) = None
 in_line (NotThere number) = None
+in_line Unfinished = None
 in_line (InManager fault) = None
 in_line StartMemory = None
 in_line WaitFault = None

@@ -27,8 +27,11 @@ pub enum RunFault {
     InTable(TableFault),
     /// A line of the rescue file of this path can't be read, or names no node that may be done.
     InRescue(Text, RescueFault),
-    /// There is no rescue file of this number: they go from 1 to 999.
+    /// There is no rescue file of this number: they go from 1 to 999, or the one that is asked for is
+    /// missing.
     NotThere(u16),
+    /// The run that the journal tells of has not ended, so it can't go back to an earlier round.
+    Unfinished,
     /// The journal or the manager of the run refuses.
     InManager(ManagerFault),
     /// Memory was refused for a child.
@@ -63,6 +66,7 @@ impl fmt::Display for RunFault {
                 None => write!(f, "{fault}"),
             },
             RunFault::NotThere(number) => write!(f, "E4 NotThere {number}"),
+            RunFault::Unfinished => write!(f, "E6 Unfinished"),
             RunFault::InManager(fault) => write!(f, "{fault}"),
             RunFault::StartMemory => write!(f, "A1 StartMemory"),
             RunFault::WaitFault => write!(f, "A2 WaitFault"),

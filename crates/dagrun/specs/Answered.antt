@@ -1,9 +1,9 @@
 -- What the program answers to a request, and its exit status (docs/MANUAL.md, "The command line").
-use Rattle.std.specs.Prelude.{◌≡◌, ◌≤◌, ℕ, List, Option, None, Result, Ok, codes, is_some, IfSome}
+use Rattle.std.specs.Prelude.{◌≡◌, ◌≤◌, ℕ, List, [], Option, None, Result, Ok, codes, is_some, IfSome}
 use Rattle.splices.specs.FileSet.{bytes_of}
 use Rattle.splices.specs.declared.file_set.FileSet.{FileSet}
 use Rattle.throttles.specs.declared.Limits.{Limits}
-use Rattle.command_line.specs.Requests.{Asked, checks, runs, tells_status, audits, rehearses, no_limits, limits_in, AreLimits}
+use Rattle.command_line.specs.Requests.{Asked, checks, runs, tells_status, audits, rehearses, draws, shows, no_limits, limits_in, AreLimits}
 use Rattle.command_line.specs.declared.request.RunOptions.{RunOptions}
 use Rattle.dag_files.specs.Beside.{IsFileFault, IsInputFault}
 use Rattle.dag_texts.specs.Checked.{IsCheckOf, IsCheckFault}
@@ -11,7 +11,7 @@ use Rattle.dag_texts.specs.declared.fault.RunFault.{RunFault}
 use Rattle.dag_texts.specs.declared.warnings.Answer.{Answer}
 use Rattle.dag_main.specs.Runs.{IsRunOf, IsRunFault}
 use Rattle.run_answers.specs.Asked.{IsToldOfRun, IsToldFault}
-use Rattle.run_answers.specs.declared.by_journal.Question.TheVariants.{Status, Audit}
+use Rattle.run_answers.specs.declared.by_journal.Question.TheVariants.{Status, Audit, Graph}
 use Rattle.run_answers.specs.declared.by_journal.Question.{Question}
 use Rattle.rehearsal.specs.Rehearsed.{IsRehearsalOf, IsRehearsalFault}
 
@@ -33,19 +33,24 @@ IsAnswerTo (runs path options) text warnings status = IsRunOf path options text 
 IsAnswerTo (tells_status path) text warnings status = IsToldOfRun Status path text warnings status
 IsAnswerTo (audits path) text warnings status = IsToldOfRun Audit path text warnings status
 IsAnswerTo (rehearses path outcomes limits) text warnings status = IsRehearsal path outcomes limits text warnings status
+IsAnswerTo (draws path) text warnings status = IsToldOfRun Graph path text warnings status
+IsAnswerTo (shows page) text warnings status = (text ≡ page) × (warnings ≡ []) × (status ≡ 0)
 
 -- what a question asks for
 abbrev pub asked_of : Question → List ℕ → Asked
 asked_of Status path = tells_status path
 asked_of Audit path = audits path
+asked_of Graph path = draws path
 
--- the path of the DAG file
+-- the path of the DAG file; a page has none
 abbrev pub dag_of : Asked → List ℕ
 dag_of (checks path) = path
 dag_of (runs path options) = path
 dag_of (tells_status path) = path
 dag_of (audits path) = path
 dag_of (rehearses path outcomes limits) = path
+dag_of (draws path) = path
+dag_of (shows page) = []
 
 -- Why a request is refused: the system refuses standard input, where its path asks for that, or the folder or a file, or memory ran out; or
 -- for a cause of the call that it is for.
@@ -56,6 +61,7 @@ pub data IsRefusal : Asked → RunFault → Type 0 where
   not_run : (path : List ℕ) (options : RunOptions) (fault : RunFault) → IsRunFault path options fault → IsRefusal (runs path options) fault
   no_status : (path : List ℕ) (fault : RunFault) → IsToldFault Status path fault → IsRefusal (tells_status path) fault
   not_audited : (path : List ℕ) (fault : RunFault) → IsToldFault Audit path fault → IsRefusal (audits path) fault
+  not_drawn : (path : List ℕ) (fault : RunFault) → IsToldFault Graph path fault → IsRefusal (draws path) fault
   not_rehearsed : (path : List ℕ) (outcomes table : Option (List ℕ)) (limits : Limits) (files : FileSet) (fault : RunFault) →
       is_some table ≡ is_some outcomes → IsRehearsalFault (bytes_of files) path table fault → IsRefusal (rehearses path outcomes limits) fault
 

@@ -2,7 +2,7 @@
 
 ghost use Rattle.std.specs.Prelude.{◌≡◌, IfOk, IfErr, is_some, length, string_bytes};
 ghost use Rattle.std.specs.Option.{option_map};
-ghost use Rattle.command_line.specs.Requests.{asked_by, checks, runs, rehearses};
+ghost use Rattle.command_line.specs.Requests.{asked_by, checks, runs, rehearses, shows};
 ghost use Rattle.dag_files.specs.Beside.{IsFileFault};
 ghost use Rattle.dag_main.specs.Runs.{IsRunOf};
 ghost use Rattle.run_answers.specs.Asked.{IsToldOfRun};
@@ -70,12 +70,25 @@ fn answer<R: Files<File = File> + Processes + Clock + Env + Input + AllocGlobal 
         Request::Run { dag, options } => run_here(rt, dag, &options),
         Request::Status { dag } => told(rt, dag, Question::Status),
         Request::Audit { dag } => told(rt, dag, Question::Audit),
+        Request::Graph { dag } => told(rt, dag, Question::Graph),
+        Request::Page { text } => Ok(page(rt.alloc(), text)),
         Request::Check { dag } => check(rt, dag),
         Request::Rehearse {
             dag,
             outcomes,
             limits,
         } => rehearse(rt, dag, outcomes, limits),
+    }
+}
+
+/// The answer that is this page.
+fn page(alloc: Global, text: String) -> Answer
+    ensures { IsAnswerTo (shows (string_bytes text)) (string_bytes result.text) (string_bytes result.warnings) result.status }
+{
+    Answer {
+        text,
+        warnings: String::new(alloc),
+        status: 0,
     }
 }
 

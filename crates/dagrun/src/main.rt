@@ -5,11 +5,14 @@ mod commands;
 
 use commands::run;
 use std::alloc::Global;
+use std::fs::OpenOptions;
 use std::io::ErrorKind;
+use std::os::fd::{AsRawFd, IntoRawFd};
 use std::process::ExitCode;
 use std::{env, io};
 
 fn main(rt: HostRuntime) -> ExitCode {
+    open_streams(&rt);
     match run_words(&rt) {
         Ok(status) => ExitCode::from(status),
         Err(error) if error.kind() == ErrorKind::OutOfMemory => {
@@ -23,12 +26,69 @@ fn main(rt: HostRuntime) -> ExitCode {
     }
 }
 
+/// Opens `/dev/null` as each of the streams 0, 1 and 2 that is closed, so that no file of a run comes to
+/// be one of them.
+fn open_streams(rt: &HostRuntime) {
+    for _ in 0..3 {
+        let opened = OpenOptions::new()
+            .read(true)
+            .write(true)
+            .open(rt, "/dev/null");
+        match opened {
+            Ok(file) if file.as_raw_fd() <= 2 => {
+                let _ = file.into_raw_fd();
+            }
+            _ => return,
+        }
+    }
+}
+
+/// The variables of the environment that stand for options of `run` which are not given, and these options.
+const STANDING: [(&str, &str); 3] = [
+    ("DAGRUN_MAXJOBS", "--maxjobs"),
+    ("DAGRUN_MAXPRE", "--maxpre"),
+    ("DAGRUN_MAXPOST", "--maxpost"),
+];
+
+/// Whether an option is among some words, with its value behind it or in the next word.
+fn is_given(words: &[String], option: &str) -> bool {
+    words.iter().any(|word| match word.as_str().split_once('=') {
+        Some((name, _)) => name == option,
+        None => word.as_str() == option,
+    })
+}
+
+/// The options of these words that the environment has, where they call for a run and don't have them
+/// themselves.
+fn standing_options(rt: &HostRuntime, words: &[String]) -> io::Result<Vec<String>> {
+    let mut options = Vec::new(rt.alloc());
+    if !matches!(words, [_, command, ..] if command.as_str() == "run") {
+        return Ok(options);
+    }
+    for (variable, option) in &STANDING {
+        match env::var(rt, variable) {
+            Ok(value) if !value.is_empty() && !is_given(words, option) => {
+                options.push(format!(in rt.alloc(); "{option}={value}")?)?;
+            }
+            _ => {}
+        }
+    }
+    Ok(options)
+}
+
 /// Runs the command of the words that the program is given, and answers the exit status.
 fn run_words(rt: &HostRuntime) -> io::Result<u8> {
     let mut owned = Vec::new(rt.alloc());
     for word in env::args(rt)? {
         owned.push(word)?;
     }
-    let words: Vec<&str> = owned.iter().map(|word| word.as_str()).collect(rt.alloc())?;
+    let standing = standing_options(rt, &owned)?;
+    let words: Vec<&str> = owned
+        .iter()
+        .take(2)
+        .chain(standing.iter())
+        .chain(owned.iter().skip(2))
+        .map(|word| word.as_str())
+        .collect(rt.alloc())?;
     Ok(run(rt, &words))
 }

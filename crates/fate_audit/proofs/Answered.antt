@@ -11,10 +11,12 @@ use Rattle.sched_core.specs.Fate.{Fate}
 use Rattle.sched_core.proofs.LivesLemmas.{lawful-tail}
 use Rattle.sched_core.proofs.Finished.{lawful_part}
 use Rattle.event_journal.specs.declared.fault.JournalFault.{JournalFault}
-use Rattle.event_journal.specs.Image.{Header, Found}
+use Rattle.event_journal.specs.Groups.{slot_at, IsSlotAt}
+use Rattle.event_journal.specs.Image.{Header, Found, groups_in}
 use Rattle.event_journal.specs.Reading.{FailsAs, ReadsRecords, replay_for}
 use Rattle.event_journal.specs.declared.fault.JournalFault.TheVariants as journal
-use Rattle.recovery.specs.Replay.{IsFirstForeign, IsReplayFault, foreign}
+use Rattle.recovery.specs.Replay.{IsFirstForeign, IsForeignSlot, IsReplayFault}
+use Rattle.recovery.proofs.Slots.{first_at, foreign_in}
 use Rattle.run_manager.specs.declared.fault.ManagerFault.TheVariants as manager
 use Rattle.fate_audit.specs.Fates.{AreFatesOf}
 use Rattle.fate_audit.specs.Shown.{AreShown}
@@ -69,6 +71,10 @@ foreign-one plan records place other is is' =
     omega arith
 
 -- What the bytes read as is one thing.
+abbrev groups_or : Result (List (List Record)) JournalFault → List (List Record)
+groups_or (Ok groups) = groups
+groups_or (Err fault) = []
+
 abbrev records_or : Result (Option Found) JournalFault → List Record
 records_or (Ok None) = []
 records_or (Ok (Some found)) = found.records
@@ -93,10 +99,19 @@ module _ (plan : Plan) (bytes : List ℕ) where
   same-past : (past other : List Record) → IsJournalOf plan bytes past → IsJournalOf plan bytes other → other ≡ past
   same-past past other is is' = turned other (written past) (ap records_or (sym is.reads ∙ is'.reads)) ∙ reverse-reverse past
 
-  foreign-past : {X : Type 0} (found : Found) (slot : ℕ) → replay_for plan.digest bytes ≡ Ok (Some found) → IsFirstForeign plan found.records slot
+  foreign-past : {X : Type 0} (slot : ℕ) → IsForeignSlot plan (replay_for plan.digest bytes) (groups_in bytes) slot
       → (past : List Record) → IsJournalOf plan bytes past → is_lawful plan past ≡ true → X
-  foreign-past found slot is first past journal lawful =
-      absurd (foreign-whole plan found.records past slot first (same-records found is past journal) lawful)
+  foreign-past slot why past journal lawful =
+      absurd (foreign-whole plan why.found.records past why.place why.first (same-records why.found why.reads past journal) lawful)
+
+  one-slot : (slot other : ℕ) → IsForeignSlot plan (replay_for plan.digest bytes) (groups_in bytes) slot
+      → IsForeignSlot plan (replay_for plan.digest bytes) (groups_in bytes) other → slot ≡ other
+  one-slot slot other why why' =
+      let places : why.place ≡ why'.place =
+      foreign-one plan why.found.records why.place why'.place why.first
+      (subst (λ (rs : List Record). IsFirstForeign plan rs why'.place) (same-found why.found why'.found why.reads why'.reads) why'.first) in
+      let groups : why.groups ≡ why'.groups = ap groups_or (sym why.has_groups ∙ why'.has_groups) in
+      why.slot_is ∙ (λ i. slot_at (groups i) (places i)) ∙ sym why'.slot_is
 
   open-over : {X : Type 0} (past other : List Record) → IsJournalOf plan bytes past → IsJournalOf plan bytes other
       → is_over past ≡ false → is_finished plan other ≡ true → X
@@ -106,7 +121,7 @@ module _ (plan : Plan) (bytes : List ℕ) where
   -- the journal of a finished run without abort
   pub sound-no : (cause : AuditNo) → AreSound plan bytes → IsAuditNo plan bytes cause → cause ≡ Memory
   sound-no cause (past, sound) (no_journal none) = absurd (no-past none past sound.journal)
-  sound-no cause (past, sound) (foreign_record found slot is first) = foreign-past found slot is first past sound.journal (lawful_part plan past sound.finished)
+  sound-no cause (past, sound) (foreign_record slot why) = foreign-past slot why past sound.journal (lawful_part plan past sound.finished)
   sound-no cause (past, sound) (no_finish other is lawful going) = open-over other past is sound.journal going sound.finished
   sound-no cause (past, sound) (had_abort other is finished aborted) =
       absurd (false≢true (sym sound.calm ∙ ap (is_aborted plan) (same-past other past is sound.journal) ∙ aborted))
@@ -116,25 +131,24 @@ module _ (plan : Plan) (bytes : List ℕ) where
   one-cause cause other no_memory is ne ne' = absurd (ne refl)
   one-cause cause other (no_journal none) no_memory ne ne' = absurd (ne' refl)
   one-cause cause other (no_journal none) (no_journal none') ne ne' = refl
-  one-cause cause other (no_journal none) (foreign_record found slot is first) ne ne' = absurd (no-records none found is)
+  one-cause cause other (no_journal none) (foreign_record slot why) ne ne' = absurd (no-records none why.found why.reads)
   one-cause cause other (no_journal none) (no_finish past is lawful going) ne ne' = absurd (no-past none past is)
   one-cause cause other (no_journal none) (had_abort past is finished aborted) ne ne' = absurd (no-past none past is)
-  one-cause cause other (foreign_record found slot is first) no_memory ne ne' = absurd (ne' refl)
-  one-cause cause other (foreign_record found slot is first) (no_journal none) ne ne' = absurd (no-records none found is)
-  one-cause cause other (foreign_record found slot is first) (foreign_record found' slot' is' first') ne ne' =
-      ap NotARun (foreign-one plan found.records slot slot' first (subst (λ (rs : List Record). IsFirstForeign plan rs slot') (same-found found found' is is') first'))
-  one-cause cause other (foreign_record found slot is first) (no_finish past is' lawful going) ne ne' = foreign-past found slot is first past is' lawful
-  one-cause cause other (foreign_record found slot is first) (had_abort past is' finished aborted) ne ne' =
-      foreign-past found slot is first past is' (lawful_part plan past finished)
+  one-cause cause other (foreign_record slot why) no_memory ne ne' = absurd (ne' refl)
+  one-cause cause other (foreign_record slot why) (no_journal none) ne ne' = absurd (no-records none why.found why.reads)
+  one-cause cause other (foreign_record slot why) (foreign_record slot' why') ne ne' = ap NotARun (one-slot slot slot' why why')
+  one-cause cause other (foreign_record slot why) (no_finish past is' lawful going) ne ne' = foreign-past slot why past is' lawful
+  one-cause cause other (foreign_record slot why) (had_abort past is' finished aborted) ne ne' =
+      foreign-past slot why past is' (lawful_part plan past finished)
   one-cause cause other (no_finish past is lawful going) no_memory ne ne' = absurd (ne' refl)
   one-cause cause other (no_finish past is lawful going) (no_journal none) ne ne' = absurd (no-past none past is)
-  one-cause cause other (no_finish past is lawful going) (foreign_record found slot is' first) ne ne' = foreign-past found slot is' first past is lawful
+  one-cause cause other (no_finish past is lawful going) (foreign_record slot why) ne ne' = foreign-past slot why past is lawful
   one-cause cause other (no_finish past is lawful going) (no_finish past' is' lawful' going') ne ne' = refl
   one-cause cause other (no_finish past is lawful going) (had_abort past' is' finished aborted) ne ne' = open-over past past' is is' going finished
   one-cause cause other (had_abort past is finished aborted) no_memory ne ne' = absurd (ne' refl)
   one-cause cause other (had_abort past is finished aborted) (no_journal none) ne ne' = absurd (no-past none past is)
-  one-cause cause other (had_abort past is finished aborted) (foreign_record found slot is' first) ne ne' =
-      foreign-past found slot is' first past is (lawful_part plan past finished)
+  one-cause cause other (had_abort past is finished aborted) (foreign_record slot why) ne ne' =
+      foreign-past slot why past is (lawful_part plan past finished)
   one-cause cause other (had_abort past is finished aborted) (no_finish past' is' lawful going) ne ne' = open-over past' past is' is going finished
   one-cause cause other (had_abort past is finished aborted) (had_abort past' is' finished' aborted') ne ne' = refl
 
@@ -172,9 +186,12 @@ module _ (plan : Plan) (bytes : List ℕ) where
         reads = found.1 ∙ ap (λ (rs : List Record). Ok (Some (found_as found.0.header rs))) (sym found.2 ∙ e);
       }
 
-      pub read-foreign : (slot : ℕ) (replayed : List Record) → replayed ≡ records → IsReplayFault plan replayed (manager.Foreign slot) → IsAuditNo plan bytes (NotARun slot)
-      read-foreign slot replayed e (foreign place first) =
-          foreign_record found.0 slot found.1 (subst (λ (rs : List Record). IsFirstForeign plan rs slot) (e ∙ found.2) first)
+      pub read-foreign : (place slot : ℕ) (replayed : List Record) → replayed ≡ records → IsReplayFault plan replayed (manager.Foreign place)
+          → IsSlotAt (groups_in bytes) place slot → IsAuditNo plan bytes (NotARun slot)
+      read-foreign place slot replayed e why at =
+          foreign_record slot
+          (foreign_in plan plan.digest bytes found.0 place slot found.1
+          (subst (λ (rs : List Record). IsFirstForeign plan rs place) (e ∙ found.2) (first_at plan replayed place why)) at)
 
   pub read-fault : (fault : JournalFault) → FailsAs fault (replay_for plan.digest bytes) → IsAuditNo plan bytes (no_of fault)
   read-fault journal.Memory is = no_memory

@@ -7,10 +7,10 @@ use Rattle.sched_core.specs.Run.{table_of, is_lawful, is_over, is_finished, is_a
 use Rattle.sched_core.specs.Fate.{Fate}
 use Rattle.event_journal.specs.declared.fault.JournalFault.{JournalFault}
 use Rattle.event_journal.specs.declared.fault.JournalFault.TheVariants as journal
-use Rattle.event_journal.specs.Image.{Header, Found}
+use Rattle.event_journal.specs.Image.{Header, Found, groups_in}
 use Rattle.event_journal.specs.Reading.{replay_for}
 use Rattle.run_manager.specs.Managed.{read_of}
-use Rattle.recovery.specs.Replay.{IsFirstForeign}
+use Rattle.recovery.specs.Replay.{IsForeignSlot}
 use Rattle.fate_audit.specs.Fates.{AreFatesOf}
 use Rattle.fate_audit.specs.declared.fault.AuditNo.{AuditNo}
 use Rattle.fate_audit.specs.declared.fault.AuditNo.TheVariants.{NotAJournal, NotARun, Unfinished, Memory, Aborted}
@@ -46,8 +46,7 @@ pub record IsAuditOf (plan : Plan) (bytes : List ℕ) (fates : List Fate) : Type
 -- those of a run that has no Finish; or of one that is finished, and was aborted. Memory may run out before.
 pub data IsAuditNo (plan : Plan) (bytes : List ℕ) : AuditNo → Type 0 where
   no_journal : HasNoRecords (replay_for plan.digest bytes) → IsAuditNo plan bytes NotAJournal
-  foreign_record : (found : Found) (slot : ℕ) → replay_for plan.digest bytes ≡ Ok (Some found) → IsFirstForeign plan found.records slot →
-      IsAuditNo plan bytes (NotARun slot)
+  foreign_record : (slot : ℕ) → IsForeignSlot plan (replay_for plan.digest bytes) (groups_in bytes) slot → IsAuditNo plan bytes (NotARun slot)
   no_finish : (past : List Record) → IsJournalOf plan bytes past → IsTrue (is_lawful plan past) → IsFalse (is_over past) →
       IsAuditNo plan bytes Unfinished
   had_abort : (past : List Record) → IsJournalOf plan bytes past → IsTrue (is_finished plan past) → IsTrue (is_aborted plan past) →

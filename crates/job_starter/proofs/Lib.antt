@@ -4,9 +4,13 @@ pub mod Steps
 pub mod Cuts
 pub mod Disks
 pub mod Walks
-pub mod Rounds
+pub mod Ways
+pub mod Hands
+pub mod Turns
+pub mod RoundTurns
 pub mod Handing
 pub mod Images
+pub mod Stretches
 pub mod Lasts
 pub mod Phases
 pub mod Outcomes

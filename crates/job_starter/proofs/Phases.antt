@@ -9,16 +9,12 @@ use Rattle.node_machine.specs.declared.Outcome.{Outcome}
 use Rattle.node_machine.specs.declared.Ended.{Ended}
 use Rattle.node_machine.specs.declared.Course.{Course}
 use Rattle.node_machine.specs.Story.{ended, decided_by, with_job, with_pre, attempt, attempts_from, is_last, skips, is_exit_0, is_noop_job, value_of, ends_with, phases_of, story, attempts_after, outcome_in, has_ended, first_to_come, next_after}
-use Rattle.throttles.specs.declared.Limits.{Limits}
 use Rattle.node_specs.specs.Node.{NodeSpec}
 use Rattle.run_plan.specs.Plan.{Plan, node_at}
 use Rattle.node_specs.specs.Commands.{starts_child}
-use Rattle.sched_core.specs.declared.Choice.TheVariants as choices
 use Rattle.node_machine.specs.declared.Record.{Record}
-use Rattle.sched_core.specs.Run.{history, is_open}
-use Rattle.sched_core.specs.Choices.{IsChoice}
-use Rattle.sched_core.proofs.Best.{chosen-follows}
-use Rattle.sched_core.proofs.Sound.{launch-held, next-parts}
+use Rattle.sched_core.specs.Run.{next, history}
+use Rattle.sched_core.proofs.Sound.{next-parts}
 
 -- a course has this phase
 abbrev has : Course → Phase → Bool
@@ -80,14 +76,11 @@ module _ (course : Course) where
   unfolding next_after attempts_after story
   next-has es next is = first-has es (phases_of (attempts_after course es)) next (attempts-have (λ i phase. ends_with course phase (outcome_in es i phase)) 0 course.retries) is
 
--- a chosen phase that starts no child is the job of a NOOP
-pub quiet-noop : (limits : Limits) (plan : Plan) (past : List Record) (key : Key) → is_open past ≡ true → IsChoice limits plan past (choices.Start key)
+-- a phase that comes next and starts no child is the job of a NOOP
+pub quiet-noop : (plan : Plan) (past : List Record) (key : Key) → next plan past key.node ≡ Some key
     → starts_child (node_at plan key.node) key.phase ≡ false → is_noop_job (node_at plan key.node).course key.phase ≡ true
-quiet-noop limits plan past key going chosen quiet = go key.phase (next-has (node_at plan key.node).course (history past key.node) (key.attempt, key.phase) next) quiet
+quiet-noop plan past key is_next quiet = go key.phase (next-has (node_at plan key.node).course (history past key.node) (key.attempt, key.phase) (next-parts plan past key.node key is_next).1) quiet
   where
-    next : next_after (node_at plan key.node).course (history past key.node) ≡ Some (key.attempt, key.phase)
-    next = (next-parts plan past key.node key (launch-held plan past key _ (chosen-follows limits plan past key going chosen)).is_next).1
-
     noop : (b : Bool) → not b ≡ false → (b && true) ≡ true
     noop true is = refl
     noop false is = absurd (false≢true (sym is))

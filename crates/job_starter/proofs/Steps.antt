@@ -1,38 +1,37 @@
 -- What a record makes of a run, and why it is refused.
-use Rattle.std.proofs.Common.{None, arith, ◌≡◌, ℕ, suc, ◌≤◌, Bool, true, false, not, ◌&&◌, ◌||◌, ◌==◌, List, [], ◌∷◌, Option, Some, Result, Ok, Err, IfErr, refl, sym, ap, ◌∙◌, subst, eq-eqb}
+use Rattle.std.proofs.Common.{None, arith, ◌≡◌, ℕ, zero, suc, drop, ◌≤◌, ◌<◌, length, Bool, true, false, not, ◌&&◌, ◌||◌, ◌==◌, List, [], ◌∷◌, Option, Some, Result, Ok, Err, IfErr, OnOk, refl, sym, ap, ◌∙◌, subst, eq-eqb}
 use Rattle.std.specs.List.{list_all}
 use Rattle.std.proofs.lemmas.Bool.{and_parts, and_from, false≢true, not-true}
 use Rattle.node_machine.specs.declared.Key.{Key}
 use Rattle.node_machine.specs.declared.Phase.{Phase}
 use Rattle.node_machine.specs.declared.Phase.TheVariants.{Pre, Job, Post}
 use Rattle.node_machine.specs.declared.Outcome.{Outcome}
-use Rattle.node_machine.specs.Story.{is_possible, may_end_with, is_exit_0}
+use Rattle.node_machine.specs.declared.Outcome.TheVariants.{Exit}
+use Rattle.node_machine.specs.Story.{is_possible, may_end_with, is_exit_0, is_noop_job}
 use Rattle.throttles.specs.declared.Limits.{Limits}
 use Rattle.node_specs.specs.Node.{NodeSpec}
 use Rattle.run_plan.specs.Plan.{Plan, node_at, count_of}
 use Rattle.node_specs.specs.Commands.{starts_child}
-use Rattle.sched_core.specs.declared.Choice.TheVariants as choices
 use Rattle.node_machine.specs.declared.Record.{Record}
 use Rattle.node_machine.specs.declared.Record.TheVariants.{End}
-use Rattle.sched_core.specs.Run.{history, is_open, is_over, may_follow, may_launch, is_lawful, is_nothing, is_among, is_same, outstanding}
+use Rattle.sched_core.specs.Run.{history, next, is_open, is_over, may_follow, may_launch, is_lawful, is_nothing, is_among, is_same, outstanding}
 use Rattle.sched_core.specs.Core.{has_key_of}
-use Rattle.sched_core.specs.Choices.{IsChoice, startable, nothing_launchable}
-use Rattle.sched_core.proofs.Keys.{same-eq}
-use Rattle.sched_core.proofs.Best.{chosen-follows, startable-parts}
+use Rattle.sched_core.specs.Choices.{startable, nothing_launchable}
+use Rattle.sched_core.proofs.Keys.{same-eq, each_among}
+use Rattle.sched_core.proofs.Best.{startable-parts}
 use Rattle.sched_core.proofs.Moves.{launchable-next}
 use Rattle.sched_core.proofs.Sweeps.{all_below-not}
-use Rattle.sched_core.proofs.Bounds.{launch-lowers, end-lowers}
-use Rattle.sched_core.proofs.Held.{launch-within, launched-within, launched-idle, histories-are}
-use Rattle.sched_core.proofs.Sound.{launch-held, next-parts}
+use Rattle.sched_core.proofs.Held.{launch-within, histories-are, Within, outstanding-within}
+use Rattle.sched_core.proofs.Sound.{Held, sound, next-parts}
 use Rattle.sched_core.proofs.Turns.{turn-allowed}
+use Rattle.event_journal.specs.Disk.{IsOneMore}
 use Rattle.run_manager.specs.declared.fault.ManagerFault.{ManagerFault}
-use Rattle.run_manager.specs.Managed.{Managed, plan_of, past_of, is_begun, IsRefusal}
+use Rattle.run_manager.specs.Managed.{Managed, is_begun}
 use Rattle.job_starter.specs.declared.driving.DriveFault.{DriveFault}
 use Rattle.job_starter.specs.Moments.{KeepsDisk, CountsOn}
-use Rattle.job_starter.proofs.Disks.{keeps_on, keeps_still, counts_on, counts_still}
-use Rattle.job_starter.proofs.Counting.{rises-before, rises-on}
-use Rattle.job_starter.specs.Causes.{IsOfRun, IsRecordRefused, IsDriveFault, no_memory_for_child, no_ending_told, no_memory_for_command, record_refused}
-use Rattle.job_starter.specs.Drives.{launch_of, IsNearerEnd, IsHeld}
+use Rattle.job_starter.proofs.Disks.{keeps_on, counts_on}
+use Rattle.job_starter.specs.Causes.{IsOfRun, AreRefused, IsDriveFault, no_memory_for_child, no_ending_told, no_memory_for_command, no_memory_for_round, records_refused}
+use Rattle.job_starter.specs.Drives.{IsHeld}
 
 -- an ending of what is outstanding is lawful
 pub end-may-follow : (plan : Plan) (past : List Record) (key : Key) (outcome : Outcome)
@@ -43,19 +42,7 @@ unfolding may_follow
 end-may-follow plan past key outcome going among possible fits =
     and_from _ _ (and_from _ _ going among) (and_from _ _ possible fits)
 
-pub nearer-launch : (plan : Plan) (past after : List Record) (key : Key) → is_lawful plan past ≡ true
-    → may_follow plan past (launch_of past key) ≡ true → after ≡ launch_of past key ∷ past → IsNearerEnd plan past after
-nearer-launch plan past after key lawful may is =
-    subst (λ records. IsNearerEnd plan past records) (sym is)
-    (record { going = refl; fewer = launch-lowers plan past lawful key _ may })
-
-pub nearer-end : (plan : Plan) (past after : List Record) (key : Key) (outcome : Outcome) → is_lawful plan past ≡ true
-    → may_follow plan past (End key outcome) ≡ true → after ≡ End key outcome ∷ past → IsNearerEnd plan past after
-nearer-end plan past after key outcome lawful may is =
-    subst (λ records. IsNearerEnd plan past records) (sym is)
-    (record { going = refl; fewer = end-lowers plan past lawful key outcome may })
-
-among-node : (key : Key) (keys : List Key) → is_among key keys ≡ true → has_key_of key.node keys ≡ true
+pub among-node : (key : Key) (keys : List Key) → is_among key keys ≡ true → has_key_of key.node keys ≡ true
 among-node key [] is = is
 among-node key (other ∷ keys) is = go (is_same key other) refl is (λ some. later (other.node == key.node) (among-node key keys some))
   where
@@ -71,28 +58,18 @@ among-node key (other ∷ keys) is = go (is_same key other) refl is (λ some. la
         λ j. eq-eqb other.node key.node node j || has_key_of key.node keys
     go false same some rest = rest some
 
--- what is chosen: a node's phase in an attempt that is allowed, and not outstanding
-pub chosen-within : (limits : Limits) (plan : Plan) (past : List Record) (key : Key) → is_open past ≡ true → IsChoice limits plan past (choices.Start key) → key.node ≤ count_of plan
-chosen-within limits plan past key going chosen =
-    let lt = launched-within plan past key _ (chosen-follows limits plan past key going chosen) in omega arith
+-- an outstanding phase is what comes next of its node, in an attempt that is allowed
+module _ (plan : Plan) (past : List Record) (lawful : is_lawful plan past ≡ true) (key : Key) (among : is_among key (outstanding plan past) ≡ true) where
+  pub running-next : next plan past key.node ≡ Some key
+  running-next = (each_among (Held plan past) key (outstanding plan past) (sound plan past lawful).held among).is_next
 
-pub chosen-allowed : (limits : Limits) (plan : Plan) (past : List Record) (key : Key) → is_lawful plan past ≡ true → is_open past ≡ true
-    → IsChoice limits plan past (choices.Start key) → key.attempt ≤ (node_at plan key.node).course.retries
-chosen-allowed limits plan past key lawful going chosen =
-    let held = launch-held plan past key _ (chosen-follows limits plan past key going chosen) in
-    turn-allowed (node_at plan key.node).course (history past key.node) (histories-are plan past lawful key.node) (key.attempt, key.phase)
-    (next-parts plan past key.node key held.is_next).1
+  pub running-within : key.node ≤ count_of plan
+  running-within = let lt = each_among (Within plan) key (outstanding plan past) (outstanding-within plan past lawful) among in omega (arith, lt)
 
-pub chosen-free : (limits : Limits) (plan : Plan) (past : List Record) (key : Key) → is_lawful plan past ≡ true → is_open past ≡ true
-    → IsChoice limits plan past (choices.Start key) → is_among key (outstanding plan past) ≡ false
-chosen-free limits plan past key lawful going chosen = go (is_among key (outstanding plan past)) refl
-  where
-    idle : has_key_of key.node (outstanding plan past) ≡ false
-    idle = launched-idle plan past key _ lawful (chosen-follows limits plan past key going chosen)
-
-    go : (b : Bool) → is_among key (outstanding plan past) ≡ b → b ≡ false
-    go false is = refl
-    go true is = absurd (false≢true (sym idle ∙ among-node key (outstanding plan past) is))
+  pub running-allowed : key.attempt ≤ (node_at plan key.node).course.retries
+  running-allowed =
+      turn-allowed (node_at plan key.node).course (history past key.node) (histories-are plan past lawful key.node) (key.attempt, key.phase)
+      (next-parts plan past key.node key running-next).1
 
 -- a phase that starts a child may end in any way
 no_noop : (b : Bool) → (b && false) ≡ false
@@ -116,20 +93,18 @@ children-start plan (other ∷ keys) key all is = go (is_same key other) refl is
     go true same some rest = subst (λ (k : Key). starts_child (node_at plan k.node) k.phase ≡ true) (sym (same-eq key other same)) (and_parts _ _ all).0
     go false same some rest = rest some
 
--- why a run is stopped is so however the counts go on
-pub fault-on : {D : Type 0} (honest : D → Type 0) (failures capacity : D → ℕ) (before now later : ℕ) (old manager : Managed D) (fault : DriveFault) → now ≤ later
+-- why a run is stopped is so as long as the counts stand
+pub fault-on : {D : Type 0} (honest : D → Type 0) (failures capacity : D → ℕ) (before now later : ℕ) (old manager : Managed D) (fault : DriveFault) → later ≡ now
     → IsDriveFault honest failures capacity before now old manager fault → IsDriveFault honest failures capacity before later old manager fault
-fault-on honest failures capacity before now later old manager _ le (no_memory_for_child rises) = no_memory_for_child (rises-on before now later le rises)
-fault-on honest failures capacity before now later old manager _ le (no_ending_told rises) = no_ending_told (rises-on before now later le rises)
-fault-on honest failures capacity before now later old manager _ le no_memory_for_command = no_memory_for_command
-fault-on honest failures capacity before now later old manager _ le (record_refused refused) = record_refused refused
+fault-on honest failures capacity before now later old manager fault same why =
+    subst (λ (count : ℕ). IsDriveFault honest failures capacity before count old manager fault) (sym same) why
 
--- a record is refused for a call that began earlier too
+-- records are refused for a call that began earlier too
 pub refused-since : {D : Type 0} (honest : D → Type 0) (failures capacity : D → ℕ) (is_own : Record → Type 0) (old mid manager : Managed D) (fault : ManagerFault)
     → KeepsDisk honest failures capacity old mid → CountsOn old mid
-    → IsRecordRefused honest failures capacity is_own mid manager fault → IsRecordRefused honest failures capacity is_own old manager fault
+    → AreRefused honest failures capacity is_own mid manager fault → AreRefused honest failures capacity is_own old manager fault
 refused-since honest failures capacity is_own old mid manager fault keeps counts r = record {
-  entry = r.entry;
+  entries = r.entries;
   own = r.own;
   then_was = r.then_was;
   same = r.same;
@@ -139,23 +114,16 @@ refused-since honest failures capacity is_own old mid manager fault keeps counts
   cause = r.cause;
 }
 
--- however the counts and the manager stood earlier
-pub fault-before : {D : Type 0} (honest : D → Type 0) (failures capacity : D → ℕ) (earlier before now : ℕ) (old mid manager : Managed D) (fault : DriveFault) → earlier ≤ before
+-- however the manager stood earlier, where nothing was refused since
+pub fault-before : {D : Type 0} (honest : D → Type 0) (failures capacity : D → ℕ) (earlier before now : ℕ) (old mid manager : Managed D) (fault : DriveFault) → before ≡ earlier
     → KeepsDisk honest failures capacity old mid → CountsOn old mid
     → IsDriveFault honest failures capacity before now mid manager fault → IsDriveFault honest failures capacity earlier now old manager fault
-fault-before honest failures capacity earlier before now old mid manager _ le keeps counts (no_memory_for_child rises) = no_memory_for_child (rises-before earlier before now le rises)
-fault-before honest failures capacity earlier before now old mid manager _ le keeps counts (no_ending_told rises) = no_ending_told (rises-before earlier before now le rises)
-fault-before honest failures capacity earlier before now old mid manager _ le keeps counts no_memory_for_command = no_memory_for_command
-fault-before honest failures capacity earlier before now old mid manager _ le keeps counts (record_refused {fault = fault} refused) =
-    record_refused (refused-since honest failures capacity IsOfRun old mid manager fault keeps counts refused)
-
--- why a call is refused that went on from another
-pub refused-later : {D X : Type 0} (honest : D → Type 0) (failures capacity : D → ℕ) (before now : ℕ) (old mid manager : Managed D) (result : Result X DriveFault)
-    → KeepsDisk honest failures capacity old mid → CountsOn old mid
-    → IfErr result (IsDriveFault honest failures capacity before now mid manager) → IfErr result (IsDriveFault honest failures capacity before now old manager)
-refused-later honest failures capacity before now old mid manager (Ok x) keeps counts is = tt
-refused-later honest failures capacity before now old mid manager (Err fault) keeps counts is =
-    fault-before honest failures capacity before before now old mid manager fault (let le : before ≤ before = omega arith in le) keeps counts is
+fault-before honest failures capacity earlier before now old mid manager _ same keeps counts (no_memory_for_child more) = no_memory_for_child (subst (λ (count : ℕ). IsOneMore count now) same more)
+fault-before honest failures capacity earlier before now old mid manager _ same keeps counts (no_ending_told more) = no_ending_told (subst (λ (count : ℕ). IsOneMore count now) same more)
+fault-before honest failures capacity earlier before now old mid manager _ same keeps counts (no_memory_for_command still) = no_memory_for_command (still ∙ same)
+fault-before honest failures capacity earlier before now old mid manager _ same keeps counts (no_memory_for_round still) = no_memory_for_round (still ∙ same)
+fault-before honest failures capacity earlier before now old mid manager _ same keeps counts (records_refused {fault = fault} still refused) =
+    records_refused (still ∙ same) (refused-since honest failures capacity IsOfRun old mid manager fault keeps counts refused)
 
 pub open-begun : (past : List Record) → is_begun past ≡ true → is_over past ≡ false → is_open past ≡ true
 open-begun [] begun over = absurd (false≢true begun)
@@ -171,23 +139,47 @@ nothing-startable limits plan past nothing node = go (startable limits plan past
         let may = (launchable-next plan past node key (startable-parts limits plan past node key e).0).0 in
         absurd (false≢true (sym (all_below-not (λ n. not (may_launch plan past n)) (suc (count_of plan)) node (launch-within plan past node may) (ap not may)) ∙ nothing))
 
--- a manager refused a record that may follow
-pub refused-record : {D : Type 0} (honest : D → Type 0) (failures capacity : D → ℕ) (is_own : Record → Type 0) (old new : Managed D) (entry : Record) (fault : ManagerFault) → is_own entry
-    → plan_of new ≡ plan_of old → past_of new ≡ past_of old → may_follow (plan_of old) (past_of old) entry ≡ true
-    → IsRefusal failures capacity (plan_of old) (past_of old) entry old.journal new.journal fault → IsRecordRefused honest failures capacity is_own old new fault
-refused-record honest failures capacity is_own old new entry fault own plan past may cause = record {
-  entry = entry;
-  own = own;
-  then_was = old;
-  same = sym past;
-  disk = keeps_still honest failures capacity old;
-  counts = counts_still old;
-  lawful = (λ j. may_follow (plan j) (past j) entry) ∙ may;
-  cause = subst (λ (p : Plan). IsRefusal failures capacity p (past_of new) entry old.journal new.journal fault) (sym plan)
-      (subst (λ (r : List Record). IsRefusal failures capacity (plan_of old) r entry old.journal new.journal fault) (sym past) cause);
-}
-
 -- something is outstanding
 pub some_child : (keys : List Key) → is_nothing keys ≡ false → keys ≡ [] → ⊥
 some_child [] some none = false≢true (sym some)
 some_child (key ∷ keys) some none = absurd cc
+
+pub some-length : (keys : List Key) → is_nothing keys ≡ false → 0 < length keys
+some-length [] some = absurd (false≢true (sym some))
+some-length (key ∷ keys) some = omega arith
+
+pub open-going : (past : List Record) → is_open past ≡ true → is_over past ≡ false
+open-going [] going = absurd (false≢true going)
+open-going (newest ∷ past) going = not-true (is_over (newest ∷ past)) going
+
+-- the job of a NOOP exits with 0
+pub noop-ends : (node : NodeSpec) (phase : Phase) → may_end_with node.course phase (Exit 0) ≡ true
+noop-ends node phase = go (is_noop_job node.course phase)
+  where
+    go : (b : Bool) → (not b || is_exit_0 (Exit 0)) ≡ true
+    go true = refl
+    go false = refl
+
+-- nothing is left behind all
+pub drop-all : (keys : List Key) (place : ℕ) → place ≡ length keys → drop place keys ≡ []
+drop-all [] zero is = refl
+drop-all [] (suc place) is = refl
+drop-all (key ∷ keys) zero is = absurd cc
+drop-all (key ∷ keys) (suc place) is = drop-all keys place (omega (arith, is))
+
+-- what follows of an answer
+pub on-ok : {X : Type 0} (result : Result X DriveFault) (P Q : Type 0) → (P → Q) → OnOk result P → OnOk result Q
+on-ok (Ok x) P Q goes p = goes p
+on-ok (Err fault) P Q goes p = tt
+
+pub if-err : {X : Type 0} (result : Result X DriveFault) (P Q : DriveFault → Type 0) → ((fault : DriveFault) → P fault → Q fault) → IfErr result P → IfErr result Q
+if-err (Ok x) P Q goes p = tt
+if-err (Err fault) P Q goes p = goes fault p
+
+pub some-there : (keys : List Key) → 0 < length keys → is_nothing keys ≡ false
+some-there [] some = absurd (omega (arith, some))
+some-there (key ∷ keys) some = refl
+
+pub none-there : (keys : List Key) → length keys ≡ 0 → is_nothing keys ≡ true
+none-there [] none = refl
+none-there (key ∷ keys) none = absurd (omega (arith, none))

@@ -1,5 +1,5 @@
 -- The calls of a starter that were answered, the newest first, and the children that run.
-use Rattle.std.specs.Prelude.{◌≢◌, ◌<◌, ◌≤◌, ◌-◌, ◌^◌, ◌⊎◌, ℕ, List, [], ◌∷◌, Option, Some, None}
+use Rattle.std.specs.Prelude.{◌≢◌, List, [], ◌∷◌, Option, Some, None}
 use Rattle.std.specs.declared.snapshot.Snapshot.{Snapshot}
 use Rattle.node_machine.specs.declared.Key.{Key}
 use Rattle.node_machine.specs.declared.Outcome.{Outcome}
@@ -25,10 +25,6 @@ running [] = []
 running (calls.Started key command answer ∷ told) = with_started key answer (running told)
 running (calls.Ended key outcome ∷ told) = without key (running told)
 running (calls.Killed key ∷ told) = without key (running told)
-
--- a count rose, or stands at its end
-abbrev pub Rises : ℕ → ℕ → Type 0
-Rises before now = (before < now) ⊎ (2 ^ 64 - 1 ≤ now)
 
 -- What may be told now might have been told before.
 abbrev pub TellsNoMore : (List Call → Key → Outcome → Type 0) → (List Call → Key → Outcome → Type 0) → Type 0

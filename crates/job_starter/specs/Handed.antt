@@ -5,6 +5,7 @@ use Rattle.node_machine.specs.declared.Record.{Record}
 use Rattle.run_manager.specs.Chain.{Command, commands_in}
 use Rattle.job_starter.specs.declared.Call.{Call}
 use Rattle.job_starter.specs.declared.Call.TheVariants as calls
+use Rattle.job_starter.specs.Drives.{most_at_once}
 
 -- the commands of the children that were to be started, the oldest first
 abbrev pub handed : List Call → List Command
@@ -19,10 +20,10 @@ pub record HandsAll (plan : Plan) (begun held : List Record) (told heard : List 
   pub are : handed heard ≡ handed told ++ own
   pub commands : commands_in plan held ≡ commands_in plan begun ++ own
 
--- the same, but perhaps for the last launch
-pub record HandsAllButOne (plan : Plan) (begun held : List Record) (told heard : List Call) : Type 0 where
+-- the same, but perhaps for the last launches, which are of one round
+pub record HandsAllButSome (plan : Plan) (begun held : List Record) (told heard : List Call) : Type 0 where
   pub own : List Command
   pub are : handed heard ≡ handed told ++ own
   pub rest : List Command
-  pub few : length rest ≤ 1
+  pub few : length rest ≤ most_at_once
   pub commands : commands_in plan held ≡ commands_in plan begun ++ (own ++ rest)

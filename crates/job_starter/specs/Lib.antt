@@ -5,3 +5,4 @@ pub mod Drives
 pub mod Moments
 pub mod Causes
 pub mod Handed
+pub mod Stretches

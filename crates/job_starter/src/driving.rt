@@ -1,25 +1,21 @@
 //! A run: each launch is handed over to a starter, and each ending recorded as it was told.
-ghost use Rattle.std.specs.Prelude.{◌≡◌, ℕ, [], ◌∷◌, ◌≤◌, ◌<◌, not, ◌&&◌, None, IsTrue, IsFalse, IfOk, IfErr, IfSome, IfNone, OnOk, OnErr};
-ghost use Rattle.node_machine.specs.Story.{is_possible, may_end_with};
-ghost use Rattle.node_machine.specs.declared.Outcome.TheVariants.{NoStart};
-ghost use Rattle.run_plan.specs.Plan.{node_at, count_of};
-ghost use Rattle.node_specs.specs.Commands.{starts_child};
-ghost use Rattle.sched_core.specs.Run.{is_among, is_aborted, is_over, is_open, is_nothing, outstanding, may_follow, table_of};
+ghost use Rattle.std.specs.Prelude.{◌≡◌, [], ◌∷◌, ◌≤◌, not, ◌&&◌, None, IsTrue, IsFalse, IfOk, IfErr, IfSome, IfNone, OnOk, OnErr};
+ghost use Rattle.sched_core.specs.Run.{is_aborted, is_over, is_open, is_nothing, outstanding, may_follow, table_of};
 ghost use Rattle.sched_core.specs.Fate.{AreFates, shown};
 ghost use Rattle.sched_core.specs.Choices.{IsChoice};
 ghost use Rattle.run_manager.specs.Managed.{Managed, plan_of, past_of};
-ghost use Rattle.job_starter.specs.Calls.{running, MayRun, TellsNoMore};
-ghost use Rattle.job_starter.specs.Drives.{limits_of, launch_of, AreInStep, IsNearerEnd, IsHandedOver, IsHeld, IsStep, final_verdict, Drives, IsCutBy, Starts, Kills, IsLaunched, IsHaltedBy, IsStopped};
-ghost use Rattle.job_starter.specs.Causes.{IsDriveFault, IsUnhanded};
+ghost use Rattle.job_starter.specs.Calls.{running, TellsNoMore};
+ghost use Rattle.job_starter.specs.Drives.{limits_of, at_rest, AreInStep, IsNearerEnd, IsHeld, IsTurn, final_verdict, Drives, Kills, IsStopped};
+ghost use Rattle.job_starter.specs.Causes.{IsDriveFault};
 ghost use Rattle.job_starter.specs.Moments.{fault_in, IsMomentOfRun, IsLastMoment, AtAnyMoment, AtTheEnd, UnlessDiskFault, StaysAcknowledged, KeepsDisk, CountsOn};
+ghost use Rattle.job_starter.specs.Stretches.{IsStretch, IsCutShort};
 
+use crate::Starter;
 use crate::keys::key_at;
-use crate::records::{
-    chosen, goes_on, is_aborted, keeps_the_law, record_end, record_launch, starts_child,
-};
-use crate::{Started, Starter};
+use crate::records::{chosen, goes_on, is_aborted, keeps_the_law, record_ends};
+use crate::rounds::{is_new, launch_round};
 use event_journal::Disk;
-use node_machine::{Key, Outcome, Record, Verdict};
+use node_machine::{Record, Verdict};
 use run_manager::{Manager, ManagerFault};
 use run_plan::Plan;
 use sched_core::Choice;
@@ -38,7 +34,7 @@ pub enum DriveFault {
     /// The manager refused.
     #[error("{0}")]
     Manager(ManagerFault),
-    /// Memory was refused for a command.
+    /// Memory was refused for a command, or for a list.
     #[error("A5 Memory")]
     Memory,
 }
@@ -57,7 +53,7 @@ pub struct RunEnd {
 fn kill_all<S: Starter>(starter: &mut S)
     ensures none_left { running (S.told starter.new) ≡ [] }
     ensures kills { Kills (S.told starter.old) (S.told starter.new) }
-    ensures later { S.faults starter.old ≤ S.faults starter.new }
+    ensures unrefused { S.faults starter.new ≡ S.faults starter.old }
     ensures may { TellsNoMore (S.may_tell starter.old) (S.may_tell starter.new) }
 {
     while !starter.running().is_empty() {
@@ -66,196 +62,31 @@ fn kill_all<S: Starter>(starter: &mut S)
     }
 }
 
-/// Hands a phase that was launched to the starter.
-fn hand_over<D: Disk + Drop, S: Starter>(
-    alloc: Global,
-    manager: &Manager<'_, D>,
-    starter: &mut S,
-    key: Key,
-) -> Result<Started, DriveFault>
-    requires within { key.node ≤ count_of (plan_of manager.now) }
-    requires allowed { key.attempt ≤ (node_at (plan_of manager.now) key.node).course.retries }
-    requires child { IsTrue (starts_child (node_at (plan_of manager.now) key.node) key.phase) }
-    requires outstanding { IsTrue (is_among key (outstanding (plan_of manager.now) (past_of manager.now))) }
-    requires free { IsFalse (is_among key (running (S.told starter.old))) }
-    ensures handed { IfOk result (λ answer. IsHandedOver (plan_of manager.now) (past_of manager.now)
-        key answer (S.told starter.old) (S.told starter.new)) }
-    ensures silent { OnErr result (S.told starter.new ≡ S.told starter.old) }
-    ensures may_be { IfOk result (λ answer.
-        answer ≡ Started.NotStarted → S.may_tell starter.old (S.told starter.old) key NoStart) }
-    ensures may_run { IfOk result (λ answer.
-        answer ≡ Started.Running → MayRun (S.may_tell starter.old) (S.told starter.old) key) }
-    ensures later { S.faults starter.old ≤ S.faults starter.new }
-    ensures refused { (old : Managed D) → IfErr result (IsDriveFault D.honest D.faults D.capacity
-        (S.faults starter.old) (S.faults starter.new) old manager.now) }
-    ensures unhanded { IfErr result IsUnhanded }
-    ensures may { TellsNoMore (S.may_tell starter.old) (S.may_tell starter.new) }
-{
-    let core = manager.core();
-    let facts = core.facts(&key);
-    let Ok(command) = core.plan().command(alloc, &key, &facts) else {
-        return Err(DriveFault::Memory);
-    };
-    match starter.start(key, &command) {
-        Ok(answer) => Ok(answer),
-        Err(_) => Err(DriveFault::StartMemory),
-    }
-}
-
-/// Launches what is chosen: its record, and then its child, if it starts one. What does not run is
-/// recorded as ended at once.
-fn launch_one<D: Disk + Drop, S: Starter>(
-    alloc: Global,
-    manager: &mut Manager<'_, D>,
-    starter: &mut S,
-    key: Key,
-) -> Result<(), DriveFault>
-    requires in_step { AreInStep (plan_of manager.old) (past_of manager.old) (S.told starter.old) }
-    requires chosen { IsChoice (limits_of manager.old) (plan_of manager.old) (past_of manager.old) (Choice.Start key) }
-    requires open { IsTrue (is_open (past_of manager.old)) }
-    ensures plan { plan_of manager.new ≡ plan_of manager.old }
-    ensures limits { limits_of manager.new ≡ limits_of manager.old }
-    ensures step { OnOk result (IsStep (limits_of manager.old) (plan_of manager.old) (S.may_tell starter.old)
-        (past_of manager.old) (S.told starter.old) (past_of manager.new) (S.told starter.new)) }
-    ensures cut { IfErr result (λ fault. IsCutBy (limits_of manager.old) (plan_of manager.old) (S.may_tell starter.old)
-        (past_of manager.old) (S.told starter.old) fault (past_of manager.new) (S.told starter.new)) }
-    ensures later { S.faults starter.old ≤ S.faults starter.new }
-    ensures refused { IfErr result (IsDriveFault D.honest D.faults D.capacity
-        (S.faults starter.old) (S.faults starter.new) manager.old manager.new) }
-    ensures may { TellsNoMore (S.may_tell starter.old) (S.may_tell starter.new) }
-    ensures fewer { OnOk result (IsNearerEnd (plan_of manager.old) (past_of manager.old) (past_of manager.new)) }
-    ensures waits_for_none { Starts (S.told starter.old) (S.told starter.new) }
-    ensures any_moment { AtAnyMoment D.honest D.seen D.may_leave D.moment D.left_since
-        manager.old manager.new (IsMomentOfRun (limits_of manager.old) (plan_of manager.old)
-        (S.may_tell starter.old) (past_of manager.old) (S.told starter.old) (fault_in result)
-        (past_of manager.new) (S.told starter.new)) }
-    ensures left { OnErr result (AtTheEnd D.honest D.seen D.may_leave manager.old manager.new
-        (IsLastMoment (limits_of manager.old) (plan_of manager.old)
-        (S.may_tell starter.old) (past_of manager.old) (S.told starter.old) (fault_in result)
-        (past_of manager.new) (S.told starter.new))) }
-    ensures acknowledged { UnlessDiskFault (fault_in result)
-        (StaysAcknowledged D.honest D.seen D.may_leave manager.old manager.new) }
-    ensures disk { KeepsDisk D.honest D.faults D.capacity manager.old manager.new }
-    ensures counts { OnOk result (CountsOn manager.old manager.new) }
-{
-    keeps_the_law(manager);
-    if let Err(fault) = record_launch(manager, key) {
-        return Err(fault);
-    }
-    keeps_the_law(manager);
-    if !starts_child(manager, &key) {
-        return record_end(manager, key, Outcome::Exit(0));
-    }
-    match hand_over(alloc, manager, starter, key) {
-        Ok(Started::Running) => Ok(()),
-        Ok(Started::NotStarted) => record_end(manager, key, Outcome::NoStart),
-        Err(fault) => Err(fault),
-    }
-}
-
 /// Waits until a child ends, and records it.
 fn end_one<D: Disk + Drop, S: Starter>(
+    alloc: Global,
     manager: &mut Manager<'_, D>,
     starter: &mut S,
 ) -> Result<(), DriveFault>
     requires in_step { AreInStep (plan_of manager.old) (past_of manager.old) (S.told starter.old) }
     requires held { IsHeld (limits_of manager.old) (plan_of manager.old) (past_of manager.old) }
     requires some { IsFalse (is_nothing (outstanding (plan_of manager.old) (past_of manager.old))) }
-    requires open { IsTrue (is_open (past_of manager.old)) }
-    ensures plan { plan_of manager.new ≡ plan_of manager.old }
-    ensures limits { limits_of manager.new ≡ limits_of manager.old }
-    ensures step { OnOk result (IsStep (limits_of manager.old) (plan_of manager.old) (S.may_tell starter.old)
-        (past_of manager.old) (S.told starter.old) (past_of manager.new) (S.told starter.new)) }
-    ensures cut { IfErr result (λ fault. IsCutBy (limits_of manager.old) (plan_of manager.old) (S.may_tell starter.old)
-        (past_of manager.old) (S.told starter.old) fault (past_of manager.new) (S.told starter.new)) }
-    ensures later { S.faults starter.old ≤ S.faults starter.new }
-    ensures refused { IfErr result (IsDriveFault D.honest D.faults D.capacity
-        (S.faults starter.old) (S.faults starter.new) manager.old manager.new) }
-    ensures may { TellsNoMore (S.may_tell starter.old) (S.may_tell starter.new) }
-    ensures fewer { OnOk result (IsNearerEnd (plan_of manager.old) (past_of manager.old) (past_of manager.new)) }
-    ensures any_moment { AtAnyMoment D.honest D.seen D.may_leave D.moment D.left_since
-        manager.old manager.new (IsMomentOfRun (limits_of manager.old) (plan_of manager.old)
-        (S.may_tell starter.old) (past_of manager.old) (S.told starter.old) (fault_in result)
-        (past_of manager.new) (S.told starter.new)) }
-    ensures left { OnErr result (AtTheEnd D.honest D.seen D.may_leave manager.old manager.new
-        (IsLastMoment (limits_of manager.old) (plan_of manager.old)
-        (S.may_tell starter.old) (past_of manager.old) (S.told starter.old) (fault_in result)
-        (past_of manager.new) (S.told starter.new))) }
-    ensures acknowledged { UnlessDiskFault (fault_in result)
-        (StaysAcknowledged D.honest D.seen D.may_leave manager.old manager.new) }
-    ensures disk { KeepsDisk D.honest D.faults D.capacity manager.old manager.new }
-    ensures counts { OnOk result (CountsOn manager.old manager.new) }
+    requires going { IsTrue (is_open (past_of manager.old)) }
+    ensures nearer { OnOk result (IsNearerEnd (plan_of manager.old) (past_of manager.old) (past_of manager.new)) }
+    ensures turn { OnOk result (IsTurn (plan_of manager.old) (past_of manager.old) (past_of manager.new) (S.told starter.new)) }
+    ensures went { OnOk result (IsStretch D.honest D.seen D.may_leave D.moment D.left_since D.faults D.capacity
+        (limits_of manager.old) (plan_of manager.old) (S.may_tell starter.old) (S.may_tell starter.new)
+        (S.faults starter.old) (S.faults starter.new) manager.old manager.new
+        (at_rest (past_of manager.old) (S.told starter.old)) (at_rest (past_of manager.new) (S.told starter.new))) }
+    ensures cut { IfErr result (IsCutShort D.honest D.seen D.may_leave D.moment D.left_since D.faults D.capacity
+        (limits_of manager.old) (plan_of manager.old) (S.may_tell starter.old) (S.may_tell starter.new)
+        (S.faults starter.old) (S.faults starter.new) manager.old manager.new
+        (at_rest (past_of manager.old) (S.told starter.old)) (S.told starter.new)) }
 {
     keeps_the_law(manager);
     match starter.wait_any() {
-        Ok((key, outcome)) => record_end(manager, key, outcome),
+        Ok(end) => record_ends(alloc, manager, starter, &[end]),
         Err(_) => Err(DriveFault::WaitFault),
-    }
-}
-
-/// Launches until nothing more is to be launched, or an ending that was recorded aborts the run.
-/// It waits for no child, and kills none.
-///
-/// # Errors
-/// `StartMemory` where the starter is refused memory for a child, `Memory` where it is refused for a
-/// command: that launch is recorded, and no child was started. `Manager` where the manager refuses a
-/// record, for its disk or for memory. What was recorded stays.
-pub fn launch_round<D: Disk + Drop, S: Starter>(
-    alloc: Global,
-    manager: &mut Manager<'_, D>,
-    plan: &Plan,
-    starter: &mut S,
-) -> Result<(), DriveFault>
-    requires own { plan.now ≡ plan_of manager.old }
-    requires in_step { AreInStep (plan_of manager.old) (past_of manager.old) (S.told starter.old) }
-    requires unfinished { IsFalse (is_over (past_of manager.old)) }
-    ensures plan { plan_of manager.new ≡ plan_of manager.old }
-    ensures limits { limits_of manager.new ≡ limits_of manager.old }
-    // What was recorded and handed over, one step behind another.
-    ensures steps { OnOk result (Drives (limits_of manager.old) (plan_of manager.old) (S.may_tell starter.old)
-        (past_of manager.old) (S.told starter.old) (past_of manager.new) (S.told starter.new)) }
-    // Nothing more is let in, or the newest record aborts the run, which was not aborted before.
-    ensures done { OnOk result (IsLaunched (limits_of manager.old) (plan_of manager.old)
-        (past_of manager.old) (past_of manager.new)) }
-    // Behind a fault: steps, and what this fault leaves of one.
-    ensures stopped { IfErr result (λ fault. IsHaltedBy (limits_of manager.old) (plan_of manager.old) (S.may_tell starter.old)
-        (past_of manager.old) (S.told starter.old) fault (past_of manager.new) (S.told starter.new)) }
-    ensures later { S.faults starter.old ≤ S.faults starter.new }
-    ensures refused { IfErr result (IsDriveFault D.honest D.faults D.capacity
-        (S.faults starter.old) (S.faults starter.new) manager.old manager.new) }
-    ensures waits_for_none { Starts (S.told starter.old) (S.told starter.new) }
-    // On an honest disk each image that a crash may leave meanwhile has what was recorded until some
-    // moment of the call; where the disk refused a record, perhaps that one too.
-    ensures any_moment { AtAnyMoment D.honest D.seen D.may_leave D.moment D.left_since
-        manager.old manager.new (IsMomentOfRun (limits_of manager.old) (plan_of manager.old)
-        (S.may_tell starter.old) (past_of manager.old) (S.told starter.old) (fault_in result)
-        (past_of manager.new) (S.told starter.new)) }
-    // Behind a fault none of the records is missing in an image.
-    ensures left { OnErr result (AtTheEnd D.honest D.seen D.may_leave manager.old manager.new
-        (IsLastMoment (limits_of manager.old) (plan_of manager.old)
-        (S.may_tell starter.old) (past_of manager.old) (S.told starter.old) (fault_in result)
-        (past_of manager.new) (S.told starter.new))) }
-    // What it recorded is in every later image, unless the disk refused a record.
-    ensures acknowledged { UnlessDiskFault (fault_in result)
-        (StaysAcknowledged D.honest D.seen D.may_leave manager.old manager.new) }
-    ensures disk { KeepsDisk D.honest D.faults D.capacity manager.old manager.new }
-    ensures counts { OnOk result (CountsOn manager.old manager.new) }
-{
-    let _plan = plan;
-    goes_on(manager);
-    keeps_the_law(manager);
-    loop {
-        keeps_the_law(manager);
-        let before = is_aborted(manager);
-        let Choice::Start(key) = chosen(manager) else {
-            return Ok(());
-        };
-        if let Err(fault) = launch_one(alloc, manager, starter, key) {
-            return Err(fault);
-        }
-        if is_new(before, is_aborted(manager)) {
-            return Ok(());
-        }
     }
 }
 
@@ -269,93 +100,63 @@ fn verdict_of(choice: Choice) -> Option<Verdict>
     }
 }
 
-fn is_new(before: bool, now: bool) -> bool
-    ensures { result ≡ (not before && now) }
-{
-    !before && now
-}
-
-/// Does what is chosen: a launch, or a wait.
+/// Does what is chosen: launches, or waits.
 fn act<D: Disk + Drop, S: Starter>(
     alloc: Global,
     manager: &mut Manager<'_, D>,
+    plan: &Plan,
     starter: &mut S,
     choice: Choice,
 ) -> Result<(), DriveFault>
+    requires own { plan.now ≡ plan_of manager.old }
     requires in_step { AreInStep (plan_of manager.old) (past_of manager.old) (S.told starter.old) }
     requires chosen { IsChoice (limits_of manager.old) (plan_of manager.old) (past_of manager.old) choice }
-    requires going { final_verdict choice ≡ None }
-    requires open { IsTrue (is_open (past_of manager.old)) }
-    ensures plan { plan_of manager.new ≡ plan_of manager.old }
-    ensures limits { limits_of manager.new ≡ limits_of manager.old }
-    ensures step { OnOk result (IsStep (limits_of manager.old) (plan_of manager.old) (S.may_tell starter.old)
-        (past_of manager.old) (S.told starter.old) (past_of manager.new) (S.told starter.new)) }
-    ensures cut { IfErr result (λ fault. IsCutBy (limits_of manager.old) (plan_of manager.old) (S.may_tell starter.old)
-        (past_of manager.old) (S.told starter.old) fault (past_of manager.new) (S.told starter.new)) }
-    ensures later { S.faults starter.old ≤ S.faults starter.new }
-    ensures refused { IfErr result (IsDriveFault D.honest D.faults D.capacity
-        (S.faults starter.old) (S.faults starter.new) manager.old manager.new) }
-    ensures may { TellsNoMore (S.may_tell starter.old) (S.may_tell starter.new) }
-    ensures fewer { OnOk result
-        (IsNearerEnd (plan_of manager.old) (past_of manager.old) (past_of manager.new)) }
-    ensures any_moment { AtAnyMoment D.honest D.seen D.may_leave D.moment D.left_since
-        manager.old manager.new (IsMomentOfRun (limits_of manager.old) (plan_of manager.old)
-        (S.may_tell starter.old) (past_of manager.old) (S.told starter.old) (fault_in result)
-        (past_of manager.new) (S.told starter.new)) }
-    ensures left { OnErr result (AtTheEnd D.honest D.seen D.may_leave manager.old manager.new
-        (IsLastMoment (limits_of manager.old) (plan_of manager.old)
-        (S.may_tell starter.old) (past_of manager.old) (S.told starter.old) (fault_in result)
-        (past_of manager.new) (S.told starter.new))) }
-    ensures acknowledged { UnlessDiskFault (fault_in result)
-        (StaysAcknowledged D.honest D.seen D.may_leave manager.old manager.new) }
-    ensures disk { KeepsDisk D.honest D.faults D.capacity manager.old manager.new }
-    ensures counts { OnOk result (CountsOn manager.old manager.new) }
+    requires unending { final_verdict choice ≡ None }
+    requires going { IsTrue (is_open (past_of manager.old)) }
+    ensures nearer { OnOk result (IsNearerEnd (plan_of manager.old) (past_of manager.old) (past_of manager.new)) }
+    ensures turn { OnOk result (IsTurn (plan_of manager.old) (past_of manager.old) (past_of manager.new) (S.told starter.new)) }
+    ensures went { OnOk result (IsStretch D.honest D.seen D.may_leave D.moment D.left_since D.faults D.capacity
+        (limits_of manager.old) (plan_of manager.old) (S.may_tell starter.old) (S.may_tell starter.new)
+        (S.faults starter.old) (S.faults starter.new) manager.old manager.new
+        (at_rest (past_of manager.old) (S.told starter.old)) (at_rest (past_of manager.new) (S.told starter.new))) }
+    ensures cut { IfErr result (IsCutShort D.honest D.seen D.may_leave D.moment D.left_since D.faults D.capacity
+        (limits_of manager.old) (plan_of manager.old) (S.may_tell starter.old) (S.may_tell starter.new)
+        (S.faults starter.old) (S.faults starter.new) manager.old manager.new
+        (at_rest (past_of manager.old) (S.told starter.old)) (S.told starter.new)) }
 {
     match choice {
-        Choice::Start(key) => launch_one(alloc, manager, starter, key),
-        Choice::Wait => end_one(manager, starter),
+        Choice::Start(_) => launch_round(alloc, manager, plan, starter),
+        Choice::Wait => end_one(alloc, manager, starter),
         Choice::Finish(_) => unreachable!(),
     }
 }
 
-/// Takes one step: launches what is chosen, or waits where nothing can be launched; where that ended
-/// the run by an abort, each running child is killed. At the end of the run it answers the verdict.
+/// Does what is chosen; where that ended the run by an abort, each running child is killed. At the end of the run it answers the
+/// verdict.
 fn turn<D: Disk + Drop, S: Starter>(
     alloc: Global,
     manager: &mut Manager<'_, D>,
+    plan: &Plan,
     starter: &mut S,
 ) -> Result<Option<Verdict>, DriveFault>
+    requires own { plan.now ≡ plan_of manager.old }
     requires in_step { AreInStep (plan_of manager.old) (past_of manager.old) (S.told starter.old) }
-    requires open { IsTrue (is_open (past_of manager.old)) }
-    ensures plan { plan_of manager.new ≡ plan_of manager.old }
-    ensures limits { limits_of manager.new ≡ limits_of manager.old }
+    requires going { IsTrue (is_open (past_of manager.old)) }
     ensures in_step { OnOk result
         (AreInStep (plan_of manager.old) (past_of manager.new) (S.told starter.new)) }
-    ensures steps { OnOk result (Drives (limits_of manager.old) (plan_of manager.old) (S.may_tell starter.old)
-        (past_of manager.old) (S.told starter.old) (past_of manager.new) (S.told starter.new)) }
     ensures over { IfOk result (λ end. IfSome end (λ verdict.
         IsChoice (limits_of manager.old) (plan_of manager.old) (past_of manager.new) (Choice.Finish verdict))) }
-    ensures open { IfOk result (λ end. IfSome end (λ verdict. IsTrue (is_open (past_of manager.new)))) }
-    ensures fewer { IfOk result (λ end. IfNone end (
+    ensures still { IfOk result (λ end. IfSome end (λ verdict. IsTrue (is_open (past_of manager.new)))) }
+    ensures nearer { IfOk result (λ end. IfNone end (
         IsNearerEnd (plan_of manager.old) (past_of manager.old) (past_of manager.new))) }
-    ensures cut { IfErr result (λ fault. IsCutBy (limits_of manager.old) (plan_of manager.old) (S.may_tell starter.old)
-        (past_of manager.old) (S.told starter.old) fault (past_of manager.new) (S.told starter.new)) }
-    ensures later { S.faults starter.old ≤ S.faults starter.new }
-    ensures refused { IfErr result (IsDriveFault D.honest D.faults D.capacity
-        (S.faults starter.old) (S.faults starter.new) manager.old manager.new) }
-    ensures may { TellsNoMore (S.may_tell starter.old) (S.may_tell starter.new) }
-    ensures any_moment { AtAnyMoment D.honest D.seen D.may_leave D.moment D.left_since
-        manager.old manager.new (IsMomentOfRun (limits_of manager.old) (plan_of manager.old)
-        (S.may_tell starter.old) (past_of manager.old) (S.told starter.old) (fault_in result)
-        (past_of manager.new) (S.told starter.new)) }
-    ensures left { OnErr result (AtTheEnd D.honest D.seen D.may_leave manager.old manager.new
-        (IsLastMoment (limits_of manager.old) (plan_of manager.old)
-        (S.may_tell starter.old) (past_of manager.old) (S.told starter.old) (fault_in result)
-        (past_of manager.new) (S.told starter.new))) }
-    ensures acknowledged { UnlessDiskFault (fault_in result)
-        (StaysAcknowledged D.honest D.seen D.may_leave manager.old manager.new) }
-    ensures disk { KeepsDisk D.honest D.faults D.capacity manager.old manager.new }
-    ensures counts { OnOk result (CountsOn manager.old manager.new) }
+    ensures went { OnOk result (IsStretch D.honest D.seen D.may_leave D.moment D.left_since D.faults D.capacity
+        (limits_of manager.old) (plan_of manager.old) (S.may_tell starter.old) (S.may_tell starter.new)
+        (S.faults starter.old) (S.faults starter.new) manager.old manager.new
+        (at_rest (past_of manager.old) (S.told starter.old)) (at_rest (past_of manager.new) (S.told starter.new))) }
+    ensures cut { IfErr result (IsCutShort D.honest D.seen D.may_leave D.moment D.left_since D.faults D.capacity
+        (limits_of manager.old) (plan_of manager.old) (S.may_tell starter.old) (S.may_tell starter.new)
+        (S.faults starter.old) (S.faults starter.new) manager.old manager.new
+        (at_rest (past_of manager.old) (S.told starter.old)) (S.told starter.new)) }
 {
     keeps_the_law(manager);
     let before = is_aborted(manager);
@@ -363,10 +164,11 @@ fn turn<D: Disk + Drop, S: Starter>(
     if let Some(verdict) = verdict_of(choice) {
         return Ok(Some(verdict));
     }
-    if let Err(fault) = act(alloc, manager, starter, choice) {
+    if let Err(fault) = act(alloc, manager, plan, starter, choice) {
         return Err(fault);
     }
     if is_new(before, is_aborted(manager)) {
+        keeps_the_law(manager);
         kill_all(starter);
     }
     Ok(None)
@@ -376,39 +178,28 @@ fn turn<D: Disk + Drop, S: Starter>(
 fn run<D: Disk + Drop, S: Starter>(
     alloc: Global,
     manager: &mut Manager<'_, D>,
+    plan: &Plan,
     starter: &mut S,
 ) -> Result<Verdict, DriveFault>
+    requires own { plan.now ≡ plan_of manager.old }
     requires in_step { AreInStep (plan_of manager.old) (past_of manager.old) (S.told starter.old) }
-    requires open { IsTrue (is_open (past_of manager.old)) }
-    ensures plan { plan_of manager.new ≡ plan_of manager.old }
-    ensures limits { limits_of manager.new ≡ limits_of manager.old }
-    ensures steps { OnOk result (Drives (limits_of manager.old) (plan_of manager.old) (S.may_tell starter.old)
-        (past_of manager.old) (S.told starter.old) (past_of manager.new) (S.told starter.new)) }
+    requires going { IsTrue (is_open (past_of manager.old)) }
     ensures none_left { OnOk result (running (S.told starter.new) ≡ []) }
     ensures over { IfOk result (λ verdict.
         IsChoice (limits_of manager.old) (plan_of manager.old) (past_of manager.new) (Choice.Finish verdict)) }
-    ensures open { OnOk result (IsTrue (is_open (past_of manager.new))) }
-    ensures stopped { IfErr result (λ fault. IsHaltedBy (limits_of manager.old) (plan_of manager.old) (S.may_tell starter.old)
-        (past_of manager.old) (S.told starter.old) fault (past_of manager.new) (S.told starter.new)) }
-    ensures later { S.faults starter.old ≤ S.faults starter.new }
-    ensures refused { IfErr result (IsDriveFault D.honest D.faults D.capacity
-        (S.faults starter.old) (S.faults starter.new) manager.old manager.new) }
-    ensures any_moment { AtAnyMoment D.honest D.seen D.may_leave D.moment D.left_since
-        manager.old manager.new (IsMomentOfRun (limits_of manager.old) (plan_of manager.old)
-        (S.may_tell starter.old) (past_of manager.old) (S.told starter.old) (fault_in result)
-        (past_of manager.new) (S.told starter.new)) }
-    ensures left { OnErr result (AtTheEnd D.honest D.seen D.may_leave manager.old manager.new
-        (IsLastMoment (limits_of manager.old) (plan_of manager.old)
-        (S.may_tell starter.old) (past_of manager.old) (S.told starter.old) (fault_in result)
-        (past_of manager.new) (S.told starter.new))) }
-    ensures acknowledged { UnlessDiskFault (fault_in result)
-        (StaysAcknowledged D.honest D.seen D.may_leave manager.old manager.new) }
-    ensures disk { KeepsDisk D.honest D.faults D.capacity manager.old manager.new }
-    ensures counts { OnOk result (CountsOn manager.old manager.new) }
+    ensures still { OnOk result (IsTrue (is_open (past_of manager.new))) }
+    ensures went { OnOk result (IsStretch D.honest D.seen D.may_leave D.moment D.left_since D.faults D.capacity
+        (limits_of manager.old) (plan_of manager.old) (S.may_tell starter.old) (S.may_tell starter.new)
+        (S.faults starter.old) (S.faults starter.new) manager.old manager.new
+        (at_rest (past_of manager.old) (S.told starter.old)) (at_rest (past_of manager.new) (S.told starter.new))) }
+    ensures cut { IfErr result (IsCutShort D.honest D.seen D.may_leave D.moment D.left_since D.faults D.capacity
+        (limits_of manager.old) (plan_of manager.old) (S.may_tell starter.old) (S.may_tell starter.new)
+        (S.faults starter.old) (S.faults starter.new) manager.old manager.new
+        (at_rest (past_of manager.old) (S.told starter.old)) (S.told starter.new)) }
 {
     keeps_the_law(manager);
     loop {
-        match turn(alloc, manager, starter) {
+        match turn(alloc, manager, plan, starter) {
             Ok(Some(verdict)) => return Ok(verdict),
             Ok(None) => {}
             Err(fault) => return Err(fault),
@@ -454,6 +245,8 @@ pub fn drive<D: Disk + Drop, S: Starter>(
         (past_of manager.old) (S.told starter.old) fault (past_of manager.new) (S.told starter.new)) }
     // No child runs, however the call returns.
     ensures none_left { running (S.told starter.new) ≡ [] }
+    // The starter's refusal alone is counted, once.
+    ensures unrefused { OnOk result (S.faults starter.new ≡ S.faults starter.old) }
     ensures later { S.faults starter.old ≤ S.faults starter.new }
     ensures refused { IfErr result (IsDriveFault D.honest D.faults D.capacity
         (S.faults starter.old) (S.faults starter.new) manager.old manager.new) }
@@ -474,9 +267,8 @@ pub fn drive<D: Disk + Drop, S: Starter>(
     ensures disk { KeepsDisk D.honest D.faults D.capacity manager.old manager.new }
     ensures counts { OnOk result (CountsOn manager.old manager.new) }
 {
-    let _plan = plan;
     goes_on(manager);
-    match run(alloc, manager, starter) {
+    match run(alloc, manager, plan, starter) {
         Ok(verdict) => {
             keeps_the_law(manager);
             Ok(RunEnd {

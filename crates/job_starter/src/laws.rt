@@ -18,7 +18,7 @@ ghost use Rattle.job_starter.specs.declared.Call.{Call};
 ghost use Rattle.job_starter.specs.declared.driving.DriveFault.{DriveFault};
 ghost use Rattle.job_starter.specs.Calls.{running};
 ghost use Rattle.job_starter.specs.Drives.{AreInStep, Drives, IsHalted, IsHaltedBy, IsStopped};
-ghost use Rattle.job_starter.specs.Handed.{HandsAll, HandsAllButOne};
+ghost use Rattle.job_starter.specs.Handed.{HandsAll, HandsAllButSome};
 ghost use Rattle.job_starter.specs.Moments.{IsMomentOfRun, IsLastMoment, IsLifeAt};
 ghost use Rattle.job_starter.specs.Scripts.{IsScripted};
 
@@ -26,20 +26,20 @@ use crate::Starter;
 
 /// What `drive` and `launch_round` ensure of their steps makes them hand over the commands of their
 /// own launches, once each and in their order: all of them, or behind a fault or a crash all but
-/// perhaps the last.
+/// perhaps the last, which are of one round.
 pub fn hand_over<S: Starter>()
     ensures driven { (limits : Limits) (plan : Plan) (starter : S) (past : List Record)
         (told : List Call) (after : List Record) (last : List Call) →
         Drives limits plan (S.may_tell starter) past told after last → HandsAll plan past after told last }
     ensures halted { (limits : Limits) (plan : Plan) (starter : S) (past : List Record)
         (told : List Call) (after : List Record) (last : List Call) →
-        IsHalted limits plan (S.may_tell starter) past told after last → HandsAllButOne plan past after told last }
+        IsHalted limits plan (S.may_tell starter) past told after last → HandsAllButSome plan past after told last }
     ensures halted_by { (limits : Limits) (plan : Plan) (starter : S) (past : List Record)
         (told : List Call) (fault : DriveFault) (after : List Record) (last : List Call) →
-        IsHaltedBy limits plan (S.may_tell starter) past told fault after last → HandsAllButOne plan past after told last }
+        IsHaltedBy limits plan (S.may_tell starter) past told fault after last → HandsAllButSome plan past after told last }
     ensures stopped { (limits : Limits) (plan : Plan) (starter : S) (past : List Record)
         (told : List Call) (fault : DriveFault) (after : List Record) (last : List Call) →
-        IsStopped limits plan (S.may_tell starter) past told fault after last → HandsAllButOne plan past after told last }
+        IsStopped limits plan (S.may_tell starter) past told fault after last → HandsAllButSome plan past after told last }
 {}
 
 /// A run that a manager began or went on with stopped at some moment of `launch_round` or `drive`,

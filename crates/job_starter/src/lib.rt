@@ -9,12 +9,14 @@ pub mod examples;
 mod keys;
 pub mod laws;
 mod records;
+mod rounds;
 mod starter;
 
-pub use driving::{DriveFault, RunEnd, drive, launch_round};
+pub use driving::{DriveFault, RunEnd, drive};
 pub use keys::{are_same, key_at};
 use node_machine::{Key, Outcome};
 use node_specs::ChildCommand;
+pub use rounds::launch_round;
 pub use starter::{Starter, System};
 use std::snapshot::Snapshot;
 use thiserror::Error;

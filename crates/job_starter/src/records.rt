@@ -1,20 +1,24 @@
 //! What a run does with its manager alone: it looks where the run stands, and records.
-ghost use Rattle.std.specs.Prelude.{◌≡◌, ℕ, ◌∷◌, ◌≤◌, ◌&&◌, not, IsTrue, IsFalse, IfErr, OnOk, OnErr};
-ghost use Rattle.node_machine.specs.Story.{is_possible, may_end_with};
+ghost use Rattle.std.specs.Prelude.{◌≡◌, [], length, ◌<◌, ◌≤◌, IsTrue, IsFalse, IfOk, IfErr, OnOk};
 ghost use Rattle.run_plan.specs.Plan.{node_at, count_of};
 ghost use Rattle.node_specs.specs.Commands.{starts_child};
-ghost use Rattle.sched_core.specs.Run.{is_among, is_aborted, is_lawful, is_over, is_open, outstanding, may_follow};
+ghost use Rattle.sched_core.specs.Run.{is_aborted, is_lawful, is_nothing, is_over, is_open, outstanding};
+ghost use Rattle.sched_core.specs.Ahead.{launched, added, up_to_abort, ends_of};
 ghost use Rattle.sched_core.specs.Choices.{IsChoice};
 ghost use Rattle.run_manager.specs.Managed.{plan_of, past_of};
-ghost use Rattle.job_starter.specs.Drives.{limits_of, launch_of, IsNearerEnd};
-ghost use Rattle.job_starter.specs.Causes.{IsDriveFault, IsOfManager};
-ghost use Rattle.job_starter.specs.Moments.{fault_in, ReadsBy, AtAnyMoment, UnlessDiskFault, StaysAcknowledged, KeepsDisk, CountsOn};
+ghost use Rattle.run_manager.specs.declared.fault.ManagerFault.TheVariants.{Memory};
+ghost use Rattle.job_starter.specs.Drives.{limits_of, most_at_once, At, at_rest, AreInStep, MayEndAll, IsHeld, IsRoundOf, IsNearerEnd};
+ghost use Rattle.job_starter.specs.Stretches.{IsStretch, IsCutShort};
 
-use crate::DriveFault;
+use crate::{DriveFault, Starter};
 use event_journal::Disk;
-use node_machine::{Key, Outcome, Phase, Record};
-use run_manager::Manager;
+use node_machine::{Key, Outcome, Phase};
+use run_manager::{Manager, ManagerFault};
 use sched_core::Choice;
+use std::alloc::Global;
+
+/// A round launches no more phases than this.
+const MOST_AT_ONCE: usize = 64;
 
 /// The records of a manager are lawful at every moment.
 pub fn keeps_the_law<D: Disk + Drop>(manager: &Manager<'_, D>)
@@ -58,74 +62,83 @@ pub fn goes_on<D: Disk + Drop>(manager: &Manager<'_, D>)
     let _core = manager.core();
 }
 
-/// Records a launch that is chosen.
-pub fn record_launch<D: Disk + Drop>(
-    manager: &mut Manager<'_, D>,
-    key: Key,
-) -> Result<(), DriveFault>
-    requires chosen { IsChoice (limits_of manager.old) (plan_of manager.old) (past_of manager.old) (Choice.Start key) }
-    requires open { IsTrue (is_open (past_of manager.old)) }
-    ensures plan { plan_of manager.new ≡ plan_of manager.old }
-    ensures limits { limits_of manager.new ≡ limits_of manager.old }
-    ensures past { OnOk result
-        (past_of manager.new ≡ launch_of (past_of manager.old) key ∷ past_of manager.old) }
-    ensures past_err { OnErr result (past_of manager.new ≡ past_of manager.old) }
-    ensures refused { (before now : ℕ)
-        → IfErr result (IsDriveFault D.honest D.faults D.capacity before now manager.old manager.new) }
-    ensures by_manager { IfErr result IsOfManager }
-    ensures fewer { OnOk result (IsNearerEnd (plan_of manager.old) (past_of manager.old) (past_of manager.new)) }
-    ensures lawful { IsTrue (may_follow (plan_of manager.old) (past_of manager.old)
-        (launch_of (past_of manager.old) key)) }
-    ensures any_moment { AtAnyMoment D.honest D.seen D.may_leave D.moment D.left_since
-        manager.old manager.new (λ header. ReadsBy (fault_in result) header (past_of manager.old)
-        (launch_of (past_of manager.old) key)) }
-    ensures acknowledged { UnlessDiskFault (fault_in result)
-        (StaysAcknowledged D.honest D.seen D.may_leave manager.old manager.new) }
-    ensures disk { KeepsDisk D.honest D.faults D.capacity manager.old manager.new }
-    ensures counts { OnOk result (CountsOn manager.old manager.new) }
-    ensures within { key.node ≤ count_of (plan_of manager.old) }
-    ensures allowed { key.attempt ≤ (node_at (plan_of manager.old) key.node).course.retries }
-    ensures free { IsFalse (is_among key (outstanding (plan_of manager.old) (past_of manager.old))) }
+/// The phases of the next round, at most so many.
+///
+/// Answers the manager's want of memory.
+pub fn next_round<D: Disk + Drop>(
+    alloc: Global,
+    manager: &Manager<'_, D>,
+) -> Result<Vec<Key>, DriveFault>
+    ensures round { IfOk result (λ keys. IsFalse (is_nothing keys.items) → IsRoundOf (limits_of manager.now) (plan_of manager.now)
+        (past_of manager.now) keys.items) }
+    ensures held { IfOk result (λ keys. IsTrue (is_nothing keys.items) → IsHeld (limits_of manager.now) (plan_of manager.now)
+        (past_of manager.now)) }
+    ensures err { IfErr result (λ fault. fault ≡ DriveFault.Manager Memory) }
 {
-    keeps_the_law(manager);
-    match manager.launch(key) {
-        Ok(_) => Ok(()),
-        Err(fault) => Err(DriveFault::Manager(fault)),
+    match manager.plan_round(alloc, MOST_AT_ONCE) {
+        Ok(keys) => Ok(keys),
+        Err(_) => Err(DriveFault::Manager(ManagerFault::Memory)),
     }
 }
 
-/// Records how an outstanding phase ended.
-pub fn record_end<D: Disk + Drop>(
+/// Records the launches of a round.
+pub fn record_launches<D: Disk + Drop, S: Starter>(
+    alloc: Global,
     manager: &mut Manager<'_, D>,
-    key: Key,
-    outcome: Outcome,
+    starter: &S,
+    keys: &[Key],
 ) -> Result<(), DriveFault>
-    requires outstanding { IsTrue (is_among key (outstanding (plan_of manager.old) (past_of manager.old))) }
-    requires possible { IsTrue (is_possible outcome) }
-    requires fits { IsTrue (may_end_with (node_at (plan_of manager.old) key.node).course key.phase outcome) }
-    requires open { IsTrue (is_open (past_of manager.old)) }
-    ensures plan { plan_of manager.new ≡ plan_of manager.old }
-    ensures limits { limits_of manager.new ≡ limits_of manager.old }
-    ensures past { OnOk result
-        (past_of manager.new ≡ Record.End key outcome ∷ past_of manager.old) }
-    ensures past_err { OnErr result (past_of manager.new ≡ past_of manager.old) }
-    ensures refused { (before now : ℕ)
-        → IfErr result (IsDriveFault D.honest D.faults D.capacity before now manager.old manager.new) }
-    ensures by_manager { IfErr result IsOfManager }
-    ensures fewer { OnOk result (IsNearerEnd (plan_of manager.old) (past_of manager.old) (past_of manager.new)) }
-    ensures lawful { IsTrue (may_follow (plan_of manager.old) (past_of manager.old)
-        (Record.End key outcome)) }
-    ensures any_moment { AtAnyMoment D.honest D.seen D.may_leave D.moment D.left_since
-        manager.old manager.new (λ header. ReadsBy (fault_in result) header (past_of manager.old)
-        (Record.End key outcome)) }
-    ensures acknowledged { UnlessDiskFault (fault_in result)
-        (StaysAcknowledged D.honest D.seen D.may_leave manager.old manager.new) }
-    ensures disk { KeepsDisk D.honest D.faults D.capacity manager.old manager.new }
-    ensures counts { OnOk result (CountsOn manager.old manager.new) }
+    requires round { IsRoundOf (limits_of manager.old) (plan_of manager.old) (past_of manager.old) keys.now }
+    requires going { IsTrue (is_open (past_of manager.old)) }
+    requires in_step { AreInStep (plan_of manager.old) (past_of manager.old) (S.told starter.now) }
+    ensures nearer { OnOk result (IsNearerEnd (plan_of manager.old) (past_of manager.old) (past_of manager.new)) }
+    ensures went { OnOk result (IsStretch D.honest D.seen D.may_leave D.moment D.left_since D.faults D.capacity
+        (limits_of manager.old) (plan_of manager.old) (S.may_tell starter.now) (S.may_tell starter.now)
+        (S.faults starter.now) (S.faults starter.now) manager.old manager.new
+        (at_rest (past_of manager.old) (S.told starter.now))
+        (At (launched (past_of manager.old) keys.now) (S.told starter.now) keys.now [])) }
+    ensures cut { IfErr result (IsCutShort D.honest D.seen D.may_leave D.moment D.left_since D.faults D.capacity
+        (limits_of manager.old) (plan_of manager.old) (S.may_tell starter.now) (S.may_tell starter.now)
+        (S.faults starter.now) (S.faults starter.now) manager.old manager.new
+        (at_rest (past_of manager.old) (S.told starter.now)) (S.told starter.now)) }
 {
+    let _starter = starter;
     keeps_the_law(manager);
-    match manager.record_end(key, outcome) {
-        Ok(()) => Ok(()),
+    let _numbers = match manager.launch_batch(alloc, keys) {
+        Ok(numbers) => numbers,
+        Err(fault) => return Err(DriveFault::Manager(fault)),
+    };
+    Ok(())
+}
+
+/// Records how phases ended, in this order, up to the first that aborts the run.
+pub fn record_ends<D: Disk + Drop, S: Starter>(
+    alloc: Global,
+    manager: &mut Manager<'_, D>,
+    starter: &S,
+    ends: &[(Key, Outcome)],
+) -> Result<(), DriveFault>
+    requires some { 0 < length ends.now }
+    requires few { length ends.now ≤ most_at_once }
+    requires ends { MayEndAll (plan_of manager.old) (outstanding (plan_of manager.old) (past_of manager.old)) ends.now }
+    requires going { IsTrue (is_open (past_of manager.old)) }
+    ensures nearer { OnOk result (IsNearerEnd (plan_of manager.old) (past_of manager.old) (past_of manager.new)) }
+    ensures past { OnOk result (past_of manager.new ≡ added (past_of manager.old)
+        (up_to_abort (plan_of manager.old) (past_of manager.old) (ends_of ends.now))) }
+    ensures went { OnOk result (IsStretch D.honest D.seen D.may_leave D.moment D.left_since D.faults D.capacity
+        (limits_of manager.old) (plan_of manager.old) (S.may_tell starter.now) (S.may_tell starter.now)
+        (S.faults starter.now) (S.faults starter.now) manager.old manager.new
+        (At (past_of manager.old) (S.told starter.now) [] ends.now)
+        (at_rest (past_of manager.new) (S.told starter.now))) }
+    ensures cut { IfErr result (IsCutShort D.honest D.seen D.may_leave D.moment D.left_since D.faults D.capacity
+        (limits_of manager.old) (plan_of manager.old) (S.may_tell starter.now) (S.may_tell starter.now)
+        (S.faults starter.now) (S.faults starter.now) manager.old manager.new
+        (At (past_of manager.old) (S.told starter.now) [] ends.now) (S.told starter.now)) }
+{
+    let _starter = starter;
+    keeps_the_law(manager);
+    match manager.record_batch(alloc, ends) {
+        Ok(_) => Ok(()),
         Err(fault) => Err(DriveFault::Manager(fault)),
     }
 }

@@ -7,44 +7,94 @@ ghost use Rattle.std.specs.Prelude.{◌≡◌, ◌∷◌, [], ◌≤◌, ◌<◌
 ghost use Rattle.std.specs.Process.{exit_code, exit_signal};
 ghost use Rattle.node_machine.specs.Story.{is_possible};
 ghost use Rattle.sched_core.specs.Run.{is_same, is_among, without};
-ghost use Rattle.job_starter.specs.Calls.{running, Rises, TellsNoMore};
+ghost use Rattle.job_starter.specs.Calls.{running, TellsNoMore};
 ghost use Rattle.job_starter.specs.Causes.{IsStartFault, IsAskFault};
+
+mod starting;
+mod watching;
 
 use dag_reader::Text;
 use job_starter::{Call, Killed, StartFault, Started, System, are_same};
 use node_machine::{Key, Outcome};
 use node_specs::ChildCommand;
 use scripted_starter::{CallLog, no_answer, no_memory};
-use splices::path_in;
+use starting::{Refusal, start_child};
 use std::alloc::{AllocError, Global};
 use std::fs::File;
 use std::os::unix::process::ExitStatusExt;
-use std::process::{Child, Command, ExitStatus, Processes, Stdio};
+use std::process::{Child, ExitStatus, Processes};
 use std::rt::Files;
 use std::time::{Clock, Duration};
 use std::{io, thread};
+pub use watching::{ChildWatcher, CommandPart, Unwatched};
 
-/// A child that runs.
+/// How a child did when it was looked at last.
+#[derive(Clone, Copy)]
+enum Seen {
+    /// It runs, or was not looked at yet.
+    Runs,
+    /// It ended with this status.
+    Ended(ExitStatus),
+    /// The system refused the question.
+    Refused,
+}
+
+/// A child whose ending was not told yet.
 #[derive(Drop)]
 struct RunningChild<R: Processes> {
     key: Key,
     child: Child<R::Started>,
+    seen: Seen,
+}
+
+impl<R: Processes> RunningChild<R> {
+    /// Looks whether it has ended.
+    fn look(&mut self)
+        ensures { self.new.key ≡ self.old.key }
+    {
+        self.seen = match self.child.try_wait() {
+            Ok(None) => Seen::Runs,
+            Ok(Some(status)) => Seen::Ended(status),
+            Err(_) => Seen::Refused,
+        };
+    }
 }
 
 /// The first pause between two rounds of questions, in microseconds. Each further one is twice as
-/// long, up to the last.
+/// long, up to the longest.
 const FIRST_PAUSE: u64 = 20;
 
-/// The longest pause.
-const LAST_PAUSE: u64 = 50_000;
+/// The pause before a start is tried again that the system refused for the moment, in microseconds.
+const START_PAUSE: u64 = 10_000;
+
+/// How often it is tried again: for ten seconds.
+const START_TRIES: u32 = 1_000;
+
+/// The longest pause between two rounds of questions to so many children, in microseconds: a round
+/// takes longer the more there are.
+fn longest_pause(children: usize) -> u64 {
+    match children {
+        0..=16 => 2_000,
+        17..=256 => 10_000,
+        _ => 50_000,
+    }
+}
 
 /// Children of this process. Paths that don't begin with a slash are taken from one folder.
-pub struct LocalSystem<R: Processes + Files<File = File> + Clock + Drop> {
+///
+/// All children are looked at together, once between two pauses, and each question is answered by
+/// what was seen then.
+pub struct LocalSystem<R: Processes + Files<File = File> + Clock + Drop, W: ChildWatcher + Drop> {
     alloc: Global,
     rt: R,
     folder: Text,
+    watcher: W,
     log: CallLog,
     children: Vec<RunningChild<R>>,
+    /// whether the children were looked at since the last pause
+    looked: bool,
+    /// where the child stands for which is asked next, as long as they are asked for in turn
+    next: usize,
     pause: u64,
     faults: u64,
     // Each key that runs has its child.
@@ -52,14 +102,18 @@ pub struct LocalSystem<R: Processes + Files<File = File> + Clock + Drop> {
 }
 
 // Each function that lets a value go calls this; a derived drop stands in each, part by part.
-impl<R: Processes + Files<File = File> + Clock + Drop> Drop for LocalSystem<R> {
+impl<R: Processes + Files<File = File> + Clock + Drop, W: ChildWatcher + Drop> Drop
+    for LocalSystem<R, W> {
     fn drop(self) {
         let LocalSystem {
             alloc: _,
             rt: _,
             folder: _,
+            watcher: _,
             log: _,
             children: _,
+            looked: _,
+            next: _,
             pause: _,
             faults: _,
         } = self;
@@ -91,110 +145,14 @@ pub fn outcome_of(status: ExitStatus) -> Outcome
     }
 }
 
-/// The input of a child: a file, or nothing.
-fn input_of<R: Files<File = File>>(
-    alloc: Global,
-    rt: &R,
-    folder: &str,
-    path: &Option<Text>,
-) -> io::Result<Stdio> {
-    match path {
-        Some(path) => {
-            let path = path_in(alloc, folder, path.as_str())?;
-            Ok(Stdio::from(File::open(rt, path.as_str())?))
-        }
-        None => Ok(Stdio::null()),
-    }
-}
-
-/// The file that takes a stream of a child, made or emptied, where there is one.
-fn file_of<R: Files<File = File>>(
-    alloc: Global,
-    rt: &R,
-    folder: &str,
-    path: &Option<Text>,
-) -> io::Result<Option<File>> {
-    match path {
-        Some(path) => {
-            let path = path_in(alloc, folder, path.as_str())?;
-            Ok(Some(File::create(rt, path.as_str())?))
-        }
-        None => Ok(None),
-    }
-}
-
-/// A stream into a file, or to nowhere.
-fn stream_to(file: Option<File>) -> Stdio {
-    match file {
-        Some(file) => Stdio::from(file),
-        None => Stdio::null(),
-    }
-}
-
-fn are_one_path(path: &Option<Text>, other: &Option<Text>) -> bool {
-    match (path, other) {
-        (Some(path), Some(other)) => path.as_str() == other.as_str(),
-        _ => false,
-    }
-}
-
-/// Where the output and the errors of a child go. A file that takes both is opened once, and both
-/// share it.
-fn outputs_of<R: Files<File = File>>(
-    alloc: Global,
-    rt: &R,
-    folder: &str,
-    told: &ChildCommand,
-) -> io::Result<(Stdio, Stdio)> {
-    let output = file_of(alloc, rt, folder, &told.output)?;
-    let error = match &output {
-        Some(file) if are_one_path(&told.output, &told.error) => Some(file.try_clone()?),
-        _ => file_of(alloc, rt, folder, &told.error)?,
-    };
-    Ok((stream_to(output), stream_to(error)))
-}
-
-/// Sets what is added to the environment.
-fn set_environment(command: &mut Command, settings: &[Text]) -> Result<(), AllocError> {
-    for setting in settings {
-        if let Some((name, value)) = setting.as_str().split_once('=') {
-            command.env(name, value)?;
-        }
-    }
-    Ok(())
-}
-
-fn set_words(command: &mut Command, words: &[Text]) -> Result<(), AllocError> {
-    for word in words {
-        command.arg(word.as_str())?;
-    }
-    Ok(())
-}
-
-/// Starts a child, seen from this folder.
-fn start_child<R: Processes + Files<File = File>>(
-    alloc: Global,
-    rt: &R,
-    folder: &str,
-    told: &ChildCommand,
-) -> io::Result<Child<R::Started>> {
-    let program = path_in(alloc, folder, told.program.as_str())?;
-    let place = path_in(alloc, folder, told.folder.as_str())?;
-    let mut command = Command::new(alloc, program.as_str())?;
-    set_words(&mut command, told.words.as_slice())?;
-    set_environment(&mut command, told.environment.as_slice())?;
-    command.current_dir(place.as_str())?;
-    command.stdin(input_of(alloc, rt, folder, &told.input)?);
-    let (output, error) = outputs_of(alloc, rt, folder, told)?;
-    command.stdout(output).stderr(error);
-    command.spawn(rt)
-}
-
-/// The place of a key.
-fn place_of(keys: &[Key], key: &Key) -> usize
+/// The place of a key, which may be this one.
+fn place_of(keys: &[Key], key: &Key, likely: usize) -> usize
     requires { IsTrue (is_among key.now (reverse keys.now)) }
     ensures { result < length keys.now }
 {
+    if likely < keys.len() && are_same(key, &keys[likely]) {
+        return likely;
+    }
     for place in 0..keys.len() {
         if are_same(key, &keys[place]) {
             return place;
@@ -211,17 +169,34 @@ fn forget<R: Processes>(children: &mut Vec<RunningChild<R>>, key: &Key)
     children.retain(|child| !are_same(key, &child.key));
 }
 
-/// Whether the child at a place has ended, and how.
-fn ask_at<R: Processes>(
-    children: &mut Vec<RunningChild<R>>,
-    place: usize,
-) -> io::Result<Option<ExitStatus>>
+/// Looks whether the child at a place has ended.
+fn look_at<R: Processes>(children: &mut Vec<RunningChild<R>>, place: usize)
     requires { place < vec_len children.old }
     ensures same { map (λ child. child.key) children.new.items
         ≡ map (λ child. child.key) children.old.items }
     ensures many { vec_len children.new ≡ vec_len children.old }
+    ensures room { vec_capacity children.new ≡ vec_capacity children.old }
 {
-    children[place].child.try_wait()
+    children[place].look();
+}
+
+/// Looks which children have ended. What they leave at the system is collected: their numbers are free.
+fn look_at_all<R: Processes>(children: &mut Vec<RunningChild<R>>)
+    ensures same { map (λ child. child.key) children.new.items
+        ≡ map (λ child. child.key) children.old.items }
+    ensures many { vec_len children.new ≡ vec_len children.old }
+    ensures room { vec_capacity children.new ≡ vec_capacity children.old }
+{
+    for place in 0..children.len() {
+        look_at(children, place);
+    }
+}
+
+/// Whether a child runs, by what was seen last.
+fn some_run<R: Processes>(children: &[RunningChild<R>]) -> bool {
+    children
+        .iter()
+        .any(|child| matches!(child.seen, Seen::Runs))
 }
 
 /// Waits for the child at a place.
@@ -260,17 +235,79 @@ fn kill_at<R: Processes>(children: &mut Vec<RunningChild<R>>, place: usize) -> K
     Killed::Ended
 }
 
-impl<R: Processes + Files<File = File> + Clock + Drop> LocalSystem<R> {
-    /// A system of no children. The folder is an absolute path.
-    pub fn new(alloc: Global, rt: R, folder: &str) -> Result<Self, AllocError>
+/// Looks which children have ended, where they were not looked at since the last pause.
+fn look_where_due<R: Processes>(children: &mut Vec<RunningChild<R>>, looked: &mut bool)
+    ensures same { map (λ child. child.key) children.new.items
+        ≡ map (λ child. child.key) children.old.items }
+    ensures many { vec_len children.new ≡ vec_len children.old }
+{
+    if !*looked {
+        look_at_all(children);
+        *looked = true;
+    }
+}
+
+/// Waits a little where a child runs, so that it may end, and answers whether one does. What those that
+/// have ended leave at the system is collected first.
+fn wait_for_room<R: Processes + Clock>(rt: &R, children: &mut Vec<RunningChild<R>>) -> bool
+    ensures same { map (λ child. child.key) children.new.items
+        ≡ map (λ child. child.key) children.old.items }
+    ensures many { vec_len children.new ≡ vec_len children.old }
+    ensures room { vec_capacity children.new ≡ vec_capacity children.old }
+{
+    look_at_all(children);
+    let runs = some_run(children);
+    if runs {
+        thread::sleep(rt, Duration::from_micros(START_PAUSE));
+    }
+    runs
+}
+
+/// Starts a child, seen from this folder. Where the system has no process or no descriptor to give, those
+/// are collected of the children that have ended, and it is asked again, for ten seconds while a child
+/// runs.
+fn start_in_time<R: Processes + Files<File = File> + Clock, W: ChildWatcher>(
+    alloc: Global,
+    rt: &R,
+    folder: &str,
+    watcher: &mut W,
+    children: &mut Vec<RunningChild<R>>,
+    key: &Key,
+    command: &ChildCommand,
+) -> Result<Child<R::Started>, Refusal>
+    ensures same { map (λ child. child.key) children.new.items
+        ≡ map (λ child. child.key) children.old.items }
+    ensures many { vec_len children.new ≡ vec_len children.old }
+    ensures room { vec_capacity children.new ≡ vec_capacity children.old }
+{
+    for _ in 0..START_TRIES {
+        match start_child(alloc, rt, folder, command) {
+            Err(refusal) if refusal.is_passing() => {
+                watcher.held(key, &refusal.error);
+                if !wait_for_room(rt, children) {
+                    break;
+                }
+            }
+            answer => return answer,
+        }
+    }
+    start_child(alloc, rt, folder, command)
+}
+
+impl<R: Processes + Files<File = File> + Clock + Drop, W: ChildWatcher + Drop> LocalSystem<R, W> {
+    /// A system of no children. The folder is an absolute path; the watcher is told what is done.
+    pub fn new(alloc: Global, rt: R, folder: &str, watcher: W) -> Result<Self, AllocError>
         ensures { IfOk result (λ system. system.log.calls ≡ []) }
     {
         Ok(LocalSystem {
             alloc,
             rt,
             folder: Text::new(alloc, folder)?,
+            watcher,
             log: CallLog::new(alloc),
             children: Vec::new(alloc),
+            looked: false,
+            next: 0,
             pause: FIRST_PAUSE,
             faults: 0,
         })
@@ -287,11 +324,13 @@ impl<R: Processes + Files<File = File> + Clock + Drop> LocalSystem<R> {
         forget(&mut self.children, key);
         self.log.ended(*key, outcome);
         self.pause = FIRST_PAUSE;
+        self.watcher.ended(key, outcome);
         outcome
     }
 }
 
-impl<R: Processes + Files<File = File> + Clock + Drop> System for LocalSystem<R> {
+impl<R: Processes + Files<File = File> + Clock + Drop, W: ChildWatcher + Drop> System
+    for LocalSystem<R, W> {
     ghost told = { λ s. s.log.calls };
 
     // A child of the operating system may end in any way.
@@ -303,32 +342,44 @@ impl<R: Processes + Files<File = File> + Clock + Drop> System for LocalSystem<R>
         if self.log.make_room().is_err() || self.children.reserve(1).is_err() {
             return Err(no_memory(&mut self.faults));
         }
-        match start_child(self.alloc, &self.rt, self.folder.as_str(), command) {
+        self.watcher.launching(&key, command);
+        let folder = self.folder.as_str();
+        let (watcher, children) = (&mut self.watcher, &mut self.children);
+        match start_in_time(
+            self.alloc, &self.rt, folder, watcher, children, &key, command,
+        ) {
             Ok(child) => {
-                let _ = self.children.push(RunningChild { key, child });
+                let process = child.id();
+                let seen = Seen::Runs;
+                let _ = self.children.push(RunningChild { key, child, seen });
                 self.log.started(key, command, Started::Running);
                 self.pause = FIRST_PAUSE;
+                self.watcher.launched(&key, process, command);
                 Ok(Started::Running)
             }
-            Err(e) if e.kind() == io::ErrorKind::OutOfMemory => { Err(no_memory(&mut self.faults)) }
-            Err(_) => {
+            Err(refusal) if refusal.is_memory() => Err(no_memory(&mut self.faults)),
+            Err(refusal) => {
                 self.log.started(key, command, Started::NotStarted);
+                self.watcher
+                    .not_started(&key, command, refusal.part, &refusal.error);
                 Ok(Started::NotStarted)
             }
         }
     }
 
     fn ask(&mut self, key: Key) -> Result<Option<Outcome>, StartFault> {
-        let place = place_of(self.log.running(), &key);
-        match ask_at(&mut self.children, place) {
-            Ok(None) => Ok(None),
-            Ok(Some(status)) => Ok(Some(self.end(&key, status))),
-            Err(_) => Err(no_answer(&mut self.faults)),
+        let place = place_of(self.log.running(), &key, self.next);
+        self.next = place + 1;
+        look_where_due(&mut self.children, &mut self.looked);
+        match self.children[place].seen {
+            Seen::Runs => Ok(None),
+            Seen::Ended(status) => Ok(Some(self.end(&key, status))),
+            Seen::Refused => Err(no_answer(&mut self.faults)),
         }
     }
 
     fn wait(&mut self, key: Key) -> Result<Outcome, StartFault> {
-        let place = place_of(self.log.running(), &key);
+        let place = place_of(self.log.running(), &key, 0);
         match wait_at(&mut self.children, place) {
             Ok(status) => Ok(self.end(&key, status)),
             Err(_) => Err(no_answer(&mut self.faults)),
@@ -336,16 +387,19 @@ impl<R: Processes + Files<File = File> + Clock + Drop> System for LocalSystem<R>
     }
 
     fn kill(&mut self, key: Key) -> Killed {
-        let place = place_of(self.log.running(), &key);
+        let place = place_of(self.log.running(), &key, 0);
         let answer = kill_at(&mut self.children, place);
         forget(&mut self.children, &key);
         self.log.killed(key);
+        self.watcher.killed(&key, answer);
         answer
     }
 
     fn pause(&mut self) {
         thread::sleep(&self.rt, Duration::from_micros(self.pause));
-        self.pause = self.pause.saturating_mul(2).min(LAST_PAUSE);
+        self.looked = false;
+        let longest = longest_pause(self.children.len());
+        self.pause = self.pause.saturating_mul(2).min(longest);
     }
 
     fn running(&self) -> &[Key] {

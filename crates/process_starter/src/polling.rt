@@ -10,7 +10,7 @@ use node_machine::{Key, Outcome};
 use node_specs::ChildCommand;
 
 /// Rounds of questions before a blocking wait for the oldest child.
-const ROUNDS: u32 = 1 << 20;
+const ROUNDS: u64 = 1 << 40;
 
 /// A starter over a system: each running child is asked in turn, in the order of the starts, with
 /// a pause between two rounds.

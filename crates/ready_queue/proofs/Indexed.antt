@@ -25,6 +25,14 @@ is-gap nodes node place below above has =
     (λ lt. let b = below has.0 lt in omega (arith, b, here))
     (λ ge. let a = above has.0 ge has.1 in omega (arith, a, here))
 
+-- with one that has its place among them
+pub still-rising : (nodes more : List ℕ) (node place : ℕ) → AreRising nodes → place ≤ length nodes → ((k : ℕ) → k < place → get_or nodes k 0 < node)
+    → ((k : ℕ) → place ≤ k → k < length nodes → node < get_or nodes k 0) → more ≡ insert nodes place node → AreRising more
+still-rising nodes more node place rising within below above is =
+    subst AreRising (sym is) (pairs-insert (λ a b. a < b) nodes place node within rising
+    (λ k d lt. subst (λ other. other < node) (get_or_default nodes k 0 d (omega (arith, lt, within))) (below k lt))
+    (λ k d le lt. subst (λ other. node < other) (get_or_default nodes k 0 d lt) (above k le lt)))
+
 pub with-node : (nodes more : List ℕ) (node place : ℕ) → place ≤ length nodes → more ≡ insert nodes place node
     → (other : ℕ) → Contains more other ↔ ((node ≡ other) ⊎ Contains nodes other)
 with-node nodes more node place within is other = (

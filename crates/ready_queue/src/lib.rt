@@ -9,8 +9,10 @@ ghost use Rattle.ready_queue.specs.declared.QueueFault.TheVariants.{Present, Abs
 ghost use Rattle.ready_queue.specs.Queue.{nodes_of, ComesBefore, IsOrdered, AreApart, IsBest, IsPlaceOf};
 
 mod nodes;
+mod row;
 
-use nodes::{add_node, has_node, insert_in_room, remove_at, remove_node};
+use nodes::{add_node, has_node, remove_node};
+use row::Row;
 use std::alloc::{AllocError, AllocFailed, Global};
 use std::marker::Model;
 use thiserror::Error;
@@ -55,20 +57,20 @@ impl<T: Drop> From<AllocFailed<T>> for QueueFault {
 /// Nodes with their priorities, best first, each node once. A place is found by halving.
 #[derive(Drop)]
 pub struct ReadyQueue {
-    members: Vec<Member>,
+    members: Row<Member>,
     /// the nodes of the members, in plan order
-    nodes: Vec<u32>,
+    nodes: Row<u32>,
 }
 
 impl Model for ReadyQueue {
-    ghost use Rattle.std.specs.Prelude.{◌-◌, min, vec_len, vec_capacity};
+    ghost use Rattle.std.specs.Prelude.{min};
     ghost use Rattle.ready_queue.specs.Queue.{Queue, IsIndexed};
 
     ghost Value = { Queue };
 
     ghost view = { λ a. record {
       members = a.members.items;
-      room = min (vec_capacity a.members - vec_len a.members) (vec_capacity a.nodes - vec_len a.nodes);
+      room = min a.members.room a.nodes.room;
     } };
 
     ghost invariant = { λ a. IsIndexed a.members.items a.nodes.items };
@@ -125,8 +127,8 @@ impl ReadyQueue {
         ensures { result.members ≡ [] }
     {
         ReadyQueue {
-            members: Vec::new(alloc),
-            nodes: Vec::new(alloc),
+            members: Row::new(alloc),
+            nodes: Row::new(alloc),
         }
     }
 
@@ -149,15 +151,15 @@ impl ReadyQueue {
         ensures apart { AreApart self.now.members }
     {
         let _nodes = &self.nodes;
-        &self.members
+        self.members.items()
     }
 
     /// Whether this is a member.
     pub fn contains(&self, member: Member) -> bool
         ensures { IsTrue result ↔ Contains self.now.members member }
     {
-        let place = place_of(&self.members, member);
-        is_there(&self.members, member, place)
+        let members = self.members.items();
+        is_there(members, member, place_of(members, member))
     }
 
     /// Adds a node that is not there, at its place. It takes no memory.
@@ -170,11 +172,11 @@ impl ReadyQueue {
         ensures unchanged { OnErr result (self.new ≡ self.old) }
         ensures err { IfErr result (λ fault. fault ≡ Present) }
     {
-        if has_node(&self.nodes, member.node) {
+        if has_node(self.nodes.items(), member.node) {
             return Err(QueueFault::Present);
         }
-        let place = place_of(&self.members, member);
-        insert_in_room(&mut self.members, place, member);
+        let place = place_of(self.members.items(), member);
+        self.members.insert(place, member);
         add_node(&mut self.nodes, member.node);
         Ok(())
     }
@@ -190,11 +192,11 @@ impl ReadyQueue {
         ensures unchanged { OnErr result (self.new ≡ self.old) }
         ensures err { IfErr result (λ fault. fault ≡ Absent) }
     {
-        let place = place_of(&self.members, member);
-        if !is_there(&self.members, member, place) {
+        let place = place_of(self.members.items(), member);
+        if !is_there(self.members.items(), member, place) {
             return Err(QueueFault::Absent);
         }
-        remove_at(&mut self.members, place);
+        self.members.remove(place);
         remove_node(&mut self.nodes, member.node);
         Ok(())
     }
@@ -213,7 +215,7 @@ impl ReadyQueue {
         requires { F.IsAlwaysCallable allowed }
         ensures { IsBest (F.post allowed) self.now.members result }
     {
-        best_in(&self.members, allowed)
+        best_in(self.members.items(), allowed)
     }
 }
 

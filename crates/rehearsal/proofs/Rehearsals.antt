@@ -18,10 +18,10 @@ use Rattle.sched_core.proofs.Held.{end-within}
 use Rattle.sched_core.proofs.LivesLemmas.{table-fates}
 use Rattle.job_starter.specs.declared.Call.{Call}
 use Rattle.job_starter.specs.Calls.{TellsNoMore}
-use Rattle.job_starter.specs.Drives.{no_step}
+use Rattle.job_starter.specs.Drives.{at_rest, no_step}
 use Rattle.job_starter.specs.Scripts.{scripted_outcome, IsScripted}
 use Rattle.job_starter.proofs.Outcomes.{drives-outcomes}
-use Rattle.job_starter.proofs.Walks.{drives-then}
+use Rattle.job_starter.proofs.Walks.{goes-then}
 use Rattle.run_leader.specs.Led.{DrivesToEnd}
 use Rattle.fate_audit.specs.Fates.{table_by}
 use Rattle.rehearsal.specs.Rehearsal.{IsRehearsed}
@@ -97,7 +97,7 @@ module _ (plan : Plan) (table entries : List Entry) (same : SameOutcomes table e
       (record {
         between = r.steps.between;
         status = r.steps.status;
-        steps = drives-then limits plan (IsScripted plan entries []) (IsScripted plan table []) (Life ∷ []) [] (Life ∷ []) [] r.steps.between r.calls same-script no_step r.steps.steps;
+        steps = goes-then limits plan (IsScripted plan entries []) (IsScripted plan table []) same-script (at_rest (Life ∷ []) []) (at_rest (Life ∷ []) []) (at_rest r.steps.between r.calls) no_step r.steps.steps;
         chosen = r.steps.chosen;
         ended = r.steps.ended;
       })

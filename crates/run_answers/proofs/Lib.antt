@@ -1,2 +1,3 @@
 mod StatusFaults
 mod AuditTexts
+mod Pictures

@@ -1,5 +1,6 @@
 -- Why a status is refused, and what it says.
-use Rattle.std.proofs.Common.{◌≡◌, ℕ, List, [], Option, Some, None, unwrap_or, true, ◌∙◌, refl, sym, ap, subst}
+use Rattle.std.proofs.Common.{◌≡◌, ℕ, List, [], ◌∷◌, Option, Some, None, Result, Ok, Err, unwrap_or, true, ◌∙◌, refl, sym, ap, subst}
+use Rattle.std.specs.Prelude.{slice_get}
 use Rattle.run_plan.specs.Plan.{Plan}
 use Rattle.node_machine.specs.declared.Record.{Record}
 use Rattle.sched_core.specs.Core.{Progress}
@@ -7,8 +8,12 @@ use Rattle.sched_core.specs.Run.{written, is_lawful}
 use Rattle.status_report.specs.Text.{status_text_of}
 use Rattle.event_journal.specs.declared.fault.JournalFault.{JournalFault}
 use Rattle.event_journal.specs.declared.fault.JournalFault.TheVariants as journal
+use Rattle.event_journal.specs.Groups.{IsSlotAt}
+use Rattle.event_journal.specs.Image.{Found, groups_in}
+use Rattle.event_journal.specs.Journal.{Replay}
 use Rattle.event_journal.specs.Reading.{FailsAs, ReadsRecords, replay_for}
-use Rattle.recovery.specs.Replay.{IsReplayFault, foreign}
+use Rattle.recovery.specs.Replay.{IsReplayFault, IsFirstForeign}
+use Rattle.recovery.proofs.Slots.{first_at, foreign_in}
 use Rattle.run_manager.specs.declared.fault.ManagerFault.TheVariants as manager
 use Rattle.dag_texts.specs.declared.fault.RunFault.{RunFault}
 use Rattle.dag_texts.specs.declared.fault.RunFault.TheVariants.{InManager, Memory}
@@ -42,9 +47,24 @@ read-records plan bytes o read digest same reads is =
     (subst (λ (x : Option (List Record)). ReadsRecords x (replay_for plan.digest bytes)) is
     (subst (λ (d : List ℕ). ReadsRecords o (replay_for d bytes)) same reads))
 
-pub foreign-fault : (plan : Plan) (bytes : List ℕ) (records : List Record) (slot : ℕ) → records_at plan bytes ≡ Some records
-    → IsReplayFault plan records (manager.Foreign slot) → IsRecordsFault plan bytes (InManager (manager.Foreign slot))
-foreign-fault plan bytes records slot is (foreign place first) = foreign_record records slot is first
+-- what reads as records that are not none
+found-at : (read : Replay) (records : List Record) (place : ℕ) (entry : Record) → records_read read ≡ Some records → slice_get records place ≡ Some entry
+    → (found : Found) × (read ≡ Ok (Some found)) × (records ≡ found.records)
+found-at (Ok None) records place entry is at = absurd (none-at records place entry is at)
+  where
+    none-at : (records : List Record) (place : ℕ) (entry : Record) → records_read (Ok None) ≡ Some records → slice_get records place ≡ Some entry → ⊥
+    none-at [] place entry is at = absurd cc
+    none-at (first ∷ rest) place entry is at = absurd cc
+found-at (Ok (Some found)) records place entry is at = (found, refl, cc)
+found-at (Err fault) records place entry is at = absurd cc
+
+-- the slot of the first record that may not follow
+pub foreign-fault : (plan : Plan) (bytes : List ℕ) (records : List Record) (place slot : ℕ) → records_at plan bytes ≡ Some records
+    → IsReplayFault plan records (manager.Foreign place) → IsSlotAt (groups_in bytes) place slot → IsRecordsFault plan bytes (InManager (manager.Foreign slot))
+foreign-fault plan bytes records place slot is why at =
+    let first = first_at plan records place why in
+    let f = found-at (replay_for plan.digest bytes) records place first.entry is first.is in
+    foreign_record slot (foreign_in plan plan.digest bytes f.0 place slot f.1 (subst (λ (l : List Record). IsFirstForeign plan l place) f.2 first) at)
 
 -- the status text of a core of these records
 pub status-text : (plan : Plan) (bytes : List ℕ) (records : List Record) (core : Progress) → records_at plan bytes ≡ Some records → core.plan ≡ plan

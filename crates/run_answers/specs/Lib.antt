@@ -1,3 +1,4 @@
 pub mod Statused
 pub mod Audited
+pub mod Drawn
 pub mod Asked

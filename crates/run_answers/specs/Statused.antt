@@ -6,9 +6,9 @@ use Rattle.node_machine.specs.declared.Record.{Record}
 use Rattle.sched_core.specs.Run.{written, is_lawful}
 use Rattle.event_journal.specs.declared.fault.JournalFault.{JournalFault}
 use Rattle.event_journal.specs.declared.fault.JournalFault.TheVariants as journal
-use Rattle.event_journal.specs.Image.{Found}
+use Rattle.event_journal.specs.Image.{Found, groups_in}
 use Rattle.event_journal.specs.Reading.{replay_for}
-use Rattle.recovery.specs.Replay.{IsFirstForeign}
+use Rattle.recovery.specs.Replay.{IsForeignSlot}
 use Rattle.run_manager.specs.declared.fault.ManagerFault.TheVariants as manager
 use Rattle.status_report.specs.Text.{status_text_of}
 use Rattle.dag_texts.specs.Planned.{IsPlanWith, IsPlanWithFault}
@@ -54,7 +54,7 @@ pub record IsStatusText (plan : Plan) (bytes text : List ℕ) (status : ℕ) : T
 -- Why there is none: the bytes are no journal of this plan; a record may not follow those before it; memory ran out.
 pub data IsRecordsFault (plan : Plan) (bytes : List ℕ) : RunFault → Type 0 where
   no_journal : (fault : JournalFault) → replay_for plan.digest bytes ≡ Err fault → IsRecordsFault plan bytes (InManager (manager.Journal fault))
-  foreign_record : (records : List Record) (slot : ℕ) → records_at plan bytes ≡ Some records → IsFirstForeign plan records slot →
+  foreign_record : (slot : ℕ) → IsForeignSlot plan (replay_for plan.digest bytes) (groups_in bytes) slot →
       IsRecordsFault plan bytes (InManager (manager.Foreign slot))
   reading_had_no_memory : IsRecordsFault plan bytes Memory
 

@@ -1,6 +1,6 @@
 //! What is told of a run by its journal, from the files that stand beside its DAG file.
 
-ghost use Rattle.std.specs.Prelude.{◌≡◌, ◌≤◌, IfOk, IfErr, option_map, string_bytes};
+ghost use Rattle.std.specs.Prelude.{◌≡◌, ◌≤◌, None, IfOk, IfErr, option_map, string_bytes};
 ghost use Rattle.journal_disks.specs.Memory.{disk_bytes};
 ghost use Rattle.splices.specs.FileSet.{bytes_of, entries_of};
 ghost use Rattle.dag_texts.specs.declared.fault.RunFault.TheVariants.{Memory};
@@ -8,6 +8,7 @@ ghost use Rattle.dag_files.specs.Beside.{IsRoundFault};
 ghost use Rattle.run_answers.specs.Asked.{IsTold, IsRefused, IsToldOfRun, IsToldFault};
 
 use crate::audits::audit_of;
+use crate::graphs::graph_of;
 use crate::statuses::status_of;
 use dag_files::{LAST_NUMBER, Place, bytes_of, files_in, journal_path, named, rescue_path};
 use dag_reader::Text;
@@ -48,7 +49,7 @@ fn used_in(alloc: Global, journal: Option<&[u8]>) -> Result<u16, RunFault>
 
 /// The path of the rescue file that a run read, if it read one.
 fn used_path(alloc: Global, top: &str, used: u16) -> Result<Option<Text>, RunFault>
-    ensures { IfErr result IsRoundFault }
+    ensures { IfErr result (IsRoundFault None) }
 {
     if used == 0 {
         return Ok(None);
@@ -75,7 +76,7 @@ struct LastRound {
 /// its header, a rescue file that the system refuses to read. Where the header can't be read, no
 /// rescue file is.
 fn last_round<R: Files + AllocGlobal>(rt: &R, place: &Place<'_>) -> Result<LastRound, RunFault>
-    ensures { IfErr result IsRoundFault }
+    ensures { IfErr result (IsRoundFault None) }
 {
     let alloc = rt.alloc();
     let journal = place.read(rt, journal_path(alloc, place.top)?.as_str())?;
@@ -99,12 +100,14 @@ pub enum Question {
     Status,
     /// Whether it is that of a finished run, and what its nodes came to.
     Audit,
+    /// A picture of the graph, with where each node stands.
+    Graph,
 }
 
 /// What these files, bytes of a rescue file and bytes of a journal answer.
 ///
 /// # Errors
-/// As `status_of` or `audit_of`.
+/// As `status_of`, `audit_of` or `graph_of`.
 fn asked(
     alloc: Global,
     files: &FileSet,
@@ -122,6 +125,7 @@ fn asked(
     match question {
         Question::Status => status_of(alloc, files, top, rescue, journal),
         Question::Audit => audit_of(alloc, files, top, rescue, journal),
+        Question::Graph => graph_of(alloc, files, top, rescue, journal),
     }
 }
 
@@ -130,8 +134,8 @@ fn asked(
 ///
 /// # Errors
 /// In this order: a journal that the system refuses to read, a number of a rescue file above 999 in
-/// its header, a rescue file that the system refuses to read; then as `status_of` or `audit_of`, a
-/// fault in a line of the rescue file with its path. Where the header can't be read, no rescue file
+/// its header, a rescue file that the system refuses to read; then as `status_of`, `audit_of` or
+/// `graph_of`, a fault in a line of the rescue file with its path. Where the header can't be read, no rescue file
 /// is. Want of memory may stand before any.
 pub fn told_here<R: Files + AllocGlobal>(
     rt: &R,

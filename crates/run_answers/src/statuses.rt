@@ -9,7 +9,7 @@ ghost use Rattle.dag_texts.specs.Warnings.{warning_lines};
 ghost use Rattle.run_answers.specs.Statused.{journal_bytes, records_at, read_fault, IsStatusText, IsRecordsFault, IsStatusOf, IsStatusFault};
 
 use dag_texts::{Answer, RunFault, plan_with, warning_text};
-use event_journal::{JournalFault, read_journal};
+use event_journal::{JournalFault, read_journal, slot_of};
 use node_machine::Record;
 use recovery::replay;
 use run_manager::ManagerFault;
@@ -82,7 +82,7 @@ fn in_journal(fault: JournalFault) -> RunFault
 }
 
 /// The records of a journal of this plan, the oldest first.
-fn records_of(alloc: Global, plan: &Plan, bytes: &[u8]) -> Result<Vec<Record>, RunFault>
+pub(crate) fn records_of(alloc: Global, plan: &Plan, bytes: &[u8]) -> Result<Vec<Record>, RunFault>
     ensures ok { IfOk result (λ records. records_at plan.now bytes.now ≡ Some records.items) }
     ensures refused { IfErr result (IsRecordsFault plan.now bytes.now) }
 {
@@ -94,7 +94,7 @@ fn records_of(alloc: Global, plan: &Plan, bytes: &[u8]) -> Result<Vec<Record>, R
 }
 
 /// The core that has these records, which are those of a journal.
-fn core_of<'a>(
+pub(crate) fn core_of<'a>(
     alloc: Global,
     plan: &'a Plan,
     bytes: &[u8],
@@ -105,10 +105,12 @@ fn core_of<'a>(
     ensures records { IfOk result (λ core. records.now ≡ written core.past) }
     ensures refused { IfErr result (IsRecordsFault plan.now bytes.now) }
 {
-    let _bytes = bytes;
     match replay(alloc, plan, records) {
         Ok(core) => Ok(core),
-        Err(ManagerFault::Foreign(slot)) => Err(RunFault::InManager(ManagerFault::Foreign(slot))),
+        Err(ManagerFault::Foreign(place)) => {
+            let slot = slot_of(bytes, place as usize);
+            Err(RunFault::InManager(ManagerFault::Foreign(slot)))
+        }
         Err(_) => Err(RunFault::Memory),
     }
 }

@@ -15,17 +15,17 @@ use Rattle.sched_core.specs.Fate.{AreFates, shown}
 use Rattle.sched_core.specs.Choices.{IsChoice}
 use Rattle.status_report.specs.Text.{run_text}
 use Rattle.job_starter.specs.declared.Call.{Call}
-use Rattle.job_starter.specs.Drives.{Drives, clean, IsHalted, IsStopped}
-use Rattle.job_starter.specs.Handed.{HandsAll, HandsAllButOne}
+use Rattle.job_starter.specs.Drives.{Drives, At, at_rest, IsHalted, IsStopped}
+use Rattle.job_starter.specs.Handed.{HandsAll, HandsAllButSome}
 use Rattle.job_starter.specs.declared.driving.DriveFault.{DriveFault}
-use Rattle.job_starter.specs.Moments.{IsOlderPart, MayHold, MayStand, ReadsBy, IsMomentOfRun}
-use Rattle.job_starter.proofs.Cuts.{older-self, halted-of}
-use Rattle.job_starter.proofs.Images.{older-is, older-next, may-older, moment_grows, at_rest}
+use Rattle.job_starter.specs.Moments.{IsOlderPart, IsMore, MayHold, MayStand, ReadsBy, IsMomentOfRun}
+use Rattle.job_starter.proofs.Cuts.{older-self, older-is, goes-records}
+use Rattle.job_starter.proofs.Images.{may-older, moment_grows, last_at}
 use Rattle.event_journal.specs.Disk.{LeavesOnly}
 use Rattle.event_journal.specs.Image.{Header}
 use Rattle.event_journal.proofs.Moments as moments
 use Rattle.run_manager.specs.Managed.{Reads}
-use Rattle.job_starter.proofs.Handing.{driven, drives-adds, halted-adds}
+use Rattle.job_starter.proofs.Handing.{driven}
 use Rattle.run_leader.specs.Led.{GoOnFrom, IsLed, DrivesToEnd}
 use Rattle.run_leader.specs.Moments.{IsMomentOfLead, IsLastOfLead}
 
@@ -61,7 +61,7 @@ pub led-by : (limits : Limits) (plan plan0 plan1 plan2 : Plan) → plan ≡ plan
     → text ≡ run_text plan2 records status → IsLed plan begun records text status
 led-by limits plan plan0 plan1 plan2 own same last begun between records text status tells told heard steps chosen lawful may is fates prints =
     let here : plan1 ≡ plan = same ∙ sym own in
-    let adds = drives-adds limits plan0 tells begun told between heard steps in
+    let adds = goes-records limits plan0 tells (at_rest begun told) (at_rest between heard) steps in
     is-led plan begun between records adds.0 text status adds.1
     (subst (λ (p : Plan). records ≡ Finish (exit_status p between) ∷ between) here is)
     (subst (λ (p : Plan). is_lawful p between ≡ true) here lawful)
@@ -86,7 +86,7 @@ to-end limits plan plan' same may past between records told heard status steps c
 pub stopped-adds : (limits : Limits) (plan : Plan) (may : List Call → Key → Outcome → Type 0) (past : List Record) (told : List Call) (fault : DriveFault) (after : List Record) (last : List Call)
     → IsStopped limits plan may past told fault after last → GoOnFrom past after
 stopped-adds limits plan may past told fault after last s =
-    halted-adds limits plan may past told after s.rest (halted-of limits plan may past told fault after s.rest s.halted)
+    goes-records limits plan may (at_rest past told) (At after s.rest s.halted.keys s.halted.owed) s.halted.steps
 
 -- the record of the end hands nothing over
 pub finished-adds : (past between after : List Record) (status : ℕ) → GoOnFrom past between → after ≡ Finish status ∷ between → GoOnFrom past after
@@ -97,8 +97,8 @@ pub finished-hands : (plan : Plan) (past between after : List Record) (status : 
 finished-hands plan past between after status told heard h is =
     subst (λ (l : List Record). HandsAll plan past l told heard) (sym is) (record { own = h.own; are = h.are; commands = h.commands })
 
-pub all-but-one : (plan : Plan) (past after : List Record) (told heard : List Call) → HandsAll plan past after told heard → HandsAllButOne plan past after told heard
-all-but-one plan past after told heard h = record {
+pub all-but-none : (plan : Plan) (past after : List Record) (told heard : List Call) → HandsAll plan past after told heard → HandsAllButSome plan past after told heard
+all-but-none plan past after told heard h = record {
   own = h.own;
   are = h.are;
   rest = [];
@@ -106,10 +106,17 @@ all-but-one plan past after told heard h = record {
   commands = h.commands ∙ ap (λ l. commands_in plan past ++ l) (sym (append-nil h.own));
 }
 
--- behind all steps the rest of one is none
+-- the end is one record more
+pub older-finished : (entry : Record) (held kept : List Record) → kept ≡ entry ∷ held → IsOlderPart held kept
+older-finished entry held kept same = (entry ∷ [], same)
+
+pub one-more : (entry : Record) (held kept : List Record) → kept ≡ held → IsMore kept (entry ∷ held)
+one-more entry held kept same = record { added = entry ∷ []; few = omega arith; is = ap (λ (l : List Record). entry ∷ l) (sym same) }
+
+-- behind all steps it may be halted
 pub at-steps : (limits : Limits) (plan : Plan) (may : List Call → Key → Outcome → Type 0) (past : List Record) (told : List Call) (after : List Record) (last : List Call)
     → Drives limits plan may past told after last → IsHalted limits plan may past told after last
-at-steps limits plan may past told after last steps = record { between = after; heard = last; steps = steps; cut = clean }
+at-steps limits plan may past told after last steps = record { keys = []; owed = []; steps = steps }
 
 module _ (limits : Limits) (plan : Plan) (may : List Call → Key → Outcome → Type 0) (past : List Record) (told : List Call) (header : Header) where
   -- The record of the end, behind the steps of the run: what they came to, without it and with it.
@@ -122,7 +129,7 @@ module _ (limits : Limits) (plan : Plan) (may : List Call → Key → Outcome �
     pub more : MayStand by → MayHold fault kept (entry ∷ between)
 
   pub end_moment : (by fault : Option DriveFault) (kept : List Record) (last : List Call) (between : List Record) (entry : Record) (image : List ℕ)
-      → IsEndCall by fault kept last between entry → ReadsBy by header between entry image → IsMomentOfLead limits plan may past told fault kept last header image
+      → IsEndCall by fault kept last between entry → ReadsBy by header between (entry ∷ between) image → IsMomentOfLead limits plan may past told fault kept last header image
   end_moment by fault kept last between entry image call (inl reads) = inl (record {
     held = between;
     heard = last;
@@ -141,7 +148,7 @@ module _ (limits : Limits) (plan : Plan) (may : List Call → Key → Outcome �
   })
 
   pub end_last : (by fault : Option DriveFault) (kept : List Record) (last : List Call) (between : List Record) (entry : Record) (image : List ℕ)
-      → IsEndCall by fault kept last between entry → kept ≡ between → ReadsBy by header between entry image → IsLastOfLead limits plan may past told fault kept last header image
+      → IsEndCall by fault kept last between entry → kept ≡ between → ReadsBy by header between (entry ∷ between) image → IsLastOfLead limits plan may past told fault kept last header image
   end_last by fault kept last between entry image call same (inl reads) = inl (record {
     moment = record {
       held = between;
@@ -162,7 +169,7 @@ module _ (limits : Limits) (plan : Plan) (may : List Call → Key → Outcome �
       part = call.more reads.0;
       reads = reads.1;
     },
-    older-next entry kept (entry ∷ between) (ap (λ (l : List Record). entry ∷ l) (sym same)),
+    (entry ∷ [], ap (λ (l : List Record). entry ∷ l) (sym same)),
   )
 
   -- the end is recorded
@@ -175,7 +182,7 @@ module _ (limits : Limits) (plan : Plan) (may : List Call → Key → Outcome �
   pub steps_rest : (fault : Option DriveFault) (kept : List Record) (last : List Call) (image : List ℕ) → is_lawful plan kept ≡ true
       → Drives limits plan may past told kept last → Reads header kept image → IsLastOfLead limits plan may past told fault kept last header image
   steps_rest fault kept last image lawful steps reads =
-      inl (at_rest limits plan may past told header fault kept last last image lawful (at-steps limits plan may past told kept last steps) (older-self last) reads)
+      inl (last_at limits plan may (at_rest past told) header (at_rest kept last) fault kept last image steps lawful (may-older fault kept kept (older-self kept)) (older-self last) (older-self kept) reads)
 
   module _ {D : Type 0} (moment : D → ℕ) (left_since : D → ℕ → List ℕ → Type 0) (fault : Option DriveFault) (kept : List Record) (last : List Call) where
     pub lead_run : (old new : D) → LeavesOnly moment left_since old new (IsMomentOfRun limits plan may past told fault kept last header)
@@ -189,15 +196,15 @@ module _ (limits : Limits) (plan : Plan) (may : List Call → Key → Outcome �
         → LeavesOnly moment left_since old new (IsMomentOfLead limits plan may past told fault kept last header)
     lead_grown old new between grown leaves =
         moments.weaker moment left_since old new (IsMomentOfRun limits plan may past told None between last header) (IsMomentOfLead limits plan may past told fault kept last header)
-        (λ image run. inl (moment_grows limits plan may past told header fault between last kept last grown (older-self last) image run)) leaves
+        (λ image run. inl (moment_grows limits plan may (at_rest past told) header fault between last kept last grown (older-self last) image run)) leaves
 
     -- a crash while the end is recorded, behind the steps of the run
     pub then_end : (old mid new : D) (by : Option DriveFault) (between : List Record) (entry : Record) → IsEndCall by fault kept last between entry → IsOlderPart between kept
-        → LeavesOnly moment left_since old mid (IsMomentOfRun limits plan may past told None between last header) → LeavesOnly moment left_since mid new (ReadsBy by header between entry)
+        → LeavesOnly moment left_since old mid (IsMomentOfRun limits plan may past told None between last header) → LeavesOnly moment left_since mid new (ReadsBy by header between (entry ∷ between))
         → LeavesOnly moment left_since old new (IsMomentOfLead limits plan may past told fault kept last header)
     then_end old mid new by between entry call grown first second =
         moments.joined moment left_since old mid new (IsMomentOfLead limits plan may past told fault kept last header) (lead_grown old mid between grown first)
-        (moments.weaker moment left_since mid new (ReadsBy by header between entry) (IsMomentOfLead limits plan may past told fault kept last header)
+        (moments.weaker moment left_since mid new (ReadsBy by header between (entry ∷ between)) (IsMomentOfLead limits plan may past told fault kept last header)
         (λ image. end_moment by fault kept last between entry image call) second)
 
 -- a moment of the end hands over what its steps did
@@ -209,4 +216,4 @@ end-hands limits plan may past told records heard d =
 pub end-adds : (limits : Limits) (plan : Plan) (may : List Call → Key → Outcome → Type 0) (past : List Record) (told : List Call) (records : List Record) (heard : List Call)
     → DrivesToEnd limits plan may past told records heard → GoOnFrom past records
 end-adds limits plan may past told records heard d =
-    finished-adds past d.between records d.status (drives-adds limits plan may past told d.between heard d.steps) d.ended
+    finished-adds past d.between records d.status (goes-records limits plan may (at_rest past told) (at_rest d.between heard) d.steps) d.ended

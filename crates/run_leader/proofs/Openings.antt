@@ -1,21 +1,19 @@
 -- A round that was opened and led to its end.
-use Rattle.std.proofs.Common.{◌≡◌, ◌⊎◌, ℕ, false, List, [], ◌∷◌, length, Option, None, inl, inr, sym, ap, ◌∙◌, subst}
+use Rattle.std.proofs.Common.{◌≡◌, ◌⊎◌, ℕ, false, List, [], ◌∷◌, Option, None, inl, inr, sym, ap, ◌∙◌, subst}
 use Rattle.throttles.specs.declared.Limits.{Limits}
 use Rattle.node_machine.specs.declared.Key.{Key}
 use Rattle.node_machine.specs.declared.Outcome.{Outcome}
 use Rattle.run_plan.specs.Plan.{Plan}
 use Rattle.node_machine.specs.declared.Record.{Record}
 use Rattle.node_machine.specs.declared.Record.TheVariants.{Life}
-use Rattle.sched_core.specs.Run.{written}
 use Rattle.event_journal.specs.Disk.{LeavesOnly}
-use Rattle.event_journal.specs.Image.{Header, Found}
+use Rattle.event_journal.specs.Groups.{used_in}
+use Rattle.event_journal.specs.Image.{Header, groups_in}
 use Rattle.event_journal.specs.Journal.{is_broken, journal_count}
 use Rattle.event_journal.proofs.Moments as moments
 use Rattle.run_manager.specs.Managed.{Managed, plan_of, past_of, disk_of, Agree, IsAcknowledged}
 use Rattle.run_manager.specs.Chain.{ReadsForInputs}
 use Rattle.run_manager.specs.Seal.{IsRescued}
-use Rattle.run_manager.proofs.Chains.{same_found}
-use Rattle.run_manager.proofs.Sealing.{counted}
 use Rattle.recovery.specs.Recovery.{IsNewLife}
 use Rattle.job_starter.specs.declared.Call.{Call}
 use Rattle.job_starter.specs.declared.driving.DriveFault.{DriveFault}
@@ -27,15 +25,13 @@ use Rattle.run_leader.specs.Moments.{IsMomentOfLead, IsLastOfLead}
 use Rattle.run_leader.specs.Rounds.{HasBegun, IsBegunBy, BeginsOn, IsJournaled, IsMomentOfOpening, IsRound, IsRoundOnDisk}
 use Rattle.run_leader.proofs.Ends.{end-hands}
 
--- a whole journal of an honest disk counts the records
-pub counts-records : {D : Type 0} (honest : D → Type 0) (seen : D → List ℕ) (may_leave : D → List ℕ → Type 0) (manager : Managed D)
-    → Agree honest seen may_leave (past_of manager) manager.journal → is_broken manager.journal ≡ false → honest (disk_of manager) → journal_count manager.journal ≡ length (past_of manager)
-counts-records honest seen may_leave manager agrees whole premise =
-    let keeps = agrees premise whole in
-    let image = keeps.settled.image in
-    let found : image.found ≡ record { header = keeps.header; records = written (past_of manager) } =
-    same_found image.found (record { header = keeps.header; records = written (past_of manager) }) (sym image.reads ∙ keeps.reads) in
-    image.counts ∙ counted image.found.records (past_of manager) (ap (λ (f : Found). f.records) found)
+-- a whole journal of an honest disk counts the slots that are used
+pub counts-slots : {D : Type 0} (honest : D → Type 0) (seen : D → List ℕ) (may_leave : D → List ℕ → Type 0) (manager : Managed D)
+    → Agree honest seen may_leave (past_of manager) manager.journal → is_broken manager.journal ≡ false → honest (disk_of manager)
+    → journal_count manager.journal ≡ used_in (groups_in (seen (disk_of manager)))
+counts-slots honest seen may_leave manager agrees whole premise =
+    let image = (agrees premise whole).settled.image in
+    image.counts ∙ ap used_in (sym image.grouped)
 
 abbrev behind : List Record → List Record
 behind [] = []

@@ -1,47 +1,44 @@
 -- By which faults a round is stopped.
-use Rattle.std.proofs.Common.{◌≡◌, ◌∙◌, ℕ, true, false, List, Option, sym}
+use Rattle.std.proofs.Common.{◌≡◌, ◌∙◌, ℕ, false, List, Option, sym}
 use Rattle.std.proofs.lemmas.Bool.{false≢true}
 use Rattle.node_machine.specs.declared.Key.{Key}
 use Rattle.node_machine.specs.declared.Outcome.{Outcome}
 use Rattle.throttles.specs.declared.Limits.{Limits}
 use Rattle.run_plan.specs.Plan.{Plan}
 use Rattle.node_machine.specs.declared.Record.{Record}
-use Rattle.sched_core.specs.Run.{may_follow}
 use Rattle.event_journal.specs.declared.journal.Journal.{Journal}
 use Rattle.event_journal.specs.Journal.{is_broken}
 use Rattle.run_manager.specs.declared.fault.ManagerFault.{ManagerFault}
-use Rattle.run_manager.specs.Managed.{Managed, plan_of, past_of, IsRefusal, run_over, may_not_follow, no_memory, journal_broken, no_slot, disk_failed, disk_full}
+use Rattle.run_manager.specs.Batched.{IsUnwritten, no_memory_for_all, broken_before, too_few_slots, disk_failed_meanwhile, disk_full_before}
+use Rattle.run_manager.specs.Managed.{Managed, plan_of, past_of}
 use Rattle.recovery.specs.Recovery.{IsBeginFault, begin_failed, begin_had_no_room, begin_had_no_slot, begin_had_no_memory, begun_before, recovery_failed, no_journal, foreign_record, run_finished, recovery_had_no_memory, no_slot_for_life, no_room_for_life}
 use Rattle.job_starter.specs.declared.Call.{Call}
 use Rattle.job_starter.specs.declared.driving.DriveFault.{DriveFault}
-use Rattle.job_starter.specs.Causes.{IsRecordRefused, IsOfRun, IsDriveFault, no_memory_for_child, no_ending_told, no_memory_for_command, record_refused}
+use Rattle.job_starter.specs.Causes.{AreRefused, IsOfRun, IsDriveFault, no_memory_for_child, no_ending_told, no_memory_for_command, no_memory_for_round, records_refused}
 use Rattle.run_leader.specs.declared.rounds.Start.{Start}
 use Rattle.run_leader.specs.declared.rounds.Start.TheVariants.{Begin, GoOn}
 use Rattle.run_leader.specs.Rounds.{IsOpeningFault}
 use Rattle.run_leader.specs.Causes.{IsEndOf, IsSealFault, text_had_no_memory, rescue_failed, rescue_had_no_room, IsLeadFault, stopped, not_sealed, end_refused, no_memory_for_report, IsManagerStop, stopped_by_memory, stopped_by_disk, stopped_by_room, stopped_by_slots, stopped_by_image, stopped_by_record, stopped_by_end, MayStop, IsRoundRefusal, not_opened, not_led}
 
 module _ {D : Type 0} (honest : D → Type 0) (failures capacity : D → ℕ) where
-  cause-stops : (plan : Plan) (past : List Record) (entry : Record) (old new : Journal D) (fault : ManagerFault) → may_follow plan past entry ≡ true → is_broken old ≡ false
-      → IsRefusal failures capacity plan past entry old new fault → IsManagerStop fault
-  cause-stops plan past entry old new _ may whole (run_over over same) = stopped_by_end
-  cause-stops plan past entry old new _ may whole (may_not_follow going refused same) = absurd (false≢true (sym refused ∙ may))
-  cause-stops plan past entry old new _ may whole (no_memory follows same) = stopped_by_memory
-  cause-stops plan past entry old new _ may whole (journal_broken follows broken same) = absurd (false≢true (sym whole ∙ broken))
-  cause-stops plan past entry old new _ may whole (no_slot follows is full same) = stopped_by_slots
-  cause-stops plan past entry old new _ may whole (disk_failed follows is rises breaks) = stopped_by_disk
-  cause-stops plan past entry old new _ may whole (disk_full follows is slot small breaks) = stopped_by_room
+  cause-stops : (entries : List Record) (old new : Journal D) (fault : ManagerFault) → is_broken old ≡ false → IsUnwritten failures capacity entries old new fault → IsManagerStop fault
+  cause-stops entries old new _ whole (no_memory_for_all same) = stopped_by_memory
+  cause-stops entries old new _ whole (broken_before broken same) = absurd (false≢true (sym whole ∙ broken))
+  cause-stops entries old new _ whole (too_few_slots is full same) = stopped_by_slots
+  cause-stops entries old new _ whole (disk_failed_meanwhile is rises breaks) = stopped_by_disk
+  cause-stops entries old new _ whole (disk_full_before is slot small breaks) = stopped_by_room
 
   refused-stops : (is_own : Record → Type 0) (old manager : Managed D) (fault : ManagerFault) → is_broken old.journal ≡ false
-      → IsRecordRefused honest failures capacity is_own old manager fault → IsManagerStop fault
-  refused-stops is_own old manager fault whole r =
-      cause-stops (plan_of manager) (past_of manager) r.entry r.then_was.journal manager.journal fault r.lawful (r.counts.whole ∙ whole) r.cause
+      → AreRefused honest failures capacity is_own old manager fault → IsManagerStop fault
+  refused-stops is_own old manager fault whole r = cause-stops r.entries r.then_was.journal manager.journal fault (r.counts.whole ∙ whole) r.cause
 
   drive-stops : (before now : ℕ) (old manager : Managed D) (fault : DriveFault) → is_broken old.journal ≡ false
       → IsDriveFault honest failures capacity before now old manager fault → MayStop fault
   drive-stops before now old manager _ whole (no_memory_for_child rises) = tt
   drive-stops before now old manager _ whole (no_ending_told rises) = tt
-  drive-stops before now old manager _ whole no_memory_for_command = tt
-  drive-stops before now old manager _ whole (record_refused {fault = fault} r) = refused-stops IsOfRun old manager fault whole r
+  drive-stops before now old manager _ whole (no_memory_for_command still) = tt
+  drive-stops before now old manager _ whole (no_memory_for_round still) = stopped_by_memory
+  drive-stops before now old manager _ whole (records_refused {fault = fault} still r) = refused-stops IsOfRun old manager fault whole r
 
 seal-stops : {R : Type 0} (failures capacity : R → ℕ) (plan : Plan) (past : List Record) (disk left : R) (fault : ManagerFault) → IsSealFault failures capacity plan past disk left fault → IsManagerStop fault
 seal-stops failures capacity plan past disk left _ (text_had_no_memory same) = stopped_by_memory

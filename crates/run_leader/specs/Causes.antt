@@ -19,7 +19,7 @@ use Rattle.run_manager.specs.declared.fault.ManagerFault.TheVariants as faults
 use Rattle.recovery.specs.Recovery.{IsUntouched}
 use Rattle.job_starter.specs.declared.Call.{Call}
 use Rattle.job_starter.specs.Drives.{limits_of, IsStopped}
-use Rattle.job_starter.specs.Causes.{IsDriveFault, IsRecordRefused}
+use Rattle.job_starter.specs.Causes.{IsDriveFault, AreRefused}
 use Rattle.job_starter.specs.declared.driving.DriveFault.{DriveFault}
 use Rattle.job_starter.specs.declared.driving.DriveFault.TheVariants as drives
 use Rattle.run_leader.specs.declared.rounds.Start.{Start}
@@ -54,7 +54,7 @@ pub data IsLeadFault {D R : Type 0} (honest : D → Type 0) (failures capacity :
       IsSealFault rescue_failures rescue_capacity (plan_of manager) (past_of manager) disk rest fault →
       IsLeadFault honest failures capacity rescue_honest rescue_may_leave rescue_failures rescue_capacity before now may old manager told heard disk left (drives.Manager fault)
   end_refused : {fault : ManagerFault} → IsAtEnd (limits_of old) (plan_of old) may (past_of old) told (past_of manager) heard →
-      IsRecordRefused honest failures capacity (IsEndOf (plan_of manager) (past_of manager)) old manager fault →
+      AreRefused honest failures capacity (IsEndOf (plan_of manager) (past_of manager)) old manager fault →
       IsRescued rescue_honest rescue_may_leave (plan_of manager) (past_of manager) left →
       IsLeadFault honest failures capacity rescue_honest rescue_may_leave rescue_failures rescue_capacity before now may old manager told heard disk left (drives.Manager fault)
   no_memory_for_report : DrivesToEnd (limits_of old) (plan_of old) may (past_of old) told (past_of manager) heard →

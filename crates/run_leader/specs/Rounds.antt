@@ -1,5 +1,5 @@
 -- How a round begins: anew, or where the last manager left it.
-use Rattle.std.specs.Prelude.{◌≡◌, ◌⊎◌, ◌≤◌, ℕ, List, [], ◌∷◌, length, Option, Ok, None, IsTrue, IsFalse}
+use Rattle.std.specs.Prelude.{◌≡◌, ◌⊎◌, ◌≤◌, ℕ, List, [], ◌∷◌, Option, Ok, None, IsTrue, IsFalse}
 use Rattle.node_machine.specs.declared.Key.{Key}
 use Rattle.node_machine.specs.declared.Outcome.{Outcome}
 use Rattle.throttles.specs.declared.Limits.{Limits}
@@ -9,7 +9,8 @@ use Rattle.node_machine.specs.declared.Record.TheVariants.{Life}
 use Rattle.sched_core.specs.Run.{is_lawful}
 use Rattle.event_journal.specs.Disk.{LeavesOnly}
 use Rattle.event_journal.specs.Journal.{is_broken, journal_count, journal_limit}
-use Rattle.event_journal.specs.Image.{Header, header_of, IsRescueNumber, replay_of}
+use Rattle.event_journal.specs.Groups.{used_in}
+use Rattle.event_journal.specs.Image.{Header, header_of, IsRescueNumber, replay_of, groups_in}
 use Rattle.event_journal.specs.Reading.{replay_for}
 use Rattle.recovery.specs.Recovery.{IsNewLife, IsMomentOfBegin, IsMomentOfRecovery, IsBeginFault, IsRecoveryFault}
 use Rattle.run_manager.specs.declared.fault.ManagerFault.{ManagerFault}
@@ -79,7 +80,7 @@ pub record IsRound {D R : Type 0} (honest : D → Type 0) (seen : D → List ℕ
 -- why a round is not opened, and what is left of the disk
 abbrev pub IsOpeningFault : {D : Type 0} → (D → ℕ) → (D → ℕ) → (D → Type 0) → (D → List ℕ) → Plan → ℕ → Start → D → D → ManagerFault → Type 0
 IsOpeningFault failures capacity honest seen plan slots (Begin used next) old new = IsBeginFault failures capacity honest slots old new
-IsOpeningFault failures capacity honest seen plan slots GoOn old new = IsRecoveryFault failures capacity honest plan slots (replay_for plan.digest (seen old)) old new
+IsOpeningFault failures capacity honest seen plan slots GoOn old new = IsRecoveryFault failures capacity honest plan slots (groups_in (seen old)) (replay_for plan.digest (seen old)) old new
 
 -- The journal on the disk is one of these inputs with the manager's records, and a crash leaves it so.
 pub record IsJournaled {D : Type 0} (seen : D → List ℕ) (may_leave : D → List ℕ → Type 0) (plan : Plan) (manager : Managed D) : Type 0 where
@@ -95,7 +96,7 @@ pub record BeginsOn {D : Type 0} (plan : Plan) (image : List ℕ) (manager : Man
   pub records : past_of manager ≡ Life ∷ begun
 
 -- A round is opened: its manager keeps to the limits, and its life has begun on the records of the bytes that stood there. The journal is
--- whole, of as many slots; of an honest disk it counts the records. The disk has its bounds, and has failed no less often.
+-- whole, of as many slots; of an honest disk it counts the slots that are used. The disk has its bounds, and has failed no less often.
 pub record IsOpened {D : Type 0} (honest : D → Type 0) (seen : D → List ℕ) (failures capacity : D → ℕ) (plan : Plan) (slots : ℕ) (start : Start) (limits : Limits) (disk : D) (manager : Managed D) : Type 0 where
   pub plan_is : plan_of manager ≡ plan
   pub limits_are : limits_of manager ≡ limits
@@ -105,4 +106,4 @@ pub record IsOpened {D : Type 0} (honest : D → Type 0) (seen : D → List ℕ)
   pub slots_are : journal_limit manager.journal ≡ slots
   pub room : capacity (disk_of manager) ≡ capacity disk
   pub later : failures disk ≤ failures (disk_of manager)
-  pub count : honest disk → journal_count manager.journal ≡ length (past_of manager)
+  pub count : honest disk → journal_count manager.journal ≡ used_in (groups_in (seen (disk_of manager)))

@@ -6,7 +6,7 @@ ghost use Rattle.run_manager.specs.Seal.{IsSealOf, IsRescued, may_end, needs_res
 ghost use Rattle.sched_core.specs.Run.{is_over};
 ghost use Rattle.job_starter.specs.Drives.{AreInStep, limits_of};
 ghost use Rattle.job_starter.specs.Calls.{running};
-ghost use Rattle.job_starter.specs.Handed.{HandsAll, HandsAllButOne};
+ghost use Rattle.job_starter.specs.Handed.{HandsAll, HandsAllButSome};
 ghost use Rattle.job_starter.specs.Moments.{AtAnyMoment, AtTheEnd, UnlessDiskFault, StaysAcknowledged, KeepsDisk};
 ghost use Rattle.run_leader.specs.Causes.{IsSealFault, IsLeadFault};
 ghost use Rattle.run_leader.specs.Led.{GoOnFrom, IsLed, DrivesToEnd};
@@ -76,12 +76,12 @@ pub fn lead<D: Disk + Drop, R: Disk + Drop, S: Starter>(
         (S.may_tell starter.old) (past_of manager.old) (S.told starter.old)
         (past_of manager.new) (S.told starter.new)) }
     // Behind a fault too the records went on, and no child runs; the commands of the own launches were
-    // handed over once each and in their order, behind a fault perhaps but the last.
+    // handed over once each and in their order, behind a fault perhaps but the last, of one round.
     ensures plan { plan_of manager.new ≡ plan_of manager.old }
     ensures goes_on { GoOnFrom (past_of manager.old) (past_of manager.new) }
     ensures hands_over { OnOk result (HandsAll (plan_of manager.old) (past_of manager.old)
         (past_of manager.new) (S.told starter.old) (S.told starter.new)) }
-    ensures hands_over_err { OnErr result (HandsAllButOne (plan_of manager.old) (past_of manager.old)
+    ensures hands_over_err { OnErr result (HandsAllButSome (plan_of manager.old) (past_of manager.old)
         (past_of manager.new) (S.told starter.old) (S.told starter.new)) }
     ensures none_left { running (S.told starter.new) ≡ [] }
     // A crash at any moment of the call leaves what makes it a life of the run (job_starter's law

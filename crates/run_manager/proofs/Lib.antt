@@ -1,3 +1,4 @@
+pub mod Batched
 pub mod Chains
 pub mod Endings
 pub mod Marks

@@ -1,3 +1,4 @@
+pub mod Batched
 pub mod Chain
 pub mod Example
 pub mod Faults

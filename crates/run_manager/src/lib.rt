@@ -4,6 +4,7 @@
 //! DAG", as docs/MANUAL.md states them.
 #![tactic(auto)]
 
+mod batches;
 mod calls;
 pub mod examples;
 mod fault;

@@ -2,7 +2,7 @@
 use crate::same::same;
 use dag_reader::{Text, Texts};
 use job_starter::{Killed, Started, System};
-use local_system::LocalSystem;
+use local_system::{LocalSystem, Unwatched};
 use node_machine::{Key, Outcome, Phase};
 use node_specs::ChildCommand;
 use std::alloc::{AllocError, Global};
@@ -33,7 +33,7 @@ pub fn shell(alloc: Global, line: &str) -> Result<ChildCommand, AllocError> {
 #[test]
 fn local_wait_succeeds(rt: HostRuntime) -> Result<(), Fail> {
     let alloc = rt.alloc();
-    let mut system = LocalSystem::new(alloc, rt, "/")?;
+    let mut system = LocalSystem::new(alloc, rt, "/", Unwatched)?;
     let Started::Running = system.spawn(A, &shell(alloc, "exit 3")?)? else {
         panic!(rt; "not started");
     };
@@ -45,7 +45,7 @@ fn local_wait_succeeds(rt: HostRuntime) -> Result<(), Fail> {
 #[test]
 fn local_kill_ends(rt: HostRuntime) -> Result<(), Fail> {
     let alloc = rt.alloc();
-    let mut system = LocalSystem::new(alloc, rt, "/")?;
+    let mut system = LocalSystem::new(alloc, rt, "/", Unwatched)?;
     let Started::Running = system.spawn(A, &shell(alloc, "exec sleep 60")?)? else {
         panic!(rt; "not started");
     };

@@ -46,7 +46,7 @@ type Row = (&'static str, Limits, &'static str);
 /// Priorities -1, 5 and 0.
 const BY_PRIORITY: &str = "JOB A x.sub\nJOB B x.sub\nJOB C x.sub\nPRIORITY B 5\nPRIORITY A -1\n";
 
-/// The job of a NOOP ends at once, before anything else is launched; the limit on jobs holds it too.
+/// The job of a NOOP ends once all that was launched with it is started; the limit on jobs holds it too.
 const WITH_NOOP: &str = "JOB A x.sub\nJOB B x.sub NOOP\nJOB C x.sub\n";
 
 /// A category of one job at a time holds B and C apart, and A runs beside them.
@@ -57,7 +57,7 @@ static ORDERS: [Row; 5] = [
     (BY_PRIORITY, ONE_JOB, "1 (1) 2 (2) 0 (0) "),
     (BY_PRIORITY, NO_LIMITS, "1 2 0 (1) (2) (0) "),
     (IN_A_CATEGORY, NO_LIMITS, "0 1 (0) (1) 2 (2) "),
-    (WITH_NOOP, NO_LIMITS, "0 1 (1) 2 (0) (2) "),
+    (WITH_NOOP, NO_LIMITS, "0 1 2 (1) (0) (2) "),
     (WITH_NOOP, ONE_JOB, "0 (0) 1 (1) 2 (2) "),
 ];
 

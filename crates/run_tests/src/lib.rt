@@ -10,9 +10,13 @@ mod course;
 #[cfg(test)]
 mod faults;
 #[cfg(test)]
+mod first_lives;
+#[cfg(test)]
 mod memory;
 #[cfg(test)]
 mod plans;
+#[cfg(test)]
+mod rounds;
 #[cfg(test)]
 mod same;
 #[cfg(test)]

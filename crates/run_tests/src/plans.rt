@@ -39,6 +39,16 @@ fn fault_of(refused: (Graph, PlanFault)) -> Fail {
 
 /// The plan of a DAG and the submit files of its nodes.
 pub fn plan_of(alloc: Global, dag: &str, submits: &[File]) -> Result<Plan, Fail> {
+    plan_behind(alloc, dag, submits, None)
+}
+
+/// The same, with the rescue file of an earlier round where there is one.
+pub fn plan_behind(
+    alloc: Global,
+    dag: &str,
+    submits: &[File],
+    rescue: Option<&[u8]>,
+) -> Result<Plan, Fail> {
     let mut files = FileSet::new(alloc);
     files.add(alloc, "x.dag", dag.as_bytes())?;
     for (name, text) in submits {
@@ -46,7 +56,7 @@ pub fn plan_of(alloc: Global, dag: &str, submits: &[File]) -> Result<Plan, Fail>
     }
     let dag = open_dag(alloc, &files, "x.dag")?;
     let graph = Graph::build(alloc, dag)?;
-    match Plan::build(alloc, graph, &files, None) {
+    match Plan::build(alloc, graph, &files, rescue) {
         Ok(plan) => Ok(plan),
         Err(refused) => Err(fault_of(refused)),
     }

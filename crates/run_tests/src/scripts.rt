@@ -46,7 +46,9 @@ const ONE_JOB: Limits = Limits {
 
 const THREE: &str = "JOB A a.sub\nJOB B a.sub\nJOB C a.sub\n";
 
-static ROWS: [Row; 11] = [
+const SKIPS: &str = "JOB A a.sub\nSCRIPT PRE A q.sh\nSCRIPT POST A p.sh\nPRE_SKIP A 4\n";
+
+static ROWS: [Row; 14] = [
     Row {
         due: "result 0\n",
         ..QUIET
@@ -54,6 +56,19 @@ static ROWS: [Row; 11] = [
     Row {
         dag: "JOB A a.sub NOOP\nSCRIPT PRE A p.sh\n",
         due: "result 0\nstart 0 Pre\nend 0 Pre Exit(0)\nA Done 1 0\n",
+        ..QUIET
+    },
+    // A PRE script skips its node, and one that fails ends it: either is all that is started.
+    Row {
+        dag: SKIPS,
+        table: "A 0 PRE 4\n",
+        due: "result 0\nstart 0 Pre\nend 0 Pre Exit(4)\nA Done 1 0\n",
+        ..QUIET
+    },
+    Row {
+        dag: SKIPS,
+        table: "A 0 PRE 5\n",
+        due: "result 1\nstart 0 Pre\nend 0 Pre Exit(5)\nA Error 1 5\n",
         ..QUIET
     },
     Row {
@@ -100,11 +115,19 @@ static ROWS: [Row; 11] = [
               start 2 Job\nend 2 Job Exit(0)\nB Error 1 7\nA NotRun 0 -\nF Done 1 0\n",
         ..QUIET
     },
-    // A child that can't be started aborts the run before another one is.
+    // A child that can't be started aborts the run once all that was launched with it is started; what runs is killed.
     Row {
         dag: "JOB B b.sub\nJOB A a.sub\nABORT-DAG-ON A -1001\nPRIORITY A 1\n",
         table: "A 0 JOB nostart\n",
-        due: "result 1 aborted\nnot started 1 Job\nB NotRun 0 -\nA Error 1 -1001\n",
+        due: "result 1 aborted\nnot started 1 Job\nstart 0 Job\nkill 0 Job\nB NotRun 0 -\n\
+              A Error 1 -1001\n",
+        ..QUIET
+    },
+    // An ending that aborts the run is the last that is recorded of those that came at once.
+    Row {
+        dag: "JOB A a.sub NOOP\nJOB B a.sub NOOP\nJOB C a.sub\nABORT-DAG-ON A 0 RETURN 5\n",
+        due: "result 5 aborted\nstart 2 Job\nkill 2 Job\nA Done 1 0\nB NotRun 0 -\n\
+              C NotRun 0 -\n",
         ..QUIET
     },
     // What is refused stops the run, and no child is left.
@@ -156,7 +179,8 @@ fn add_call(text: &mut String, call: &Call) -> Result<(), Fail> {
     Ok(())
 }
 
-fn add_calls(text: &mut String, calls: &[Call]) -> Result<(), Fail> {
+/// Adds a line for each call of a starter.
+pub fn add_calls(text: &mut String, calls: &[Call]) -> Result<(), Fail> {
     for call in calls {
         add_call(text, call)?;
     }

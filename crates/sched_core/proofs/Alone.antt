@@ -71,7 +71,7 @@ alone-empty plan past e = record {
     idle h = false≢true (sym (ap (has_key_of (count_of plan)) e) ∙ h)
 
 -- a launch makes nothing ready
-ready-before : (plan : Plan) (past : List Record) (key : Key) (number node : ℕ) → is_ready plan (Launch key number ∷ past) node ≡ true → is_ready plan past node ≡ true
+pub ready-before : (plan : Plan) (past : List Record) (key : Key) (number node : ℕ) → is_ready plan (Launch key number ∷ past) node ≡ true → is_ready plan past node ≡ true
 unfolding is_ready is_aborted
 ready-before plan past key number node h = and_from _ _ (and_parts _ _ h).0 (free (next plan past node) (and_parts _ _ h).1)
   where

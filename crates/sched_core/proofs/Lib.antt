@@ -19,7 +19,10 @@ pub mod Best
 pub mod Aborts
 mod FactsLemmas
 pub mod Alone
-mod Batches
+pub mod Ahead
+pub mod Ended
+pub mod Added
+pub mod Batches
 mod Noted
 mod Taking
 mod Members

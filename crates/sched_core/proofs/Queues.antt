@@ -2,7 +2,7 @@
 use Rattle.std.proofs.Common.{◌≡◌, ℕ, zero, suc, ◌+◌, ◌<◌, Bool, true, false, not, ◌&&◌, ◌||◌, ◌==◌, List, [], ◌∷◌, length, get_or, Option, Some, None, is_none, refl, sym, ap, ◌∙◌, subst, arith, eq-eqb, eqb-true, lt-ltb, if◌then◌else◌}
 use Rattle.std.specs.Prelude.{nat_lt, nat_le}
 use Rattle.std.specs.List.{Contains, list_all}
-use Rattle.std.proofs.lemmas.Bool.{ltb-true, leb-true, false≢true, false_from_ne_true}
+use Rattle.std.proofs.lemmas.Bool.{not-true, ltb-true, leb-true, false≢true, false_from_ne_true}
 use Rattle.std.proofs.lemmas.List.{get_or_default}
 use Rattle.std.proofs.lemmas.List.Elements.{Contains-get_or}
 use Rattle.node_machine.specs.declared.Key.{Key}
@@ -19,8 +19,9 @@ use Rattle.run_plan.proofs.PlanFacts.{parents-below}
 use Rattle.node_machine.specs.declared.Record.{Record}
 use Rattle.sched_core.specs.Run.{key_at, next, is_done, outstanding, is_among, is_free, is_nothing, is_aborted, is_ready, is_final_ready, may_launch, is_lawful}
 use Rattle.sched_core.specs.Core.{Shows, run_of, run_at, is_running, IsBestBelow}
-use Rattle.sched_core.specs.Choices.{startable}
-use Rattle.sched_core.specs.Limits.{member_of, IsBetter}
+use Rattle.throttles.specs.Throttled.{is_below, all_in, limit_of, of_kind, lets_phase}
+use Rattle.sched_core.specs.Choices.{launchable, if_let_in, startable}
+use Rattle.sched_core.specs.Limits.{member_of, IsBetter, throttled_in}
 use Rattle.sched_core.specs.Notes.{AreNotes, notes_at}
 use Rattle.sched_core.specs.States.{NodeStates, AreLeft, IsStateAt, IsStateOf, left_at, done_at, undone_in, is_ready_by, is_ready_at}
 use Rattle.sched_core.specs.declared.states.NodeState.{NodeState}
@@ -120,7 +121,16 @@ waiting-are plan planned past states aborted jobs s notes left queue members que
         ready-shown plan past s.lawful node lt state
         (state-shown plan planned past states aborted jobs s notes left node state (omega (arith, lt)) (record { run = refl; notes = refl; left = refl })) aborted s.aborted_is
 
-pub waiting-node : (plan : Plan) (past : List Record) (members : List Member) (k : ℕ) (d : Member) → AreWaiting plan past members → k < length members → (get_or members k d).node < count_of plan
+-- members in order, ordinary nodes with their priorities, among which are all that are ready
+pub record HaveReady (plan : Plan) (past : List Record) (members : List Member) : Type 0 where
+  pub ordered : IsOrdered members
+  pub each : (member : Member) → Contains members member → (member.node < count_of plan) × (member ≡ member_of plan member.node)
+  pub ready : (node : ℕ) → node < count_of plan → is_ready plan past node ≡ true → Contains members (member_of plan node)
+
+pub have-ready : (plan : Plan) (past : List Record) (members : List Member) → AreWaiting plan past members → HaveReady plan past members
+have-ready plan past members are = record { ordered = are.ordered; each = are.each; ready = are.ready }
+
+pub waiting-node : (plan : Plan) (past : List Record) (members : List Member) (k : ℕ) (d : Member) → HaveReady plan past members → k < length members → (get_or members k d).node < count_of plan
 waiting-node plan past members k d are inside = (are.each (get_or members k d) (Contains-get_or members k d inside)).0
 
 -- none is ready just where no member is
@@ -142,14 +152,29 @@ none-ready plan past members are = go members refl
         ∙ sym (all_below-not (λ node. not (is_ready plan past node)) (count_of plan) m.node (are.each m has).0 (ap not (are.only m has)))
 
 -- what may be started of an ordinary node is ready
-startable-ready : (limits : Limits) (plan : Plan) (past : List Record) (node : ℕ) (key : Key) → node < count_of plan → startable limits plan past node ≡ Some key → is_ready plan past node ≡ true
+pub startable-ready : (limits : Limits) (plan : Plan) (past : List Record) (node : ℕ) (key : Key) → node < count_of plan → startable limits plan past node ≡ Some key → is_ready plan past node ≡ true
 unfolding may_launch
 startable-ready limits plan past node key lt e =
     let may = (launchable-next plan past node key (startable-parts limits plan past node key e).0).0 in
     (λ j. if sym (lt-ltb node (count_of plan) lt) j then is_ready plan past node else (node == count_of plan) && is_final_ready plan past) ∙ may
 
+-- where as many children run as may, none may be started
+pub full-none : (limits : Limits) (plan : Plan) (past : List Record) → not (is_below limits.children (all_in (throttled_in limits plan (outstanding plan past)).running)) ≡ true
+    → (node : ℕ) → startable limits plan past node ≡ None
+full-none limits plan past full node = go (launchable plan past node)
+  where
+    shut : is_below limits.children (all_in (throttled_in limits plan (outstanding plan past)).running) ≡ false
+    shut = not-true _ full
+
+    go : (o : Option Key) → if_let_in limits plan past o ≡ None
+    go None = refl
+    go (Some key) = λ j.
+        if shut j && is_below (limit_of limits key.phase) (of_kind key.phase (throttled_in limits plan (outstanding plan past)).running)
+        && lets_phase (throttled_in limits plan (outstanding plan past)) key.phase (node_at plan key.node).category
+        then Some key else None
+
 -- where no member may be started, none may
-pub none-best : (limits : Limits) (plan : Plan) (past : List Record) (members : List Member) → AreWaiting plan past members
+pub none-best : (limits : Limits) (plan : Plan) (past : List Record) (members : List Member) → HaveReady plan past members
     → ((k : ℕ) (d : Member) → k < length members → startable limits plan past (get_or members k d).node ≡ None) → IsBestBelow limits plan past (count_of plan) None
 none-best limits plan past members are none node lt = go (startable limits plan past node) refl
   where
@@ -160,7 +185,7 @@ none-best limits plan past members are none node lt = go (startable limits plan 
         sym (ap (λ (m : Member). startable limits plan past m.node) has.2) ∙ none has.0 (member_of plan node) has.1
 
 -- and the first that may be is the best
-pub first-best : (limits : Limits) (plan : Plan) (past : List Record) (members : List Member) (i : ℕ) (own : Member) (key : Key) → AreWaiting plan past members → i < length members → get_or members i own ≡ own
+pub first-best : (limits : Limits) (plan : Plan) (past : List Record) (members : List Member) (i : ℕ) (own : Member) (key : Key) → HaveReady plan past members → i < length members → get_or members i own ≡ own
     → ((k : ℕ) (d : Member) → k < i → startable limits plan past (get_or members k d).node ≡ None) → startable limits plan past own.node ≡ Some key → IsBestBelow limits plan past (count_of plan) (Some key)
 first-best limits plan past members i own key are inside is none some = (
   ap (startable limits plan past) at ∙ some,

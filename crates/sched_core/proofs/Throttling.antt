@@ -98,7 +98,7 @@ module _ (plan : Plan) (planned : IsPlanned plan) where
       subst (λ n. IfSome (node_at plan node).category (λ place. place < n)) (sym (length-map plan.graph.dag.categories (λ (category : CategoryLimit). category.limit)))
       (category-placed plan planned node)
 
-  counted : (keys : List Key) (node : ℕ) → IsPlace (running_in plan keys).category_jobs (node_at plan node).category
+  pub counted : (keys : List Key) (node : ℕ) → IsPlace (running_in plan keys).category_jobs (node_at plan node).category
   counted keys node = subst (λ n. IfSome (node_at plan node).category (λ place. place < n)) (sym (running-length keys)) (placed node)
 
   pub running-all : (keys : List Key) → all_in (running_in plan keys) ≡ length keys

@@ -1,8 +1,10 @@
 pub mod Run
 pub mod Fate
 pub mod Agree
+pub mod Ahead
 pub mod Lives
 pub mod Example
+pub mod Round
 pub mod Rounds
 pub mod Limits
 pub mod Notes

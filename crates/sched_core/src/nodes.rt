@@ -4,8 +4,9 @@ ghost use Rattle.std.specs.Prelude.{None, Some, true, false, IfOk, IfErr, ◌≡
 ghost use Rattle.node_machine.specs.Story.{phase_number, is_possible, may_end_with};
 ghost use Rattle.node_machine.specs.Stand.{next_of};
 ghost use Rattle.run_plan.specs.Plan.{node_at, count_of};
+ghost use Rattle.sched_core.specs.Ahead.{ended_in};
 ghost use Rattle.sched_core.specs.declared.CoreFault.TheVariants.{NotLawful, Finished};
-ghost use Rattle.sched_core.specs.Run.{written, history, key_at, is_next, is_same, is_met, is_over, is_open, abort_status};
+ghost use Rattle.sched_core.specs.Run.{written, history, key_at, is_next, is_among, is_same, is_met, is_over, is_open, abort_status};
 ghost use Rattle.splices.specs.declared.flat.CategoryLimit.{CategoryLimit};
 ghost use Rattle.throttles.specs.Throttled.{all_in};
 ghost use Rattle.sched_core.specs.Limits.{limits_of, throttled_in, throttled_after, IsOfNode, IsCounted};
@@ -68,6 +69,42 @@ pub fn is_key(next: Option<Key>, key: &Key) -> bool
         Some(other) => are_same(&other, key),
         None => false,
     }
+}
+
+/// Whether a phase is one of these.
+pub fn is_among(keys: &[Key], key: &Key) -> bool
+    ensures { result ≡ is_among key.now keys.now }
+{
+    let mut place = 0;
+    while place < keys.len() {
+        if are_same(key, &keys[place]) {
+            return true;
+        }
+        place += 1;
+    }
+    false
+}
+
+/// Whether one of these endings is of this phase.
+pub fn has_ended(ends: &[(Key, Outcome)], key: &Key) -> bool
+    ensures { result ≡ is_among key.now (ended_in ends.now) }
+{
+    let mut place = 0;
+    while place < ends.len() {
+        if are_same(key, &ends[place].0) {
+            return true;
+        }
+        place += 1;
+    }
+    false
+}
+
+/// These many and one more are a number.
+pub fn count_both(keys: &[Key], records: &[Record]) -> u64
+    ensures is { result ≡ length keys.now + length records.now + 1 }
+    ensures small { length keys.now + length records.now + 1 < 2 ^ 64 }
+{
+    keys.len() as u64 + records.len() as u64 + 1
 }
 
 /// Whether the last attempt of a node was good and ended its story.
@@ -215,6 +252,13 @@ pub fn status_after(plan: &Plan, status: u8, aborts: bool, entry: Record) -> u8
         }
         _ => status,
     }
+}
+
+/// The number of a launch, where that of the next job is this.
+pub fn number_of(phase: Phase, number: u64) -> u64
+    ensures { result ≡ (if phase_number phase == 1 then number else 0) }
+{
+    if is_job(phase) { number } else { 0 }
 }
 
 /// The launches of jobs after one more record.

@@ -13,14 +13,19 @@ ghost use Rattle.sched_core.specs.Looks.{stops, most_looks, further_looks};
 ghost use Rattle.sched_core.specs.Choices.{launchable, startable, IsChoice};
 ghost use Rattle.sched_core.specs.Limits.{lets_in};
 ghost use Rattle.sched_core.specs.Queued.{AreWaiting};
+ghost use Rattle.sched_core.specs.Ahead.{launch_of, launched, launches, may_launch_all, fitting, ends_of, AreChosen, NothingToStart};
+ghost use Rattle.sched_core.specs.Limits.{limits_of, throttled_in};
+ghost use Rattle.sched_core.specs.Round.{IsRound};
+ghost use Rattle.throttles.specs.Throttled.{with_one, is_below, all_in};
 ghost use Rattle.sched_core.specs.Commands.{facts_in};
 
 use crate::advancing::advance;
 use crate::facts::noted_facts;
 use crate::nodes::{
-    both, count_and_one, count_if, count_jobs, done_at_first, either, fault_by, fresh_throttles,
-    history_of, is_done_at, is_job, is_key, last_is_finish, last_is_open, may_end, next_at,
-    push_in_room, status_after, throttle,
+    both, count_and_one, count_both, count_if, count_jobs, done_at_first, either, fault_by,
+    fresh_throttles, has_ended, history_of, is_among, is_done_at, is_job, is_key, is_met_by,
+    last_is_finish, last_is_open, may_end, next_at, number_of, push_in_room, status_after,
+    throttle,
 };
 use crate::ready::{fresh_queue, is_ready_by};
 use crate::states::{Looked, NodeState, States};
@@ -510,12 +515,19 @@ impl<'a> Core<'a> {
             && may_end(self.plan().spec(key.node), key.phase, outcome)
     }
 
+    /// Whether a record may follow.
+    fn fits(&self, entry: &Record) -> bool
+        ensures { result ≡ may_follow self.now.plan self.now.past entry.now }
+    {
+        self.follows(entry, &self.state_of(self.place_of(entry)))
+    }
+
     /// Whether a record may follow, and else why not.
     pub fn accepts(&self, entry: &Record) -> Result<(), CoreFault>
         ensures ok { IsOk result ↔ IsTrue (may_follow self.now.plan self.now.past entry.now) }
         ensures err { IfErr result (λ fault. fault ≡ fault_after self.now.past) }
     {
-        if self.follows(entry, &self.state_of(self.place_of(entry))) {
+        if self.fits(entry) {
             Ok(())
         } else {
             Err(fault_by(self.is_over()))
@@ -680,10 +692,22 @@ impl<'a> Core<'a> {
         }
     }
 
+    /// Whether as many children run as may.
+    fn is_full(&self) -> bool
+        ensures { result ≡ not (is_below self.now.limits.children
+            (all_in (throttled_in self.now.limits self.now.plan (outstanding self.now.plan self.now.past)).running)) }
+    {
+        let _plan = self.plan;
+        self.throttles.is_full()
+    }
+
     /// Of the ordinary nodes the best whose phase may be launched and is let in.
     fn best_ordinary(&self) -> Option<Key>
         ensures { IsBestBelow self.now.limits self.now.plan self.now.past (count_of self.now.plan) result }
     {
+        if self.is_full() {
+            return None;
+        }
         for member in self.waiting() {
             match self.startable(member.node) {
                 Some(key) => return Some(key),
@@ -716,6 +740,191 @@ impl<'a> Core<'a> {
                 }
             }
         }
+    }
+
+    /// A node's phase that may be launched and is let in, once these phases are launched, which
+    /// these throttles count.
+    fn startable_behind(&self, keys: &[Key], throttles: &Throttles, node: u32) -> Option<Key>
+        requires node { node < count_of self.now.plan }
+        requires counted { throttles.now ≡ throttled_in self.now.limits self.now.plan
+            (outstanding self.now.plan (launched self.now.past keys.now)) }
+        ensures { result ≡ startable self.now.limits self.now.plan (launched self.now.past keys.now) node }
+    {
+        let plan = self.plan;
+        let _graph = plan.graph();
+        match self.launchable(node) {
+            Some(key) => {
+                if is_among(keys, &key) {
+                    return None;
+                }
+                if throttles.may_start(key.phase, plan.spec(key.node).category()) {
+                    Some(key)
+                } else {
+                    None
+                }
+            }
+            None => None,
+        }
+    }
+
+    /// Counts one launch more behind these.
+    fn count_launch(&self, keys: &[Key], throttles: &mut Throttles, key: Key)
+        requires node { key.node < count_of self.now.plan }
+        requires counted { throttles.old ≡ throttled_in self.now.limits self.now.plan
+            (outstanding self.now.plan (launched self.now.past keys.now)) }
+        ensures { throttles.new ≡ record throttles.old {
+          running = with_one throttles.old.running key.phase (node_at self.now.plan key.node).category;
+        } }
+    {
+        let plan = self.plan;
+        let _graph = plan.graph();
+        let _all = count_both(keys, &self.records);
+        throttles.note(key.phase, plan.spec(key.node).category());
+    }
+
+    /// The ordinary phases that are to be started one after another, at most so many.
+    fn ordinary_round(&self, alloc: Global, max: usize) -> Result<Vec<Key>, CoreFault>
+        ensures ok { IfOk result (λ keys. IsRound self.now.limits self.now.plan self.now.past max keys.items) }
+        ensures err { IfErr result (λ fault. fault ≡ CoreFault.Memory) }
+    {
+        let _graph = self.plan().graph();
+        let members = self.waiting();
+        let mut throttles = match self.throttles.copied(alloc) {
+            Ok(throttles) => throttles,
+            Err(_) => return Err(CoreFault::Memory),
+        };
+        let mut keys = Vec::new(alloc);
+        let mut place = 0;
+        while place < members.len() && keys.len() < max && !throttles.is_full() {
+            if let Some(key) = self.startable_behind(&keys, &throttles, members[place].node) {
+                self.count_launch(&keys, &mut throttles, key);
+                if keys.push(key).is_err() {
+                    return Err(CoreFault::Memory);
+                }
+            }
+            place += 1;
+        }
+        Ok(keys)
+    }
+
+    /// The phases that are to be started one after another, at most so many: each is what `choose`
+    /// starts once those before it are launched. Fewer come only where nothing is to be started
+    /// then.
+    pub fn plan_round(&self, alloc: Global, max: usize) -> Result<Vec<Key>, CoreFault>
+        ensures chosen { IfOk result (λ keys. AreChosen self.now.limits self.now.plan self.now.past keys.items) }
+        ensures few { IfOk result (λ keys. length keys.items ≤ max) }
+        ensures all { IfOk result (λ keys. length keys.items < max
+            → NothingToStart self.now.limits self.now.plan (launched self.now.past keys.items)) }
+        ensures err { IfErr result (λ fault. fault ≡ CoreFault.Memory) }
+    {
+        let _graph = self.plan().graph();
+        let mut keys = self.ordinary_round(alloc, max)?;
+        if !keys.is_empty() {
+            return Ok(keys);
+        }
+        if max == 0 {
+            return Ok(keys);
+        }
+        match self.startable(self.plan().count()) {
+            None => Ok(keys),
+            Some(key) => {
+                if keys.push(key).is_err() {
+                    return Err(CoreFault::Memory);
+                }
+                Ok(keys)
+            }
+        }
+    }
+
+    /// Whether a phase may be launched once these are.
+    fn launch_fits(&self, keys: &[Key], key: &Key) -> bool
+        requires { IsTrue (may_launch_all self.now.plan self.now.past keys.now) }
+        ensures { result ≡ may_follow self.now.plan (launched self.now.past keys.now)
+            (launch_of (launched self.now.past keys.now) key.now) }
+    {
+        let entry = Record::Launch(*key, self.launch_number(key));
+        if keys.is_empty() {
+            return self.fits(&entry);
+        }
+        if key.node >= self.plan().count() {
+            return false;
+        }
+        if is_among(keys, key) {
+            return false;
+        }
+        self.fits(&entry)
+    }
+
+    /// Whether these phases may be launched, one after another. It takes no memory.
+    pub fn launches_fit(&self, keys: &[Key]) -> bool
+        ensures { result ≡ may_launch_all self.now.plan self.now.past keys.now }
+    {
+        let mut place = 0;
+        while place < keys.len() {
+            let (front, _) = keys.split_at(place);
+            if !self.launch_fits(front, &keys[place]) {
+                return false;
+            }
+            place += 1;
+        }
+        true
+    }
+
+    /// Whether this end of a phase, which may be recorded, aborts the run.
+    fn aborts_with(&self, key: &Key, outcome: Outcome) -> bool
+        requires { IsTrue (may_follow self.now.plan self.now.past (Record.End key.now outcome)) }
+        ensures { result ≡ stops self.now.plan self.now.past (Record.End key.now outcome) }
+    {
+        self.keeps_the_law();
+        let plan = self.plan();
+        if self.aborted() || key.node >= plan.count() {
+            return false;
+        }
+        let mut run = self.state_of(key.node).run;
+        let _ = run.ended(outcome);
+        is_met_by(plan.spec(key.node).course().abort_on, run.last_value())
+    }
+
+    /// How many of these endings are recorded together: those up to and including the first that
+    /// aborts the run. None where one of these may not follow those before it. It takes no memory.
+    pub fn ends_fit(&self, ends: &[(Key, Outcome)]) -> Option<usize>
+        ensures { result ≡ fitting self.now.plan self.now.past (ends_of ends.now) }
+    {
+        self.keeps_the_law();
+        let mut place = 0;
+        while place < ends.len() {
+            let (key, outcome) = ends[place];
+            let (front, _) = ends.split_at(place);
+            if has_ended(front, &key) || !self.fits(&Record::End(key, outcome)) {
+                return None;
+            }
+            place += 1;
+            if self.aborts_with(&key, outcome) {
+                return Some(place);
+            }
+        }
+        Some(place)
+    }
+
+    /// The records of launches of these phases, one after another.
+    pub fn launches(&self, alloc: Global, keys: &[Key]) -> Result<Vec<Record>, CoreFault>
+        ensures ok { IfOk result (λ entries. entries.items ≡ launches self.now.past keys.now) }
+        ensures err { IfErr result (λ fault. fault ≡ CoreFault.Memory) }
+    {
+        let _all = count_both(keys, &self.records);
+        let mut entries = Vec::new(alloc);
+        let mut number = self.next_launch();
+        let mut place = 0;
+        while place < keys.len() {
+            let key = keys[place];
+            let own = number_of(key.phase, number);
+            if entries.push(Record::Launch(key, own)).is_err() {
+                return Err(CoreFault::Memory);
+            }
+            number = count_jobs(number, Record::Launch(key, own));
+            place += 1;
+        }
+        Ok(entries)
     }
 
     /// The phases of a node that ended, the oldest first.

@@ -4,7 +4,7 @@ ghost use Rattle.node_machine.specs.Story.{is_possible};
 ghost use Rattle.node_machine.specs.OutcomeTable.{HasPossibleOutcomes};
 ghost use Rattle.run_plan.specs.Plan.{count_of};
 ghost use Rattle.sched_core.specs.Run.{is_among};
-ghost use Rattle.job_starter.specs.Calls.{running, Rises, MayRun, TellsNoMore};
+ghost use Rattle.job_starter.specs.Calls.{running, MayRun, TellsNoMore};
 ghost use Rattle.job_starter.specs.Causes.{IsStartFault, IsWaitFault};
 ghost use Rattle.job_starter.specs.Scripts.{scripted_outcome, IsScripted};
 

@@ -1,5 +1,5 @@
 -- Counting phases: one more and one less.
-use Rattle.std.proofs.Common.{◌≡◌, ◌≢◌, ℕ, zero, suc, ◌+◌, ◌-◌, ◌<◌, ◌≤◌, Bool, true, false, ◌==◌, List, [], ◌∷◌, length, get_or, set, Option, Some, None, refl, sym, ap, ◌∙◌, subst, arith, eqb-true, get_or-set_same, get_or-set_other}
+use Rattle.std.proofs.Common.{◌≡◌, ◌≢◌, ℕ, zero, suc, ◌+◌, ◌-◌, ◌<◌, ◌≤◌, Bool, true, false, ◌==◌, List, [], ◌∷◌, length, get_or, set, Option, Some, None, refl, sym, ap, ◌∙◌, subst, arith, eqb-true}
 use Rattle.std.specs.Prelude.{replicate}
 use Rattle.std.specs.List.{sum}
 use Rattle.std.proofs.lemmas.Bool.{eqb-false}
@@ -7,7 +7,7 @@ use Rattle.std.proofs.lemmas.List.{length-set, length-replicate}
 use Rattle.std.proofs.lemmas.Grind.{common_steps}
 use Rattle.node_machine.specs.declared.Phase.{Phase}
 use Rattle.node_machine.specs.declared.Phase.TheVariants.{Pre, Job, Post}
-use Rattle.throttles.specs.Throttled.{Running, IsPlace, jobs_in, all_in, such_in, none_running, with_one, without_one}
+use Rattle.throttles.specs.Throttled.{Running, IsPlace, of_kind, all_in, such_in, none_running, with_one, without_one}
 
 more-less : (n : ℕ) → n + 1 - 1 ≡ n
 more-less n = omega arith
@@ -165,3 +165,38 @@ none-all categories = let z = sum-zeros (length categories) in omega (arith, z)
 
 pub none-length : (categories : List ℕ) → length (none_running categories).category_jobs ≡ length categories
 none-length categories = length-replicate (length categories) 0
+
+-- one more makes no count less
+sum-more : (xs : List ℕ) (i : ℕ) → sum xs ≤ sum (set xs i (get_or xs i 0 + 1))
+sum-more [] i = omega arith
+sum-more (x ∷ xs) zero = grind (arith, common_steps)
+sum-more (x ∷ xs) (suc i) = let h = sum-more xs i in grind (arith, common_steps, h)
+
+pub kind-more : (r : Running) (phase : Phase) (category : Option ℕ) → IsCounted r category → (own : Phase) → of_kind own r ≤ of_kind own (with_one r phase category)
+kind-more r Pre category p Pre = omega arith
+kind-more r Pre category p Job = omega arith
+kind-more r Pre category p Post = omega arith
+kind-more r Post category p Pre = omega arith
+kind-more r Post category p Job = omega arith
+kind-more r Post category p Post = omega arith
+kind-more r Job None p Pre = omega arith
+kind-more r Job None p Job = omega arith
+kind-more r Job None p Post = omega arith
+kind-more r Job (Some place) p Pre = omega arith
+kind-more r Job (Some place) p Job = let h = sum-more r.category_jobs place in omega (arith, h)
+kind-more r Job (Some place) p Post = omega arith
+
+pub category-more : (r : Running) (phase : Phase) (category : Option ℕ) → IsCounted r category → (i : ℕ) → get_or r.category_jobs i 0 ≤ get_or (with_one r phase category).category_jobs i 0
+category-more r Pre category p i = omega arith
+category-more r Post category p i = omega arith
+category-more r Job None p i = omega arith
+category-more r Job (Some place) p i = go (place == i) refl
+  where
+    n : ℕ
+    n = get_or r.category_jobs place 0
+
+    go : (b : Bool) → (place == i) ≡ b → get_or r.category_jobs i 0 ≤ get_or (set r.category_jobs place (n + 1)) i 0
+    go true e =
+        subst (λ k. get_or r.category_jobs k 0 ≤ get_or (set r.category_jobs place (n + 1)) k 0) (eqb-true place i e)
+        (let g = get-same r.category_jobs place (n + 1) p in omega (arith, g))
+    go false e = let g = get-other r.category_jobs place i (n + 1) (eqb-false place i e) in omega (arith, g)

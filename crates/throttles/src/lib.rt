@@ -5,7 +5,7 @@
 //! `condor_submit_dag`, as docs/MANUAL.md states them.
 #![tactic(auto)]
 
-ghost use Rattle.std.specs.Prelude.{◌≡◌, ◌==◌, ◌<◌, ◌^◌, ◌+◌, ◌↔◌, length, IsTrue, IsOk, IfOk, IfErr, OnOk, OnErr, IfSome};
+ghost use Rattle.std.specs.Prelude.{◌≡◌, ◌==◌, ◌<◌, ◌^◌, ◌+◌, ◌↔◌, not, length, IsTrue, IsOk, IfOk, IfErr, OnOk, OnErr, IfSome};
 ghost use Rattle.throttles.specs.Throttled.{Throttled, is_below, limit_of, of_kind, all_in, such_in, lets_category, lets_phase, may_start, none_running, with_one, without_one, IsPlace};
 ghost use Rattle.throttles.specs.declared.ThrottleFault.TheVariants.{Full, NoneRunning, Memory};
 
@@ -129,6 +129,24 @@ impl Throttles {
         })
     }
 
+    /// The same limits and counts once more.
+    pub fn copied(&self, alloc: Global) -> Result<Throttles, ThrottleFault>
+        ensures ok { IfOk result (λ t. t ≡ self.now) }
+        ensures err { IfErr result (λ fault. fault ≡ Memory) }
+    {
+        let categories = Vec::from_slice(alloc, &self.categories)?;
+        let category_jobs = Vec::from_slice(alloc, &self.category_jobs)?;
+        Ok(Throttles {
+            limits: self.limits,
+            categories,
+            pre: self.pre,
+            free_jobs: self.free_jobs,
+            category_jobs,
+            jobs: self.jobs,
+            post: self.post,
+        })
+    }
+
     /// The limits that were handed in.
     pub fn limits(&self) -> Limits
         ensures { result ≡ self.now.limits }
@@ -141,6 +159,13 @@ impl Throttles {
         ensures { result ≡ (all_in self.now.running == 0) }
     {
         self.pre + self.jobs + self.post == 0
+    }
+
+    /// Whether as many children run as may, so that no phase may start.
+    pub fn is_full(&self) -> bool
+        ensures { result ≡ not (is_below self.now.limits.children (all_in self.now.running)) }
+    {
+        !is_room(self.limits.children, self.pre + self.jobs + self.post)
     }
 
     /// Whether no limit that counts this phase is reached.

@@ -50,11 +50,17 @@ fn front_of(alloc: Global, bytes: &[u8], size: usize) -> Result<Vec<u8>, AllocEr
     Vec::from_slice(alloc, &bytes[..size])
 }
 
-// A disk with the first bytes of the journal, one of them changed.
-fn changed(alloc: Global, size: usize, at: usize, byte: u8) -> Result<MemDisk, AllocError>
+/// A disk with the first bytes of a journal, one of them changed.
+pub fn changed(
+    alloc: Global,
+    journal: &[u8; SIZE],
+    size: usize,
+    at: usize,
+    byte: u8,
+) -> Result<MemDisk, AllocError>
     requires { size ≤ 193 }
 {
-    let mut bytes = front_of(alloc, &FAILS_ONCE, size)?;
+    let mut bytes = front_of(alloc, journal, size)?;
     if at < bytes.len() {
         bytes[at] = byte;
     }
@@ -70,7 +76,7 @@ fn ends_in_the_last_slot(
 ) -> Result<(), AllocError>
     requires { size ≤ 193 }
 {
-    let answer = records_on(alloc, changed(alloc, size, 160, gate)?);
+    let answer = records_on(alloc, changed(alloc, &FAILS_ONCE, size, 160, gate)?);
     match &answer {
         Ok(records) => {
             let is_open = gate == 0x4F;
@@ -123,7 +129,7 @@ fn faults_of_an_image(rt: HostRuntime) -> Result<(), Fail> {
         (164, 1, JournalFault::BadSlot(3)),
         (191, 1, JournalFault::BadSlot(3)),
     ] {
-        let disk = changed(rt.alloc(), SIZE, at, byte)?;
+        let disk = changed(rt.alloc(), &FAILS_ONCE, SIZE, at, byte)?;
         match records_on(rt.alloc(), disk) {
             Ok(_) => panic!(rt; "a record at {at}"),
             Err(found) => same(&rt, (at, found), (at, fault)),
@@ -135,7 +141,7 @@ fn faults_of_an_image(rt: HostRuntime) -> Result<(), Fail> {
 #[test]
 fn a_digest_stands_before_a_bad_slot(rt: HostRuntime) -> Result<(), Fail> {
     let alloc = rt.alloc();
-    let disk = changed(alloc, SIZE, 65, 5)?;
+    let disk = changed(alloc, &FAILS_ONCE, SIZE, 65, 5)?;
     match Journal::open(alloc, disk, &[8; 32], 16) {
         Ok(_) => panic!(rt; "other inputs"),
         Err((disk, fault)) => {

@@ -1,5 +1,6 @@
 //! Tests of the journal and its disks, with bytes that stand here in full.
 
+mod batches;
 mod bytes;
 mod disks;
-mod runs;
+pub mod runs;

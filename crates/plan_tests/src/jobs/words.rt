@@ -60,9 +60,9 @@ static WORDS: [&str; 11] = [
     "$job",
 ];
 
-/// The words of a PRE or of a POST script.
-fn words_of_script(alloc: Global, post: bool) -> Result<String, Fail> {
-    let words = texts(alloc, &WORDS)?;
+/// These words, filled in as those of a PRE or of a POST script.
+fn words_of_script(alloc: Global, words: &[&str], post: bool) -> Result<String, Fail> {
+    let words = texts(alloc, words)?;
     let facts = facts(alloc, post)?;
     let filled = script_words(alloc, words.as_slice(), &facts)?;
     Ok(barred(alloc, &filled)?)
@@ -80,6 +80,8 @@ enum How {
     Arguments,
     /// `WORDS` are filled in, as words of a POST script or of a PRE script.
     Script(bool),
+    /// It is the word behind the path of a PRE script.
+    Told,
     /// It is a word of a script, which may be known in a whole run alone.
     Whole,
 }
@@ -87,13 +89,14 @@ enum How {
 fn answer(alloc: Global, text: &str, how: &How) -> Result<String, Fail> {
     match how {
         How::Arguments => Ok(split(alloc, text)?),
-        How::Script(post) => words_of_script(alloc, *post),
+        How::Script(post) => words_of_script(alloc, &WORDS, *post),
+        How::Told => words_of_script(alloc, &["p.sh", text], false),
         How::Whole => Ok(whole_run(alloc, text)?),
     }
 }
 
 /// Texts, and what comes of them.
-static TEXTS: [(&str, How, &str); 20] = [
+static TEXTS: [(&str, How, &str); 21] = [
     (
         "\"one 'it''s ok' \"\"x\"\" A-0 d\"",
         How::Arguments,
@@ -118,6 +121,7 @@ static TEXTS: [(&str, How, &str); 20] = [
         How::Script(true),
         "p.sh|Y+A|1|2|0|3|-9|-1|12.0|x$JOB|$job|",
     ),
+    ("$DAG_STATUS", How::Told, "p.sh|0|"),
     ("$DAG_STATUS", How::Whole, "yes"),
     ("$FAILED_COUNT", How::Whole, "yes"),
     ("$JOBID", How::Whole, "yes"),

@@ -1,66 +1,82 @@
-use Rattle.std.proofs.Common.{◌≡◌, ◌&&◌, not, true, refl, sym, ap, ◌∙◌, subst}
-use Rattle.std.specs.List.{list_all}
-use Rattle.std.proofs.lemmas.Bool.{and_parts, not-true}
-use Rattle.node_machine.specs.declared.Key.{Key}
-use Rattle.run_plan.specs.Plan.{Plan, node_at}
-use Rattle.node_specs.specs.Commands.{starts_child}
-use Rattle.sched_core.specs.Run.{is_aborted}
+use Rattle.std.proofs.Common.{◌≡◌, ◌∙◌, ◌&&◌, not, [], true, false, refl, sym, ap}
+use Rattle.run_plan.specs.Plan.{Plan}
+use Rattle.sched_core.specs.Run.{is_aborted, outstanding}
 use Rattle.run_manager.specs.Managed.{plan_of, past_of}
-use Rattle.job_starter.specs.Drives.{no_step}
-use Rattle.job_starter.proofs.Disks.{keeps_still, counts_still}
-use Rattle.job_starter.proofs.Cuts.{older-self, kills-tell}
-use Rattle.job_starter.proofs.Images.{still, at_start, then_hears}
-use Rattle.job_starter.proofs.Walks.{step-empty, step-in-step, drives-kills}
-use Rattle.job_starter.proofs.Rounds.{one-step}
+use Rattle.job_starter.specs.Drives.{at_rest, limits_of, is_aborted_between, no_step}
+use Rattle.job_starter.proofs.RoundTurns.{turn-killed}
+use Rattle.job_starter.proofs.Stretches.{stretch-still, stretch-on}
+use Rattle.job_starter.proofs.Walks.{goes-kills}
 use Rattle.job_starter.proofs.driving.turn.Goals as goal
 
-pub returns-in-Some-clause-steps : goal.returns-in-Some-clause-steps
-returns-in-Some-clause-steps g c = no_step
+pub returns-in-Some-clause-went : goal.returns-in-Some-clause-went
+returns-in-Some-clause-went g c =
+    let plan = plan_of c.args.manager.now in
+    let past = past_of c.args.manager.now in
+    let limits = limits_of c.args.manager.now in
+    let may = g.S.Starter.may_tell in
+    let count = g.S.Starter.faults in
+    let told = g.S.Starter.told in
+    let old = c.args.manager.now in
+    let from = at_rest past (told c.args.starter.now) in
+    stretch-still g.D.Disk.honest g.D.Disk.seen g.D.Disk.may_leave g.D.Disk.moment g.D.Disk.left_since g.D.Disk.faults g.D.Disk.capacity g.met.D.Disk.only_now limits plan (may c.args.starter.now) (may c.args.starter.now) (count c.args.starter.now) (count c.args.starter.now) old from refl refl c.keeps_the_law.ensures (λ heard key outcome is. is)
+    from refl no_step refl
 
 pub returns-then-is_new-clause-in_step : goal.returns-then-is_new-clause-in_step
 returns-then-is_new-clause-in_step g c =
+    let plan = plan_of c.args.manager.now in
+    let past = past_of c.args.manager.now in
+    let limits = limits_of c.args.manager.now in
+    let may = g.S.Starter.may_tell in
+    let count = g.S.Starter.faults in
+    let told = g.S.Starter.told in
+    let old = c.args.manager.now in
+    let from = at_rest past (told c.args.starter.now) in
+    let new = c.act.new.manager in
+    let e = c.in_default-act.ensures in
+    let turn = e.turn in
     let before = c.is_aborted-before.ensures in
-    let now = c.is_aborted.ensures ∙ ap (λ (p : Plan). is_aborted p (past_of c.act.new.manager)) c.act.ensures.plan in
-    let flag = (λ j. not (sym before j) && sym now j) ∙ sym c.is_new.ensures ∙ c.if-is_new.true in
-    let parts = and_parts _ _ flag in
-    let empty = step-empty _ _ _ _ _ _ _ c.in_default-act.ensures.step (not-true _ parts.0) parts.1 in
-    record {
-      same = c.kill_all.ensures.none_left ∙ sym empty;
-      children = subst (λ keys. list_all (λ (k : Key). starts_child (node_at (plan_of c.args.manager.now) k.node) k.phase) keys ≡ true) (sym empty) refl;
-    }
+    let now = c.is_aborted.ensures ∙ ap (λ (p : Plan). is_aborted p (past_of new)) e.went.plan_is in
+    let flag : is_aborted_between plan past (past_of new) ≡ true = (λ j. not (sym before j) && sym now j) ∙ sym c.is_new.ensures ∙ c.if-is_new.true in
+    turn-killed plan past (past_of new) (told c.act.new.starter) (told c.kill_all.new.starter) turn flag c.kill_all.ensures.none_left
 
-pub returns-then-is_new-clause-steps : goal.returns-then-is_new-clause-steps
-returns-then-is_new-clause-steps g c =
+pub returns-then-is_new-clause-went : goal.returns-then-is_new-clause-went
+returns-then-is_new-clause-went g c =
+    let plan = plan_of c.args.manager.now in
+    let past = past_of c.args.manager.now in
+    let limits = limits_of c.args.manager.now in
+    let may = g.S.Starter.may_tell in
+    let count = g.S.Starter.faults in
+    let told = g.S.Starter.told in
+    let old = c.args.manager.now in
+    let from = at_rest past (told c.args.starter.now) in
+    let new = c.act.new.manager in
+    let e = c.in_default-act.ensures in
+    let turn = e.turn in
     let before = c.is_aborted-before.ensures in
-    let now = c.is_aborted.ensures ∙ ap (λ (p : Plan). is_aborted p (past_of c.act.new.manager)) c.act.ensures.plan in
-    let flag = (λ j. not (sym before j) && sym now j) ∙ sym c.is_new.ensures ∙ c.if-is_new.true in
-    let parts = and_parts _ _ flag in
-    let empty = step-empty _ _ _ _ _ _ _ c.in_default-act.ensures.step (not-true _ parts.0) parts.1 in
-    drives-kills _ _ _ _ _ _ _ _ (one-step _ _ _ _ _ _ _ c.in_default-act.ensures.step) empty c.kill_all.ensures.kills
+    let now = c.is_aborted.ensures ∙ ap (λ (p : Plan). is_aborted p (past_of new)) e.went.plan_is in
+    let flag : is_aborted_between plan past (past_of new) ≡ true = (λ j. not (sym before j) && sym now j) ∙ sym c.is_new.ensures ∙ c.if-is_new.true in
+    let last = told c.act.new.starter in
+    let killed = told c.kill_all.new.starter in
+    let empty : outstanding (plan_of new) (past_of new) ≡ [] = ap (λ (p : Plan). outstanding p (past_of new)) e.went.plan_is ∙ turn.empty flag in
+    stretch-on g.D.Disk.honest g.D.Disk.seen g.D.Disk.may_leave g.D.Disk.moment g.D.Disk.left_since g.D.Disk.faults g.D.Disk.capacity limits plan (may c.args.starter.now) (may c.act.new.starter) (may c.kill_all.new.starter) (count c.args.starter.now) (count c.act.new.starter) (count c.kill_all.new.starter) old new new from (at_rest (past_of new) last) e.went
+    (at_rest (past_of new) killed)
+    (stretch-still g.D.Disk.honest g.D.Disk.seen g.D.Disk.may_leave g.D.Disk.moment g.D.Disk.left_since g.D.Disk.faults g.D.Disk.capacity g.met.D.Disk.only_now (limits_of new) (plan_of new) (may c.act.new.starter) (may c.kill_all.new.starter) (count c.act.new.starter) (count c.kill_all.new.starter) new (at_rest (past_of new) last) refl refl c.keeps_the_law-then-is_new.ensures c.kill_all.ensures.may
+    (at_rest (past_of new) killed) refl (goes-kills (limits_of new) (plan_of new) (may c.act.new.starter) (past_of new) last killed empty c.kill_all.ensures.kills) c.kill_all.ensures.unrefused)
 
 pub returns-else-is_new-clause-in_step : goal.returns-else-is_new-clause-in_step
 returns-else-is_new-clause-in_step g c =
+    let plan = plan_of c.args.manager.now in
+    let past = past_of c.args.manager.now in
+    let limits = limits_of c.args.manager.now in
+    let may = g.S.Starter.may_tell in
+    let count = g.S.Starter.faults in
+    let told = g.S.Starter.told in
+    let old = c.args.manager.now in
+    let from = at_rest past (told c.args.starter.now) in
+    let new = c.act.new.manager in
+    let e = c.in_default-act.ensures in
+    let turn = e.turn in
     let before = c.is_aborted-before.ensures in
-    let now = c.is_aborted.ensures ∙ ap (λ (p : Plan). is_aborted p (past_of c.act.new.manager)) c.act.ensures.plan in
-    let flag = (λ j. not (sym before j) && sym now j) ∙ sym c.is_new.ensures ∙ c.if-is_new.false in
-    step-in-step _ _ _ _ _ _ _ c.keeps_the_law.ensures
-    c.requires.open c.requires.in_step c.in_default-act.ensures.step flag
-
-pub returns-else-is_new-clause-steps : goal.returns-else-is_new-clause-steps
-returns-else-is_new-clause-steps g c = one-step _ _ _ _ _ _ _ c.in_default-act.ensures.step
-
-pub returns-in-Some-clause-any_moment : goal.returns-in-Some-clause-any_moment
-returns-in-Some-clause-any_moment g c = λ honest header was.
-    still g.D.Disk.honest g.D.Disk.seen g.D.Disk.may_leave g.D.Disk.moment g.D.Disk.left_since g.met.D.Disk.only_now c.args.manager.now _ header _ refl honest was
-    (at_start _ _ _ _ _ header _ _ _ _ c.keeps_the_law.ensures (older-self _) (older-self _) was.reads)
-
-pub returns-in-Some-clause-disk : goal.returns-in-Some-clause-disk
-returns-in-Some-clause-disk g c = keeps_still _ _ _ _
-
-pub returns-in-Some-clause-counts : goal.returns-in-Some-clause-counts
-returns-in-Some-clause-counts g c = counts_still _
-
-pub returns-then-is_new-clause-any_moment : goal.returns-then-is_new-clause-any_moment
-returns-then-is_new-clause-any_moment g c = λ honest header was.
-    then_hears g.D.Disk.moment g.D.Disk.left_since _ _ _ _ _ header _ _ _ _ _ _ (kills-tell _ _ c.kill_all.ensures.kills)
-    (c.in_default-act.ensures.any_moment honest header was)
+    let now = c.is_aborted.ensures ∙ ap (λ (p : Plan). is_aborted p (past_of new)) e.went.plan_is in
+    let flag : is_aborted_between plan past (past_of new) ≡ false = (λ j. not (sym before j) && sym now j) ∙ sym c.is_new.ensures ∙ c.if-is_new.false in
+    turn.in_step flag

@@ -1,4 +1,4 @@
-use Rattle.std.proofs.Common.{◌≡◌, ◌∙◌, sym, inl, inr, ℕ, zero, suc, Bool, true, false, if◌then◌else◌, List, [], ◌∷◌, Some, None, refl}
+use Rattle.std.proofs.Common.{arith, ◌≡◌, ◌∙◌, sym, inl, inr, ℕ, zero, suc, Bool, true, false, if◌then◌else◌, List, [], ◌∷◌, Some, None, refl}
 use Rattle.std.specs.Int.Signed.{<ℤ_irrefl}
 use Rattle.std.proofs.Math.Nat.{lt_irrefl}
 use Rattle.node_machine.specs.declared.Key.{Key}
@@ -11,10 +11,13 @@ use Rattle.sched_core.specs.Run.{is_aborted, is_ready, is_final_ready, may_launc
 use Rattle.sched_core.specs.Limits.{IsBetter}
 use Rattle.sched_core.specs.Choices.{startable, if_let_in}
 use Rattle.event_journal.specs.Slot.{record_in, guess}
-use Rattle.event_journal.specs.Image.{replay_of, records_of}
+use Rattle.event_journal.specs.Groups.{groups_of, records_at}
+use Rattle.event_journal.specs.Image.{replay_of}
 use Rattle.run_manager.specs.Example.{one_node, end_of_a, first_held, second_held}
-use Rattle.job_starter.specs.Drives.{IsHeld, starts, ends, no_step, one_more, clean}
-use Rattle.job_starter.specs.Example.{unlimited, its_calls}
+use Rattle.job_starter.specs.Drives.{IsHeld, launches, starts, ends, settles, no_step, one_more}
+use Rattle.node_machine.specs.declared.Phase.TheVariants.{Job}
+use Rattle.sched_core.specs.Example.{key}
+use Rattle.job_starter.specs.Example.{unlimited, child_of_a, its_calls}
 use Rattle.job_starter.proofs.examples.examples.Goals as goal
 
 -- where no node is, nothing starts
@@ -34,8 +37,8 @@ unfolding story attempts_after next_after is_good_after value_after is_aborted i
 no_other zero = refl
 no_other (suc node) = either (Life ∷ first_held) (may_launch one_node (Life ∷ first_held) (suc (suc node)))
 
-none-some : (key : Key) → None ≡ Some key → ⊥
-none-some key is = cc
+none-some : (other : Key) → None ≡ Some other → ⊥
+none-some other is = cc
 
 exits : Exit 0 ≡ NoStart → ⊥
 exits is = cc
@@ -47,19 +50,23 @@ never_better zero other is (inr before) = lt_irrefl 0 before.1
 never_better (suc node) other is before = none-some other (sym (no_other node) ∙ is)
 
 pub returns : goal.returns
-unfolding story attempts_after next_after is_good_after value_after is_aborted is_ready is_final_ready may_launch may_follow replay_of records_of record_in guess command_of
+unfolding story attempts_after next_after is_good_after value_after is_aborted is_ready is_final_ready may_launch may_follow replay_of groups_of records_at record_in guess command_of
 returns c = record {
   moment = record {
     held = end_of_a ∷ second_held;
     heard = its_calls;
     lawful = refl;
     halted = record {
-      between = end_of_a ∷ second_held;
-      heard = its_calls;
+      keys = [];
+      owed = [];
       steps = one_more
-          (one_more no_step (starts (record { same = refl; children = refl }) (refl, never_better) refl refl (Exit 0, exits, refl)))
-          (ends (record { same = refl; children = refl }) held refl refl);
-      cut = clean;
+          (one_more
+          (one_more
+          (one_more no_step
+          (launches {keys = key 0 0 Job ∷ []} refl refl (record { same = refl; children = refl }) (record { some = omega arith; few = omega arith; chosen = ((refl, never_better), tt); full = λ fewer. held })))
+          (starts {command = child_of_a} refl refl (Exit 0, exits, refl)))
+          (ends {key = key 0 0 Job} {outcome = Exit 0} (record { same = refl; children = refl }) held refl refl))
+          (settles {end = (key 0 0 Job, Exit 0)} {owed = []});
     };
     part = ([], refl);
     answered = ([], refl);

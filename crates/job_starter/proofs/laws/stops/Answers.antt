@@ -1,6 +1,8 @@
 use Rattle.std.proofs.Common.{arith, inr, [], ◌∷◌}
 use Rattle.node_machine.specs.declared.Record.TheVariants.{Life}
-use Rattle.job_starter.proofs.Handing.{halted-hands, halted-adds}
+use Rattle.job_starter.specs.Drives.{At, at_rest}
+use Rattle.job_starter.proofs.Cuts.{goes-records}
+use Rattle.job_starter.proofs.Handing.{halted-hands}
 use Rattle.job_starter.proofs.Lasts.{leaves-kept}
 use Rattle.job_starter.proofs.laws.stops.Goals as goal
 
@@ -8,7 +10,7 @@ pub returns-clause-life : goal.returns-clause-life
 returns-clause-life g c limits plan starter past told fault kept last header found image digest reads stop =
     let may = g.S.Starter.may_tell starter in
     let hands = halted-hands limits plan may (Life ∷ past) told stop.held stop.heard stop.halted in
-    let adds = halted-adds limits plan may (Life ∷ past) told stop.held stop.heard stop.halted in
+    let adds = goes-records limits plan may (at_rest (Life ∷ past) told) (At stop.held stop.heard stop.halted.keys stop.halted.owed) stop.halted.steps in
     record {
       own = hands.own;
       are = hands.are;
@@ -26,4 +28,4 @@ returns-clause-leaves g c limits plan starter past told fault kept last header i
     let may = g.S.Starter.may_tell starter in
     let moment = stop.moment in
     leaves-kept plan past kept moment.held fault header image moment.part stop.all
-    (halted-adds limits plan may (Life ∷ past) told moment.held moment.heard moment.halted) moment.lawful digest moment.reads
+    (goes-records limits plan may (at_rest (Life ∷ past) told) (At moment.held moment.heard moment.halted.keys moment.halted.owed) moment.halted.steps) moment.lawful digest moment.reads

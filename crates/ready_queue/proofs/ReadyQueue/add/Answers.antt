@@ -9,20 +9,20 @@ pub returns-then-has_node-clause-refused : goal.returns-then-has_node-clause-ref
 returns-then-has_node-clause-refused c = (
   λ t. absurd (false≢true t),
   λ absent. absurd (absent (subst (λ (q : Queue). Contains (nodes_of q.members) c.args.member.node) c.self.view_is
-      (c.self.invariant.only c.args.member.node (subst (λ nodes. Contains nodes c.args.member.node) c.deref.ensures.value (c.if-has_node.ensures.0 refl))))),
+      (c.self.invariant.only c.args.member.node (subst (λ nodes. Contains nodes c.args.member.node) c.items.ensures (c.if-has_node.ensures.0 refl))))),
 )
 
 absent : (c : goal.After-add_node) → Contains c.self.inside.nodes.items c.args.member.node → ⊥
-absent c has = false≢true (c.if-has_node.ensures.1 (subst (λ nodes. Contains nodes c.args.member.node) (sym c.deref.ensures.value) has))
+absent c has = false≢true (c.if-has_node.ensures.1 (subst (λ nodes. Contains nodes c.args.member.node) (sym c.items.ensures) has))
 
 long : (c : goal.After-add_node) → length c.add_node.new.nodes.items ≡ length c.self.inside.nodes.items + 1
 long c = search rules
 
 pub invariant_of-self : goal.invariant_of-self
 invariant_of-self c =
-    more-indexed c.self.inside.members.items c.insert_in_room.new.items.items c.self.inside.nodes.items c.add_node.new.nodes.items c.args.member c.place_of-place.result
-    c.self.invariant (subst (λ ms. IsPlaceOf ms c.args.member c.place_of-place.result) c.deref-2.ensures.value c.place_of-place.ensures) (absent c)
-    c.insert_in_room.ensures.items c.add_node.ensures.rising (long c) c.add_node.ensures.nodes
+    more-indexed c.self.inside.members.items c.insert.new.self.items c.self.inside.nodes.items c.add_node.new.nodes.items c.args.member c.place_of-place.result
+    c.self.invariant (subst (λ ms. IsPlaceOf ms c.args.member c.place_of-place.result) c.items-2.ensures c.place_of-place.ensures) (absent c)
+    c.insert.ensures.items c.add_node.ensures.rising (long c) c.add_node.ensures.nodes
 
 pub returns-clause-refused : goal.returns-clause-refused
 returns-clause-refused c = (

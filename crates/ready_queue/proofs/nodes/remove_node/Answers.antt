@@ -5,22 +5,22 @@ use Rattle.ready_queue.specs.Queue.{AreRising}
 use Rattle.ready_queue.proofs.Indexed.{is-gap, without-node}
 use Rattle.ready_queue.proofs.nodes.remove_node.Goals as goal
 
-inside : (c : goal.After-remove_at) → c.in-Ok.place < length c.args.nodes.now.items
-inside c = subst (λ nodes. c.in-Ok.place < length nodes) c.deref.ensures.value (c.in-Ok.ensures).0
+inside : (c : goal.After-remove) → c.in-Ok.place < length c.args.nodes.now.items
+inside c = subst (λ nodes. c.in-Ok.place < length nodes) c.items.ensures (c.in-Ok.ensures).0
 
 pub returns-in-Ok-clause-rising : goal.returns-in-Ok-clause-rising
 returns-in-Ok-clause-rising c =
-    subst AreRising (sym c.remove_at.ensures.items) (all_pairs_remove (λ a b. a < b) c.args.nodes.now.items c.in-Ok.place (inside c) c.requires.rising)
+    subst AreRising (sym c.remove.ensures.items) (all_pairs_remove (λ a b. a < b) c.args.nodes.now.items c.in-Ok.place (inside c) c.requires.rising)
 
 pub returns-in-Ok-clause-nodes : goal.returns-in-Ok-clause-nodes
 returns-in-Ok-clause-nodes c =
-    without-node c.args.nodes.now.items c.remove_at.new.items.items c.args.node c.in-Ok.place c.requires.rising (inside c)
-    (subst (λ nodes. get_or nodes c.in-Ok.place 0 ≡ c.args.node) c.deref.ensures.value (c.in-Ok.ensures).1) c.remove_at.ensures.items
+    without-node c.args.nodes.now.items c.remove.new.self.items c.args.node c.in-Ok.place c.requires.rising (inside c)
+    (subst (λ nodes. get_or nodes c.in-Ok.place 0 ≡ c.args.node) c.items.ensures (c.in-Ok.ensures).1) c.remove.ensures.items
 
 never : (c : goal.In-Err) → ⊥
 never c =
     let gap = c.in-Err.ensures in
-    is-gap c.deref.result.now c.args.node c.in-Err.field-0 gap.1 gap.2 (subst (λ nodes. Contains nodes c.args.node) (sym c.deref.ensures.value) c.requires.there)
+    is-gap c.items.result.now c.args.node c.in-Err.field-0 gap.1 gap.2 (subst (λ nodes. Contains nodes c.args.node) (sym c.items.ensures) c.requires.there)
 
 pub returns-in-Err-clause-nodes : goal.returns-in-Err-clause-nodes
 returns-in-Err-clause-nodes c = absurd (never c)

@@ -15,7 +15,7 @@ returns-in_err-round-clause-refused g c =
 pub returns-in_err-files-clause-refused : goal.returns-in_err-files-clause-refused
 returns-in_err-files-clause-refused g c =
     by-fault (IsToldFault c.args.question c.args.top.now) c.in_err-files.field-0.0
-    (no_last_round _ (folder_not_read _ (subst IsFileFault (sym c.in_err-files.ensures) reading_had_no_memory)))
+    (no_last_round _ (folder_not_read _ tt (subst IsFileFault (sym c.in_err-files.ensures) reading_had_no_memory)))
     c.from_residual-in_err-files.result c.from_residual-in_err-files.ensures.1
 
 pub returns-in-Err-clause-refused : goal.returns-in-Err-clause-refused

@@ -2,7 +2,8 @@ use Rattle.std.proofs.Common.{arith, inl, inr, [], ◌∷◌, ◌++◌, ◌∙�
 use Rattle.std.proofs.lemmas.List.{append-nil}
 use Rattle.node_machine.specs.declared.Record.TheVariants.{Life}
 use Rattle.run_manager.specs.Chain.{commands_in}
-use Rattle.job_starter.proofs.Handing.{halted-adds}
+use Rattle.job_starter.specs.Drives.{At, at_rest}
+use Rattle.job_starter.proofs.Cuts.{goes-records}
 use Rattle.job_starter.proofs.Lasts.{leaves-kept}
 use Rattle.run_leader.proofs.Ends.{end-hands, end-adds}
 use Rattle.run_leader.proofs.laws.stops_at_end.Goals as goal
@@ -29,7 +30,7 @@ returns-clause-leaves g c limits plan starter past told fault kept last header i
     let may = g.S.Starter.may_tell starter in
     let moment = stop.moment in
     leaves-kept plan past kept moment.held fault header image moment.part stop.all
-    (halted-adds limits plan may (Life ∷ past) told moment.held moment.heard moment.halted) moment.lawful digest moment.reads
+    (goes-records limits plan may (at_rest (Life ∷ past) told) (At moment.held moment.heard moment.halted.keys moment.halted.owed) moment.halted.steps) moment.lawful digest moment.reads
 returns-clause-leaves g c limits plan starter past told fault kept last header image digest (inr stop) =
     let may = g.S.Starter.may_tell starter in
     let end = stop.0 in

@@ -29,7 +29,7 @@ returns-in-Err-lead-clause-refused g c =
       slots_are = c.in-Ok.ensures.slots;
       room = c.in-Ok.ensures.room;
       later = c.in-Ok.ensures.later;
-      count = λ h. c.counts_records.ensures.count (c.in-Ok.ensures.keeps h);
+      count = λ h. c.counts_slots.ensures.count (c.in-Ok.ensures.keeps h);
     })
     (sym c.into_disk-in-Err-lead.ensures) c.in-Err-lead.ensures.refused
     (λ h. on-disk g.D.Disk.seen g.D.Disk.may_leave g.D.Disk.moment g.D.Disk.left_since c.args.start c.args.limits c.args.plan.now (g.S.Starter.may_tell c.args.starter.now)
@@ -60,7 +60,7 @@ returns-in-Err-lead-clause-stops g c =
       slots_are = c.in-Ok.ensures.slots;
       room = c.in-Ok.ensures.room;
       later = c.in-Ok.ensures.later;
-      count = λ h. c.counts_records.ensures.count (c.in-Ok.ensures.keeps h);
+      count = λ h. c.counts_slots.ensures.count (c.in-Ok.ensures.keeps h);
     })
     (sym c.into_disk-in-Err-lead.ensures) c.in-Err-lead.ensures.refused
     (λ h. on-disk g.D.Disk.seen g.D.Disk.may_leave g.D.Disk.moment g.D.Disk.left_since c.args.start c.args.limits c.args.plan.now (g.S.Starter.may_tell c.args.starter.now)

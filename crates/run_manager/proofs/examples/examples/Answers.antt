@@ -4,12 +4,13 @@ use Rattle.node_machine.specs.Story.{story, attempts_after, next_after, is_good_
 use Rattle.sched_core.specs.Run.{is_aborted, is_ready, is_final_ready, may_launch, may_follow}
 use Rattle.node_specs.specs.Commands.{command_of, is_sound, uses_whole_run}
 use Rattle.event_journal.specs.Slot.{record_in, guess}
-use Rattle.event_journal.specs.Image.{replay_of, records_of}
+use Rattle.event_journal.specs.Groups.{groups_of, records_at}
+use Rattle.event_journal.specs.Image.{replay_of}
 use Rattle.run_manager.specs.Example.{its_header, launch_of_a, end_of_a, command_of_a}
 use Rattle.run_manager.proofs.examples.examples.Goals as goal
 
 pub returns-clause-on_bytes : goal.returns-clause-on_bytes
-unfolding story attempts_after next_after is_good_after value_after is_aborted is_ready is_final_ready may_launch may_follow replay_of records_of record_in guess command_of
+unfolding story attempts_after next_after is_good_after value_after is_aborted is_ready is_final_ready may_launch may_follow replay_of groups_of records_at record_in guess command_of
 returns-clause-on_bytes c = (
   record {
     reads = inr (its_header, refl, refl);

@@ -8,12 +8,3 @@ returns-in_err-path g c = by-fault IsFileFault Memory reading_had_no_memory c.fr
 
 pub returns-in_err-old : goal.returns-in_err-old
 returns-in_err-old g c = by-fault IsFileFault Memory reading_had_no_memory c.from_residual-in_err-old.result c.from_residual-in_err-old.ensures.1
-
-pub returns-in_err-from : goal.returns-in_err-from
-returns-in_err-from g c = by-fault IsFileFault Memory reading_had_no_memory c.from_residual-in_err-from.result c.from_residual-in_err-from.ensures.1
-
-pub returns-in_err-to : goal.returns-in_err-to
-returns-in_err-to g c = by-fault IsFileFault Memory reading_had_no_memory c.from_residual-in_err-to.result c.from_residual-in_err-to.ensures.1
-
-pub returns-in_err-folder : goal.returns-in_err-folder
-returns-in_err-folder g c = by-fault IsFileFault Memory reading_had_no_memory c.from_residual-in_err-folder.result c.from_residual-in_err-folder.ensures.1

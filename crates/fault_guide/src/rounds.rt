@@ -1,0 +1,209 @@
+//! The faults of tables of outcomes, rescue files and journals.
+
+use crate::guide::Fault;
+
+static ROUNDS: [Fault; 13] = [
+    Fault {
+        code: "N3",
+        name: "BadLine",
+        when: "a line of the table of outcomes",
+        detail: "LINE",
+        example: "    $ cat x.dag
+    JOB A a.sub
+    $ cat table
+    A 0 exit 1
+    $ dagrun rehearse x.dag table
+    dagrun: N3 BadLine 1
+",
+        advice: "    Write the line as `name attempt PRE|JOB|POST c`, where c is 0 to 255,
+    `signal n`, `nostart` or `untold`: A 0 JOB 1.
+",
+    },
+    Fault {
+        code: "E1",
+        name: "BadLine",
+        when: "a line of a rescue file that is neither a comment nor `DONE name`, or is no text",
+        detail: "PATH:LINE",
+        example: "    $ cat x.dag
+    JOB A a.sub
+    $ cat a.sub
+    executable = /bin/true
+    queue
+    $ cat x.dag.rescue001
+    RETRY A 1
+    $ dagrun run x.dag
+    dagrun: E1 BadLine x.dag.rescue001:1
+",
+        advice: "    Take the line away. Rescue files of DAGMan with RETRY lines are not read:
+    retries begin anew in each round.
+",
+    },
+    Fault {
+        code: "E2",
+        name: "UnknownNode",
+        when: "a rescue file names no node of the DAG",
+        detail: "PATH:LINE",
+        example: "    $ cat x.dag
+    JOB A a.sub
+    $ cat a.sub
+    executable = /bin/true
+    queue
+    $ cat x.dag.rescue001
+    DONE B
+    $ dagrun run x.dag
+    dagrun: E2 UnknownNode x.dag.rescue001:1
+",
+        advice: "    Correct the name or take the line away; where the DAG has other nodes by
+    now, remove the rescue file, or call `dagrun run --autorescue 0`.
+",
+    },
+    Fault {
+        code: "E3",
+        name: "FinalDone",
+        when: "a rescue file names FINAL",
+        detail: "PATH:LINE",
+        example: "    $ cat x.dag
+    FINAL F a.sub
+    $ cat a.sub
+    executable = /bin/true
+    queue
+    $ cat x.dag.rescue001
+    DONE F
+    $ dagrun run x.dag
+    dagrun: E3 FinalDone x.dag.rescue001:1
+",
+        advice: "    Take the line away: FINAL runs in each round.
+",
+    },
+    Fault {
+        code: "E4",
+        name: "NotThere",
+        when: "a number of a rescue file that is not one of 1 to 999, in the header of a journal or behind `--dorescuefrom`; one behind `--dorescuefrom` whose file is missing",
+        detail: "NUMBER",
+        example: "    $ cat x.dag
+    JOB A a.sub
+    $ cat a.sub
+    executable = /bin/true
+    queue
+    $ dagrun run --dorescuefrom 2 x.dag
+    dagrun: E4 NotThere 2
+",
+        advice: "    Name a number whose file is there: `ls x.dag.rescue*`. Without
+    --dorescuefrom the journal was changed: put it back, or remove it to begin a
+    new round.
+",
+    },
+    Fault {
+        code: "E6",
+        name: "Unfinished",
+        when: "`--dorescuefrom` is asked for, and the run that the journal tells of has not ended",
+        detail: "",
+        example: "",
+        advice: "    Call `dagrun run` without the option, which goes on with that run, or remove
+    x.dag.journal to give it up.
+",
+    },
+    Fault {
+        code: "J1",
+        name: "Device",
+        when: "the system refuses a call on the journal or the rescue file",
+        detail: "",
+        example: "    $ cat x.dag
+    JOB A a.sub
+    $ cat a.sub
+    executable = /bin/true
+    queue
+    $ mkdir x.dag.journal
+    $ dagrun run x.dag
+    dagrun: J1 Device
+",
+        advice: "    See that the disk is not full (`df .`), that x.dag.journal is a file that
+    may be read and written, and that the folder may be written. Then `dagrun
+    run` goes on: what was recorded stays.
+",
+    },
+    Fault {
+        code: "J3",
+        name: "NotAJournal",
+        when: "bytes that are no journal",
+        detail: "",
+        example: "    $ cat x.dag
+    JOB A a.sub
+    $ cat a.sub
+    executable = /bin/true
+    queue
+    $ seq 99 > x.dag.journal
+    $ dagrun status x.dag
+    dagrun: J3 NotAJournal
+",
+        advice: "    Put the journal of the round back, or remove x.dag.journal to begin a new
+    round: nodes that a rescue file names stay done.
+",
+    },
+    Fault {
+        code: "J4",
+        name: "Version",
+        when: "a journal of another version",
+        detail: "VERSION",
+        example: "",
+        advice: "    It was written by another version of dagrun: go on with that one, or remove
+    x.dag.journal to begin a new round.
+",
+    },
+    Fault {
+        code: "J5",
+        name: "OtherInputs",
+        when: "a journal of a round that began with other files",
+        detail: "",
+        example: "    $ cat x.dag
+    JOB A a.sub
+    $ cat a.sub
+    executable = /bin/true
+    queue
+    $ dagrun run x.dag > report
+    $ echo '# changed' >> a.sub
+    $ dagrun status x.dag
+    dagrun: J5 OtherInputs
+",
+        advice: "    A round goes on only with the files that it began with: the DAG file, its
+    splices, the submit files and the rescue file that it read. Put back the one
+    that was changed. A round that has ended is no hindrance: `dagrun run`
+    begins a new one. To give up one that was cut short, remove x.dag.journal:
+    then nodes that were done in it run again.
+",
+    },
+    Fault {
+        code: "J6",
+        name: "SlotsFull",
+        when: "no further record is allowed",
+        detail: "",
+        example: "",
+        advice: "    The journal has 16,777,216 records, since nodes were repeated very often:
+    remove x.dag.journal to begin a new round, with a lower RETRY.
+",
+    },
+    Fault {
+        code: "J9",
+        name: "BadSlot",
+        when: "a record that was not written so",
+        detail: "PLACE",
+        example: "",
+        advice: "    The journal's bytes were changed, by a disk or a program: put it back from a
+    copy, or remove x.dag.journal to begin a new round.
+",
+    },
+    Fault {
+        code: "M2",
+        name: "Foreign",
+        when: "a record that may not follow those before it",
+        detail: "PLACE",
+        example: "",
+        advice: "    The journal's bytes were changed: put it back from a copy, or remove
+    x.dag.journal to begin a new round.
+",
+    },
+];
+
+pub(crate) fn faults() -> &'static [Fault] {
+    &ROUNDS
+}

@@ -1,0 +1,110 @@
+//! The faults of children and of the system, and the answers of an audit.
+
+use crate::guide::Fault;
+
+static RUNNING: [Fault; 8] = [
+    Fault {
+        code: "A1",
+        name: "StartMemory",
+        when: "no memory for a child",
+        detail: "",
+        example: "",
+        advice: "    Call `dagrun run` again, which goes on, perhaps with fewer jobs at once:
+    --maxjobs 8.
+",
+    },
+    Fault {
+        code: "A2",
+        name: "WaitFault",
+        when: "the system does not tell how a child does",
+        detail: "",
+        example: "",
+        advice: "    Call `dagrun run` again, which goes on: what was recorded stays.
+",
+    },
+    Fault {
+        code: "F1",
+        name: "NotAJournal",
+        when: "`audit`: no journal of these inputs",
+        detail: "",
+        example: "    $ cat x.dag
+    JOB A a.sub
+    $ cat a.sub
+    executable = /bin/true
+    queue
+    $ dagrun audit x.dag
+    audit no F1 NotAJournal
+",
+        advice: "    Audit a journal in a folder where the files of its round stand as they were:
+    the DAG file, its splices, the submit files and the rescue file that it
+    read.
+",
+    },
+    Fault {
+        code: "F2",
+        name: "NotARun",
+        when: "`audit`: a record that may not follow those before it",
+        detail: "PLACE",
+        example: "",
+        advice: "    The journal's bytes were changed: it stands for no run.
+",
+    },
+    Fault {
+        code: "F3",
+        name: "Unfinished",
+        when: "`audit`: the journal of a run that has not ended",
+        detail: "",
+        example: "",
+        advice: "    Wait until `dagrun run` has ended, or call it to go on with a run that was
+    cut short.
+",
+    },
+    Fault {
+        code: "F5",
+        name: "Aborted",
+        when: "`audit`: that of a run that was aborted",
+        detail: "",
+        example: "    $ cat x.dag
+    JOB A a.sub
+    ABORT-DAG-ON A 0
+    $ cat a.sub
+    executable = /bin/true
+    queue
+    $ dagrun run x.dag > report
+    $ dagrun audit x.dag
+    audit no F5 Aborted
+",
+        advice: "    Nothing: how far nodes came in a run that a node aborted depends on when it
+    did, so an audit stands for none. `dagrun status` says where they stand.
+",
+    },
+    Fault {
+        code: "X1",
+        name: "Memory",
+        when: "memory was refused",
+        detail: "",
+        example: "",
+        advice: "    Give the program more memory (`ulimit -v`), or call it again; `dagrun run`
+    goes on, and what was recorded stays.
+",
+    },
+    Fault {
+        code: "X2",
+        name: "FileRefused",
+        when: "a table of outcomes, standard input, a folder or a rescue file that can't be read; a journal that `status` and `audit` can't read or `run` can't rename; a lock that can't be made, or is held",
+        detail: "PATH",
+        example: "    $ cat x.dag
+    JOB A a.sub
+    $ dagrun rehearse x.dag table
+    dagrun: X2 FileRefused table
+",
+        advice: "    See that the file or folder that is named is there and that you may read it,
+    and write in its folder. Where it ends with .lock, another `dagrun run`
+    works on this DAG: wait for it (`fuser x.dag.lock` names it).
+",
+    },
+];
+
+pub(crate) fn faults() -> &'static [Fault] {
+    &RUNNING
+}

@@ -1,9 +1,0 @@
-use Rattle.job_starter.specs.Causes.{no_memory_for_command, no_memory_for_child}
-use Rattle.job_starter.proofs.Counting.{start-rises}
-use Rattle.job_starter.proofs.driving.hand_over.Goals as goal
-
-pub returns-in_default-clause-refused : goal.returns-in_default-clause-refused
-returns-in_default-clause-refused g c = λ old. no_memory_for_command
-
-pub returns-clause-refused : goal.returns-clause-refused
-returns-clause-refused g c = λ old. no_memory_for_child (start-rises _ _ c.in-Err.field-0 c.in-Err.ensures.err)
