@@ -4,31 +4,7 @@
 # - of 65,536 nodes with 200,000 edges in one file, and of half as many, beside `ninja -n` and `make -n` on the same graph (both
 #   read their file and say what they would run; dagrun reads its files, orders the graph and expands the texts of each job).
 # All nodes of a graph have one submit file; bench/plan.sh has one for each node.
-# The program refuses more than 4,096 nodes. So the large graphs are checked by a copy of it in a temporary folder whose bound
-# is 65,536: the two comparisons with it in `open_tree`, where MOST of crates/dag_opener/src/open.rt stands, are changed in the copy
-# of the object file, which is linked anew. That copy is for these times alone and nothing of it is proved; all its other code is
-# that of the program. (What `rt try` builds is a checked program, about 200 times slower, and without a proof rt builds no other.)
 . "$(dirname -- "${BASH_SOURCE[0]}")/common.sh"
-
-# raised PROGRAM: links the copy with the raised bound
-raised() {
-    local section=.text.dag_opener::open::open_tree object=$work/raised.o kit start place length
-    kit=$(dirname -- "$(rt doc)")
-    cp "$program.o" "$object"
-    start=$((16#$(objdump -h -w "$object" | awk -v s="$section" '$2 == s { print $6 }')))
-    objdump -d -w -j "$section" "$object" |
-        awk -F '\t' '$3 ~ /^cmpq? +\$0x1000,/ { sub(/:.*/, "", $1); print $1, split($2, bytes, " ") }' >"$work/places"
-    if [ "$(wc -l <"$work/places")" != 2 ]; then
-        echo 'bench/check.sh: open_tree no longer compares with 4,096 twice' >&2
-        exit 1
-    fi
-    # The number is the last four bytes of the instruction.
-    while read -r place length; do
-        printf '\0\0\1\0' | dd of="$object" bs=1 seek=$((start + 16#$place + length - 4)) conv=notrunc status=none
-    done <"$work/places"
-    "$kit/bin/rattle-link" --target x86_64-unknown-linux-gnu --toolchain "$kit/toolchain" -o "$1" "$object" \
-        "$kit/c/libos_c.a" "$kit/c/liblibc_c.a" >/dev/null 2>&1
-}
 
 # folder NAME: a folder with the submit file of all nodes
 folder() {
@@ -77,7 +53,6 @@ graph() {
     }'
 }
 
-raised "$work/raised"
 parts few 64 64
 parts many 4096 1
 graph half 32768 100000
@@ -86,7 +61,7 @@ for folder in few many; do
     printf '%s: %s\n' "$folder" "$(cd "$work/$folder" && "$program" check top.dag)"
 done
 for folder in half whole; do
-    printf '%s: %s, %s commands of ninja, %s of make\n' "$folder" "$(cd "$work/$folder" && "$work/raised" check large.dag)" \
+    printf '%s: %s, %s commands of ninja, %s of make\n' "$folder" "$(cd "$work/$folder" && "$program" check large.dag)" \
         "$(ninja -C "$work/$folder" -n | grep -c touch)" "$(make -C "$work/$folder" -n | grep -c touch)"
 done
 
@@ -98,6 +73,6 @@ for round in 1 2 3; do
         cd "$work/$folder"
         printf '%s nodes with %s edges: dagrun check %s ms, ninja -n %s ms, make -n %s ms\n' \
             "$(grep -c ^JOB large.dag)" "$(grep -c ^PARENT large.dag)" \
-            "$(milliseconds "$work/raised" check large.dag)" "$(milliseconds ninja -n)" "$(milliseconds make -n)"
+            "$(milliseconds "$program" check large.dag)" "$(milliseconds ninja -n)" "$(milliseconds make -n)"
     done
 done

@@ -11,7 +11,7 @@ import sys
 
 HERE = os.path.dirname(os.path.abspath(__file__))
 # The values of options that take one of a few.
-VALUES = {"autorescue": ["0", "1"], "orphans": ["kill", "wait", "leave"]}
+VALUES = {"autorescue": ["0", "1"], "sync-output": ["0", "1"], "orphans": ["kill", "wait", "leave"]}
 
 
 class Help:

@@ -32,7 +32,9 @@ VARS = "".join(f'VARS {name} me="{name}"\n' for name in NAMES)
 # In the first round C fails, and then D, behind the second with another value: so no two rounds have the same records.
 SCRIPT = "echo ran >> runs/$1\n[ $1 != C -o -e ended1 ] || exit 3\n[ $1 != D -o -e ended2 ] || exit 4\n[ $1 != D ] || exit 5\n"
 RESCUES = ("x.dag.rescue001", "x.dag.rescue002", "x.dag.rescue002.old")
-FILES = ["x.dag", "job.sub", "x.dag.journal", "x.dag.journal.old", "x.dag.lock", *RESCUES, "report"]
+# Rescue files as they are written, before they have their names.
+PARTS = ["x.dag.rescue002.new", "x.dag.rescue003.new"]
+FILES = ["x.dag", "job.sub", "x.dag.journal", "x.dag.journal.old", "x.dag.lock", *RESCUES, *PARTS, "report"]
 # The words behind `dagrun` of the round that is tried, by the number of the rounds before it.
 ROUNDS = {1: ("run", "x.dag"), 2: ("run", "--dorescuefrom", "1", "x.dag")}
 # Nothing depends on these: where a call of theirs fails, nothing is told but where it can't be read which processes were left.

@@ -124,7 +124,7 @@ def journals_that_were_changed(folder):
     # Its bytes are those of docs/JOURNAL.md: Life, the launch and the end of A's job with 1, Finish with 1, and a closed gate.
     slots = ["4f01", "4f0202" + "00" * 20 + "01", "4f030201" + "00" * 11 + "01", "4f04" + "00" * 13 + "01"]
     wanted = b"".join(bytes.fromhex(slot).ljust(SLOT, b"\0") for slot in slots) + b"\0"
-    same([whole[:8].hex(), whole[40:HEADER], whole[HEADER:]], ["4a01000000000001", bytes(24), wanted])
+    same([whole[:8].hex(), whole[40:HEADER], whole[HEADER:]], ["4a02000000000001", bytes(24), wanted])
 
     def changed(at, *values):
         return whole[:at] + bytes(values) + whole[at + len(values) :]

@@ -248,7 +248,7 @@ def completion_of_bash(folder):
     os.mkdir(f"{folder}/below")
     same(completed(folder, "dagrun "), ["--help", "audit", "check", "explain", "graph", "help", "rehearse", "run", "status", "version"])
     same(completed(folder, "dagrun r"), ["rehearse", "run"])
-    same(completed(folder, "dagrun run --"), ["--autorescue", "--dorescuefrom", "--help", "--maxjobs", "--maxpost", "--maxpre", "--orphans"])
+    same(completed(folder, "dagrun run --"), ["--always-run-post", "--autorescue", "--dorescuefrom", "--help", "--maxjobs", "--maxpost", "--maxpre", "--orphans", "--sync-output"])
     same(completed(folder, "dagrun rehearse --max"), ["--maxjobs", "--maxpost", "--maxpre"])
     same(completed(folder, "dagrun status --m"), [])
     same(completed(folder, "dagrun run --autorescue "), ["0", "1"])
@@ -441,8 +441,13 @@ def options_of_condor_submit_dag(folder):
         os.remove(f"{folder}/below/x.dag.{name}")
     same(call(f"{folder}/below", SUBMIT, "-no_submit", "x.dag"), (TOLD, "", 0))
     same(sorted(os.listdir(f"{folder}/below")), ["a.sh", "a.sub", "ran", "x.dag", "x.dag.condor.sub"])
+    write(f"{folder}/below/y.dag", "JOB A a.sub\nSCRIPT PRE A /bin/sh -c false\nSCRIPT POST A /bin/echo\n")
+    for option, status in (("-AlwaysRunPost", 0), ("-DontAlwaysRunPost", 1)):
+        same(call(f"{folder}/below", SUBMIT, option, "-wait", "y.dag")[2], status)
+    for name in os.listdir(f"{folder}/below"):
+        if name.startswith("y.dag"):
+            os.remove(f"{folder}/below/{name}")
     refusals = [
-        (["-alwaysrunpost", "x.dag"], "-alwaysrunpost is not done by dagrun"),
         (["-config", "c", "x.dag"], "-config is not done by dagrun"),
         (["-maxj"], "a word is missing behind -maxj"),
         (["-maxjobs", "many", "x.dag"], "-maxjobs many: a number is expected"),

@@ -396,6 +396,68 @@ def no_journal(folder):
     same(folder.call("run", "x.dag"), (ALL_DONE, "", 0))
 
 
+ALWAYS = "JOB A a.sub\nSCRIPT PRE A /bin/sh pre.sh\nSCRIPT POST A /bin/sh post.sh $RETURN $PRE_SCRIPT_RETURN $JOBID $RETRY\n"
+
+
+def always(folder):
+    """A node whose PRE script fails with 5, and whose POST script writes its words down."""
+    folder.write("x.dag", ALWAYS)
+    folder.echo("a")
+    folder.write("pre.sh", "exit 5\n")
+    folder.write("post.sh", "echo $* >> told\n")
+
+
+def post_behind_a_failed_pre(folder):
+    always(folder)
+    same(folder.call("run", "--always-run-post", "x.dag"), ("A DONE attempts=1 value=0\nresult 0\n", "", 0))
+    # No job ran: the value of one that did not run, that of PRE, and the number of no launch.
+    same(folder.read("told"), b"-1004 5 0.0 0\n")
+    same([folder.there("a.out"), folder.read("x.dag.journal")[:8].hex()], [False, "4a02010000000001"])
+    same(folder.call("status", "x.dag"), ("A DONE attempts=1 value=0\n", "", 0))
+    same(folder.call("audit", "x.dag"), ("A DONE attempts=1 value=0\naudit ok\n", "", 0))
+    os.remove(folder.at("told"))
+    same(folder.call("run", "x.dag"), ("A ERROR attempts=1 value=5\nresult 1\n", "", 1))
+    same([folder.there("told"), folder.read("x.dag.journal")[:8].hex()], [False, "4a02000000000001"])
+
+
+def the_flag_of_the_journal(folder):
+    """An unfinished round goes on as its header says, whatever the option is."""
+    always(folder)
+    folder.call("run", "--always-run-post", "x.dag")
+    os.remove(folder.at("told"))
+    # PRE has ended, and POST has not begun: Life, the launch of PRE, its ending.
+    folder.cut_journal(3)
+    same(folder.call("status", "x.dag"), ("A READY attempts=0 value=-\n", "", 0))
+    same(folder.call("run", "x.dag"), ("A DONE attempts=1 value=0\nresult 0\n", "", 0))
+    same(folder.read("told"), b"-1004 5 0.0 0\n")
+    # A journal of version 1 knows no such flag: POST is not started, and the header stays as it is.
+    os.remove(folder.at("told"))
+    folder.call("run", "x.dag")
+    folder.cut_journal(3)
+    journal = folder.read("x.dag.journal")
+    folder.write("x.dag.journal", journal[:1] + b"\1" + journal[2:])
+    same(folder.call("run", "--always-run-post", "x.dag"), ("A ERROR attempts=1 value=5\nresult 1\n", "", 1))
+    same([folder.there("told"), folder.read("x.dag.journal")[:8].hex()], [False, "4a01000000000001"])
+    same(folder.call("audit", "x.dag"), ("A ERROR attempts=1 value=5\naudit ok\n", "", 0))
+
+
+def a_flag_of_bad_bytes(folder):
+    always(folder)
+    folder.call("run", "--always-run-post", "x.dag")
+    journal = folder.read("x.dag.journal")
+    for bytes_of, line in (
+        (changed(journal, 2, 2), "J3 NotAJournal"),
+        (changed(journal, 3, 1), "J3 NotAJournal"),
+        (changed(journal, 1, 1), "J3 NotAJournal"),
+        (changed(journal, 1, 3), "J4 Version 3"),
+        # The header of a journal with a bad record is not gone by: no flag, which is not its own.
+        (changed(journal, HEADER + 9, 1), "J10 OtherFlag"),
+    ):
+        folder.write("x.dag.journal", bytes_of)
+        refused(folder, ("status", "x.dag"), line)
+        same(folder.call("audit", "x.dag"), ("audit no F1 NotAJournal\n", "", 1))
+
+
 def numbers_that_no_file_has(folder):
     folder.write("x.dag", DIAMOND)
     folder.echo(*"abcd")
@@ -602,6 +664,63 @@ def a_second_manager(folder):
     audited(folder, "audit no F3 Unfinished")
     folder.write("go", "")
     same(first.communicate(timeout=30), (b"A DONE attempts=1 value=0\nresult 0\n", b""))
+
+
+@contextlib.contextmanager
+def locked(folder):
+    """The lock of x.dag, as another manager has it."""
+    with open(folder.at("x.dag.lock"), "w") as lock:
+        fcntl.flock(lock, fcntl.LOCK_EX)
+        yield lock
+
+
+def a_lock_for_a_moment(folder):
+    """As a child has it that was being made when its manager was killed: it is tried again."""
+    folder.write("x.dag", "JOB A a.sub\n")
+    folder.echo("a")
+    with locked(folder) as lock:
+        run = folder.start("run", "x.dag")
+        time.sleep(0.15)
+        fcntl.flock(lock, fcntl.LOCK_UN)
+        same([text.decode() for text in run.communicate(timeout=60)], ["A DONE attempts=1 value=0\nresult 0\n", ""])
+
+
+def a_journal_that_is_being_written(folder):
+    """What can't be read while another manager works is that one's affair."""
+    folder.write("x.dag", "JOB A a.sub\n")
+    folder.echo("a")
+    folder.call("run", "x.dag")
+    journal = folder.read("x.dag.journal")
+    folder.write("x.dag.journal", journal[: HEADER + SLOT + 7])
+    with locked(folder):
+        refused(folder, ("run", "x.dag"), "X2 FileRefused x.dag.lock")
+    refused(folder, ("run", "x.dag"), "J9 BadSlot 1")
+
+
+def endings_that_nobody_is_told(folder):
+    """Where SIGCHLD is ignored, as some supervisors start their programs, nothing is started."""
+    folder.write("x.dag", "JOB A a.sub\n")
+    folder.echo("a")
+    done = subprocess.run(
+        [folder.program, "run", "x.dag"], cwd=folder.path, capture_output=True, timeout=60,
+        preexec_fn=lambda: signal.signal(signal.SIGCHLD, signal.SIG_IGN),
+    )
+    same((done.stdout, done.stderr, done.returncode), (b"", b"dagrun: A2 WaitFault\n", 125))
+    same([folder.there(name) for name in ("a.out", "x.dag.journal", "x.dag.log")], [False, False, False])
+    same(folder.call("run", "x.dag"), ("A DONE attempts=1 value=0\nresult 0\n", "", 0))
+
+
+def names_that_are_too_long(folder):
+    """The longest name of a round is that of a rescue file that is put away: 14 bytes more than the DAG file's."""
+    for length, fits in ((241, True), (242, False), (251, False)):
+        name = "x" * length
+        folder.write(name, "JOB A a.sub\n")
+        folder.echo("a")
+        if fits:
+            same(folder.call("run", name), ("A DONE attempts=1 value=0\nresult 0\n", "", 0))
+        else:
+            refused(folder, ("run", name), f"X2 FileRefused {name}.rescue999.old")
+            same([other for other in os.listdir(folder.path) if other.startswith(name) and other[length:length + 1] == "."], [])
 
 
 def stopped(folder, number):
@@ -1330,7 +1449,7 @@ def the_order_of_the_disk(folder):
     folder.write("x.dag", "JOB A a.sub\nJOB B b.sub\nPARENT A CHILD B\n")
     folder.write("a.sub", "executable = /bin/true\nqueue\n")
     folder.write("b.sub", "executable = /bin/false\nqueue\n")
-    names = "openat,pwrite64,fsync,fdatasync,execve,ftruncate"
+    names = "openat,pwrite64,fsync,fdatasync,execve,ftruncate,rename"
     subprocess.run(["strace", "-f", "-y", "-e", f"trace={names}", "-e", "signal=none", "-o", "calls", folder.program, "run", "x.dag"], cwd=folder.path, capture_output=True, timeout=60)
     seen = []
     for line in folder.read("calls").decode(errors="replace").splitlines():
@@ -1340,18 +1459,47 @@ def the_order_of_the_disk(folder):
             seen.append(f"gate {(int(match[1]) - HEADER) // SLOT}")
         elif re.search(r"(fsync|fdatasync)\(\d+<[^>]*x\.dag\.journal>", line):
             seen.append("journal")
-        elif re.search(r"(fsync|fdatasync)\(\d+<[^>]*x\.dag\.rescue001>", line):
+        elif re.search(r"(fsync|fdatasync)\(\d+<[^>]*x\.dag\.rescue001\.new>", line):
             seen.append("rescue")
+        elif re.search(r'rename\("[^"]*x\.dag\.rescue001\.new", "[^"]*x\.dag\.rescue001"\)', line):
+            seen.append("named")
         elif re.search(rf"(fsync|fdatasync)\(\d+<{re.escape(os.path.realpath(folder.path))}>", line):
             seen.append("folder")
         elif match := re.search(r'execve\("/bin/(true|false)"', line):
             seen.append(match[1])
-    order = [what for at, what in enumerate(seen) if what.split()[0] in ("gate", "true", "false", "rescue") or (what == "journal" and seen[at - 1].startswith("gate")) or (what == "folder" and "rescue" in seen[:at])]
+    order = [what for at, what in enumerate(seen) if what.split()[0] in ("gate", "true", "false", "rescue", "named") or (what == "journal" and seen[at - 1].startswith("gate")) or (what == "folder" and "rescue" in seen[:at])]
     wanted = []
-    # Life, the launch of A, A's child, its end, the launch of B, B's child, its end, the rescue file, Finish.
-    for what in ("gate 0", "gate 1", "true", "gate 2", "gate 3", "false", "gate 4", "rescue", "folder", "gate 5"):
+    # Life, the launch of A, A's child, its end, the launch of B, B's child, its end, the rescue file, its name, Finish.
+    for what in ("gate 0", "gate 1", "true", "gate 2", "gate 3", "false", "gate 4", "rescue", "named", "folder", "gate 5"):
         wanted += [what, "journal"] if what.startswith("gate") else [what]
     same(order, wanted)
+
+
+def outputs_are_synced(folder):
+    """What dagrun opened for a job's output and errors is on the disk, with its name where it was made, before the job's end is recorded."""
+    folder.write("x.dag", "JOB A a.sub\nJOB B b.sub\nJOB C c.sub\nPARENT A CHILD B\nPARENT B CHILD C\n")
+    for name, streams in (("a", "output = a.out\nerror = a.err\n"), ("b", "output = b.out\nerror = b.out\n"), ("c", "output = pipe\nerror = /dev/null\n")):
+        folder.write(name + ".sub", f"executable = /bin/echo\narguments = {name}\n{streams}queue\n")
+    folder.write("b.out", "of another round\n")
+    os.mkfifo(folder.at("pipe"))
+    names = {"a.out": "a.out", "a.err": "a.err", "b.out": "b.out", "pipe": "pipe", "null": "null", os.path.basename(os.path.realpath(folder.path)): "folder"}
+    for words, wanted in (
+        (("run", "x.dag"), ["a.out", "folder", "a.err", "folder", "end 0", "b.out", "b.out", "end 1", "end 2"]),
+        (("run", "--autorescue", "0", "--sync-output", "0", "x.dag"), ["end 0", "end 1", "end 2"]),
+    ):
+        reader = subprocess.Popen(["cat", folder.at("pipe")], stdout=subprocess.DEVNULL)
+        subprocess.run(["strace", "-y", "-e", "trace=pwrite64,fsync", "-e", "signal=none", "-o", "calls", folder.program, *words], cwd=folder.path, capture_output=True, timeout=60)
+        reader.wait(timeout=10)
+        seen, ends = [], 0
+        for line in folder.read("calls").decode(errors="replace").splitlines():
+            if re.search(r'pwrite64\(\d+<[^>]*x\.dag\.journal>, "\\3', line):
+                seen.append(f"end {ends}")
+                ends += 1
+            elif match := re.search(r"fsync\(\d+<[^>]*/([^/>]+)>", line):
+                seen.append(names.get(match[1], "other"))
+        # The folder is synced once more as the round begins.
+        first = seen.index("a.out") if "a.out" in seen else seen.index("end 0")
+        same([what for what in seen[first:] if what != "other"], wanted)
 
 
 ROWS = [
@@ -1375,6 +1523,9 @@ ROWS = [
     a_journal_that_stays,
     other_inputs,
     no_journal,
+    post_behind_a_failed_pre,
+    the_flag_of_the_journal,
+    a_flag_of_bad_bytes,
     numbers_that_no_file_has,
     lines_of_a_rescue_file,
     a_foreign_record,
@@ -1391,6 +1542,10 @@ ROWS = [
     folders_in_the_place_of_rescue_files,
     a_folder_that_may_not_be_written,
     a_second_manager,
+    a_lock_for_a_moment,
+    a_journal_that_is_being_written,
+    endings_that_nobody_is_told,
+    names_that_are_too_long,
     stopped_by_sigterm,
     stopped_by_sigint,
     an_orphan_holds_no_lock,
@@ -1420,7 +1575,7 @@ def main():
     program = os.path.realpath(sys.argv[1])
     rows = list(ROWS)
     if shutil.which("strace"):
-        rows += [the_order_of_the_disk, cut_short_while_going_back, a_child_that_was_being_started]
+        rows += [the_order_of_the_disk, outputs_are_synced, cut_short_while_going_back, a_child_that_was_being_started]
     else:
         print("strace is not installed: the order in which the disk is written is not looked at, and no call of going back is cut short, and no child while it is started")
     if len(sys.argv) > 2:

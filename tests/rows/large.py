@@ -38,17 +38,20 @@ def lengths():
 
 
 def numbers_of_nodes():
-    """At most 4,096 nodes, FINAL among them, and as many splices that are opened; a name that stands twice is told first."""
+    """At most 65,536 nodes, FINAL among them, and 4,096 splices that are opened; a name that stands twice is told first."""
     for jobs, splices, last, answer in [
-        (4_096, 0, "", counted(4_096)),
-        (4_097, 0, "", "S7 TooManyNodes"),
-        (4_095, 0, "FINAL F a", counted(4_095, "yes")),
-        (4_096, 0, "FINAL F a", "S7 TooManyNodes"),
-        (4_095, 0, "SPLICE Y job.dag", counted(4_096)),
-        (4_096, 0, "SPLICE Y job.dag", "S7 TooManyNodes"),
-        (4_097, 0, "JOB J0 j", "S4 DuplicateName t.dag:4098:5"),
+        (4_097, 0, "", counted(4_097)),
+        (65_536, 0, "", counted(65_536)),
+        (65_537, 0, "", "S7 TooManyNodes"),
+        (65_535, 0, "FINAL F a", counted(65_535, "yes")),
+        (65_536, 0, "FINAL F a", "S7 TooManyNodes"),
+        (65_535, 0, "SPLICE Y job.dag", counted(65_536)),
+        (65_536, 0, "SPLICE Y job.dag", "S7 TooManyNodes"),
+        (65_537, 0, "JOB J0 j", "S4 DuplicateName t.dag:65538:5"),
         (0, 4_096, "", counted(0)),
         (0, 4_097, "", "S7 TooManyNodes"),
+        (61_440, 4_096, "", counted(61_440)),
+        (61_440, 4_097, "", "S7 TooManyNodes"),
     ]:
         lines = [f"JOB J{it} j\n" for it in range(jobs)] + [f"SPLICE S{it} empty.dag\n" for it in range(splices)]
         yield *checked("".join([*lines, last]).encode(), {"empty.dag": b"", "job.dag": b"JOB A a\n"}), answer

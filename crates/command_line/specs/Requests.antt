@@ -1,5 +1,5 @@
 -- What the words of a command line ask for.
-use Rattle.std.specs.Prelude.{◌≡◌, ◌<◌, ℕ, List, Option, Some, None, string_bytes}
+use Rattle.std.specs.Prelude.{◌≡◌, ◌<◌, ℕ, Bool, List, Option, Some, None, string_bytes}
 use Rattle.std.specs.Option.{option_map}
 use Rattle.throttles.specs.declared.Limits.{Limits}
 use Rattle.command_line.specs.declared.request.RunOptions.{RunOptions}
@@ -12,7 +12,7 @@ pub data Asked : Type 0 where
   runs : List ℕ → RunOptions → Asked
   tells_status : List ℕ → Asked
   audits : List ℕ → Asked
-  rehearses : List ℕ → Option (List ℕ) → Limits → Asked
+  rehearses : List ℕ → Option (List ℕ) → Limits → Bool → Asked
   draws : List ℕ → Asked
   shows : List ℕ → Asked
 
@@ -22,7 +22,7 @@ asked_by (Check dag) = checks dag.now
 asked_by (Run dag options) = runs dag.now options
 asked_by (Status dag) = tells_status dag.now
 asked_by (Audit dag) = audits dag.now
-asked_by (Rehearse dag outcomes limits) = rehearses dag.now (option_map (λ t. t.now) outcomes) limits
+asked_by (Rehearse dag outcomes limits always_post) = rehearses dag.now (option_map (λ t. t.now) outcomes) limits always_post
 asked_by (Graph dag) = draws dag.now
 asked_by (Page text) = shows (string_bytes text)
 
@@ -43,6 +43,6 @@ limits_in (checks dag) = None
 limits_in (runs dag options) = Some options.limits
 limits_in (tells_status dag) = None
 limits_in (audits dag) = None
-limits_in (rehearses dag outcomes limits) = Some limits
+limits_in (rehearses dag outcomes limits always_post) = Some limits
 limits_in (draws dag) = None
 limits_in (shows text) = None

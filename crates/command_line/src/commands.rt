@@ -16,6 +16,8 @@ enum Kind {
     Number,
     /// An option with 0 or 1.
     Switch,
+    /// An option with no word of its own.
+    Flag,
     /// An option with one of these words.
     Choice(&'static [&'static str]),
 }
@@ -83,6 +85,18 @@ const DORESCUEFROM: ArgumentRow = ArgumentRow {
     help: "Begins a new round by the rescue file of this number; those of higher numbers are renamed to .old",
 };
 
+const ALWAYS_POST: ArgumentRow = ArgumentRow {
+    name: "always-run-post",
+    kind: Kind::Flag,
+    help: "POST scripts run behind PRE scripts that failed, too, and decide",
+};
+
+const SYNC_OUTPUT: ArgumentRow = ArgumentRow {
+    name: "sync-output",
+    kind: Kind::Switch,
+    help: "0: the files of output and error are not brought to the disk before an ending is recorded",
+};
+
 const CODE: ArgumentRow = ArgumentRow {
     name: "CODE",
     kind: Kind::Optional,
@@ -105,7 +119,17 @@ static COMMANDS: [CommandRow; 9] = [
     CommandRow {
         name: "run",
         about: "Runs a DAG file, or goes on with a run that was cut short",
-        arguments: &[FILE, JOBS, PRE, POST, AUTORESCUE, DORESCUEFROM, ORPHANS],
+        arguments: &[
+            FILE,
+            JOBS,
+            PRE,
+            POST,
+            AUTORESCUE,
+            DORESCUEFROM,
+            ALWAYS_POST,
+            SYNC_OUTPUT,
+            ORPHANS,
+        ],
         examples: "  dagrun run x.dag                    runs x.dag, or goes on with its round
   dagrun run --maxjobs 4 x.dag        with 4 jobs at once at most
   dagrun run --dorescuefrom 1 x.dag   goes back to x.dag.rescue001
@@ -137,7 +161,7 @@ static COMMANDS: [CommandRow; 9] = [
     CommandRow {
         name: "rehearse",
         about: "Runs a DAG file at the outcomes of a table, and starts no program",
-        arguments: &[FILE_OR_INPUT, TABLE, JOBS, PRE, POST],
+        arguments: &[FILE_OR_INPUT, TABLE, JOBS, PRE, POST, ALWAYS_POST],
         examples: "  dagrun rehearse x.dag               the course of a run in which all goes well
   dagrun rehearse x.dag table         the same, where table has the line: A 0 JOB 1
 ",
@@ -193,6 +217,7 @@ fn argument_of<'a>(alloc: Global, row: &ArgumentRow) -> Arg<'a> {
         Kind::Switch => argument
             .long(row.name)
             .value_parser(value_parser!(u8).range(0..=1)),
+        Kind::Flag => argument.long(row.name).action(ArgAction::SetTrue),
         Kind::Choice(words) => argument.long(row.name).value_parser(words),
     }
 }

@@ -1,6 +1,6 @@
 //! What the words of a command line ask for.
 
-ghost use Rattle.std.specs.Prelude.{◌≡◌, ◌<◌, ◌≤◌, None, length, codes, IsOkAnd, IfOk, IfSome, string_bytes};
+ghost use Rattle.std.specs.Prelude.{◌≡◌, ◌<◌, ◌≤◌, false, None, length, codes, IsOkAnd, IfOk, IfSome, string_bytes};
 ghost use Rattle.command_line.specs.Requests.{rehearses, shows, asked_by, no_limits, limits_in, AreLimits};
 
 use crate::commands::{dagrun_command, help_text};
@@ -44,6 +44,11 @@ pub struct RunOptions {
     pub dorescuefrom: Option<u16>,
     /// What is done with processes that an earlier manager left running.
     pub orphans: OrphanRule,
+    /// Whether a new round runs POST scripts behind PRE scripts that failed, too.
+    pub always_post: bool,
+    /// Whether the files that take the output and the errors of a job are brought to the disk before its
+    /// ending is recorded.
+    pub sync_output: bool,
 }
 
 /// What the words of a command line ask for.
@@ -71,11 +76,13 @@ pub enum Request<'a> {
     },
 
     /// `rehearse DAG [OUTCOMES]`, and no words at all, which is `rehearse -`: the path of the DAG
-    /// file, `-` for standard input, and that of the table of outcomes.
+    /// file, `-` for standard input, and that of the table of outcomes; and whether POST scripts run
+    /// behind PRE scripts that failed, too.
     Rehearse {
         dag: &'a str,
         outcomes: Option<&'a str>,
         limits: Limits,
+        always_post: bool,
     },
 
     /// `graph DAG`: the path of the DAG file.
@@ -155,6 +162,8 @@ fn options_of(found: &ArgMatches<'_>) -> RunOptions
         autorescue: found.get_one::<u8>("autorescue") != Some(0),
         dorescuefrom: found.get_one::<u16>("dorescuefrom"),
         orphans: orphan_rule_of(found),
+        always_post: found.get_flag("always-run-post"),
+        sync_output: found.get_one::<u8>("sync-output") != Some(0),
     }
 }
 
@@ -165,12 +174,13 @@ fn dag_of<'a>(found: &ArgMatches<'a>) -> &'a str {
 
 /// The request of no words.
 fn bare_rehearsal<'a>() -> Request<'a>
-    ensures { asked_by result ≡ rehearses (codes "-") None no_limits }
+    ensures { asked_by result ≡ rehearses (codes "-") None no_limits false }
 {
     Request::Rehearse {
         dag: "-",
         outcomes: None,
         limits: NO_LIMITS,
+        always_post: false,
     }
 }
 
@@ -212,6 +222,7 @@ fn request_of<'a>(alloc: Global, matches: &ArgMatches<'a>) -> Result<Request<'a>
             dag: dag_of(found),
             outcomes: found.get_str("OUTCOMES"),
             limits: limits_of(found),
+            always_post: found.get_flag("always-run-post"),
         }),
         Some(("graph", found)) => Ok(Request::Graph { dag: dag_of(found) }),
         Some((command, found)) => page_of(alloc, command, found),
@@ -226,9 +237,10 @@ fn request_of<'a>(alloc: Global, matches: &ArgMatches<'a>) -> Result<Request<'a>
 /// `Told` with clap's text, where the words are no command as clap reads them, or call for help by an
 /// option, and where a page is asked for that there is not; `Memory` where it was refused.
 pub fn read_words<'a>(alloc: Global, words: &'a [&'a str]) -> Result<Request<'a>, WordsFault>
-    // No words ask for `rehearse -`, with no table, and with no limits but that on all children.
+    // No words ask for `rehearse -`, with no table, with no limits but that on all children, and with
+    // no POST script behind a PRE script that failed.
     ensures no_words { length words.entry.now ≤ 1 → IsOkAnd result (λ request.
-        asked_by request ≡ rehearses (codes "-") None no_limits) }
+        asked_by request ≡ rehearses (codes "-") None no_limits false) }
     // All children are always limited, and what else may be is a number of 16 bits.
     ensures limits { IfOk result (λ request. IfSome (limits_in (asked_by request)) AreLimits) }
 {

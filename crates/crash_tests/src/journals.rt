@@ -103,7 +103,7 @@ fn make<D: Disk + Drop>(
     disk: D,
     call: Call,
 ) -> Result<D, JournalFault> {
-    match Journal::open(alloc, disk, &DIGEST, SLOTS) {
+    match Journal::open(alloc, disk, &DIGEST, false, SLOTS) {
         Ok(Opened::Fresh(journal)) => {
             let mut journal = journal;
             if matches!(call, Call::Nothing) {
@@ -113,7 +113,7 @@ fn make<D: Disk + Drop>(
             if matches!(call, Call::Gate) {
                 return Ok(journal.into_disk());
             }
-            journal.create_header(0, 1, &DIGEST)?;
+            journal.create_header(0, 1, &DIGEST, false)?;
             fill(rt, &mut journal, call)?;
             Ok(journal.into_disk())
         }

@@ -37,7 +37,7 @@ pub fn plan_of(alloc: Global, text: &str) -> Result<Plan, Fail> {
     }
     let dag = open_dag(alloc, &files, "x.dag")?;
     let graph = Graph::build(alloc, dag)?;
-    match Plan::build(alloc, graph, &files, None) {
+    match Plan::build(alloc, graph, &files, None, false) {
         Ok(plan) => Ok(plan),
         Err(refused) => Err(fault_of(refused)),
     }

@@ -40,7 +40,7 @@ pub fn records_of(
     bytes: &[u8],
     digest: &[u8; 32],
 ) -> Result<Option<Vec<Record>>, Fail> {
-    match Journal::open(alloc, disk_of(alloc, bytes)?, digest, SLOTS) {
+    match Journal::open(alloc, disk_of(alloc, bytes)?, digest, false, SLOTS) {
         Ok(Opened::Found(journal)) => {
             let mut journal = journal;
             Ok(Some(journal.records(alloc)?))

@@ -57,13 +57,13 @@ BeginsAnew journals.Unfinished = ⊥
 
 -- Which rescue files a round reads and writes: a new one reads that of the highest number, or none, which is 0, where this is asked for, and
 -- writes the next; one that goes back reads that of the number to which it is to go back, and writes the next; one that goes on keeps the
--- numbers of its journal's header.
-pub data IsRoundBy (autorescue : Bool) (from : Option ℕ) (round : Round) : Type 0 where
+-- numbers of its journal's header. A new one runs POST behind a failed PRE where this is asked for.
+pub data IsRoundBy (autorescue : Bool) (from : Option ℕ) (always_post : Bool) (round : Round) : Type 0 where
   begins_anew : (highest : ℕ) → from ≡ None → highest ≤ 999 → BeginsAnew round.journal → round.used ≡ (if autorescue then highest else 0) →
-      round.next ≡ number_behind highest → round.goes_back ≡ false → IsRoundBy autorescue from round
+      round.next ≡ number_behind highest → round.goes_back ≡ false → round.always_post ≡ always_post → IsRoundBy autorescue from always_post round
   goes_back : (number : ℕ) → from ≡ Some number → IsNumber number → BeginsAnew round.journal → round.used ≡ number →
-      round.next ≡ number_behind number → round.goes_back ≡ true → IsRoundBy autorescue from round
-  goes_on : from ≡ None → round.journal ≡ journals.Unfinished → round.goes_back ≡ false → IsRoundBy autorescue from round
+      round.next ≡ number_behind number → round.goes_back ≡ true → round.always_post ≡ always_post → IsRoundBy autorescue from always_post round
+  goes_on : from ≡ None → round.journal ≡ journals.Unfinished → round.goes_back ≡ false → IsRoundBy autorescue from always_post round
 
 -- the bytes of the rescue file of a round: none where it reads none, and some where it goes back
 pub record IsRescueOf (round : Round) (rescue : Option (List ℕ)) : Type 0 where

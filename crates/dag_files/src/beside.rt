@@ -12,13 +12,20 @@ use dag_texts::RunFault;
 use rescue_file::{pick_number, rescue_name};
 use splices::path_in;
 use std::alloc::{AllocError, Global};
-use std::fs;
 use std::fs::{File, OpenOptions};
 use std::io::{self, ErrorKind};
 use std::rt::Files;
+use std::time::{Clock, Duration};
+use std::{fs, thread};
 
 /// The greatest number of a rescue file.
 pub const LAST_NUMBER: u16 = 999;
+
+/// The greatest length of a file's name in bytes, on the file systems of Linux.
+const LONGEST_NAME: usize = 255;
+
+/// How often a lock that another process has is tried again.
+const LOCK_TRIES: u32 = 33;
 
 /// A DAG file, and the folder from which its path is taken where it is relative.
 #[derive(Clone, Copy)]
@@ -69,6 +76,17 @@ pub fn rescue_path(alloc: Global, top: &str, number: u16) -> Result<Text, RunFau
         Ok(name) => Ok(name),
         Err(_) => Err(RunFault::Memory),
     }
+}
+
+/// Whether a file comes to be locked by this process, tried every ten milliseconds.
+fn is_locked_in_time<R: Clock>(rt: &R, file: &File) -> bool {
+    for _ in 0..LOCK_TRIES {
+        if file.try_lock().is_ok() {
+            return true;
+        }
+        thread::sleep(rt, Duration::from_millis(10));
+    }
+    file.try_lock().is_ok()
 }
 
 /// The last part of a path.
@@ -159,12 +177,17 @@ impl<'a> Place<'a> {
     }
 
     /// Locks the file beside the DAG file that is named for it, until the handle is dropped or the
-    /// process ends; the file is made where it is missing.
+    /// process ends; the file is made where it is missing. Where another process has it, it is tried
+    /// again for a third of a second: a child that a manager was making as it was killed holds its lock
+    /// for a moment.
     ///
     /// # Errors
     /// `FileRefused` with the path of the lock, where the system refuses it or another process has
     /// it; `Memory`.
-    pub fn lock<R: Files<File = File> + AllocGlobal>(&self, rt: &R) -> Result<File, RunFault>
+    pub fn lock<R: Files<File = File> + Clock + AllocGlobal>(
+        &self,
+        rt: &R,
+    ) -> Result<File, RunFault>
         ensures { IfErr result IsFileFault }
     {
         let alloc = rt.alloc();
@@ -178,9 +201,29 @@ impl<'a> Place<'a> {
             Ok(file) => file,
             Err(error) => return Err(refused(alloc, path.as_str(), &error)),
         };
-        match file.try_lock() {
-            Ok(()) => Ok(file),
-            Err(_) => Err(self.taken(alloc)),
+        if is_locked_in_time(rt, &file) {
+            return Ok(file);
+        }
+        Err(self.taken(alloc))
+    }
+
+    /// Whether the longest name that a round can need beside the DAG file, that of a rescue file that
+    /// is put away, is one that a file can have.
+    ///
+    /// # Errors
+    /// `FileRefused` with that name, where it is longer than 255 bytes; `Memory`.
+    pub fn has_room_for_names(&self, alloc: Global) -> Result<(), RunFault>
+        ensures { IfErr result IsFileFault }
+    {
+        let Ok(longest) = Text::joined(alloc, self.top, ".rescue999.old") else {
+            return Err(RunFault::Memory);
+        };
+        if base_of(longest.as_str()).len() <= LONGEST_NAME {
+            return Ok(());
+        }
+        match String::from_str(alloc, longest.as_str()) {
+            Ok(name) => Err(RunFault::FileRefused(name)),
+            Err(_) => Err(RunFault::Memory),
         }
     }
 

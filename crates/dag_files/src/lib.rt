@@ -10,4 +10,4 @@ mod rounds;
 pub use beside::{LAST_NUMBER, Place, journal_path, refused, rescue_path};
 pub use loading::{Reading, files_in, files_of};
 pub use rescues::numbers_above;
-pub use rounds::{Journaled, Round, bytes_of, disk_at, named, rescue_of, round_of};
+pub use rounds::{Journaled, Round, bytes_of, disk_at, named, rescue_disk, rescue_of, round_of};

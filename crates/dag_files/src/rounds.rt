@@ -41,6 +41,8 @@ pub struct Round {
     /// Whether it goes back to an earlier round: the rescue file is read that is asked for, and those
     /// of higher numbers are put away first.
     pub goes_back: bool,
+    /// Whether POST scripts run behind PRE scripts that failed, too.
+    pub always_post: bool,
 }
 
 /// The number behind the highest; 999 is written again.
@@ -78,6 +80,29 @@ pub fn disk_at<R: Files<File = File> + AllocGlobal + Copy + Drop>(
     Ok(FileDisk::at(rt, String::from_str(alloc, at.as_str())?))
 }
 
+/// The disk of the rescue file of this number, from 1 to 999, which is written beside it, under its name
+/// with `.new` behind it, and named once it is whole. Nothing is opened yet.
+///
+/// # Errors
+/// `Memory` alone.
+pub fn rescue_disk<R: Files<File = File> + AllocGlobal + Copy + Drop>(
+    rt: R,
+    place: &Place<'_>,
+    number: u16,
+) -> Result<FileDisk<R>, RunFault>
+    requires { IsNumber number }
+    ensures { IfErr result (λ fault. fault ≡ Memory) }
+{
+    let alloc = rt.alloc();
+    let path = rescue_path(alloc, place.top, number)?;
+    let draft = Text::joined(alloc, path.as_str(), ".new")?;
+    let path = place.at(alloc, path.as_str())?;
+    let draft = place.at(alloc, draft.as_str())?;
+    let path = String::from_str(alloc, path.as_str())?;
+    let draft = String::from_str(alloc, draft.as_str())?;
+    Ok(FileDisk::drafted(rt, path, draft))
+}
+
 /// What the header of a journal says, where there is a journal.
 fn peek_of<R: Files<File = File> + AllocGlobal + Copy + Drop>(
     rt: R,
@@ -95,7 +120,8 @@ fn peek_of<R: Files<File = File> + AllocGlobal + Copy + Drop>(
 }
 
 /// The round that the journal and the rescue files that are there make of a run. Where a number is
-/// given, a new round goes back to the rescue file of that number, whatever `autorescue` says.
+/// given, a new round goes back to the rescue file of that number, whatever `autorescue` says. A new
+/// round runs POST scripts as `always_post` says; one that goes on, as the journal's header does.
 ///
 /// # Errors
 /// In this order: `NotThere` with the number that is given, where it is 0 or above 999 or its file is
@@ -107,15 +133,16 @@ pub fn round_of<R: Files<File = File> + AllocGlobal + Copy + Drop>(
     place: &Place<'_>,
     autorescue: bool,
     from: Option<u16>,
+    always_post: bool,
 ) -> Result<Round, RunFault>
     ensures numbers { IfOk result (λ round. IsRescueNumber round.next × (round.used ≤ 999)) }
     ensures back { IfOk result (λ round. round.goes_back ≡ true → IsNumber round.used) }
-    ensures by { IfOk result (IsRoundBy autorescue from) }
+    ensures by { IfOk result (IsRoundBy autorescue from always_post) }
     ensures refused { IfErr result (IsRoundFault from) }
 {
     match from {
-        Some(number) => round_behind(rt, place, number),
-        None => next_round(rt, place, autorescue),
+        Some(number) => round_behind(rt, place, number, always_post),
+        None => next_round(rt, place, autorescue, always_post),
     }
 }
 
@@ -124,10 +151,11 @@ fn next_round<R: Files<File = File> + AllocGlobal + Copy + Drop>(
     rt: R,
     place: &Place<'_>,
     autorescue: bool,
+    always_post: bool,
 ) -> Result<Round, RunFault>
     ensures numbers { IfOk result (λ round. IsRescueNumber round.next × (round.used ≤ 999)) }
     ensures back { IfOk result (λ round. round.goes_back ≡ true → IsNumber round.used) }
-    ensures by { IfOk result (IsRoundBy autorescue None) }
+    ensures by { IfOk result (IsRoundBy autorescue None always_post) }
     ensures refused { IfErr result (IsRoundFault None) }
 {
     let journal = match peek_of(rt, place)? {
@@ -141,6 +169,7 @@ fn next_round<R: Files<File = File> + AllocGlobal + Copy + Drop>(
         used: number_read(autorescue, highest),
         next: number_after(highest),
         goes_back: false,
+        always_post,
     })
 }
 
@@ -149,10 +178,11 @@ fn round_behind<R: Files<File = File> + AllocGlobal + Copy + Drop>(
     rt: R,
     place: &Place<'_>,
     number: u16,
+    always_post: bool,
 ) -> Result<Round, RunFault>
     ensures numbers { IfOk result (λ round. IsRescueNumber round.next × (round.used ≤ 999)) }
     ensures back { IfOk result (λ round. round.goes_back ≡ true → IsNumber round.used) }
-    ensures by { (autorescue : Bool) → IfOk result (IsRoundBy autorescue (Some number)) }
+    ensures by { (autorescue : Bool) → IfOk result (IsRoundBy autorescue (Some number) always_post) }
     ensures refused { IfErr result (IsRoundFault (Some number)) }
 {
     if number == 0 || number > LAST_NUMBER {
@@ -173,14 +203,15 @@ fn round_behind<R: Files<File = File> + AllocGlobal + Copy + Drop>(
         used: number,
         next: number_after(number),
         goes_back: true,
+        always_post,
     })
 }
 
-/// The round of an unfinished journal, whose header has the numbers.
+/// The round of an unfinished journal, whose header has the numbers and says whether POST always runs.
 fn unfinished(peek: &Peek) -> Result<Round, RunFault>
     ensures numbers { IfOk result (λ round. IsRescueNumber round.next × (round.used ≤ 999)) }
     ensures back { IfOk result (λ round. round.goes_back ≡ true → IsNumber round.used) }
-    ensures by { (autorescue : Bool) → IfOk result (IsRoundBy autorescue None) }
+    ensures by { (autorescue asked : Bool) → IfOk result (IsRoundBy autorescue None asked) }
     ensures refused { IfErr result (IsRoundFault None) }
 {
     if peek.used > LAST_NUMBER {
@@ -194,6 +225,7 @@ fn unfinished(peek: &Peek) -> Result<Round, RunFault>
         used: peek.used,
         next: peek.next,
         goes_back: false,
+        always_post: peek.always_post,
     })
 }
 

@@ -160,10 +160,10 @@ children_read dag children node here small is read =
     ∙ ap (λ (ls : List (List ℕ)). get_or ls node []) is ∙ get_or-map-range_with_len (children_of dag) 0 (length dag.nodes) node node [] small (omega arith)
 
 -- there are not many pairs
-pub parents_few : (dag : Dag) (parents : List (List ℕ)) → parents ≡ all_parents_of dag → length dag.nodes ≤ 4096 → sum_by length parents ≤ 4096 * 4096
+pub parents_few : (dag : Dag) (parents : List (List ℕ)) → parents ≡ all_parents_of dag → length dag.nodes ≤ 65536 → sum_by length parents ≤ 65536 * 65536
 parents_few dag parents is few =
     let len : length parents ≡ length dag.nodes = parents_len dag parents is in
-    let each : All (λ (ns : List ℕ). length ns ≤ 4096) parents = λ k d lt.
+    let each : All (λ (ns : List ℕ). length ns ≤ 65536) parents = λ k d lt.
     let small : k < length dag.nodes = omega arith in
     let at : get_or parents k d ≡ parents_of dag k = get_or_default parents k d [] lt ∙ parents_at (length dag.nodes) dag.edges parents is k small in
     let count : length (parents_of dag k) ≡ count_by (λ p. list_any (is_edge p k) dag.edges) (range_with_len 0 (length dag.nodes)) = length-filter (λ p. list_any (is_edge p k) dag.edges) (range_with_len 0 (length dag.nodes)) in
@@ -171,7 +171,7 @@ parents_few dag parents is few =
     let all : length (range_with_len 0 (length dag.nodes)) ≡ length dag.nodes = length-range_with_len 0 (length dag.nodes) in
     let here : length (get_or parents k d) ≡ length (parents_of dag k) = ap (λ (ns : List ℕ). length ns) at in
     omega (arith, count, most, all, here, few) in
-    let sum : sum_by length parents ≤ length parents * 4096 = sum_by-le length 4096 parents each in
+    let sum : sum_by length parents ≤ length parents * 65536 = sum_by-le length 65536 parents each in
     omega (arith, sum, len, few)
 
 -- what is no number of an ordinary node has neither parents nor children

@@ -200,7 +200,7 @@ impl Climb {
 
     /// Climbs from each node in turn. An answer is a parent on the path.
     pub(crate) fn climb(&mut self, parents: &[Numbers]) -> Result<Option<u32>, AllocError>
-        requires few { length parents.now ≤ 4096 }
+        requires few { length parents.now ≤ 65536 }
         requires below { AreBelow (length parents.now) parents.now }
         requires climb { IsClimb parents.now self.old }
         requires empty { self.old.path ≡ [] }

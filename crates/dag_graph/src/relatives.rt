@@ -20,7 +20,7 @@ pub(crate) struct Relatives {
 
 /// The numbers of nodes, of which there are few.
 fn numbers_of(alloc: Global, count: usize, nodes: &[usize]) -> Result<Numbers, AllocError>
-    requires few { count ≤ 4096 }
+    requires few { count ≤ 65536 }
     requires within { All (λ n. n < count) nodes.now }
     ensures { IfOk result (λ numbers. numbers ≡ nodes.now) }
 {
@@ -38,7 +38,7 @@ fn side_of(
     side: Side,
     groups: &[EdgeGroup],
 ) -> Result<Vec<Numbers>, AllocError>
-    requires few { count ≤ 4096 }
+    requires few { count ≤ 65536 }
     requires within { All (IsGroupBelow count) groups.now }
     ensures { IfOk result (λ v. v.items ≡ map (ends_of side) groups.now) }
 {
@@ -68,7 +68,7 @@ fn parents_by(
     homes: &[Numbers],
     children: &[Numbers],
 ) -> Result<Vec<Numbers>, AllocError>
-    requires few { length homes.now ≤ 4096 }
+    requires few { length homes.now ≤ 65536 }
     requires homes { AreBelow (length children.now) homes.now }
     requires children { AreBelow (length homes.now) children.now }
     ensures { IfOk result (λ v. v.items ≡ map (holders_of (all_named children.now homes.now)) (range_with_len 0 (length homes.now))) }

@@ -12,7 +12,7 @@ use Rattle.dag_texts.specs.Planned.{IsGraphOf}
 use Rattle.dag_texts.specs.Warnings.{warning_lines}
 
 pub run-of : (path : List ℕ) (options : RunOptions) (files : FileSet) (graph : Network) (round : Round) (plan : Plan) → IsGraphOf (bytes_of files) path graph
-    → IsRoundBy options.autorescue options.dorescuefrom round → IsPlannedRun files graph round plan → (text warnings : List ℕ) (status : ℕ) → IsLedRun options.limits plan (start_by round) text status
+    → IsRoundBy options.autorescue options.dorescuefrom options.always_post round → IsPlannedRun files graph round plan → (text warnings : List ℕ) (status : ℕ) → IsLedRun options.limits plan (start_by round) text status
     → warnings ≡ warning_lines plan.graph.dag.warnings → IsRunOf path options text warnings status
 run-of path options files graph round plan is_graph is_round (rescue, rescue_is, made) text warnings status led notes = record {
   files = files;
@@ -29,7 +29,7 @@ run-of path options files graph round plan is_graph is_round (rescue, rescue_is,
 }
 
 pub planned-for : (path : List ℕ) (options : RunOptions) (files : FileSet) (graph : Network) (round : Round) (plan : Plan) → IsGraphOf (bytes_of files) path graph
-    → IsRoundBy options.autorescue options.dorescuefrom round → IsPlannedRun files graph round plan → IsPlannedFor path options
+    → IsRoundBy options.autorescue options.dorescuefrom options.always_post round → IsPlannedRun files graph round plan → IsPlannedFor path options
 planned-for path options files graph round plan is_graph is_round planned = record {
   files = files;
   graph = graph;

@@ -28,9 +28,11 @@ use Rattle.dag_texts.specs.Told.{IsToldOf}
 use Rattle.dag_texts.specs.declared.fault.RunFault.{RunFault}
 use Rattle.dag_texts.specs.declared.fault.RunFault.TheVariants.{InManager, StartMemory, WaitFault, Memory}
 
--- the plan of a graph and of the submit files of a set, with the rescue file of this round, or with none where it reads none
+-- the plan of a graph and of the submit files of a set, with the rescue file of this round, or with none where it reads none, and with POST
+-- scripts as the round runs them
 abbrev pub IsPlannedRun : FileSet → Network → Round → Plan → Type 0
-IsPlannedRun set graph round plan = (rescue : Option (List ℕ)) × IsRescueOf round rescue × IsPlanBy (bytes_of set) (entries_of set) rescue graph plan
+IsPlannedRun set graph round plan =
+    (rescue : Option (List ℕ)) × IsRescueOf round rescue × IsPlanBy round.always_post (bytes_of set) (entries_of set) rescue graph plan
 
 -- how the manager of a round begins, by its journal and by the numbers of its rescue files
 abbrev pub start_with : Journaled → ℕ → ℕ → Start
@@ -62,15 +64,21 @@ pub record IsLedRun (limits : Limits) (plan : Plan) (start : Start) (text : List
 pub record IsRunOf (path : List ℕ) (options : RunOptions) (text warnings : List ℕ) (status : ℕ) : Type 0 where
   pub files : FileSet
   pub round : Round
-  pub is_round : IsRoundBy options.autorescue options.dorescuefrom round
+  pub is_round : IsRoundBy options.autorescue options.dorescuefrom options.always_post round
   pub rescue : Option (List ℕ)
   pub rescue_is : IsRescueOf round rescue
-  pub told : IsToldOf (bytes_of files) (entries_of files) path rescue (λ plan. IsLedRun options.limits plan (start_by round) text status) warnings
+  pub told : IsToldOf round.always_post (bytes_of files) (entries_of files) path rescue (λ plan. IsLedRun options.limits plan (start_by round) text status) warnings
 
 -- Why it is not told which round this is and what its rescue file says, the first cause first: the second is met where the first is not.
 pub data IsFindingFault (options : RunOptions) : RunFault → Type 0 where
   no_round : (fault : RunFault) → IsRoundFault options.dorescuefrom fault → IsFindingFault options fault
-  no_rescue : (round : Round) (fault : RunFault) → IsRoundBy options.autorescue options.dorescuefrom round → IsRescueFault round fault → IsFindingFault options fault
+  no_rescue : (round : Round) (fault : RunFault) → IsRoundBy options.autorescue options.dorescuefrom options.always_post round → IsRescueFault round fault → IsFindingFault options fault
+
+-- The same as it is found first: where the journal can't be read, it may also be told that another manager is at work, or that the lock is
+-- refused.
+pub data IsFirstFault (options : RunOptions) : RunFault → Type 0 where
+  not_found_at_first : (fault : RunFault) → IsFindingFault options fault → IsFirstFault options fault
+  another_at_work : (fault : RunFault) → IsFileFault fault → IsFirstFault options fault
 
 -- Why the round has no plan: a submit file, a text of a job or a line of the rescue file has a fault, that of a line told with the name
 -- of the rescue file; memory ran out.
@@ -96,15 +104,15 @@ pub record IsPlannedFor (path : List ℕ) (options : RunOptions) : Type 0 where
   pub round : Round
   pub plan : Plan
   pub is_graph : IsGraphOf (bytes_of files) path graph
-  pub is_round : IsRoundBy options.autorescue options.dorescuefrom round
+  pub is_round : IsRoundBy options.autorescue options.dorescuefrom options.always_post round
   pub planned : IsPlannedRun files graph round plan
 
 -- Why `run` is refused, the first cause first. Each is met where those before it are not: the files make no graph; it is not
--- told which round this is, or what its rescue file says; the round has no plan; another manager is at work, or the lock is refused; under
--- the lock it is not told again which round this is; the run is not led to its end.
+-- told which round this is, or what its rescue file says; the round has no plan; a name beside the DAG file would be too long, another
+-- manager is at work, or the lock is refused; under the lock it is not told again which round this is; the run is not led to its end.
 pub data IsRunFault (path : List ℕ) (options : RunOptions) : RunFault → Type 0 where
   no_graph : (files : FileSet) (fault : RunFault) → IsGraphFault (bytes_of files) path fault → IsRunFault path options fault
-  not_found : (files : FileSet) (graph : Network) (fault : RunFault) → IsGraphOf (bytes_of files) path graph → IsFindingFault options fault → IsRunFault path options fault
+  not_found : (files : FileSet) (graph : Network) (fault : RunFault) → IsGraphOf (bytes_of files) path graph → IsFirstFault options fault → IsRunFault path options fault
   no_plan : (files : FileSet) (graph : Network) (fault : RunFault) → IsGraphOf (bytes_of files) path graph → IsRoundPlanFault files path graph fault → IsRunFault path options fault
   not_alone : (fault : RunFault) → IsPlannedFor path options → IsFileFault fault → IsRunFault path options fault
   not_found_again : (fault : RunFault) → IsPlannedFor path options → IsFindingFault options fault → IsRunFault path options fault

@@ -7,13 +7,13 @@ ghost use Rattle.run_leader.specs.Rounds.{IsNumbered};
 ghost use Rattle.dag_texts.specs.Planned.{IsPlanBy};
 ghost use Rattle.run_leader.specs.Causes.{MayStop};
 ghost use Rattle.dag_files.specs.Beside.{IsFileFault, IsRoundBy, IsRescueOf};
-ghost use Rattle.dag_main.specs.Runs.{start_by, IsPlannedRun, IsLedRun, IsRunOf, IsFindingFault, IsRoundPlanFault, IsStopFault, IsRunFault};
+ghost use Rattle.dag_main.specs.Runs.{start_by, IsPlannedRun, IsLedRun, IsRunOf, IsFindingFault, IsFirstFault, IsRoundPlanFault, IsStopFault, IsRunFault};
 
-use crate::beginning::{forget_children, life_of, settled, watcher_of};
+use crate::beginning::{forget_children, ignores_endings, life_of, settled, watcher_of};
 use command_line::RunOptions;
 use dag_files::{
-    Journaled, Place, Round, bytes_of, disk_at, files_in, journal_path, named, rescue_of,
-    rescue_path, round_of,
+    Journaled, Place, Round, bytes_of, disk_at, files_in, journal_path, named, rescue_disk,
+    rescue_of, rescue_path, round_of,
 };
 use dag_graph::Graph;
 use dag_texts::{Answer, RunFault, graph_of, plan_by, warning_text};
@@ -69,10 +69,10 @@ fn plan_of_round(
     ensures refused { IfErr result (IsRoundPlanFault files.now place.now.top.now graph) }
 {
     if round.used == 0 {
-        return plan_by(alloc, graph, files, rescue);
+        return plan_by(alloc, graph, files, rescue, round.always_post);
     }
     let path = rescue_path(alloc, place.top, round.used)?;
-    match plan_by(alloc, graph, files, rescue) {
+    match plan_by(alloc, graph, files, rescue, round.always_post) {
         Ok(plan) => Ok(plan),
         Err(fault) => Err(named(fault, Some(path))),
     }
@@ -178,9 +178,12 @@ fn run_on<R: Processes + Files<File = File> + Clock + AllocGlobal + Copy + Drop>
         (string_bytes report.text) report.status) }
     ensures refused { IfErr result IsStopFault }
 {
+    if ignores_endings(&rt) {
+        return Err(RunFault::WaitFault);
+    }
     let left = settled(&rt, place, options.orphans)?;
     put_away(&rt, place, round)?;
-    let mut watcher = watcher_of(rt, place, plan, round, left.as_str())?;
+    let mut watcher = watcher_of(rt, place, plan, round, left.as_str(), options.sync_output)?;
     watcher.begins(&life_of(place, round, options));
     let start = start_of(round);
     let ended = led_by(
@@ -210,8 +213,7 @@ fn run_planned<R: Processes + Files<File = File> + Clock + AllocGlobal + Copy + 
     ensures refused { IfErr result IsStopFault }
 {
     let alloc = rt.alloc();
-    let rescue_name = rescue_path(alloc, place.top, round.next)?;
-    let rescue = disk_at(rt, place, rescue_name.as_str())?;
+    let rescue = rescue_disk(rt, place, round.next)?;
     let journal = disk_at(rt, place, journal_path(alloc, place.top)?.as_str())?;
     run_on(rt, place, plan, round, options, (journal, rescue))
 }
@@ -226,13 +228,46 @@ fn round_with_rescue<R: Files<File = File> + AllocGlobal + Copy + Drop>(
     options: &RunOptions,
 ) -> Result<(Round, Option<Vec<u8>>), RunFault>
     ensures numbers { IfOk result (λ found. IsRescueNumber found.0.next × (found.0.used ≤ 999)) }
-    ensures by { IfOk result (λ found. IsRoundBy options.now.autorescue options.now.dorescuefrom found.0) }
+    ensures by { IfOk result (λ found. IsRoundBy options.now.autorescue options.now.dorescuefrom options.now.always_post found.0) }
     ensures rescue { IfOk result (λ found. IsRescueOf found.0 (option_map (λ b. b.items) found.1)) }
     ensures refused { IfErr result (IsFindingFault options.now) }
 {
-    let round = round_of(rt, place, options.autorescue, options.dorescuefrom)?;
+    let round = round_of(
+        rt,
+        place,
+        options.autorescue,
+        options.dorescuefrom,
+        options.always_post,
+    )?;
     let rescue = rescue_of(&rt, place, &round)?;
     Ok((round, rescue))
+}
+
+/// The round and the bytes of its rescue file as they are found first, before the lock is taken. A journal
+/// that can't be read may be one that another manager writes just then: it is looked at again once that
+/// one has stopped, or it is told that one is at work.
+///
+/// # Errors
+/// As `round_with_rescue`; where the journal can't be read and another manager runs the DAG,
+/// `FileRefused` with the file that it has locked.
+fn first_look<R: Files<File = File> + Clock + AllocGlobal + Copy + Drop>(
+    rt: R,
+    place: &Place<'_>,
+    options: &RunOptions,
+) -> Result<(Round, Option<Vec<u8>>), RunFault>
+    ensures numbers { IfOk result (λ found. IsRescueNumber found.0.next × (found.0.used ≤ 999)) }
+    ensures by { IfOk result (λ found. IsRoundBy options.now.autorescue options.now.dorescuefrom options.now.always_post found.0) }
+    ensures rescue { IfOk result (λ found. IsRescueOf found.0 (option_map (λ b. b.items) found.1)) }
+    ensures refused { IfErr result (IsFirstFault options.now) }
+{
+    match round_with_rescue(rt, place, options) {
+        Err(RunFault::InManager(_)) => {
+            let _lock = place.lock(&rt)?;
+            round_with_rescue(rt, place, options)
+        }
+        Ok(found) => Ok(found),
+        Err(fault) => Err(fault),
+    }
 }
 
 /// Whether the round and its rescue file are still those that were found before the lock was taken:
@@ -250,7 +285,8 @@ fn is_same(round: &Round, rescue: &Option<Vec<u8>>, found: &(Round, Option<Vec<u
 /// one a new round begins, and its journal is put away as `.journal.old`. Where the options ask for the
 /// rescue file of a number, a new round goes back to that one: it is read and the number behind it is
 /// written, and those of higher numbers are put away first, the highest first, with `.old` behind
-/// their names. The answer is the status text and `result N`, with status N.
+/// their names. A new round runs POST scripts behind failed PRE scripts where the options say so; one
+/// that goes on does as its journal's header says. The answer is the status text and `result N`, with status N.
 ///
 /// # Errors
 /// In this order, each before anything is started or changed: a fault of the files (`InFiles`), a
@@ -259,7 +295,9 @@ fn is_same(round: &Round, rescue: &Option<Vec<u8>>, found: &(Round, Option<Vec<u
 /// in its header that no rescue file has (`NotThere`), a folder or a rescue file that the system
 /// refuses to read (`FileRefused`), the first fault of the submit files and the texts of jobs
 /// (`InPlan`) and then of the rescue file (`InRescue`), another manager that runs the DAG
-/// (`FileRefused` with the file that it has locked). Then a process of an earlier manager that can't be
+/// (`FileRefused` with the file that it has locked; behind a journal that can't be read too), and a name
+/// beside the DAG file that would be too long (`FileRefused` with it). Then a process to which the system
+/// doesn't tell how children end (`WaitFault`), a process of an earlier manager that can't be
 /// ended (`FileRefused` with the file that names them), and a rescue file or a journal that can't be
 /// renamed (`FileRefused`); the same options go on from there. Then those of the manager
 /// (`InManager`) and of the children (`StartMemory`, `WaitFault`); what was recorded stays. Want of
@@ -281,8 +319,9 @@ pub fn run_dag<R: Processes + Files<File = File> + Clock + AllocGlobal + Copy + 
     let place = Place { folder, top };
     let files = files_in(&rt, folder, top)?;
     let graph = graph_of(alloc, &files, top)?;
-    let (round, rescue) = round_with_rescue(rt, &place, options)?;
+    let (round, rescue) = first_look(rt, &place, options)?;
     let plan = plan_of_round(alloc, &place, &files, graph, &round, bytes_of(&rescue))?;
+    place.has_room_for_names(alloc)?;
     let _lock = place.lock(&rt)?;
     let found = round_with_rescue(rt, &place, options)?;
     if !is_same(&round, &rescue, &found) {

@@ -36,8 +36,8 @@ used_same used xs ys a =
 
 count_same : (used : Used) (xs ys : List Command) → Acts xs ys → check_count used xs ≡ check_count used ys
 count_same used xs ys a =
-    ap (λ (js : List Declared). if nat_lt 4096 (used.nodes + (length js + length (finals_in xs))) || nat_lt 4096 used.splices then Err TooManyNodes else Ok tt) a.jobs
-    ∙ ap (λ (fs : List Declared). if nat_lt 4096 (used.nodes + (length (jobs_in ys) + length fs)) || nat_lt 4096 used.splices then Err TooManyNodes else Ok tt) a.finals
+    ap (λ (js : List Declared). if nat_lt 65536 (used.nodes + (length js + length (finals_in xs))) || nat_lt 4096 used.splices then Err TooManyNodes else Ok tt) a.jobs
+    ∙ ap (λ (fs : List Declared). if nat_lt 65536 (used.nodes + (length (jobs_in ys) + length fs)) || nat_lt 4096 used.splices then Err TooManyNodes else Ok tt) a.finals
 
 file_check : (used : Used) (above : List (List ℕ)) (path : List ℕ) (xs ys : List Command) → Acts xs ys → check_file used above path xs ≡ check_file used above path ys
 file_check used above path xs ys a =

@@ -69,7 +69,7 @@ drawn_within top found read opened few =
     let t = opened.0 in
     let nodes : length found.0.nodes.items ≡ tree_count t = ap (λ (ns : List FlatNode). length ns) opened.2 ∙ tree-length t in
     let used : found.0.used.nodes ≡ (0 + (own_count t.file.commands + length (finals_in t.file.commands))) + forest_declared t.inner = ap (λ (u : Used). u.nodes) opened.7 in
-    let most : found.0.used.nodes ≤ 4096 = few.nodes in
+    let most : found.0.used.nodes ≤ 65536 = few.nodes in
     let inner : forest_count t.inner ≤ forest_declared t.inner = count_le t.inner in
     record {
       few = omega arith;

@@ -16,7 +16,7 @@ use Rattle.splices.specs.Opening.{with_forest, with_file}
 
 -- no more nodes and splices than there may be
 pub record IsFew (used : Used) : Type 0 where
-  pub nodes : used.nodes ≤ 4096
+  pub nodes : used.nodes ≤ 65536
   pub splices : used.splices ≤ 4096
 
 -- these files were told and their nodes added to the draft

@@ -62,8 +62,11 @@ pub(crate) struct Found {
 /// How many files may lie in one another.
 const DEEPEST: usize = 33;
 
-/// How many nodes, and how many splices, there may be.
-const MOST: usize = 4_096;
+/// How many nodes there may be, FINAL among them.
+const MOST_NODES: usize = 65_536;
+
+/// How many splices may be opened.
+const MOST_SPLICES: usize = 4_096;
 
 /// Opens the file of this path with those of its splices, as the chapter "DAG input file commands"
 /// and the one on splices of the HTCondor manual have it.
@@ -153,11 +156,11 @@ fn check_count(used: &Used, names: &Names, commands: &[Command]) -> Result<(), S
     requires jobs { names.now.jobs ≡ job_names commands.now }
     requires finals { names.now.finals ≡ final_names commands.now }
     ensures fits { Gives (λ _. tt) result (check_count used.now commands.now) }
-    ensures nodes { OnOk result (used.now.nodes + (length names.now.jobs + length names.now.finals) ≤ 4096) }
+    ensures nodes { OnOk result (used.now.nodes + (length names.now.jobs + length names.now.finals) ≤ 65536) }
     ensures splices { OnOk result (used.now.splices ≤ 4096) }
 {
     let own = names.jobs.len().saturating_add(names.finals.len());
-    if used.nodes.saturating_add(own) > MOST || used.splices > MOST {
+    if used.nodes.saturating_add(own) > MOST_NODES || used.splices > MOST_SPLICES {
         return Err(SpliceFault::Dag(DagFault::TooManyNodes));
     }
     Ok(())
@@ -175,7 +178,7 @@ fn check_file(
     ensures jobs { IfOk result (λ n. n.jobs ≡ job_names commands.now) }
     ensures finals { IfOk result (λ n. n.finals ≡ final_names commands.now) }
     ensures splices { IfOk result (λ n. n.splices ≡ splice_names commands.now) }
-    ensures nodes { IfOk result (λ n. used.now.nodes + (length n.jobs + length n.finals) ≤ 4096) }
+    ensures nodes { IfOk result (λ n. used.now.nodes + (length n.jobs + length n.finals) ≤ 65536) }
     ensures few { OnOk result (used.now.splices ≤ 4096) }
 {
     check_final(alloc, above, path, commands)?;
@@ -196,7 +199,7 @@ fn add_own(
 ) -> Result<(), AllocError>
     requires jobs { names.now.jobs ≡ job_names file.now.commands.items }
     requires finals { names.now.finals ≡ final_names file.now.commands.items }
-    requires fits { draft.old.used.nodes + (length names.now.jobs + length names.now.finals) ≤ 4096 }
+    requires fits { draft.old.used.nodes + (length names.now.jobs + length names.now.finals) ≤ 65536 }
     ensures files { (counts : List ℕ) → OnOk result (AddsFiles draft.old draft.new (record {
       prefix = prefix.now;
       said = said_by path.now folder.now (commands_of file.now);
@@ -227,7 +230,7 @@ fn open_tree(
     prefix: &str,
     draft: &mut Draft,
 ) -> Result<Found, SpliceFault>
-    requires few { draft.old.used.nodes ≤ 4096 }
+    requires few { draft.old.used.nodes ≤ 65536 }
     ensures opened { OpensTree prefix.now result draft.old draft.new (open_file (files_in files.now) left draft.old.used above.old folder.now path.now) }
     ensures above { OnOk result (above.new ≡ above.old) }
     ensures few { OnOk result (IsFew draft.new.used) }

@@ -1,5 +1,5 @@
 -- Why a command is refused.
-use Rattle.std.proofs.Common.{◌≡◌, ℕ, List, Option, Some, Result, Ok, Err}
+use Rattle.std.proofs.Common.{Bool, ◌≡◌, ℕ, List, Option, Some, Result, Ok, Err}
 use Rattle.std.specs.Prelude.{IfErr, IsErrAnd}
 use Rattle.splices.specs.Opening.{Files}
 use Rattle.dag_graph.specs.Graph.{Network}
@@ -22,12 +22,12 @@ weaker P (Ok x) h more = tt
 weaker P (Err fault) h more = more fault h
 
 -- the plan of a graph
-pub by-fault : (files : Files) (entries : List (List ℕ × List ℕ)) (rescue : Option (List ℕ)) (graph : Network) (fault : PlanFault)
-    → Fails fault (plan_at graph (Some files) rescue (digest_of graph.dag.top entries rescue)) → IsPlanByFault files entries rescue graph (in_plan fault)
-by-fault files entries rescue graph plans.Memory fails = planning_had_no_memory
-by-fault files entries rescue graph (plans.MissingFile path) fails = has_plan_fault (plans.MissingFile path) fails
-by-fault files entries rescue graph (plans.InSubmit path fault) fails = has_plan_fault (plans.InSubmit path fault) fails
-by-fault files entries rescue graph (plans.InMacro node fault) fails = has_plan_fault (plans.InMacro node fault) fails
-by-fault files entries rescue graph (plans.NoExecutable node) fails = has_plan_fault (plans.NoExecutable node) fails
-by-fault files entries rescue graph (plans.BadUniverse node) fails = has_plan_fault (plans.BadUniverse node) fails
-by-fault files entries rescue graph (plans.InRescue fault) fails = has_plan_fault (plans.InRescue fault) fails
+pub by-fault : (always : Bool) (files : Files) (entries : List (List ℕ × List ℕ)) (rescue : Option (List ℕ)) (graph : Network) (fault : PlanFault)
+    → Fails fault (plan_at always graph (Some files) rescue (digest_of graph.dag.top entries rescue)) → IsPlanByFault files entries rescue graph (in_plan fault)
+by-fault always files entries rescue graph plans.Memory fails = planning_had_no_memory
+by-fault always files entries rescue graph (plans.MissingFile path) fails = has_plan_fault always (plans.MissingFile path) fails
+by-fault always files entries rescue graph (plans.InSubmit path fault) fails = has_plan_fault always (plans.InSubmit path fault) fails
+by-fault always files entries rescue graph (plans.InMacro node fault) fails = has_plan_fault always (plans.InMacro node fault) fails
+by-fault always files entries rescue graph (plans.NoExecutable node) fails = has_plan_fault always (plans.NoExecutable node) fails
+by-fault always files entries rescue graph (plans.BadUniverse node) fails = has_plan_fault always (plans.BadUniverse node) fails
+by-fault always files entries rescue graph (plans.InRescue fault) fails = has_plan_fault always (plans.InRescue fault) fails

@@ -1,5 +1,5 @@
 -- The plan of a run, which a rescue file may mark.
-use Rattle.std.specs.Prelude.{◌≡◌, ℕ, List, Option, Some, None, Ok, Err}
+use Rattle.std.specs.Prelude.{◌≡◌, ℕ, Bool, List, Option, Some, None, Ok, Err}
 use Rattle.splices.specs.Dag.{Dag}
 use Rattle.splices.specs.Opening.{Files}
 use Rattle.splices.specs.Opened.{dag_at}
@@ -26,28 +26,29 @@ pub data IsGraphFault (files : Files) (path : List ℕ) : RunFault → Type 0 wh
   cyclic : (dag : Dag) (names : List (List ℕ)) → dag_at files path ≡ Ok dag → NamesCycle dag names → IsGraphFault files path (Cycle names)
   opening_had_no_memory : IsGraphFault files path Memory
 
--- the plan of files, with no submit file read
-pub record IsPlanOf (files : Files) (path : List ℕ) (plan : Plan) : Type 0 where
+-- the plan of files, with no submit file read; the flag says whether POST runs behind a failed PRE
+pub record IsPlanOf (always_post : Bool) (files : Files) (path : List ℕ) (plan : Plan) : Type 0 where
   pub is_dag : dag_at files path ≡ Ok plan.graph.dag
   pub acyclic : IsAcyclic plan.graph.dag.edges
   pub is_order : IsOrderOf plan.graph.dag plan.graph.order
-  pub made : plan ≡ bare_plan plan.graph
+  pub made : plan ≡ bare_plan always_post plan.graph
 
 -- the plan of a graph whose submit files stand in the set, with a rescue file, if there is one
-abbrev pub IsPlanBy : Files → List (List ℕ × List ℕ) → Option (List ℕ) → Network → Plan → Type 0
-IsPlanBy files entries rescue graph plan = plan_at graph (Some files) rescue (digest_of graph.dag.top entries rescue) ≡ Ok plan
+abbrev pub IsPlanBy : Bool → Files → List (List ℕ × List ℕ) → Option (List ℕ) → Network → Plan → Type 0
+IsPlanBy always_post files entries rescue graph plan =
+    plan_at always_post graph (Some files) rescue (digest_of graph.dag.top entries rescue) ≡ Ok plan
 
--- why there is none: the first fault of the submit files, of the texts of jobs and of the rescue file
+-- why there is none: the first fault of the submit files, of the texts of jobs and of the rescue file, whatever the flag is
 pub data IsPlanByFault (files : Files) (entries : List (List ℕ × List ℕ)) (rescue : Option (List ℕ)) (graph : Network) : RunFault → Type 0 where
-  has_plan_fault : (fault : PlanFault) → plan_at graph (Some files) rescue (digest_of graph.dag.top entries rescue) ≡ Err fault →
+  has_plan_fault : (always_post : Bool) (fault : PlanFault) → plan_at always_post graph (Some files) rescue (digest_of graph.dag.top entries rescue) ≡ Err fault →
       IsPlanByFault files entries rescue graph (InPlan fault)
   planning_had_no_memory : IsPlanByFault files entries rescue graph Memory
 
 -- the plan of the files of a path
-pub record IsPlanWith (files : Files) (entries : List (List ℕ × List ℕ)) (path : List ℕ) (rescue : Option (List ℕ)) (plan : Plan) : Type 0 where
+pub record IsPlanWith (always_post : Bool) (files : Files) (entries : List (List ℕ × List ℕ)) (path : List ℕ) (rescue : Option (List ℕ)) (plan : Plan) : Type 0 where
   pub graph : Network
   pub is_graph : IsGraphOf files path graph
-  pub made : IsPlanBy files entries rescue graph plan
+  pub made : IsPlanBy always_post files entries rescue graph plan
 
 -- why there is none: the files make no graph, or it has no plan
 pub data IsPlanWithFault (files : Files) (entries : List (List ℕ × List ℕ)) (path : List ℕ) (rescue : Option (List ℕ)) : RunFault → Type 0 where

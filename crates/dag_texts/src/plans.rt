@@ -40,13 +40,19 @@ pub fn graph_of(alloc: Global, files: &FileSet, path: &str) -> Result<Graph, Run
     }
 }
 
-/// The plan of the files of this path, with no submit file read.
-pub fn plan_of(alloc: Global, files: &FileSet, path: &str) -> Result<Plan, RunFault>
-    ensures plan { IfOk result (IsPlanOf (bytes_of files.now) path.now) }
+/// The plan of the files of this path, with no submit file read. With `always_post` the POST script
+/// of a node runs behind a PRE script that failed, too.
+pub fn plan_of(
+    alloc: Global,
+    files: &FileSet,
+    path: &str,
+    always_post: bool,
+) -> Result<Plan, RunFault>
+    ensures plan { IfOk result (IsPlanOf always_post (bytes_of files.now) path.now) }
     ensures refused { IfErr result (IsGraphFault (bytes_of files.now) path.now) }
 {
     let graph = graph_of(alloc, files, path)?;
-    let Ok(plan) = Plan::build_bare(alloc, graph, None) else {
+    let Ok(plan) = Plan::build_bare(alloc, graph, None, always_post) else {
         return Err(RunFault::Memory);
     };
     // The order's clauses are what the proof needs of it: parents come before their children.
@@ -54,7 +60,8 @@ pub fn plan_of(alloc: Global, files: &FileSet, path: &str) -> Result<Plan, RunFa
     Ok(plan)
 }
 
-/// The plan of the files of this path, with its submit files.
+/// The plan of the files of this path, with its submit files. What is checked does not depend on
+/// whether POST always runs.
 pub(crate) fn full_plan_of(alloc: Global, files: &FileSet, path: &str) -> Result<Plan, RunFault>
     ensures dag { IfOk result (λ plan. dag_at (bytes_of files.now) path.now ≡ Ok plan.graph.dag) }
     ensures acyclic { IfOk result (λ plan. IsAcyclic plan.graph.dag.edges) }
@@ -62,29 +69,32 @@ pub(crate) fn full_plan_of(alloc: Global, files: &FileSet, path: &str) -> Result
     ensures refused { IfErr result (IsCheckFault (bytes_of files.now) path.now) }
 {
     let graph = graph_of(alloc, files, path)?;
-    match Plan::build(alloc, graph, files, None) {
+    match Plan::build(alloc, graph, files, None, false) {
         Ok(plan) => Ok(plan),
         Err((_graph, fault)) => Err(in_plan(fault)),
     }
 }
 
-/// The plan of a graph, of its submit files and of a rescue file, if there is one.
+/// The plan of a graph, of its submit files and of a rescue file, if there is one. With `always_post`
+/// the POST script of a node runs behind a PRE script that failed, too.
 pub fn plan_by(
     alloc: Global,
     graph: Graph,
     files: &FileSet,
     rescue: Option<&[u8]>,
+    always_post: bool,
 ) -> Result<Plan, RunFault>
-    ensures plan { IfOk result (IsPlanBy (bytes_of files.now) (entries_of files.now) (option_map (λ b. b.now) rescue.entry) graph) }
+    ensures plan { IfOk result (IsPlanBy always_post (bytes_of files.now) (entries_of files.now) (option_map (λ b. b.now) rescue.entry) graph) }
     ensures refused { IfErr result (IsPlanByFault (bytes_of files.now) (entries_of files.now) (option_map (λ b. b.now) rescue.entry) graph) }
 {
-    match Plan::build(alloc, graph, files, rescue) {
+    match Plan::build(alloc, graph, files, rescue, always_post) {
         Ok(plan) => Ok(plan),
         Err((_graph, fault)) => Err(in_plan(fault)),
     }
 }
 
-/// The plan of the files of this path, with its submit files and a rescue file, if there is one.
+/// The plan of the files of this path, with its submit files and a rescue file, if there is one, and
+/// with `always_post` as in `plan_by`.
 ///
 /// # Errors
 /// Those of `graph_of`, then those of `plan_by`.
@@ -93,12 +103,13 @@ pub fn plan_with(
     files: &FileSet,
     path: &str,
     rescue: Option<&[u8]>,
+    always_post: bool,
 ) -> Result<Plan, RunFault>
-    ensures plan { IfOk result (IsPlanWith (bytes_of files.now) (entries_of files.now) path.now (option_map (λ b. b.now) rescue.entry)) }
+    ensures plan { IfOk result (IsPlanWith always_post (bytes_of files.now) (entries_of files.now) path.now (option_map (λ b. b.now) rescue.entry)) }
     ensures refused { IfErr result (IsPlanWithFault (bytes_of files.now) (entries_of files.now) path.now (option_map (λ b. b.now) rescue.entry)) }
 {
     let graph = graph_of(alloc, files, path)?;
-    plan_by(alloc, graph, files, rescue)
+    plan_by(alloc, graph, files, rescue, always_post)
 }
 
 /// Why a command is refused whose plan is.

@@ -1,5 +1,5 @@
 -- What the program answers to a request, and its exit status (docs/MANUAL.md, "The command line").
-use Rattle.std.specs.Prelude.{◌≡◌, ◌≤◌, ℕ, List, [], Option, None, Result, Ok, codes, is_some, IfSome}
+use Rattle.std.specs.Prelude.{◌≡◌, ◌≤◌, ℕ, Bool, false, List, [], Option, None, Result, Ok, codes, is_some, IfSome}
 use Rattle.splices.specs.FileSet.{bytes_of}
 use Rattle.splices.specs.declared.file_set.FileSet.{FileSet}
 use Rattle.throttles.specs.declared.Limits.{Limits}
@@ -20,11 +20,11 @@ abbrev pub IsCheck : (path text warnings : List ℕ) → (status : ℕ) → Type
 IsCheck path text warnings status = (files : FileSet) × IsCheckOf (bytes_of files) path text warnings status
 
 -- What `rehearse` answers, of some files of the path, and of the text of a table where one is named.
-pub record IsRehearsal (path : List ℕ) (outcomes : Option (List ℕ)) (limits : Limits) (text warnings : List ℕ) (status : ℕ) : Type 0 where
+pub record IsRehearsal (path : List ℕ) (outcomes : Option (List ℕ)) (limits : Limits) (always_post : Bool) (text warnings : List ℕ) (status : ℕ) : Type 0 where
   pub files : FileSet
   pub table : Option (List ℕ)
   pub is_named : is_some table ≡ is_some outcomes
-  pub rehearsed : IsRehearsalOf (bytes_of files) path table limits text warnings status
+  pub rehearsed : IsRehearsalOf always_post (bytes_of files) path table limits text warnings status
 
 -- The answer to a request: the text that is printed, the warnings, and the exit status.
 abbrev pub IsAnswerTo : Asked → (text warnings : List ℕ) → (status : ℕ) → Type 0
@@ -32,7 +32,8 @@ IsAnswerTo (checks path) text warnings status = IsCheck path text warnings statu
 IsAnswerTo (runs path options) text warnings status = IsRunOf path options text warnings status
 IsAnswerTo (tells_status path) text warnings status = IsToldOfRun Status path text warnings status
 IsAnswerTo (audits path) text warnings status = IsToldOfRun Audit path text warnings status
-IsAnswerTo (rehearses path outcomes limits) text warnings status = IsRehearsal path outcomes limits text warnings status
+IsAnswerTo (rehearses path outcomes limits always_post) text warnings status =
+    IsRehearsal path outcomes limits always_post text warnings status
 IsAnswerTo (draws path) text warnings status = IsToldOfRun Graph path text warnings status
 IsAnswerTo (shows page) text warnings status = (text ≡ page) × (warnings ≡ []) × (status ≡ 0)
 
@@ -48,7 +49,7 @@ dag_of (checks path) = path
 dag_of (runs path options) = path
 dag_of (tells_status path) = path
 dag_of (audits path) = path
-dag_of (rehearses path outcomes limits) = path
+dag_of (rehearses path outcomes limits always_post) = path
 dag_of (draws path) = path
 dag_of (shows page) = []
 
@@ -62,13 +63,13 @@ pub data IsRefusal : Asked → RunFault → Type 0 where
   no_status : (path : List ℕ) (fault : RunFault) → IsToldFault Status path fault → IsRefusal (tells_status path) fault
   not_audited : (path : List ℕ) (fault : RunFault) → IsToldFault Audit path fault → IsRefusal (audits path) fault
   not_drawn : (path : List ℕ) (fault : RunFault) → IsToldFault Graph path fault → IsRefusal (draws path) fault
-  not_rehearsed : (path : List ℕ) (outcomes table : Option (List ℕ)) (limits : Limits) (files : FileSet) (fault : RunFault) →
-      is_some table ≡ is_some outcomes → IsRehearsalFault (bytes_of files) path table fault → IsRefusal (rehearses path outcomes limits) fault
+  not_rehearsed : (path : List ℕ) (outcomes table : Option (List ℕ)) (limits : Limits) (always_post : Bool) (files : FileSet) (fault : RunFault) →
+      is_some table ≡ is_some outcomes → IsRehearsalFault (bytes_of files) path table fault → IsRefusal (rehearses path outcomes limits always_post) fault
 
 -- What the words of a command line may ask for, where there are `count` of them, the program's name among them: without others
 -- it is `rehearse -`; and there is always a limit on all children.
 pub record MayAsk (count : ℕ) (asked : Asked) : Type 0 where
-  pub no_words : count ≤ 1 → asked ≡ rehearses (codes "-") None no_limits
+  pub no_words : count ≤ 1 → asked ≡ rehearses (codes "-") None no_limits false
   pub limited : IfSome (limits_in asked) AreLimits
 
 -- The exit status of the program on a command line of `count` words: that of an answer to what they may ask for, or 125.

@@ -77,7 +77,8 @@ fn answer<R: Files<File = File> + Processes + Clock + Env + Input + AllocGlobal 
             dag,
             outcomes,
             limits,
-        } => rehearse(rt, dag, outcomes, limits),
+            always_post,
+        } => rehearse(rt, dag, outcomes, limits, always_post),
     }
 }
 
@@ -179,16 +180,24 @@ fn rehearse<R: Files + Input + AllocGlobal>(
     dag: &str,
     outcomes: Option<&str>,
     limits: Limits,
+    always_post: bool,
 ) -> Result<Answer, RunFault>
     ensures report { IfOk result (λ answer.
-        IsRehearsal dag.now (option_map (λ t. t.now) outcomes.entry) limits
+        IsRehearsal dag.now (option_map (λ t. t.now) outcomes.entry) limits always_post
         (string_bytes answer.text) (string_bytes answer.warnings) answer.status) }
     ensures refused { IfErr result
-        (IsRefusal (rehearses dag.now (option_map (λ t. t.now) outcomes.entry) limits)) }
+        (IsRefusal (rehearses dag.now (option_map (λ t. t.now) outcomes.entry) limits always_post)) }
 {
     let table = outcomes_of(rt, outcomes)?;
     let files = files_of(rt, dag, Reading::SplicesAlone)?;
-    rehearse_text(rt.alloc(), &files, dag, bytes_of(&table), limits)
+    rehearse_text(
+        rt.alloc(),
+        &files,
+        dag,
+        bytes_of(&table),
+        limits,
+        always_post,
+    )
 }
 
 /// The table of outcomes, where one is named.

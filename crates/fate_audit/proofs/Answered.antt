@@ -1,5 +1,5 @@
 -- The bytes of a journal have one answer.
-use Rattle.std.proofs.Common.{◌≡◌, ◌≢◌, ℕ, ◌+◌, ◌<◌, true, false, List, [], ◌∷◌, take, drop, reverse, Option, Some, None, unwrap_or, Result, Ok, Err, IfErr, refl, sym, ap, ◌∙◌, subst, arith}
+use Rattle.std.proofs.Common.{◌≡◌, ◌≢◌, ℕ, ◌+◌, ◌<◌, Bool, true, false, List, [], ◌∷◌, take, drop, reverse, Option, Some, None, unwrap_or, Result, Ok, Err, IfErr, refl, sym, ap, ◌∙◌, subst, arith}
 use Rattle.std.specs.Prelude.{slice_get, IsErrAnd}
 use Rattle.std.proofs.lemmas.Bool.{and_parts, and_from, false≢true}
 use Rattle.std.proofs.lemmas.List.{reverse-append, reverse-reverse, take-append-drop, take_more, take-take}
@@ -13,11 +13,13 @@ use Rattle.sched_core.proofs.Finished.{lawful_part}
 use Rattle.event_journal.specs.declared.fault.JournalFault.{JournalFault}
 use Rattle.event_journal.specs.Groups.{slot_at, IsSlotAt}
 use Rattle.event_journal.specs.Image.{Header, Found, groups_in}
+use Rattle.event_journal.specs.Journal.{Replay}
 use Rattle.event_journal.specs.Reading.{FailsAs, ReadsRecords, replay_for}
 use Rattle.event_journal.specs.declared.fault.JournalFault.TheVariants as journal
 use Rattle.recovery.specs.Replay.{IsFirstForeign, IsForeignSlot, IsReplayFault}
 use Rattle.recovery.proofs.Slots.{first_at, foreign_in}
 use Rattle.run_manager.specs.declared.fault.ManagerFault.TheVariants as manager
+use Rattle.run_manager.specs.Inputs.{replay_by}
 use Rattle.fate_audit.specs.Fates.{AreFatesOf}
 use Rattle.fate_audit.specs.Shown.{AreShown}
 use Rattle.fate_audit.specs.Audit.{HasNoRecords, IsJournalOf, AreSound, IsAuditOf, IsAuditNo, no_journal, foreign_record, no_finish, had_abort, no_memory, no_of}
@@ -84,28 +86,28 @@ over-part : (plan : Plan) (past : List Record) → is_finished plan past ≡ tru
 over-part plan past h = (and_parts (is_over past) _ h).0
 
 module _ (plan : Plan) (bytes : List ℕ) where
-  no-records : HasNoRecords (replay_for plan.digest bytes) → (found : Found) → replay_for plan.digest bytes ≡ Ok (Some found) → ⊥
+  no-records : HasNoRecords (replay_by plan bytes) → (found : Found) → replay_by plan bytes ≡ Ok (Some found) → ⊥
   no-records none found is = subst HasNoRecords is none
 
-  no-past : HasNoRecords (replay_for plan.digest bytes) → (past : List Record) → IsJournalOf plan bytes past → ⊥
+  no-past : HasNoRecords (replay_by plan bytes) → (past : List Record) → IsJournalOf plan bytes past → ⊥
   no-past none past is = no-records none _ is.reads
 
-  same-records : (found : Found) → replay_for plan.digest bytes ≡ Ok (Some found) → (past : List Record) → IsJournalOf plan bytes past → found.records ≡ written past
+  same-records : (found : Found) → replay_by plan bytes ≡ Ok (Some found) → (past : List Record) → IsJournalOf plan bytes past → found.records ≡ written past
   same-records found is past journal = ap records_or (sym is ∙ journal.reads)
 
-  same-found : (found other : Found) → replay_for plan.digest bytes ≡ Ok (Some found) → replay_for plan.digest bytes ≡ Ok (Some other) → other.records ≡ found.records
+  same-found : (found other : Found) → replay_by plan bytes ≡ Ok (Some found) → replay_by plan bytes ≡ Ok (Some other) → other.records ≡ found.records
   same-found found other is is' = ap records_or (sym is' ∙ is)
 
   same-past : (past other : List Record) → IsJournalOf plan bytes past → IsJournalOf plan bytes other → other ≡ past
   same-past past other is is' = turned other (written past) (ap records_or (sym is.reads ∙ is'.reads)) ∙ reverse-reverse past
 
-  foreign-past : {X : Type 0} (slot : ℕ) → IsForeignSlot plan (replay_for plan.digest bytes) (groups_in bytes) slot
+  foreign-past : {X : Type 0} (slot : ℕ) → IsForeignSlot plan (replay_by plan bytes) (groups_in bytes) slot
       → (past : List Record) → IsJournalOf plan bytes past → is_lawful plan past ≡ true → X
   foreign-past slot why past journal lawful =
       absurd (foreign-whole plan why.found.records past why.place why.first (same-records why.found why.reads past journal) lawful)
 
-  one-slot : (slot other : ℕ) → IsForeignSlot plan (replay_for plan.digest bytes) (groups_in bytes) slot
-      → IsForeignSlot plan (replay_for plan.digest bytes) (groups_in bytes) other → slot ≡ other
+  one-slot : (slot other : ℕ) → IsForeignSlot plan (replay_by plan bytes) (groups_in bytes) slot
+      → IsForeignSlot plan (replay_by plan bytes) (groups_in bytes) other → slot ≡ other
   one-slot slot other why why' =
       let places : why.place ≡ why'.place =
       foreign-one plan why.found.records why.place why'.place why.first
@@ -166,18 +168,18 @@ found_as header records = record { header = header; records = records }
 
 -- What the parts of an audit answer.
 module _ (plan : Plan) (bytes : List ℕ) where
-  module _ (o : Option (List Record)) (digest : List ℕ) (same : digest ≡ plan.digest) (read : ReadsRecords o (replay_for digest bytes)) where
-    own : ReadsRecords o (replay_for plan.digest bytes)
-    own = subst (λ (d : List ℕ). ReadsRecords o (replay_for d bytes)) same read
+  module _ (o : Option (List Record)) (digest : List ℕ) (same : digest ≡ plan.digest) (flag : Bool) (same_flag : flag ≡ plan.always_post) (read : ReadsRecords o (replay_for digest flag bytes)) where
+    own : ReadsRecords o (replay_by plan bytes)
+    own = subst (λ (r : Replay). ReadsRecords o r) (λ j. replay_for (same j) (same_flag j) bytes) read
 
     pub read-fresh : o ≡ None → IsAuditNo plan bytes NotAJournal
     read-fresh none =
-        let fresh : ReadsRecords None (replay_for plan.digest bytes) = subst (λ (x : Option (List Record)). ReadsRecords x (replay_for plan.digest bytes)) none own in
+        let fresh : ReadsRecords None (replay_by plan bytes) = subst (λ (x : Option (List Record)). ReadsRecords x (replay_by plan bytes)) none own in
         no_journal (subst HasNoRecords (sym fresh) tt)
 
     module _ (records : List Record) (some : o ≡ Some records) where
-      found : ReadsRecords (Some records) (replay_for plan.digest bytes)
-      found = subst (λ (x : Option (List Record)). ReadsRecords x (replay_for plan.digest bytes)) some own
+      found : ReadsRecords (Some records) (replay_by plan bytes)
+      found = subst (λ (x : Option (List Record)). ReadsRecords x (replay_by plan bytes)) some own
 
       -- the records of a core that were read
       pub read-past : (past : List Record) → records ≡ written past → IsJournalOf plan bytes past
@@ -190,16 +192,17 @@ module _ (plan : Plan) (bytes : List ℕ) where
           → IsSlotAt (groups_in bytes) place slot → IsAuditNo plan bytes (NotARun slot)
       read-foreign place slot replayed e why at =
           foreign_record slot
-          (foreign_in plan plan.digest bytes found.0 place slot found.1
+          (foreign_in plan bytes found.0 place slot found.1
           (subst (λ (rs : List Record). IsFirstForeign plan rs place) (e ∙ found.2) (first_at plan replayed place why)) at)
 
-  pub read-fault : (fault : JournalFault) → FailsAs fault (replay_for plan.digest bytes) → IsAuditNo plan bytes (no_of fault)
+  pub read-fault : (fault : JournalFault) → FailsAs fault (replay_by plan bytes) → IsAuditNo plan bytes (no_of fault)
   read-fault journal.Memory is = no_memory
   read-fault journal.Device is = absurd is
   read-fault journal.DiskFull is = absurd is
   read-fault journal.NotAJournal is = no_journal (subst HasNoRecords (sym is) tt)
   read-fault (journal.Version v) is = no_journal (subst HasNoRecords (sym is) tt)
   read-fault journal.OtherInputs is = no_journal (subst HasNoRecords (sym is) tt)
+  read-fault journal.OtherFlag is = no_journal (subst HasNoRecords (sym is) tt)
   read-fault journal.SlotsFull is = absurd is
   read-fault journal.Broken is = absurd is
   read-fault (journal.BadSlot slot) is = no_journal (subst HasNoRecords (sym is) tt)

@@ -31,16 +31,16 @@ use Rattle.run_manager.specs.Rescue.{marks_of, rescue_text_for}
 -- a part of a node's specification that no mark changes
 abbrev IsUnmarked : {X : Type 0} → (NodeSpec → X) → Type 0
 IsUnmarked F =
-    (limits : List CategoryLimit) (parents : List ℕ) (job : Job) (mark other : Bool) (node : FlatNode)
-    → F (spec_of limits parents job mark node) ≡ F (spec_of limits parents job other node)
+    (always : Bool) (limits : List CategoryLimit) (parents : List ℕ) (job : Job) (mark other : Bool) (node : FlatNode)
+    → F (spec_of always limits parents job mark node) ≡ F (spec_of always limits parents job other node)
 
-module _ (dag : Dag) (one two : Sources) (job : one.job ≡ two.job) where
+module _ (dag : Dag) (one two : Sources) (job : one.job ≡ two.job) (flag : one.always_post ≡ two.always_post) where
   same-part : {X : Type 0} (F : NodeSpec → X) → IsUnmarked F → (number : ℕ) (nodes : List FlatNode) (d : NodeSpec) (i : ℕ)
       → F (unwrap_or (slice_get (specs_from dag one number nodes) i) d) ≡ F (unwrap_or (slice_get (specs_from dag two number nodes) i) d)
   same-part F un number [] d i = refl
   same-part F un number (node ∷ nodes) d zero =
-      un dag.categories (parents_of dag number) (one.job node) (one.marked number) (two.marked number) node
-      ∙ (λ j. F (spec_of dag.categories (parents_of dag number) (job j node) (two.marked number) node))
+      un one.always_post dag.categories (parents_of dag number) (one.job node) (one.marked number) (two.marked number) node
+      ∙ (λ j. F (spec_of (flag j) dag.categories (parents_of dag number) (job j node) (two.marked number) node))
   same-part F un number (node ∷ nodes) d (suc i) = same-part F un (number + 1) nodes d i
 
 -- whether a node is done from the start: its line says so, or it is marked
@@ -102,20 +102,20 @@ done-again : (flag mark good : Bool) → (flag || ((flag || mark) || good)) ≡ 
 done-again true mark good = refl
 done-again false mark good = refl
 
-module _ (set : Files) (top : List ℕ) (graph : Network) (opened : dag_at set top ≡ Ok graph.dag) (files : Option Files) (rescue : Option (List ℕ)) (digest next : List ℕ) where
-  module _ (plan : Plan) (made : plan_at graph files rescue digest ≡ Ok plan) (past : List Record) where
-    parts : (first_fault files (all_nodes graph.dag) ≡ Ok tt) × (numbers : List ℕ) × (rescued_in graph.dag rescue ≡ Ok numbers) × (plan ≡ plan_of graph (sources_of files numbers) digest)
+module _ (set : Files) (top : List ℕ) (graph : Network) (opened : dag_at set top ≡ Ok graph.dag) (always : Bool) (files : Option Files) (rescue : Option (List ℕ)) (digest next : List ℕ) where
+  module _ (plan : Plan) (made : plan_at always graph files rescue digest ≡ Ok plan) (past : List Record) where
+    parts : (first_fault files (all_nodes graph.dag) ≡ Ok tt) × (numbers : List ℕ) × (rescued_in graph.dag rescue ≡ Ok numbers) × (plan ≡ plan_of graph (sources_of always files numbers) digest)
     unfolding plan_at
-    parts = made-from (first_fault files (all_nodes graph.dag)) (rescued_in graph.dag rescue) (λ numbers. plan_of graph (sources_of files numbers) digest) plan made
+    parts = made-from (first_fault files (all_nodes graph.dag)) (rescued_in graph.dag rescue) (λ numbers. plan_of graph (sources_of always files numbers) digest) plan made
 
     abbrev numbers : List ℕ
     numbers = parts.1
 
-    is-made : plan ≡ plan_of graph (sources_of files parts.1) digest
+    is-made : plan ≡ plan_of graph (sources_of always files parts.1) digest
     is-made = parts.3
 
     count : count_of plan ≡ length graph.dag.nodes
-    count = ap count_of is-made ∙ count-is graph (sources_of files parts.1) digest
+    count = ap count_of is-made ∙ count-is graph (sources_of always files parts.1) digest
 
     abbrev said : List ℕ
     said = marked (range_with_len 0 (length graph.dag.nodes)) (marks_of plan past)
@@ -127,29 +127,29 @@ module _ (set : Files) (top : List ℕ) (graph : Network) (opened : dag_at set t
         (ap (λ (p : Plan). rescued_of graph.dag (rescue_text_of (ordinary_names p.graph.dag) (marks_of plan past))) is-made
         ∙ read_again graph.dag (marks_of plan past) (dag_fit set top graph.dag opened))
 
-    again-is : plan_at graph files (Some (rescue_text_for plan past)) next ≡ Ok (plan_of graph (sources_of files said) next)
+    again-is : plan_at always graph files (Some (rescue_text_for plan past)) next ≡ Ok (plan_of graph (sources_of always files said) next)
     unfolding plan_at
     again-is =
-        (λ j. parts.0 j >>= λ none. rescued_in graph.dag (Some (rescue_text_for plan past)) >>= λ ns. Ok (plan_of graph (sources_of files ns) next))
-        ∙ (λ j. text-says j >>= λ ns. Ok (plan_of graph (sources_of files ns) next))
+        (λ j. parts.0 j >>= λ none. rescued_in graph.dag (Some (rescue_text_for plan past)) >>= λ ns. Ok (plan_of graph (sources_of always files ns) next))
+        ∙ (λ j. text-says j >>= λ ns. Ok (plan_of graph (sources_of always files ns) next))
 
-    pub read : (again : Plan) × (plan_at graph files (Some (rescue_text_for plan past)) next ≡ Ok again)
-    read = (plan_of graph (sources_of files said) next, again-is)
+    pub read : (again : Plan) × (plan_at always graph files (Some (rescue_text_for plan past)) next ≡ Ok again)
+    read = (plan_of graph (sources_of always files said) next, again-is)
 
-    module _ (again : Plan) (found : plan_at graph files (Some (rescue_text_for plan past)) next ≡ Ok again) where
-      same-plan : again ≡ plan_of graph (sources_of files said) next
+    module _ (again : Plan) (found : plan_at always graph files (Some (rescue_text_for plan past)) next ≡ Ok again) where
+      same-plan : again ≡ plan_of graph (sources_of always files said) next
       same-plan = sym (ap (or-given again) found) ∙ ap (or-given again) again-is
 
       -- what no mark changes is as it was
       pub same : {X : Type 0} (F : NodeSpec → X) → IsUnmarked F → (node : ℕ) → F (node_at again node) ≡ F (node_at plan node)
       same F un node =
           ap (λ (p : Plan). F (node_at p node)) same-plan
-          ∙ same-part graph.dag (sources_of files said) (sources_of files parts.1) refl F un 0 graph.dag.nodes
-          (unwrap_or (option_map (final_spec (sources_of files parts.1)) graph.dag.final_node) no_node) node
+          ∙ same-part graph.dag (sources_of always files said) (sources_of always files parts.1) refl refl F un 0 graph.dag.nodes
+          (unwrap_or (option_map (final_spec (sources_of always files parts.1)) graph.dag.final_node) no_node) node
           ∙ sym (ap (λ (p : Plan). F (node_at p node)) is-made)
 
       pub same-count : count_of again ≡ count_of plan
-      same-count = ap count_of same-plan ∙ count-is graph (sources_of files said) next ∙ sym count
+      same-count = ap count_of same-plan ∙ count-is graph (sources_of always files said) next ∙ sym count
 
       marks-are : (node : ℕ) → node < length graph.dag.nodes → is_listed said node ≡ is_done plan past node
       marks-are node lt =
@@ -159,8 +159,8 @@ module _ (set : Files) (top : List ℕ) (graph : Network) (opened : dag_at set t
       pub same-done : (node : ℕ) → node < count_of again → (node_at again node).done ≡ is_done plan past node
       same-done node lt =
           let lt' : node < length graph.dag.nodes = subst (λ (n : ℕ). node < n) (same-count ∙ count) lt in
-          let d = unwrap_or (option_map (final_spec (sources_of files parts.1)) graph.dag.final_node) no_node in
-          let r = done-by graph.dag (sources_of files parts.1) (sources_of files said) 0 graph.dag.nodes d node lt' in
+          let d = unwrap_or (option_map (final_spec (sources_of always files parts.1)) graph.dag.final_node) no_node in
+          let r = done-by graph.dag (sources_of always files parts.1) (sources_of always files said) 0 graph.dag.nodes d node lt' in
           let zero-on : 0 + node ≡ node = omega arith in
           let before : (node_at plan node).done ≡ (r.0 || is_listed parts.1 node) =
           ap (λ (p : Plan). (node_at p node).done) is-made ∙ r.1 ∙ ap (λ (n : ℕ). r.0 || is_listed parts.1 n) zero-on in
@@ -170,21 +170,21 @@ module _ (set : Files) (top : List ℕ) (graph : Network) (opened : dag_at set t
           ∙ ap (λ (b : Bool). r.0 || b) (marks-are node lt' ∙ done)
           ∙ done-again r.0 (is_listed parts.1 node) good ∙ sym done
 
-  pub rescued-by : (round : Round) → plan_at graph files rescue digest ≡ Ok round.plan → (again : Plan)
-      → plan_at graph files (Some (rescue_text_for round.plan round.records)) next ≡ Ok again → IsRescuedBy round again
+  pub rescued-by : (round : Round) → plan_at always graph files rescue digest ≡ Ok round.plan → (again : Plan)
+      → plan_at always graph files (Some (rescue_text_for round.plan round.records)) next ≡ Ok again → IsRescuedBy round again
   rescued-by round made again found = record {
     count = same-count round.plan made round.records again found;
-    names = same round.plan made round.records again found (λ (s : NodeSpec). s.name) (λ limits parents job mark other node. refl);
-    courses = same round.plan made round.records again found (λ (s : NodeSpec). s.course) (λ limits parents job mark other node. refl);
-    parents = same round.plan made round.records again found (λ (s : NodeSpec). s.parents) (λ limits parents job mark other node. refl);
+    names = same round.plan made round.records again found (λ (s : NodeSpec). s.name) (λ flag limits parents job mark other node. refl);
+    courses = same round.plan made round.records again found (λ (s : NodeSpec). s.course) (λ flag limits parents job mark other node. refl);
+    parents = same round.plan made round.records again found (λ (s : NodeSpec). s.parents) (λ flag limits parents job mark other node. refl);
     done = same-done round.plan made round.records again found;
   }
 
-  pub same-orders : (plan : Plan) → plan_at graph files rescue digest ≡ Ok plan → (past : List Record) → (again : Plan)
-      → plan_at graph files (Some (rescue_text_for plan past)) next ≡ Ok again → (node : ℕ) → (node_at again node).orders ≡ (node_at plan node).orders
-  same-orders plan made past again found = same plan made past again found (λ (s : NodeSpec). s.orders) (λ limits parents job mark other node. refl)
+  pub same-orders : (plan : Plan) → plan_at always graph files rescue digest ≡ Ok plan → (past : List Record) → (again : Plan)
+      → plan_at always graph files (Some (rescue_text_for plan past)) next ≡ Ok again → (node : ℕ) → (node_at again node).orders ≡ (node_at plan node).orders
+  same-orders plan made past again found = same plan made past again found (λ (s : NodeSpec). s.orders) (λ flag limits parents job mark other node. refl)
 
   pub one-round : (round last : Round) (before : List Round) → AreRounds (last ∷ before) → needs_rescue last.plan last.records ≡ true → IsRound round
-      → plan_at graph files rescue digest ≡ Ok last.plan → plan_at graph files (Some (rescue_text_for last.plan last.records)) next ≡ Ok round.plan
+      → plan_at always graph files rescue digest ≡ Ok last.plan → plan_at always graph files (Some (rescue_text_for last.plan last.records)) next ≡ Ok round.plan
       → AreRounds (round ∷ last ∷ before)
   one-round round last before are needs is made found = (is, rescued-by last made round.plan found, needs, are)

@@ -8,8 +8,8 @@ use Rattle.sched_core.specs.Fate.{Fate}
 use Rattle.event_journal.specs.declared.fault.JournalFault.{JournalFault}
 use Rattle.event_journal.specs.declared.fault.JournalFault.TheVariants as journal
 use Rattle.event_journal.specs.Image.{Header, Found, groups_in}
-use Rattle.event_journal.specs.Reading.{replay_for}
 use Rattle.run_manager.specs.Managed.{read_of}
+use Rattle.run_manager.specs.Inputs.{replay_by}
 use Rattle.recovery.specs.Replay.{IsForeignSlot}
 use Rattle.fate_audit.specs.Fates.{AreFatesOf}
 use Rattle.fate_audit.specs.declared.fault.AuditNo.{AuditNo}
@@ -24,7 +24,7 @@ HasNoRecords (Err fault) = Unit {0}
 -- the bytes are a journal of the inputs of this plan, with these records, the newest first
 pub record IsJournalOf (plan : Plan) (bytes : List ℕ) (past : List Record) : Type 0 where
   pub header : Header
-  pub reads : replay_for plan.digest bytes ≡ read_of header past
+  pub reads : replay_by plan bytes ≡ read_of header past
 
 -- and the records are those of a finished run without abort
 pub record IsSoundJournal (plan : Plan) (bytes : List ℕ) (past : List Record) : Type 0 where
@@ -45,8 +45,8 @@ pub record IsAuditOf (plan : Plan) (bytes : List ℕ) (fates : List Fate) : Type
 -- Why the bytes are not that: they are no journal of these inputs; a record may not follow those before it; the records are
 -- those of a run that has no Finish; or of one that is finished, and was aborted. Memory may run out before.
 pub data IsAuditNo (plan : Plan) (bytes : List ℕ) : AuditNo → Type 0 where
-  no_journal : HasNoRecords (replay_for plan.digest bytes) → IsAuditNo plan bytes NotAJournal
-  foreign_record : (slot : ℕ) → IsForeignSlot plan (replay_for plan.digest bytes) (groups_in bytes) slot → IsAuditNo plan bytes (NotARun slot)
+  no_journal : HasNoRecords (replay_by plan bytes) → IsAuditNo plan bytes NotAJournal
+  foreign_record : (slot : ℕ) → IsForeignSlot plan (replay_by plan bytes) (groups_in bytes) slot → IsAuditNo plan bytes (NotARun slot)
   no_finish : (past : List Record) → IsJournalOf plan bytes past → IsTrue (is_lawful plan past) → IsFalse (is_over past) →
       IsAuditNo plan bytes Unfinished
   had_abort : (past : List Record) → IsJournalOf plan bytes past → IsTrue (is_finished plan past) → IsTrue (is_aborted plan past) →
@@ -61,6 +61,7 @@ no_of journal.DiskFull = NotAJournal
 no_of journal.NotAJournal = NotAJournal
 no_of (journal.Version v) = NotAJournal
 no_of journal.OtherInputs = NotAJournal
+no_of journal.OtherFlag = NotAJournal
 no_of journal.SlotsFull = NotAJournal
 no_of journal.Broken = NotAJournal
 no_of (journal.BadSlot slot) = NotAJournal

@@ -1,6 +1,6 @@
 //! Laws of the definitions alone. No program calls them.
 
-ghost use Rattle.std.specs.Prelude.{◌≡◌, ◌≢◌, ℕ, ◌<◌, List, ◌∷◌, Option, Some, Ok, IsTrue};
+ghost use Rattle.std.specs.Prelude.{Bool, ◌≡◌, ◌≢◌, ℕ, ◌<◌, List, ◌∷◌, Option, Some, Ok, IsTrue};
 ghost use Rattle.node_machine.specs.Story.{Table};
 ghost use Rattle.splices.specs.Opening.{Files};
 ghost use Rattle.splices.specs.Opened.{dag_at};
@@ -44,29 +44,29 @@ pub fn one_list()
         (node : ℕ) → node < count_of plan → fate_at listed node ≡ fates node }
 {}
 
-/// The rescue text of a run, read again with the same files, gives a plan in which those ordinary
+/// The rescue text of a run, read again with the same files and the same flag, gives a plan in which those ordinary
 /// nodes are done that were done in the run, and no others. Nothing else changes of what the files say
 /// of the nodes. So rounds whose plans are made in this way are rounds (law `rounds` of sched_core).
 pub fn rescued()
     ensures read { (set : Files) (top : List ℕ) (graph : Network) → dag_at set top ≡ Ok graph.dag →
-        (files : Option Files) (rescue : Option (List ℕ)) (digest next : List ℕ) (plan : Plan) →
-        plan_at graph files rescue digest ≡ Ok plan → (past : List Record) →
-        (again : Plan) × (plan_at graph files (Some (rescue_text_for plan past)) next ≡ Ok again) }
+        (always_post : Bool) (files : Option Files) (rescue : Option (List ℕ)) (digest next : List ℕ) (plan : Plan) →
+        plan_at always_post graph files rescue digest ≡ Ok plan → (past : List Record) →
+        (again : Plan) × (plan_at always_post graph files (Some (rescue_text_for plan past)) next ≡ Ok again) }
     ensures marks { (set : Files) (top : List ℕ) (graph : Network) → dag_at set top ≡ Ok graph.dag →
-        (files : Option Files) (rescue : Option (List ℕ)) (digest next : List ℕ) (round : Round) →
-        plan_at graph files rescue digest ≡ Ok round.plan → (again : Plan) →
-        plan_at graph files (Some (rescue_text_for round.plan round.records)) next ≡ Ok again →
+        (always_post : Bool) (files : Option Files) (rescue : Option (List ℕ)) (digest next : List ℕ) (round : Round) →
+        plan_at always_post graph files rescue digest ≡ Ok round.plan → (again : Plan) →
+        plan_at always_post graph files (Some (rescue_text_for round.plan round.records)) next ≡ Ok again →
         IsRescuedBy round again }
     ensures orders { (set : Files) (top : List ℕ) (graph : Network) → dag_at set top ≡ Ok graph.dag →
-        (files : Option Files) (rescue : Option (List ℕ)) (digest next : List ℕ) (plan : Plan) →
-        plan_at graph files rescue digest ≡ Ok plan → (past : List Record) → (again : Plan) →
-        plan_at graph files (Some (rescue_text_for plan past)) next ≡ Ok again →
+        (always_post : Bool) (files : Option Files) (rescue : Option (List ℕ)) (digest next : List ℕ) (plan : Plan) →
+        plan_at always_post graph files rescue digest ≡ Ok plan → (past : List Record) → (again : Plan) →
+        plan_at always_post graph files (Some (rescue_text_for plan past)) next ≡ Ok again →
         (node : ℕ) → (node_at again node).orders ≡ (node_at plan node).orders }
     ensures rounds { (set : Files) (top : List ℕ) (graph : Network) → dag_at set top ≡ Ok graph.dag →
-        (files : Option Files) (rescue : Option (List ℕ)) (digest next : List ℕ) (round last : Round)
+        (always_post : Bool) (files : Option Files) (rescue : Option (List ℕ)) (digest next : List ℕ) (round last : Round)
         (before : List Round) → AreRounds (last ∷ before) →
         IsTrue (needs_rescue last.plan last.records) → IsRound round →
-        plan_at graph files rescue digest ≡ Ok last.plan →
-        plan_at graph files (Some (rescue_text_for last.plan last.records)) next ≡ Ok round.plan →
+        plan_at always_post graph files rescue digest ≡ Ok last.plan →
+        plan_at always_post graph files (Some (rescue_text_for last.plan last.records)) next ≡ Ok round.plan →
         AreRounds (round ∷ last ∷ before) }
 {}

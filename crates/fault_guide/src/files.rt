@@ -79,7 +79,7 @@ static FILES: [Fault; 11] = [
     Fault {
         code: "S7",
         name: "TooManyNodes",
-        when: "more than 4,096 nodes, or more than 4,096 splices",
+        when: "more than 65,536 nodes, or more than 4,096 splices",
         detail: "",
         example: "    $ for i in {1..4097}; do echo \"JOB N$i a.sub\"; done > x.dag
     $ dagrun check x.dag

@@ -2,7 +2,7 @@
 
 use crate::guide::Fault;
 
-static ROUNDS: [Fault; 13] = [
+static ROUNDS: [Fault; 14] = [
     Fault {
         code: "N3",
         name: "BadLine",
@@ -190,6 +190,18 @@ static ROUNDS: [Fault; 13] = [
         example: "",
         advice: "    The journal's bytes were changed, by a disk or a program: put it back from a
     copy, or remove x.dag.journal to begin a new round.
+",
+    },
+    Fault {
+        code: "J10",
+        name: "OtherFlag",
+        when: "a journal of a round that runs POST scripts otherwise",
+        detail: "",
+        example: "",
+        advice: "    The journal's header says whether POST scripts run behind PRE scripts that
+    failed (`run --always-run-post`), and each command goes by it. This is told
+    where the records behind the header can't be read: the journal's bytes were
+    changed. Put it back from a copy, or remove x.dag.journal to begin a new round.
 ",
     },
     Fault {

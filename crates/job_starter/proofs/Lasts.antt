@@ -8,6 +8,7 @@ use Rattle.event_journal.specs.Image.{Header}
 use Rattle.run_manager.specs.Managed.{Reads}
 use Rattle.run_manager.specs.Lives.{GoesOn}
 use Rattle.run_manager.specs.Chain.{Leaves, life_records}
+use Rattle.run_manager.specs.Inputs.{IsHeaderOf}
 use Rattle.job_starter.specs.declared.driving.DriveFault.{DriveFault}
 use Rattle.job_starter.specs.Moments.{IsOlderPart, IsMore, MayHold}
 
@@ -27,13 +28,13 @@ kept-or-more (Some fault) held kept (inr more) all = more.1
 
 pub leaves-kept : (plan : Plan) (past kept held : List Record) (fault : Option DriveFault) (header : Header) (image : List ℕ)
     → MayHold fault kept held → IsOlderPart kept held → (own : List Record) × (held ≡ own ++ Life ∷ past) → is_lawful plan held ≡ true
-    → header.digest ≡ plan.digest → Reads header held image → Leaves plan (life_records past kept) image
-leaves-kept plan past kept held fault header image part all adds lawful digest reads =
+    → IsHeaderOf plan header → Reads header held image → Leaves plan (life_records past kept) image
+leaves-kept plan past kept held fault header image part all adds lawful of_plan reads =
     let more = kept-or-more fault held kept part all in
     record {
       added = more.added;
       few = more.few;
       goes_on = subst (GoesOn past) more.is (inr adds);
       lawful = subst (λ (l : List Record). is_lawful plan l ≡ true) more.is lawful;
-      reads = inr (header, subst (λ (l : List Record). Reads header l image) more.is reads, digest);
+      reads = inr (header, subst (λ (l : List Record). Reads header l image) more.is reads, of_plan);
     }

@@ -8,7 +8,7 @@ use Rattle.node_machine.specs.declared.Phase.TheVariants.{Pre, Job, Post}
 use Rattle.node_machine.specs.declared.Outcome.{Outcome}
 use Rattle.node_machine.specs.declared.Ended.{Ended}
 use Rattle.node_machine.specs.declared.Course.{Course}
-use Rattle.node_machine.specs.Story.{ended, decided_by, with_job, with_pre, attempt, attempts_from, is_last, skips, is_exit_0, is_noop_job, value_of, ends_with, phases_of, story, attempts_after, outcome_in, has_ended, first_to_come, next_after}
+use Rattle.node_machine.specs.Story.{ended, decided_by, with_job, always_posts, with_failed_pre, with_pre, attempt, attempts_from, is_last, skips, is_exit_0, is_noop_job, value_of, ends_with, phases_of, story, attempts_after, outcome_in, has_ended, first_to_come, next_after}
 use Rattle.node_specs.specs.Node.{NodeSpec}
 use Rattle.run_plan.specs.Plan.{Plan, node_at}
 use Rattle.node_specs.specs.Commands.{starts_child}
@@ -44,11 +44,19 @@ module _ (course : Course) where
       pre : List Ended
       pre = ended i outcomes Pre ∷ []
 
+      failed : All pre → All ((with_failed_pre course i outcomes).ended)
+      failed first = post (always_posts course) refl
+        where
+          post : (b : Bool) → always_posts course ≡ b
+              → All ((if b then decided_by (outcomes Post) (ended i outcomes Pre ∷ ended i outcomes Post ∷ []) else record { ended = pre; value = value_of (outcomes Pre); good = false }).ended)
+          post true is = all_then pre (ended i outcomes Post ∷ []) first (and_from _ _ (and_parts course.always_post course.post is).1 refl)
+          post false is = first
+
       two : (skipped good : Bool) → All pre
-          → All ((if skipped then record { ended = pre; value = pos 0; good = true } else if good then with_job course i outcomes pre else record { ended = pre; value = value_of (outcomes Pre); good = false }).ended)
+          → All ((if skipped then record { ended = pre; value = pos 0; good = true } else if good then with_job course i outcomes pre else with_failed_pre course i outcomes).ended)
       two true good first = first
       two false true first = job-has i outcomes pre first
-      two false false first = first
+      two false false first = failed first
 
       go : (b : Bool) → course.pre ≡ b → All ((if b then with_pre course i outcomes else with_job course i outcomes []).ended)
       go true is = two (skips course (outcomes Pre)) (is_exit_0 (outcomes Pre)) (λ j. is j && true)

@@ -19,7 +19,7 @@ use Rattle.sched_core.proofs.Best.{choice-one}
 use Rattle.job_starter.specs.declared.Call.{Call}
 use Rattle.job_starter.specs.Calls.{oldest}
 use Rattle.job_starter.specs.Scripts.{scripted_outcome, IsScripted}
-use Rattle.job_starter.specs.Drives.{most_at_once, Standing, At, at_rest, IsHeld, IsRoundOf, IsStep, launches, passes, starts, fails, ends, settles, kills, Goes, no_step, one_more, Drives}
+use Rattle.job_starter.specs.Drives.{most_at_once, Standing, At, at_rest, IsRoundOf, IsStep, launches, passes, starts, fails, ends, settles, kills, Goes, no_step, one_more, Drives}
 use Rattle.job_starter.proofs.Phases.{noop-quiet}
 use Rattle.job_starter.proofs.Walks.{no_child}
 
@@ -40,7 +40,7 @@ module _ (limits : Limits) (plan : Plan) (table : List Entry) where
         → scripted_outcome plan table key ≢ NoStart → Next (Here past (key ∷ keys) owed) (Here past keys owed)
     next_fails : {past : List Record} {key : Key} {keys : List Key} {owed : List (Key × Outcome)} → starts_child (node_at plan key.node) key.phase ≡ true
         → scripted_outcome plan table key ≡ NoStart → Next (Here past (key ∷ keys) owed) (Here past keys (owed ++ (key, NoStart) ∷ []))
-    next_ends : {past : List Record} {key : Key} → IsHeld limits plan past → oldest (outstanding plan past) ≡ Some key
+    next_ends : {past : List Record} {key : Key} → NothingToStart limits plan past → oldest (outstanding plan past) ≡ Some key
         → Next (Here past [] []) (Here past [] ((key, scripted_outcome plan table key) ∷ []))
     next_settles : {past : List Record} {end : Key × Outcome} {owed : List (Key × Outcome)}
         → Next (Here past [] (end ∷ owed)) (Here (added past (up_to_abort plan past (ends_of (end ∷ owed)))) [] [])
@@ -49,7 +49,7 @@ module _ (limits : Limits) (plan : Plan) (table : List Entry) where
     here : Chain from from
     more : {between to : Place} → Chain from between → Next between to → Chain from to
 
-  held-starts : (past : List Record) (key : Key) → IsHeld limits plan past → IsChoice limits plan past (choices.Start key) → ⊥
+  held-starts : (past : List Record) (key : Key) → NothingToStart limits plan past → IsChoice limits plan past (choices.Start key) → ⊥
   held-starts past key held c = let bad : None ≡ Some key = sym (held key.node) ∙ c.0 in absurd cc
 
   same-key : (past : List Record) (key other : Key) → IsChoice limits plan past (choices.Start key) → IsChoice limits plan past (choices.Start other) → key ≡ other
@@ -78,7 +78,7 @@ module _ (limits : Limits) (plan : Plan) (table : List Entry) where
   first-of-round past [] round = absurd (let some = round.some in omega (arith, some))
   first-of-round past (key ∷ keys) round = (key, round.chosen.0)
 
-  held-round : (past : List Record) (keys : List Key) → IsHeld limits plan past → IsRoundOf limits plan past keys → ⊥
+  held-round : (past : List Record) (keys : List Key) → NothingToStart limits plan past → IsRoundOf limits plan past keys → ⊥
   held-round past keys held round = let first = first-of-round past keys round in held-starts past first.0 held first.1
 
   quiet-starts : (key : Key) → is_noop_job (node_at plan key.node).course key.phase ≡ true → starts_child (node_at plan key.node) key.phase ≡ true → ⊥

@@ -17,6 +17,7 @@ use Rattle.node_machine.specs.declared.Record.TheVariants.{End}
 use Rattle.sched_core.specs.Run.{history, next, is_open, is_over, may_follow, may_launch, is_lawful, is_nothing, is_among, is_same, outstanding}
 use Rattle.sched_core.specs.Core.{has_key_of}
 use Rattle.sched_core.specs.Choices.{startable, nothing_launchable}
+use Rattle.sched_core.specs.Ahead.{NothingToStart}
 use Rattle.sched_core.proofs.Keys.{same-eq, each_among}
 use Rattle.sched_core.proofs.Best.{startable-parts}
 use Rattle.sched_core.proofs.Moves.{launchable-next}
@@ -31,7 +32,6 @@ use Rattle.job_starter.specs.declared.driving.DriveFault.{DriveFault}
 use Rattle.job_starter.specs.Moments.{KeepsDisk, CountsOn}
 use Rattle.job_starter.proofs.Disks.{keeps_on, counts_on}
 use Rattle.job_starter.specs.Causes.{IsOfRun, AreRefused, IsDriveFault, no_memory_for_child, no_ending_told, no_memory_for_command, no_memory_for_round, records_refused}
-use Rattle.job_starter.specs.Drives.{IsHeld}
 
 -- an ending of what is outstanding is lawful
 pub end-may-follow : (plan : Plan) (past : List Record) (key : Key) (outcome : Outcome)
@@ -130,7 +130,7 @@ open-begun [] begun over = absurd (false≢true begun)
 open-begun (newest ∷ past) begun over = ap not over
 
 -- where nothing may be launched, nothing is let in
-pub nothing-startable : (limits : Limits) (plan : Plan) (past : List Record) → nothing_launchable plan past (suc (count_of plan)) ≡ true → IsHeld limits plan past
+pub nothing-startable : (limits : Limits) (plan : Plan) (past : List Record) → nothing_launchable plan past (suc (count_of plan)) ≡ true → NothingToStart limits plan past
 nothing-startable limits plan past nothing node = go (startable limits plan past node) refl
   where
     go : (o : Option Key) → startable limits plan past node ≡ o → startable limits plan past node ≡ None

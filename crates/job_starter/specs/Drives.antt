@@ -16,7 +16,6 @@ use Rattle.sched_core.specs.declared.Choice.TheVariants as choices
 use Rattle.node_machine.specs.declared.Record.{Record}
 use Rattle.sched_core.specs.Run.{outstanding, is_among, is_nothing, is_aborted, is_open, is_lawful, without}
 use Rattle.sched_core.specs.Bound.{records_left}
-use Rattle.sched_core.specs.Choices.{startable}
 use Rattle.sched_core.specs.Ahead.{launched, AreChosen, NothingToStart, added, up_to_abort, ends_of, ended_in}
 use Rattle.sched_core.specs.Commands.{facts_in}
 use Rattle.run_manager.specs.Managed.{Managed}
@@ -83,10 +82,6 @@ pub record IsHandedOver (plan : Plan) (records : List Record) (key : Key) (answe
   pub is : IsCommandIn plan records key command
   pub entry : heard ≡ calls.Started key (snapshot_of command) answer ∷ told
 
--- nothing more may be launched now that the limits let in
-abbrev pub IsHeld : Limits → Plan → List Record → Type 0
-IsHeld limits plan past = (node : ℕ) → startable limits plan past node ≡ None
-
 -- A round: phases that are launched together, each what is chosen once those before it are launched; fewer than may be only where
 -- nothing more may be launched behind them.
 pub record IsRoundOf (limits : Limits) (plan : Plan) (past : List Record) (keys : List Key) : Type 0 where
@@ -110,10 +105,11 @@ records_of (At past told keys owed) = past
 abbrev pub calls_of : Standing → List Call
 calls_of (At past told keys owed) = told
 
--- One step of a run. A round is launched, while the run goes on and the children that run are the outstanding phases. Of its phases the first is handed over
--- with its command, and its child starts, or doesn't: then its end with NoStart is owed; the job of a NOOP is not handed over, and
--- its end with Exit 0 is owed. Once all are handed over, what is owed is recorded together, up to the first that aborts the run. Where
--- nothing may be launched, a child is told to have ended, which is owed then. Or a child is killed whose phase is not outstanding.
+-- One step of a run. A round is launched, while the run goes on and the children that run are the outstanding phases. Of its phases the
+-- first is handed over with its command, and its child starts, or doesn't: then its end with NoStart is owed; the job of a NOOP is not
+-- handed over, and its end with Exit 0 is owed. Once all are handed over, what is owed is recorded together, up to the first that aborts
+-- the run. Where nothing may be launched, a child is told to have ended, which is owed then. Or a child is killed whose phase is not
+-- outstanding.
 pub data IsStep (limits : Limits) (plan : Plan) (may : List Call → Key → Outcome → Type 0) : Standing → Standing → Type 0 where
   launches : {past : List Record} {told : List Call} {keys : List Key} → IsTrue (is_lawful plan past) → IsTrue (is_open past)
       → AreInStep plan past told → IsRoundOf limits plan past keys
@@ -128,7 +124,7 @@ pub data IsStep (limits : Limits) (plan : Plan) (may : List Call → Key → Out
       → IsTrue (starts_child (node_at plan key.node) key.phase) → IsCommandIn plan past key command → may told key NoStart
       → IsStep limits plan may (At past told (key ∷ keys) owed)
       (At past (calls.Started key (snapshot_of command) NotStarted ∷ told) keys (owed ++ (key, NoStart) ∷ []))
-  ends : {past : List Record} {told : List Call} {key : Key} {outcome : Outcome} → AreInStep plan past told → IsHeld limits plan past
+  ends : {past : List Record} {told : List Call} {key : Key} {outcome : Outcome} → AreInStep plan past told → NothingToStart limits plan past
       → IsTrue (is_among key (running told)) → may told key outcome
       → IsStep limits plan may (At past told [] []) (At past (calls.Ended key outcome ∷ told) [] ((key, outcome) ∷ []))
   settles : {past : List Record} {told : List Call} {end : Key × Outcome} {owed : List (Key × Outcome)}
@@ -166,7 +162,7 @@ pub data IsStoppedAt (limits : Limits) (plan : Plan) : DriveFault → Standing �
       → IsStoppedAt limits plan (drives.Manager fault) (At past told [] [])
   end_refused : {past : List Record} {told : List Call} {end : Key × Outcome} {owed : List (Key × Outcome)} {fault : ManagerFault}
       → IsStoppedAt limits plan (drives.Manager fault) (At past told [] (end ∷ owed))
-  none_told : {past : List Record} {told : List Call} → IsHeld limits plan past → IsFalse (is_nothing (outstanding plan past))
+  none_told : {past : List Record} {told : List Call} → NothingToStart limits plan past → IsFalse (is_nothing (outstanding plan past))
       → IsStoppedAt limits plan drives.WaitFault (At past told [] [])
 
 -- children were to be started; none ended and none was killed
@@ -187,7 +183,7 @@ AbortsAtLast plan (newest ∷ past) = IsFalse (is_aborted plan past) × IsTrue (
 
 -- nothing more is to be launched; or the newest record aborted the run, which was not aborted before
 abbrev pub IsLaunched : Limits → Plan → List Record → List Record → Type 0
-IsLaunched limits plan before past = IsHeld limits plan past ⊎ (IsFalse (is_aborted plan before) × AbortsAtLast plan past)
+IsLaunched limits plan before past = NothingToStart limits plan past ⊎ (IsFalse (is_aborted plan before) × AbortsAtLast plan past)
 
 -- Behind a crash: any number of steps. Of a round phases may be launched and not handed over, and endings known and not recorded.
 pub record IsHaltedFrom (limits : Limits) (plan : Plan) (may : List Call → Key → Outcome → Type 0) (from : Standing) (after : List Record) (last : List Call) : Type 0 where

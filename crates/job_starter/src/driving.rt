@@ -3,9 +3,10 @@ ghost use Rattle.std.specs.Prelude.{◌≡◌, [], ◌∷◌, ◌≤◌, not, �
 ghost use Rattle.sched_core.specs.Run.{is_aborted, is_over, is_open, is_nothing, outstanding, may_follow, table_of};
 ghost use Rattle.sched_core.specs.Fate.{AreFates, shown};
 ghost use Rattle.sched_core.specs.Choices.{IsChoice};
+ghost use Rattle.sched_core.specs.Ahead.{NothingToStart};
 ghost use Rattle.run_manager.specs.Managed.{Managed, plan_of, past_of};
 ghost use Rattle.job_starter.specs.Calls.{running, TellsNoMore};
-ghost use Rattle.job_starter.specs.Drives.{limits_of, at_rest, AreInStep, IsNearerEnd, IsHeld, IsTurn, final_verdict, Drives, Kills, IsStopped};
+ghost use Rattle.job_starter.specs.Drives.{limits_of, at_rest, AreInStep, IsNearerEnd, IsTurn, final_verdict, Drives, Kills, IsStopped};
 ghost use Rattle.job_starter.specs.Causes.{IsDriveFault};
 ghost use Rattle.job_starter.specs.Moments.{fault_in, IsMomentOfRun, IsLastMoment, AtAnyMoment, AtTheEnd, UnlessDiskFault, StaysAcknowledged, KeepsDisk, CountsOn};
 ghost use Rattle.job_starter.specs.Stretches.{IsStretch, IsCutShort};
@@ -69,7 +70,7 @@ fn end_one<D: Disk + Drop, S: Starter>(
     starter: &mut S,
 ) -> Result<(), DriveFault>
     requires in_step { AreInStep (plan_of manager.old) (past_of manager.old) (S.told starter.old) }
-    requires held { IsHeld (limits_of manager.old) (plan_of manager.old) (past_of manager.old) }
+    requires held { NothingToStart (limits_of manager.old) (plan_of manager.old) (past_of manager.old) }
     requires some { IsFalse (is_nothing (outstanding (plan_of manager.old) (past_of manager.old))) }
     requires going { IsTrue (is_open (past_of manager.old)) }
     ensures nearer { OnOk result (IsNearerEnd (plan_of manager.old) (past_of manager.old) (past_of manager.new)) }

@@ -14,6 +14,7 @@ ghost use Rattle.sched_core.specs.Choices.{IsChoice};
 ghost use Rattle.sched_core.specs.declared.Choice.TheVariants as choices;
 ghost use Rattle.event_journal.specs.Image.{Header};
 ghost use Rattle.run_manager.specs.Chain.{ReadsForInputs, Leaves, life_records};
+ghost use Rattle.run_manager.specs.Inputs.{IsHeaderOf};
 ghost use Rattle.job_starter.specs.declared.Call.{Call};
 ghost use Rattle.job_starter.specs.declared.driving.DriveFault.{DriveFault};
 ghost use Rattle.job_starter.specs.Calls.{running};
@@ -49,13 +50,13 @@ pub fn stops<S: Starter>()
     ensures life { (limits : Limits) (plan : Plan) (starter : S) (past : List Record)
         (told : List Call) (fault : Option DriveFault) (kept : List Record) (last : List Call)
         (header : Header) (found image : List ℕ) →
-        header.digest ≡ plan.digest → ReadsForInputs plan past found →
+        IsHeaderOf plan header → ReadsForInputs plan past found →
         (stop : IsMomentOfRun limits plan (S.may_tell starter) (Life ∷ past) told fault kept last header image) →
         IsLifeAt past told found image stop }
     // Behind the call: by the records that it kept, an image is one that their life leaves.
     ensures leaves { (limits : Limits) (plan : Plan) (starter : S) (past : List Record)
         (told : List Call) (fault : Option DriveFault) (kept : List Record) (last : List Call)
-        (header : Header) (image : List ℕ) → header.digest ≡ plan.digest →
+        (header : Header) (image : List ℕ) → IsHeaderOf plan header →
         IsLastMoment limits plan (S.may_tell starter) (Life ∷ past) told fault kept last header image →
         Leaves plan (life_records past kept) image }
 {}

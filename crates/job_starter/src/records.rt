@@ -3,11 +3,11 @@ ghost use Rattle.std.specs.Prelude.{◌≡◌, [], length, ◌<◌, ◌≤◌, I
 ghost use Rattle.run_plan.specs.Plan.{node_at, count_of};
 ghost use Rattle.node_specs.specs.Commands.{starts_child};
 ghost use Rattle.sched_core.specs.Run.{is_aborted, is_lawful, is_nothing, is_over, is_open, outstanding};
-ghost use Rattle.sched_core.specs.Ahead.{launched, added, up_to_abort, ends_of};
+ghost use Rattle.sched_core.specs.Ahead.{NothingToStart, launched, added, up_to_abort, ends_of};
 ghost use Rattle.sched_core.specs.Choices.{IsChoice};
 ghost use Rattle.run_manager.specs.Managed.{plan_of, past_of};
 ghost use Rattle.run_manager.specs.declared.fault.ManagerFault.TheVariants.{Memory};
-ghost use Rattle.job_starter.specs.Drives.{limits_of, most_at_once, At, at_rest, AreInStep, MayEndAll, IsHeld, IsRoundOf, IsNearerEnd};
+ghost use Rattle.job_starter.specs.Drives.{limits_of, most_at_once, At, at_rest, AreInStep, MayEndAll, IsRoundOf, IsNearerEnd};
 ghost use Rattle.job_starter.specs.Stretches.{IsStretch, IsCutShort};
 
 use crate::{DriveFault, Starter};
@@ -71,7 +71,7 @@ pub fn next_round<D: Disk + Drop>(
 ) -> Result<Vec<Key>, DriveFault>
     ensures round { IfOk result (λ keys. IsFalse (is_nothing keys.items) → IsRoundOf (limits_of manager.now) (plan_of manager.now)
         (past_of manager.now) keys.items) }
-    ensures held { IfOk result (λ keys. IsTrue (is_nothing keys.items) → IsHeld (limits_of manager.now) (plan_of manager.now)
+    ensures held { IfOk result (λ keys. IsTrue (is_nothing keys.items) → NothingToStart (limits_of manager.now) (plan_of manager.now)
         (past_of manager.now)) }
     ensures err { IfErr result (λ fault. fault ≡ DriveFault.Manager Memory) }
 {

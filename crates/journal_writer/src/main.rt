@@ -32,11 +32,11 @@ fn begin<D: Disk + Drop>(alloc: Global, disk: D) -> Result<Journal<D>, JournalFa
     ensures settled { IfOk result (λ journal. D.honest (journal_disk journal)
         → IsFalse (is_broken journal) → IsSettled D.seen D.may_leave journal) }
 {
-    match Journal::open(alloc, disk, &DIGEST, SLOTS) {
+    match Journal::open(alloc, disk, &DIGEST, false, SLOTS) {
         Ok(Opened::Fresh(journal)) => {
             let mut journal = journal;
             journal.create_gate()?;
-            journal.create_header(0, 1, &DIGEST)?;
+            journal.create_header(0, 1, &DIGEST, false)?;
             Ok(journal)
         }
         Ok(Opened::Found(journal)) => Ok(journal),

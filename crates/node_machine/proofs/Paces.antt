@@ -8,8 +8,8 @@ use Rattle.node_machine.specs.declared.Outcome.{Outcome}
 use Rattle.node_machine.specs.declared.Ended.{Ended}
 use Rattle.node_machine.specs.declared.Course.{Course}
 use Rattle.node_machine.specs.declared.Stand.{Stand}
-use Rattle.node_machine.specs.Story.{is_set_to, skips, is_exit_0, value_of, next_after, may_end_with, is_that_phase, may_go_on}
-use Rattle.node_machine.specs.Stand.{stand_before, closed, step_at, step, steps, stand_after}
+use Rattle.node_machine.specs.Story.{is_set_to, skips, is_exit_0, always_posts, value_of, next_after, may_end_with, is_that_phase, may_go_on}
+use Rattle.node_machine.specs.Stand.{stand_before, closed, pre_failed, step_at, step, steps, stand_after}
 
 pub steps-push : (course : Course) (s : Stand) (es : List Ended) (e : Ended) → steps course s (es ++ e ∷ []) ≡ step course (steps course s es) e.outcome
 steps-push course s [] e = refl
@@ -39,10 +39,12 @@ step-attempt course s outcome le = go s.phase
     go None = le
     go (Some Pre) =
         pick (λ t. t.attempt ≤ course.retries) (skips course outcome) (closed course s.attempt (pos 0) true)
-        (if is_exit_0 outcome then record { attempt = s.attempt; phase = Some Job; value = s.value; good = s.good } else closed course s.attempt (value_of outcome) false)
+        (if is_exit_0 outcome then record { attempt = s.attempt; phase = Some Job; value = s.value; good = s.good } else pre_failed course s outcome)
         (closed-attempt course s.attempt (pos 0) true le)
-        (pick (λ t. t.attempt ≤ course.retries) (is_exit_0 outcome) (record { attempt = s.attempt; phase = Some Job; value = s.value; good = s.good }) (closed course s.attempt (value_of outcome) false)
-        le (closed-attempt course s.attempt (value_of outcome) false le))
+        (pick (λ t. t.attempt ≤ course.retries) (is_exit_0 outcome) (record { attempt = s.attempt; phase = Some Job; value = s.value; good = s.good }) (pre_failed course s outcome)
+        le
+        (pick (λ t. t.attempt ≤ course.retries) (always_posts course) (record { attempt = s.attempt; phase = Some Post; value = s.value; good = s.good })
+        (closed course s.attempt (value_of outcome) false) le (closed-attempt course s.attempt (value_of outcome) false le)))
     go (Some Job) =
         pick (λ t. t.attempt ≤ course.retries) course.post (record { attempt = s.attempt; phase = Some Post; value = s.value; good = s.good })
         (closed course s.attempt (value_of outcome) (int_eq (value_of outcome) (pos 0))) le decided-attempt

@@ -7,9 +7,9 @@ use Rattle.node_machine.specs.declared.Outcome.{Outcome}
 use Rattle.node_machine.specs.declared.Ended.{Ended}
 use Rattle.node_machine.specs.declared.Course.{Course}
 use Rattle.node_machine.specs.declared.Stand.{Stand}
-use Rattle.node_machine.specs.Story.{story, phases_of, attempts_within, attempts_from, value_after, Attempt, value_of, skips, is_exit_0, is_last, decided_by, last_of, is_good, value_if_any, outcome_in, attempts_after, attempts_ended_after, next_after, is_good_after, is_history}
-use Rattle.node_machine.specs.Stand.{stand_before, closed, step, steps, stand_after, next_of, ended_by}
-use Rattle.node_machine.proofs.Trees.{end_of, end_from, end-split, one_of, within-whole, Tree, Over, Ask, got, play, job_tree, attempt_tree, tree_from, after, Plays, both}
+use Rattle.node_machine.specs.Story.{story, phases_of, attempts_within, attempts_from, value_after, Attempt, value_of, skips, is_exit_0, always_posts, is_last, decided_by, last_of, is_good, value_if_any, outcome_in, attempts_after, attempts_ended_after, next_after, is_good_after, is_history}
+use Rattle.node_machine.specs.Stand.{stand_before, closed, pre_failed, step, steps, stand_after, next_of, ended_by}
+use Rattle.node_machine.proofs.Trees.{end_of, end_from, end-split, one_of, within-whole, Tree, Over, Ask, got, play, job_tree, failed_tree, attempt_tree, tree_from, after, Plays, both}
 use Rattle.node_machine.proofs.Beginnings.{first_phase, Fits, tree_of, masked, story-end, next-first, history-fits, fits-nil}
 
 -- the attempts that ended, where the first n phases end within the attempt a
@@ -117,9 +117,18 @@ module _ (course : Course) where
         (let l = length-append before (got i Job y ∷ got i Post z ∷ []) in omega arith)))
         (later (decided_by y (before ++ got i Job y ∷ [])) (suc n) (let l = length-append before (got i Job y ∷ []) in omega arith)))
 
+    same-failed : (n : ℕ) (x : Outcome) → n ≡ length (phases_of done)
+        → Same (suc n) (failed_tree course i x next) (pre_failed course (record { attempt = i; phase = Some Pre; value = value; good = good }) x)
+    same-failed n x total =
+        both (Same (suc n)) (always_posts course)
+        (same-ask done (suc n) 1 (omega arith) i many Post _ value good v
+        (λ told. inside-next (decided_by (told i Post) (got i Pre x ∷ got i Post (told i Post) ∷ [])) 1 (omega arith) told)
+        (λ z. later (decided_by z (got i Pre x ∷ got i Post z ∷ [])) (suc (suc n)) (omega arith)))
+        (later (record { ended = got i Pre x ∷ []; value = value_of x; good = false }) (suc n) (omega arith))
+
     same-attempt : (n : ℕ) → n ≡ length (phases_of done) → Same n (attempt_tree course i next) (stand_before course i value good)
     same-attempt n total =
-        elim course.pre as (λ b. Same n (if b then Ask i Pre (λ x. if skips course x then next (record { ended = got i Pre x ∷ []; value = pos 0; good = true }) else if is_exit_0 x then job_tree course i (got i Pre x ∷ []) next else next (record { ended = got i Pre x ∷ []; value = value_of x; good = false })) else job_tree course i [] next)
+        elim course.pre as (λ b. Same n (if b then Ask i Pre (λ x. if skips course x then next (record { ended = got i Pre x ∷ []; value = pos 0; good = true }) else if is_exit_0 x then job_tree course i (got i Pre x ∷ []) next else failed_tree course i x next) else job_tree course i [] next)
         (record { attempt = i; phase = Some (if b then Pre else Job); value = value; good = good })) [
           | true ↦ same-ask done n 0 (omega arith) i many Pre _ value good v
               (λ told. one_of (λ tree. Inside done 0 (end_of tree told)) (skips course (told i Pre))
@@ -128,11 +137,12 @@ module _ (course : Course) where
               (one_of (λ tree. Inside done 0 (end_of tree told)) course.post
               (inside-next (decided_by (told i Post) (got i Pre (told i Pre) ∷ got i Job (told i Job) ∷ got i Post (told i Post) ∷ [])) 0 (omega arith) told)
               (inside-next (decided_by (told i Job) (got i Pre (told i Pre) ∷ got i Job (told i Job) ∷ [])) 0 (omega arith) told))
-              (inside-next (record { ended = got i Pre (told i Pre) ∷ []; value = value_of (told i Pre); good = false }) 0 (omega arith) told)))
+              (one_of (λ tree. Inside done 0 (end_of tree told)) (always_posts course)
+              (inside-next (decided_by (told i Post) (got i Pre (told i Pre) ∷ got i Post (told i Post) ∷ [])) 0 (omega arith) told)
+              (inside-next (record { ended = got i Pre (told i Pre) ∷ []; value = value_of (told i Pre); good = false }) 0 (omega arith) told))))
               (λ x. both (Same (suc n)) (skips course x)
               (later (record { ended = got i Pre x ∷ []; value = pos 0; good = true }) (suc n) (omega arith))
-              (both (Same (suc n)) (is_exit_0 x) (same-job (suc n) (got i Pre x ∷ []) (omega arith))
-              (later (record { ended = got i Pre x ∷ []; value = value_of x; good = false }) (suc n) (omega arith))))
+              (both (Same (suc n)) (is_exit_0 x) (same-job (suc n) (got i Pre x ∷ []) (omega arith)) (same-failed n x total)))
           | false ↦ same-job n [] (omega arith)
         ]
 

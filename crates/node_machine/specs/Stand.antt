@@ -9,7 +9,7 @@ use Rattle.node_machine.specs.declared.Course.{Course}
 use Rattle.node_machine.specs.declared.Stand.{Stand}
 use Rattle.node_machine.specs.declared.State.{State}
 use Rattle.node_machine.specs.declared.State.TheVariants.{Done, Error, NotRun}
-use Rattle.node_machine.specs.Story.{value_of, skips, is_exit_0, is_set_to}
+use Rattle.node_machine.specs.Story.{value_of, skips, is_exit_0, is_set_to, always_posts}
 
 abbrev pub first_phase_of : Course → Phase
 first_phase_of course = if course.pre then Pre else Job
@@ -26,12 +26,18 @@ closed course i value good =
     then record { attempt = i; phase = None; value = Some value; good = good }
     else stand_before course (suc i) (Some value) good
 
+-- PRE fails: POST runs all the same, or the attempt ends
+abbrev pub pre_failed : Course → Stand → Outcome → Stand
+pre_failed course stand outcome =
+    if always_posts course then record stand { phase = Some Post }
+    else closed course stand.attempt (value_of outcome) false
+
 abbrev pub step_at : Course → Stand → Option Phase → Outcome → Stand
 step_at course stand None outcome = stand
 step_at course stand (Some Pre) outcome =
     if skips course outcome then closed course stand.attempt (pos 0) true
     else if is_exit_0 outcome then record stand { phase = Some Job }
-    else closed course stand.attempt (value_of outcome) false
+    else pre_failed course stand outcome
 step_at course stand (Some Job) outcome =
     if course.post then record stand { phase = Some Post }
     else closed course stand.attempt (value_of outcome) (int_eq (value_of outcome) (pos 0))

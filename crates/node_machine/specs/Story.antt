@@ -69,13 +69,24 @@ with_job course i outcomes before =
     then decided_by (outcomes Post) (before ++ ended i outcomes Job ∷ ended i outcomes Post ∷ [])
     else decided_by (outcomes Job) (before ++ ended i outcomes Job ∷ [])
 
--- an attempt with PRE, which may skip the rest, end the attempt as failed, or go on
+-- POST runs behind a failed PRE, too: the flag is set, and POST is there
+abbrev pub always_posts : Course → Bool
+always_posts course = course.always_post && course.post
+
+-- an attempt whose PRE failed: no job runs, and POST alone counts where it runs all the same
+abbrev pub with_failed_pre : Course → ℕ → (Phase → Outcome) → Attempt
+with_failed_pre course i outcomes =
+    if always_posts course
+    then decided_by (outcomes Post) (ended i outcomes Pre ∷ ended i outcomes Post ∷ [])
+    else record { ended = ended i outcomes Pre ∷ []; value = value_of (outcomes Pre); good = false }
+
+-- an attempt with PRE, which may skip the rest, fail, or go on
 abbrev pub with_pre : Course → ℕ → (Phase → Outcome) → Attempt
 with_pre course i outcomes =
     let pre = ended i outcomes Pre ∷ [] in
     if skips course (outcomes Pre) then record { ended = pre; value = pos 0; good = true }
     else if is_exit_0 (outcomes Pre) then with_job course i outcomes pre
-    else record { ended = pre; value = value_of (outcomes Pre); good = false }
+    else with_failed_pre course i outcomes
 
 -- attempt i
 abbrev pub attempt : Course → ℕ → (Phase → Outcome) → Attempt

@@ -82,6 +82,8 @@ pub struct Course {
     pub noop: bool,
     /// A POST script runs last, and its value alone is the attempt's.
     pub post: bool,
+    /// The POST script, if there is one, runs behind a PRE script that failed, too.
+    pub always_post: bool,
     /// How often a failed attempt is repeated at most.
     pub retries: u32,
     /// A failed attempt of this value is not repeated.

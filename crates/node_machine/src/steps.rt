@@ -3,7 +3,7 @@
 ghost use Rattle.std.specs.Prelude.{◌≡◌, ◌≤◌, Some, None, false};
 ghost use Rattle.node_machine.specs.Story.{is_set_to, skips, is_exit_0, ends_with};
 ghost use Rattle.node_machine.specs.NodeRun.{counted_at};
-ghost use Rattle.node_machine.specs.Stand.{step, step_at, closed, stand_before, first_phase_of, next_of, state_by, ended_by};
+ghost use Rattle.node_machine.specs.Stand.{step, step_at, closed, pre_failed, stand_before, first_phase_of, next_of, state_by, ended_by};
 
 use crate::{Course, Outcome, Phase, Stand, State, value_of};
 
@@ -78,6 +78,21 @@ fn close(course: &Course, attempt: u32, value: i32, good: bool) -> Stand
     }
 }
 
+/// PRE fails: POST runs all the same where it always does, else the attempt ends.
+fn after_failed_pre(course: &Course, stand: Stand, outcome: Outcome) -> Stand
+    requires { stand.attempt ≤ course.now.retries }
+    ensures { result ≡ pre_failed course.now stand outcome }
+{
+    if course.always_post && course.post {
+        Stand {
+            phase: Some(Phase::Post),
+            ..stand
+        }
+    } else {
+        close(course, stand.attempt, value_of(outcome), false)
+    }
+}
+
 fn after_pre(course: &Course, stand: Stand, outcome: Outcome) -> Stand
     requires { stand.attempt ≤ course.now.retries }
     ensures { result ≡ step_at course.now stand (Some Phase.Pre) outcome }
@@ -90,7 +105,7 @@ fn after_pre(course: &Course, stand: Stand, outcome: Outcome) -> Stand
             ..stand
         }
     } else {
-        close(course, stand.attempt, value_of(outcome), false)
+        after_failed_pre(course, stand, outcome)
     }
 }
 

@@ -3,3 +3,4 @@ pub mod Jobs
 pub mod JobAnswers
 pub mod Commands
 pub mod Specs
+pub mod Categories

@@ -37,7 +37,7 @@ no_orders = record { folder = []; pre = None; post = None; job = Program [] }
 abbrev pub no_node : NodeSpec
 no_node = record {
   name = [];
-  course = record { pre = false; noop = true; post = false; retries = 0; unless_exit = None; pre_skip = None; abort_on = None };
+  course = record { pre = false; noop = true; post = false; always_post = false; retries = 0; unless_exit = None; pre_skip = None; abort_on = None };
   done = true;
   parents = [];
   abort_return = None;

@@ -30,12 +30,13 @@ abbrev pub priority_of : Option PrioritySetting → ℤ
 priority_of None = pos 0
 priority_of (Some s) = s.value
 
--- what the files say of a node's attempts
-abbrev pub course_of : FlatNode → Course
-course_of node = record {
+-- what the files say of a node's attempts, and whether POST runs behind a failed PRE, as the run was asked
+abbrev pub course_of : Bool → FlatNode → Course
+course_of always_post node = record {
   pre = is_some node.settings.pre;
   noop = node.noop;
   post = is_some node.settings.post;
+  always_post = always_post;
   retries = retries_of node.settings.retry;
   unless_exit = unless_exit_of node.settings.retry;
   pre_skip = option_map (λ s. s.value) node.settings.pre_skip;
@@ -61,10 +62,10 @@ place_of limits None = None
 place_of limits (Some s) = position (λ limit. bytes_eq s.name limit.name) limits
 
 -- what the files say of a node with these parents and this job, which a rescue file may have marked as done
-abbrev pub spec_of : List CategoryLimit → List ℕ → Job → Bool → FlatNode → NodeSpec
-spec_of limits parents job marked node = record {
+abbrev pub spec_of : Bool → List CategoryLimit → List ℕ → Job → Bool → FlatNode → NodeSpec
+spec_of always_post limits parents job marked node = record {
   name = node.name;
-  course = course_of node;
+  course = course_of always_post node;
   done = node.done || marked;
   parents = parents;
   abort_return = abort_return_of node.settings.abort;

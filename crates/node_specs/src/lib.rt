@@ -4,6 +4,7 @@
 //! docs/MANUAL.md states them.
 #![tactic(auto)]
 
+mod categories;
 mod command;
 mod job;
 pub mod laws;
@@ -11,6 +12,7 @@ mod orders;
 mod script;
 mod spec;
 
+pub use categories::Categories;
 pub use command::{ChildCommand, PhaseFacts};
 pub use job::{JobFault, check_universe, job_command};
 pub use orders::{Job, Source};

@@ -11,6 +11,7 @@ ghost use Rattle.node_specs.specs.JobAnswers.{Gives};
 ghost use Rattle.node_specs.specs.Specs.{course_of, retries_of, unless_exit_of, abort_return_of, priority_of, place_of, spec_of};
 ghost use Rattle.node_specs.specs.declared.job.JobFault.TheVariants.{Memory};
 
+use crate::categories::Categories;
 use crate::command::{ChildCommand, PhaseFacts};
 use crate::job::{JobFault, job_command, reads_launch};
 use crate::orders::{Job, Orders, Source};
@@ -18,8 +19,8 @@ use crate::script::{bare_command, script_command};
 use dag_reader::{Text, Texts};
 use node_machine::{Course, Phase};
 use splices::{
-    AbortSetting, CategoryLimit, CategorySetting, FlatNode, PreSkipSetting, PrioritySetting,
-    RetrySetting, SharedTexts,
+    AbortSetting, CategorySetting, FlatNode, PreSkipSetting, PrioritySetting, RetrySetting,
+    SharedTexts,
 };
 use std::alloc::{AllocError, Global};
 use std::marker::Model;
@@ -138,7 +139,8 @@ impl NodeSpec {
     }
 
     /// What the files say of a node with these parents and this job, which a rescue file may have
-    /// marked as done. Its category is looked for among the limits.
+    /// marked as done. Its category is looked for among the limits. With `always_post` its POST
+    /// script, if it has one, runs behind a PRE script that failed, too.
     ///
     /// # Errors
     /// `Memory` where memory is refused.
@@ -147,13 +149,14 @@ impl NodeSpec {
         parents: &[u32],
         job: Job,
         marked: bool,
-        limits: &[CategoryLimit],
+        limits: &Categories<'_>,
         node: &FlatNode,
+        always_post: bool,
     ) -> Result<NodeSpec, JobFault>
-        ensures ok { IfOk result (λ spec. spec ≡ spec_of limits.now parents.now job marked node.now) }
+        ensures ok { IfOk result (λ spec. spec ≡ spec_of always_post limits.now parents.now job marked node.now) }
         ensures err { IfErr result (λ fault. fault ≡ Memory) }
     {
-        let course = course_of(node);
+        let course = course_of(node, always_post);
         let orders = Orders::new(alloc, node, job)?;
         let reads_launch = job_reads_launch(alloc, orders.job(), course.retries)?;
         Ok(NodeSpec {
@@ -182,6 +185,7 @@ impl NodeSpec {
                 pre: false,
                 noop: true,
                 post: false,
+                always_post: false,
                 retries: 0,
                 unless_exit: None,
                 pre_skip: None,
@@ -301,14 +305,15 @@ fn has_whole_run_word(script: &Option<SharedTexts>) -> bool
     }
 }
 
-fn course_of(node: &FlatNode) -> Course
-    ensures { result ≡ course_of node.now }
+fn course_of(node: &FlatNode, always_post: bool) -> Course
+    ensures { result ≡ course_of always_post node.now }
 {
     let settings = &node.settings;
     Course {
         pre: settings.pre.is_some(),
         noop: node.noop,
         post: settings.post.is_some(),
+        always_post,
         retries: retries_of(&settings.retry),
         unless_exit: unless_exit_of(&settings.retry),
         pre_skip: pre_skip_of(&settings.pre_skip),
@@ -372,23 +377,11 @@ fn priority_of(setting: &Option<PrioritySetting>) -> i32
 }
 
 /// The place of a category among those that have a limit.
-fn category_of(limits: &[CategoryLimit], setting: &Option<CategorySetting>) -> Option<usize>
+fn category_of(limits: &Categories<'_>, setting: &Option<CategorySetting>) -> Option<usize>
     ensures { result ≡ place_of limits.now setting.now }
 {
     match setting {
-        Some(category) => place_of(limits, category.name.as_str()),
+        Some(category) => limits.place_of(category.name.as_str()),
         None => None,
     }
-}
-
-/// The place of the first category of this name.
-fn place_of(limits: &[CategoryLimit], name: &str) -> Option<usize>
-    ensures { result ≡ position (λ limit. bytes_eq name.now limit.name) limits.now }
-{
-    for (place, limit) in limits.iter().enumerate() {
-        if name == limit.name.as_str() {
-            return Some(place);
-        }
-    }
-    None
 }

@@ -14,11 +14,12 @@ ghost use Rattle.sched_core.specs.Commands.{command_by, with_commands};
 ghost use Rattle.sched_core.specs.Lives.{IsRunBy};
 ghost use Rattle.node_machine.specs.declared.Record.{Record};
 ghost use Rattle.node_machine.specs.declared.Record.TheVariants.{Life};
-ghost use Rattle.event_journal.specs.Image.{Header, header_of, replay_of};
+ghost use Rattle.event_journal.specs.Image.{Header, replay_of};
 ghost use Rattle.run_manager.specs.Managed.{Managed, plan_of, past_of, ReadsBeforeOrAfter};
 ghost use Rattle.recovery.specs.Recovery.{IsMomentOfBegin, IsMomentOfRecovery, IsRecovered};
 ghost use Rattle.run_manager.specs.Lives.{LifeRecords, AreLives};
 ghost use Rattle.run_manager.specs.Chain.{Command, key_of, ManagerLife, IsLifeOf, AreManagerLives, HandsOver, Leaves, ReadsForInputs, life_records, life_of, by_what_it_left};
+ghost use Rattle.run_manager.specs.Inputs.{IsHeaderOf, header_for};
 
 use event_journal::Disk;
 
@@ -80,7 +81,7 @@ pub fn one_life<D: Disk + Drop>()
 pub fn stops<D: Disk + Drop>()
     ensures in_begin { (disk : D) (plan : Plan) (used next : ℕ) (image : List ℕ) →
         replay_of (D.seen disk) ≡ Ok None →
-        IsMomentOfBegin (D.may_leave disk) (header_of used next plan.digest) image →
+        IsMomentOfBegin (D.may_leave disk) (header_for used next plan) image →
         D.may_leave disk image
         ⊎ IsLifeOf plan (life_of (D.seen disk) (life_records [] []) [] image) }
     ensures in_recover { (disk : D) (plan : Plan) (image : List ℕ) →
@@ -88,7 +89,7 @@ pub fn stops<D: Disk + Drop>()
         D.may_leave disk image ⊎ ((past : List Record)
         × IsLifeOf plan (life_of (D.seen disk) (life_records past past) [] image)) }
     ensures in_a_call { (plan : Plan) (header : Header) (records : LifeRecords) (own : List Record)
-        (entry : Record) (image : List ℕ) → header.digest ≡ plan.digest →
+        (entry : Record) (image : List ℕ) → IsHeaderOf plan header →
         records.held ≡ own ++ Life ∷ records.begun →
         IsTrue (is_lawful plan (entry ∷ records.held)) →
         ReadsBeforeOrAfter header records.held entry image → Leaves plan records image }

@@ -49,10 +49,10 @@ same-marks fates other number (suc n) same =
     λ j. is_done_state (same number (omega arith) j).state ∷ same-marks fates other (number + 1) n (λ node lt. same node (omega arith)) j
 
 -- a run without abort reports the fates
-pub calm-report : (files : Files) (path : List ℕ) (outcomes : Option (List ℕ)) (limits : Limits) (text warnings : List ℕ) (status : ℕ)
-    (r : IsRehearsalOf files path outcomes limits text warnings status) → MeetsNoAbort files path outcomes limits text warnings status r → IsFatedReport files path outcomes text status
-calm-report files path outcomes limits text warnings status r calm =
-    let plan = bare_plan_by r.dag r.order in
+pub calm-report : (always_post : Bool) (files : Files) (path : List ℕ) (outcomes : Option (List ℕ)) (limits : Limits) (text warnings : List ℕ) (status : ℕ)
+    (r : IsRehearsalOf always_post files path outcomes limits text warnings status) → MeetsNoAbort always_post files path outcomes limits text warnings status r → IsFatedReport always_post files path outcomes text status
+calm-report always_post files path outcomes limits text warnings status r calm =
+    let plan = bare_plan_by always_post r.dag r.order in
     let table = table_by plan r.entries in
     record {
       dag = r.dag;
@@ -68,44 +68,44 @@ calm-report files path outcomes limits text warnings status r calm =
       status_is = r.status_is ∙ status-is plan r.past r.run.finished calm;
     }
   where
-    some-final : (final_node : Option FlatNode) → is_some final_node ≡ true → is_some (option_map (final_spec (sources_of None [])) final_node) ≡ true
+    some-final : (final_node : Option FlatNode) → is_some final_node ≡ true → is_some (option_map (final_spec (sources_of always_post None [])) final_node) ≡ true
     some-final None some = some
     some-final (Some node) some = refl
 
-module _ (files : Files) (path : List ℕ) (outcomes : Option (List ℕ)) (text other : List ℕ) (status verdict : ℕ)
-    (a : IsFatedReport files path outcomes text status) (b : IsFatedReport files path outcomes other verdict) where
+module _ (always_post : Bool) (files : Files) (path : List ℕ) (outcomes : Option (List ℕ)) (text other : List ℕ) (status verdict : ℕ)
+    (a : IsFatedReport always_post files path outcomes text status) (b : IsFatedReport always_post files path outcomes other verdict) where
   same-dag : b.dag ≡ a.dag
   same-dag = ap (dag_or a.dag) (sym b.is_dag ∙ a.is_dag)
 
   -- the two rehearse one plan, whatever the order
   abbrev plan : Plan
-  plan = bare_plan_by a.dag a.order
+  plan = bare_plan_by always_post a.dag a.order
 
   same-entries : b.entries ≡ a.entries
   same-entries = one-list outcomes b.entries a.entries b.has_entries a.has_entries
 
   other-fates : AreFates plan (table_by plan a.entries) b.fates
   other-fates =
-      subst (λ (d : Dag). AreFates (bare_plan_by d a.order) (table_by (bare_plan_by d a.order) a.entries) b.fates) same-dag
-      (subst (λ (es : List Entry). AreFates (bare_plan_by b.dag a.order) (table_by (bare_plan_by b.dag a.order) es) b.fates) same-entries b.are_fates)
+      subst (λ (d : Dag). AreFates (bare_plan_by always_post d a.order) (table_by (bare_plan_by always_post d a.order) a.entries) b.fates) same-dag
+      (subst (λ (es : List Entry). AreFates (bare_plan_by always_post b.dag a.order) (table_by (bare_plan_by always_post b.dag a.order) es) b.fates) same-entries b.are_fates)
 
   other-final : is_some a.dag.final_node ≡ true → b.fates (count_of plan) ≡ final_fate plan (table_by plan a.entries)
   other-final =
-      subst (λ (d : Dag). is_some d.final_node ≡ true → b.fates (count_of (bare_plan_by d a.order)) ≡ final_fate (bare_plan_by d a.order) (table_by (bare_plan_by d a.order) a.entries)) same-dag
-      (subst (λ (es : List Entry). is_some b.dag.final_node ≡ true → b.fates (count_of (bare_plan_by b.dag a.order)) ≡ final_fate (bare_plan_by b.dag a.order) (table_by (bare_plan_by b.dag a.order) es)) same-entries b.final_fate)
+      subst (λ (d : Dag). is_some d.final_node ≡ true → b.fates (count_of (bare_plan_by always_post d a.order)) ≡ final_fate (bare_plan_by always_post d a.order) (table_by (bare_plan_by always_post d a.order) a.entries)) same-dag
+      (subst (λ (es : List Entry). is_some b.dag.final_node ≡ true → b.fates (count_of (bare_plan_by always_post b.dag a.order)) ≡ final_fate (bare_plan_by always_post b.dag a.order) (table_by (bare_plan_by always_post b.dag a.order) es)) same-entries b.final_fate)
 
   same-fates : (node : ℕ) → node < count_of plan → a.fates node ≡ b.fates node
   same-fates node lt =
-      fates-unique plan (table_by plan a.entries) (rank_in a.order) (made-ranked (record { dag = a.dag; order = a.order }) (sources_of None []) (digest_of a.dag.top [] None) a.is_order) a.fates b.fates a.are_fates other-fates node lt
+      fates-unique plan (table_by plan a.entries) (rank_in a.order) (made-ranked (record { dag = a.dag; order = a.order }) (sources_of always_post None []) (digest_of a.dag.top [] None) a.is_order) a.fates b.fates a.are_fates other-fates node lt
 
   same-final : is_some a.dag.final_node ≡ true → a.fates (count_of plan) ≡ b.fates (count_of plan)
   same-final some = a.final_fate some ∙ sym (other-final some)
 
-  none-final : (o : Option FlatNode) → is_some o ≡ false → is_some (option_map (final_spec (sources_of None [])) o) ≡ false
+  none-final : (o : Option FlatNode) → is_some o ≡ false → is_some (option_map (final_spec (sources_of always_post None [])) o) ≡ false
   none-final None e = refl
   none-final (Some node) e = absurd (false≢true (sym e))
 
-  some-final : (o : Option FlatNode) → is_some o ≡ true → is_some (option_map (final_spec (sources_of None [])) o) ≡ true
+  some-final : (o : Option FlatNode) → is_some o ≡ true → is_some (option_map (final_spec (sources_of always_post None [])) o) ≡ true
   some-final None e = e
   some-final (Some node) e = refl
 
@@ -152,27 +152,27 @@ module _ (files : Files) (path : List ℕ) (outcomes : Option (List ℕ)) (text 
   same-text = ap (λ (marks : List Bool). rescue_text_of (ordinary_names plan.graph.dag) marks) (same-marks a.fates b.fates 0 (count_of plan) (λ node lt. same-fates node (omega arith)))
 
   pub one-status : status ≡ verdict
-  one-status = a.status_is ∙ same-status ∙ ap (λ (d : Dag). fated_status (bare_plan_by d a.order) b.fates) (sym same-dag) ∙ sym b.status_is
+  one-status = a.status_is ∙ same-status ∙ ap (λ (d : Dag). fated_status (bare_plan_by always_post d a.order) b.fates) (sym same-dag) ∙ sym b.status_is
 
   pub one-text : text ≡ other
   one-text =
       a.text_is
       ∙ (λ j. all-same j ++ (result_line (one-status j) ++ (if same-need j then same-text j else [])))
-      ∙ ap (λ (d : Dag). fated_report (bare_plan_by d a.order) b.fates verdict) (sym same-dag) ∙ sym b.text_is
+      ∙ ap (λ (d : Dag). fated_report (bare_plan_by always_post d a.order) b.fates verdict) (sym same-dag) ∙ sym b.text_is
 
-pub one-warnings : (files : Files) (path : List ℕ) (outcomes : Option (List ℕ)) (limits bounds : Limits) (text other warnings notes : List ℕ) (status verdict : ℕ)
-    → IsRehearsalOf files path outcomes limits text warnings status → IsRehearsalOf files path outcomes bounds other notes verdict → warnings ≡ notes
-one-warnings files path outcomes limits bounds text other warnings notes status verdict a b =
+pub one-warnings : (always_post : Bool) (files : Files) (path : List ℕ) (outcomes : Option (List ℕ)) (limits bounds : Limits) (text other warnings notes : List ℕ) (status verdict : ℕ)
+    → IsRehearsalOf always_post files path outcomes limits text warnings status → IsRehearsalOf always_post files path outcomes bounds other notes verdict → warnings ≡ notes
+one-warnings always_post files path outcomes limits bounds text other warnings notes status verdict a b =
     a.warnings_are ∙ ap (λ (d : Dag). warning_lines d.warnings) (sym (ap (dag_or a.dag) (sym b.is_dag ∙ a.is_dag))) ∙ sym b.warnings_are
 
 -- where one run meets no abort, neither does the other
-pub one-calm : (files : Files) (path : List ℕ) (outcomes : Option (List ℕ)) (limits bounds : Limits) (text other warnings notes : List ℕ) (status verdict : ℕ)
-    (a : IsRehearsalOf files path outcomes limits text warnings status) (b : IsRehearsalOf files path outcomes bounds other notes verdict)
-    → MeetsNoAbort files path outcomes limits text warnings status a → MeetsNoAbort files path outcomes bounds other notes verdict b
-one-calm files path outcomes limits bounds text other warnings notes status verdict a b calm =
-    calm-fates (bare_plan_by b.dag b.order) (table_by (bare_plan_by b.dag b.order) b.entries) (rank_in b.order)
-    (made-ranked (record { dag = b.dag; order = b.order }) (sources_of None []) (digest_of b.dag.top [] None) b.is_order)
-    (shown (bare_plan_by a.dag a.order) a.past) fates-too calm-too b.past (lawful_part (bare_plan_by b.dag b.order) b.past b.run.finished) b.run.outcomes
+pub one-calm : (always_post : Bool) (files : Files) (path : List ℕ) (outcomes : Option (List ℕ)) (limits bounds : Limits) (text other warnings notes : List ℕ) (status verdict : ℕ)
+    (a : IsRehearsalOf always_post files path outcomes limits text warnings status) (b : IsRehearsalOf always_post files path outcomes bounds other notes verdict)
+    → MeetsNoAbort always_post files path outcomes limits text warnings status a → MeetsNoAbort always_post files path outcomes bounds other notes verdict b
+one-calm always_post files path outcomes limits bounds text other warnings notes status verdict a b calm =
+    calm-fates (bare_plan_by always_post b.dag b.order) (table_by (bare_plan_by always_post b.dag b.order) b.entries) (rank_in b.order)
+    (made-ranked (record { dag = b.dag; order = b.order }) (sources_of always_post None []) (digest_of b.dag.top [] None) b.is_order)
+    (shown (bare_plan_by always_post a.dag a.order) a.past) fates-too calm-too b.past (lawful_part (bare_plan_by always_post b.dag b.order) b.past b.run.finished) b.run.outcomes
   where
     same : a.dag ≡ b.dag
     same = ap (dag_or b.dag) (sym a.is_dag ∙ b.is_dag)
@@ -180,15 +180,15 @@ one-calm files path outcomes limits bounds text other warnings notes status verd
     entries : a.entries ≡ b.entries
     entries = one-list outcomes a.entries b.entries a.has_entries b.has_entries
 
-    fates : AreFates (bare_plan_by a.dag a.order) (table_by (bare_plan_by a.dag a.order) a.entries) (shown (bare_plan_by a.dag a.order) a.past)
-    fates = table-fates (bare_plan_by a.dag a.order) (table_by (bare_plan_by a.dag a.order) a.entries) a.past (record { finished = a.run.finished; calm = calm; outcomes = a.run.outcomes })
+    fates : AreFates (bare_plan_by always_post a.dag a.order) (table_by (bare_plan_by always_post a.dag a.order) a.entries) (shown (bare_plan_by always_post a.dag a.order) a.past)
+    fates = table-fates (bare_plan_by always_post a.dag a.order) (table_by (bare_plan_by always_post a.dag a.order) a.entries) a.past (record { finished = a.run.finished; calm = calm; outcomes = a.run.outcomes })
 
-    fates-too : AreFates (bare_plan_by b.dag b.order) (table_by (bare_plan_by b.dag b.order) b.entries) (shown (bare_plan_by a.dag a.order) a.past)
+    fates-too : AreFates (bare_plan_by always_post b.dag b.order) (table_by (bare_plan_by always_post b.dag b.order) b.entries) (shown (bare_plan_by always_post a.dag a.order) a.past)
     fates-too =
-        subst (λ (d : Dag). AreFates (bare_plan_by d b.order) (table_by (bare_plan_by d b.order) b.entries) (shown (bare_plan_by a.dag a.order) a.past)) same
-        (subst (λ (es : List Entry). AreFates (bare_plan_by a.dag b.order) (table_by (bare_plan_by a.dag b.order) es) (shown (bare_plan_by a.dag a.order) a.past)) entries fates)
+        subst (λ (d : Dag). AreFates (bare_plan_by always_post d b.order) (table_by (bare_plan_by always_post d b.order) b.entries) (shown (bare_plan_by always_post a.dag a.order) a.past)) same
+        (subst (λ (es : List Entry). AreFates (bare_plan_by always_post a.dag b.order) (table_by (bare_plan_by always_post a.dag b.order) es) (shown (bare_plan_by always_post a.dag a.order) a.past)) entries fates)
 
-    calm-too : (node : ℕ) → node < count_of (bare_plan_by b.dag b.order) → has_abort_fate (bare_plan_by b.dag b.order) (shown (bare_plan_by a.dag a.order) a.past) node ≡ false
+    calm-too : (node : ℕ) → node < count_of (bare_plan_by always_post b.dag b.order) → has_abort_fate (bare_plan_by always_post b.dag b.order) (shown (bare_plan_by always_post a.dag a.order) a.past) node ≡ false
     calm-too =
-        subst (λ (d : Dag). (node : ℕ) → node < count_of (bare_plan_by d b.order) → has_abort_fate (bare_plan_by d b.order) (shown (bare_plan_by a.dag a.order) a.past) node ≡ false) same
-        (calm-shown (bare_plan_by a.dag a.order) a.past calm)
+        subst (λ (d : Dag). (node : ℕ) → node < count_of (bare_plan_by always_post d b.order) → has_abort_fate (bare_plan_by always_post d b.order) (shown (bare_plan_by always_post a.dag a.order) a.past) node ≡ false) same
+        (calm-shown (bare_plan_by always_post a.dag a.order) a.past calm)

@@ -1,5 +1,5 @@
 -- The report of a rehearsal is that of the fates.
-use Rattle.std.proofs.Common.{◌≡◌, ℕ, List, Option, Result, Ok, Err, sym, subst}
+use Rattle.std.proofs.Common.{◌≡◌, ℕ, Bool, List, Option, Result, Ok, Err, sym, subst}
 use Rattle.std.specs.Prelude.{IfOk, IfErr}
 use Rattle.node_machine.specs.OutcomeTable.{Entry, SameOutcomes}
 use Rattle.throttles.specs.declared.Limits.{Limits}
@@ -14,12 +14,12 @@ use Rattle.dag_texts.specs.declared.fault.RunFault.TheVariants.{Memory}
 use Rattle.dag_texts.specs.Warnings.{warning_lines}
 use Rattle.rehearsal.proofs.Rehearsals.{same-run}
 
-pub rehearsal-of : (files : Files) (path : List ℕ) (outcomes : Option (List ℕ)) (limits : Limits) (plan : Plan) (table : List Entry) → IsPlanOf files path plan
+pub rehearsal-of : (always_post : Bool) (files : Files) (path : List ℕ) (outcomes : Option (List ℕ)) (limits : Limits) (plan : Plan) (table : List Entry) → IsPlanOf always_post files path plan
     → (entries : List Entry) × HasEntries outcomes entries × SameOutcomes table entries
     → (text warnings : List ℕ) (status : ℕ) → ReportsRun limits plan table text status → warnings ≡ warning_lines plan.graph.dag.warnings
-    → IsRehearsalOf files path outcomes limits text warnings status
-rehearsal-of files path outcomes limits plan table is (entries, has, same) text warnings status run notes =
-    let r : ReportsRun limits (bare_plan plan.graph) table text status = subst (λ (p : Plan). ReportsRun limits p table text status) is.made run in
+    → IsRehearsalOf always_post files path outcomes limits text warnings status
+rehearsal-of always_post files path outcomes limits plan table is (entries, has, same) text warnings status run notes =
+    let r : ReportsRun limits (bare_plan always_post plan.graph) table text status = subst (λ (p : Plan). ReportsRun limits p table text status) is.made run in
     record {
       dag = plan.graph.dag;
       order = plan.graph.order;
@@ -28,7 +28,7 @@ rehearsal-of files path outcomes limits plan table is (entries, has, same) text 
       is_dag = is.is_dag;
       is_order = is.is_order;
       has_entries = has;
-      run = same-run (bare_plan plan.graph) table entries same limits r.past r.run;
+      run = same-run (bare_plan always_post plan.graph) table entries same limits r.past r.run;
       text_is = r.text_is;
       status_is = r.status_is;
       warnings_are = notes;

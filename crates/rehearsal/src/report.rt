@@ -27,7 +27,8 @@ use throttles::Limits;
 /// `outcomes` is the text of the table; without it each phase ends with Exit 0. The report has a
 /// line for each node in plan order, `name STATE attempts=n value=v`, then `result N`, N the exit
 /// status, and the text of the rescue file where the run was aborted, a node is not done, or FINAL
-/// failed. No submit file is read.
+/// failed. No submit file is read. With `always_post` the POST script of a node runs behind a PRE
+/// script that failed, too.
 ///
 /// # Errors
 /// The first fault that opening the files meets (`InFiles`), a cycle (`Cycle`), the first bad line
@@ -39,9 +40,10 @@ pub fn rehearse_text(
     path: &str,
     outcomes: Option<&[u8]>,
     limits: Limits,
+    always_post: bool,
 ) -> Result<Answer, RunFault>
     // The report is that of a run, which without abort shows the fates (`laws::calm_reports`).
-    ensures report { IfOk result (λ answer. IsRehearsalOf (bytes_of files.now) path.now
+    ensures report { IfOk result (λ answer. IsRehearsalOf always_post (bytes_of files.now) path.now
         (option_map (λ b. b.now) outcomes.entry) limits
         (string_bytes answer.text) (string_bytes answer.warnings) answer.status) }
 
@@ -49,7 +51,7 @@ pub fn rehearse_text(
     ensures refused { IfErr result
         (IsRehearsalFault (bytes_of files.now) path.now (option_map (λ b. b.now) outcomes.entry)) }
 {
-    let plan = plan_of(alloc, files, path)?;
+    let plan = plan_of(alloc, files, path, always_post)?;
     let table = table_of(alloc, outcomes)?;
     rehearse_plan(alloc, &plan, &table, limits)
 }

@@ -39,12 +39,12 @@ given x y is = cc
 abbrev IsTree : ℕ → ℕ → Tree → Type 0
 IsTree zero nodes tree = ⊥
 IsTree (suc left) nodes tree = IsLawful tree.file tree.inner × AreLawful left tree.inner
-    × ((nodes + (own_count tree.file.commands + length (finals_in tree.file.commands))) + forest_declared tree.inner ≤ 4096)
+    × ((nodes + (own_count tree.file.commands + length (finals_in tree.file.commands))) + forest_declared tree.inner ≤ 65536)
 
 record IsForest (left nodes : ℕ) (names : List (List ℕ)) (f : Forest) : Type 0 where
   pub lawful : AreLawful left f
   pub named : forest_names f ≡ names
-  pub few : nodes + forest_declared f ≤ 4096
+  pub few : nodes + forest_declared f ≤ 65536
 
 joined_lawful : (left : ℕ) (f g : Forest) → AreLawful left f → AreLawful left g → AreLawful left (joined f g)
 joined_lawful left none g front back = back
@@ -55,7 +55,7 @@ joined_names : (f g : Forest) → forest_names (joined f g) ≡ forest_names f +
 joined_names none g = refl
 joined_names (more name file inner others) g = ap (λ (ns : List (List ℕ)). name ∷ ns) (joined_names others g)
 
-nothing : (left nodes : ℕ) → nodes ≤ 4096 → IsForest left nodes [] none
+nothing : (left nodes : ℕ) → nodes ≤ 65536 → IsForest left nodes [] none
 nothing left nodes few = record { lawful = tt; named = refl; few = omega arith }
 
 alone : (left nodes : ℕ) (name : List ℕ) (tree : Tree) → IsTree left nodes tree → IsForest left nodes (name ∷ []) (more name tree.file tree.inner none)
@@ -67,10 +67,10 @@ entered opener used above folder path None tree is = is
 entered opener used above folder path (Some k) tree is = absurd cc
 
 module _ (opener : Opener) (left : ℕ) (each : (used : _) (above : List (List ℕ)) (folder path : List ℕ) (tree : Tree) → opener used above folder path ≡ Ok tree → IsTree left used.nodes tree) where
-  silent : (nodes : ℕ) (first : Forest) → nodes ≤ 4096 → good none ≡ good first → IsForest left nodes [] first
+  silent : (nodes : ℕ) (first : Forest) → nodes ≤ 65536 → good none ≡ good first → IsForest left nodes [] first
   silent nodes first few is = subst (IsForest left nodes []) (given none first is) (nothing left nodes few)
 
-  line_forest : (used : _) (above : List (List ℕ)) (folder : List ℕ) (c : Command) (first : Forest) → open_line opener used above folder c ≡ Ok first → used.nodes ≤ 4096 → IsForest left used.nodes (splice_name c) first
+  line_forest : (used : _) (above : List (List ℕ)) (folder : List ℕ) (c : Command) (first : Forest) → open_line opener used above folder c ≡ Ok first → used.nodes ≤ 65536 → IsForest left used.nodes (splice_name c) first
   line_forest used above folder (Splice name file dir) first is few =
       let s : Spliced = record { name = name; file = file; dir = dir } in
       let place = position (bytes_eq (splice_path folder s)) above in
@@ -79,7 +79,7 @@ module _ (opener : Opener) (left : ℕ) (each : (used : _) (above : List (List �
       subst (IsForest left used.nodes (name.text ∷ [])) (given (more name.text tree.file tree.inner none) first made) (alone left used.nodes name.text tree o)
   line_forest used above folder c first is few = silent used.nodes first few is
 
-  lines_forest : (cs : List Command) (used : _) (above : List (List ℕ)) (folder : List ℕ) (forest : Forest) → open_lines opener used above folder cs ≡ Ok forest → used.nodes ≤ 4096 → IsForest left used.nodes (splice_names cs) forest
+  lines_forest : (cs : List Command) (used : _) (above : List (List ℕ)) (folder : List ℕ) (forest : Forest) → open_lines opener used above folder cs ≡ Ok forest → used.nodes ≤ 65536 → IsForest left used.nodes (splice_names cs) forest
   lines_forest [] used above folder forest is few = silent used.nodes forest few is
   lines_forest (c ∷ cs) used above folder forest is few =
       let (first, one, a) = then_ok (open_line opener used above folder c) _ forest is in
@@ -116,10 +116,10 @@ counted : (many : Bool) (fault : DagFault) → (if many then refused fault else 
 counted true fault is = absurd cc
 counted false fault is = refl
 
-few_nodes : (used : _) (cs : List Command) → check_count used cs ≡ Ok tt → used.nodes + (own_count cs + length (finals_in cs)) ≤ 4096
+few_nodes : (used : _) (cs : List Command) → check_count used cs ≡ Ok tt → used.nodes + (own_count cs + length (finals_in cs)) ≤ 65536
 few_nodes used cs is =
-    let both = or_parts (nat_lt 4096 (used.nodes + (own_count cs + length (finals_in cs)))) (nat_lt 4096 used.splices) (counted _ _ is) in
-    ltb-false 4096 (used.nodes + (own_count cs + length (finals_in cs))) both.0
+    let both = or_parts (nat_lt 65536 (used.nodes + (own_count cs + length (finals_in cs)))) (nat_lt 4096 used.splices) (counted _ _ is) in
+    ltb-false 65536 (used.nodes + (own_count cs + length (finals_in cs))) both.0
 
 file_tree : (files : Files) (left : ℕ) (used : _) (above : List (List ℕ)) (folder path : List ℕ) (tree : Tree) → open_file files left used above folder path ≡ Ok tree → IsTree left used.nodes tree
 file_tree files zero used above folder path tree is = absurd cc

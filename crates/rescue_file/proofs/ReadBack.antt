@@ -76,8 +76,8 @@ read_again dag marks fit =
     let done = marked names marks in
     let count : length names ≡ length dag.nodes = length-map dag.nodes (λ (n : FlatNode). n.name) in
     let few = fit.few in
-    let total_few : length names ≤ 4096 = omega arith in
-    let done_few : length done ≤ 4096 = omega (arith, marked_few names marks) in
+    let total_few : length names ≤ 65536 = omega arith in
+    let done_few : length done ≤ 65536 = omega (arith, marked_few names marks) in
     let are : AreFrom dag 0 names = λ i lt. let zero_first : i ≡ 0 + i = omega arith in placed dag fit i (omega arith) ∙ ap (λ (k : ℕ). Some k) zero_first in
     let nodes = marked (range_with_len 0 (length names)) marks in
     let says : SayAll dag 5 (map done_words done) nodes = done_say dag 5 0 names marks fit.fit are (omega arith) in

@@ -75,11 +75,11 @@ total_line total = codes "# Total number of Nodes: " ++ decimal total
 abbrev pub premarked_line : ℕ → List ℕ
 premarked_line done = codes "# Nodes premarked DONE: " ++ decimal done
 
-counted_text : (front : List ℕ) (n : ℕ) → length front ≤ 100 → IsUtf8 front → Clear front → n ≤ 4096 → IsText (front ++ decimal n)
+counted_text : (front : List ℕ) (n : ℕ) → length front ≤ 100 → IsUtf8 front → Clear front → n ≤ 65536 → IsText (front ++ decimal n)
 counted_text front n short utf8 clear few =
     let small : n < 2 ^ 64 = omega arith in
     let len = length-append front (decimal n) in
-    let digits = length-decimal-le 4 n (omega arith) (omega arith) small in
+    let digits = length-decimal-le 5 n (omega arith) (omega arith) small in
     record {
       fits = omega arith;
       utf8 = IsUtf8-append front (decimal n) utf8 (IsUtf8-from_ascii (decimal n) (IsAscii-decimal n small));
@@ -89,10 +89,10 @@ counted_text front n short utf8 clear few =
 title_text : IsText title
 title_text = record { fits = omega arith; utf8 = utf8_by title refl; clear = clear_by title refl }
 
-total_text : (n : ℕ) → n ≤ 4096 → IsText (total_line n)
+total_text : (n : ℕ) → n ≤ 65536 → IsText (total_line n)
 total_text n few = counted_text (codes "# Total number of Nodes: ") n (omega arith) (utf8_by (codes "# Total number of Nodes: ") refl) (clear_by (codes "# Total number of Nodes: ") refl) few
 
-premarked_text : (n : ℕ) → n ≤ 4096 → IsText (premarked_line n)
+premarked_text : (n : ℕ) → n ≤ 65536 → IsText (premarked_line n)
 premarked_text n few = counted_text (codes "# Nodes premarked DONE: ") n (omega arith) (utf8_by (codes "# Nodes premarked DONE: ") refl) (clear_by (codes "# Nodes premarked DONE: ") refl) few
 
 hash_word : (number : ℕ) (rest : List ℕ) → AreSilent (words number 0 (35 ∷ 32 ∷ rest))
@@ -106,10 +106,10 @@ module _ (dag : Dag) (number : ℕ) where
   pub title_says : Says dag number title None
   title_says = (title_text, hash_word number _)
 
-  pub total_says : (n : ℕ) → n ≤ 4096 → Says dag number (total_line n) None
+  pub total_says : (n : ℕ) → n ≤ 65536 → Says dag number (total_line n) None
   total_says n few = (total_text n few, hash_word number _)
 
-  pub premarked_says : (n : ℕ) → n ≤ 4096 → Says dag number (premarked_line n) None
+  pub premarked_says : (n : ℕ) → n ≤ 65536 → Says dag number (premarked_line n) None
   premarked_says n few = (premarked_text n few, hash_word number _)
 
   pub empty_says : Says dag number [] None
@@ -153,7 +153,7 @@ head_cut total done rest =
     (append_assoc (decimal total) (codes "\n# Nodes premarked DONE: " ++ (decimal done ++ codes "\n\n")) rest
     ∙ ap (λ (t : List ℕ). decimal total ++ (codes "\n# Nodes premarked DONE: " ++ t)) (append_assoc (decimal done) (codes "\n\n") rest))
 
-pub written_lines : (total done : ℕ) (names : List (List ℕ)) → total ≤ 4096 → done ≤ 4096 → All IsFit names
+pub written_lines : (total done : ℕ) (names : List (List ℕ)) → total ≤ 65536 → done ≤ 65536 → All IsFit names
     → lines (head_text total done ++ done_lines names) ≡ title ∷ total_line total ∷ premarked_line done ∷ [] ∷ map done_words names
 written_lines total done names few fewer fit =
     let rest = done_lines names in

@@ -16,8 +16,8 @@ pub record IsFit (name : List ℕ) : Type 0 where
   pub solid : All (λ b. is_blank b ≡ false) name
   pub clear : All (λ b. is_control b ≡ false) name
 
--- at most 4,096 ordinary nodes, each with a name that is fit, and no two with one name
+-- at most 65,536 ordinary nodes, each with a name that is fit, and no two with one name
 pub record AreFit (dag : Dag) : Type 0 where
-  pub few : length dag.nodes ≤ 4096
+  pub few : length dag.nodes ≤ 65536
   pub fit : All IsFit (ordinary_names dag)
   pub apart : (m n : ℕ) → m < n → n < length dag.nodes → slice_index_or (ordinary_names dag) m [] ≢ slice_index_or (ordinary_names dag) n []

@@ -1,5 +1,5 @@
 -- What a graph answers, and why there is none.
-use Rattle.std.proofs.Common.{◌≡◌, ℕ, List, Option, Some, None, Result, Ok, Err, IfOk, IfErr, string_bytes, true, ◌∙◌, refl, sym, ap, subst}
+use Rattle.std.proofs.Common.{◌≡◌, ◌⊎◌, inl, inr, ℕ, List, Option, Some, None, Result, Ok, Err, IfOk, IfErr, string_bytes, true, false, ◌∙◌, refl, sym, ap, subst}
 use Rattle.std.proofs.lemmas.Bool.{false≢true}
 use Rattle.splices.specs.Opening.{Files}
 use Rattle.run_plan.specs.Plan.{Plan}
@@ -7,18 +7,18 @@ use Rattle.node_machine.specs.declared.Record.{Record}
 use Rattle.sched_core.specs.Core.{Progress}
 use Rattle.sched_core.specs.Run.{written, is_lawful}
 use Rattle.event_journal.specs.declared.fault.JournalFault.TheVariants as journal
-use Rattle.event_journal.specs.Reading.{replay_for}
+use Rattle.run_manager.specs.Inputs.{replay_by}
 use Rattle.graph_text.specs.Picture.{unknown, known, dot_text_of}
 use Rattle.dag_texts.specs.Planned.{IsGraphFault, opening_had_no_memory, IsPlanOf, IsPlanWith}
 use Rattle.dag_texts.specs.Warnings.{warning_lines}
 use Rattle.dag_texts.specs.declared.fault.RunFault.{RunFault}
 use Rattle.dag_texts.specs.declared.fault.RunFault.TheVariants.{Memory}
 use Rattle.dag_texts.specs.declared.warnings.Answer.{Answer}
-use Rattle.run_answers.specs.Statused.{records_read, records_at, IsRecordsFault, no_journal, foreign_record, reading_had_no_memory}
-use Rattle.run_answers.specs.Drawn.{IsPicture, of_run, of_others, IsBarePicture, IsDrawnOf, tells_of_others, IsJournalDrawnFault, no_records, drawing_had_no_memory}
+use Rattle.run_answers.specs.Statused.{flag_by, records_read, records_at, IsRecordsFault, no_journal, foreign_record, reading_had_no_memory}
+use Rattle.run_answers.specs.Drawn.{IsPicture, of_run, of_others, of_other_flag, IsBarePicture, IsDrawnOf, tells_of_others, IsJournalDrawnFault, no_records, drawing_had_no_memory}
 
 -- the picture of the DAG files alone
-pub bare-picture : (files : Files) (path : List ℕ) (plan : Plan) → IsPlanOf files path plan → (answer : Result Answer RunFault)
+pub bare-picture : (files : Files) (path : List ℕ) (plan : Plan) → IsPlanOf false files path plan → (answer : Result Answer RunFault)
     → IfOk answer (λ (a : Answer). string_bytes a.text ≡ dot_text_of plan unknown)
     → IfOk answer (λ (a : Answer). string_bytes a.warnings ≡ warning_lines plan.graph.dag.warnings)
     → IfOk answer (λ (a : Answer). IsBarePicture files path (string_bytes a.text) (string_bytes a.warnings))
@@ -37,7 +37,7 @@ module _ (files : Files) (entries : List (List ℕ × List ℕ)) (path : List �
   bare-drawn (Ok a) is status = (is, status)
   bare-drawn (Err fault) is status = tt
 
-  pub drawn-by : (bytes : List ℕ) (plan : Plan) → IsPlanWith files entries path rescue plan → (answer : Result Answer RunFault)
+  pub drawn-by : (bytes : List ℕ) (plan : Plan) → IsPlanWith (flag_by (Some bytes)) files entries path rescue plan → (answer : Result Answer RunFault)
       → IfOk answer (λ (a : Answer). IsPicture plan bytes (string_bytes a.text))
       → IfOk answer (λ (a : Answer). string_bytes a.warnings ≡ warning_lines plan.graph.dag.warnings)
       → IfOk answer (λ (a : Answer). a.status ≡ 0)
@@ -50,22 +50,25 @@ module _ (plan : Plan) (bytes : List ℕ) where
   pub drawn-memory : (fault : RunFault) → fault ≡ Memory → IsJournalDrawnFault plan bytes fault
   drawn-memory fault is = subst (IsJournalDrawnFault plan bytes) (sym is) drawing_had_no_memory
 
-  pub others : (fault : RunFault) → IsRecordsFault plan bytes fault → tells_of_others fault ≡ true → replay_for plan.digest bytes ≡ Err journal.OtherInputs
+  pub others : (fault : RunFault) → IsRecordsFault plan bytes fault → tells_of_others fault ≡ true
+      → (replay_by plan bytes ≡ Err journal.OtherInputs) ⊎ (replay_by plan bytes ≡ Err journal.OtherFlag)
   others _ (no_journal journal.Memory is) told = absurd (false≢true told)
   others _ (no_journal journal.Device is) told = absurd (false≢true told)
   others _ (no_journal journal.DiskFull is) told = absurd (false≢true told)
   others _ (no_journal journal.NotAJournal is) told = absurd (false≢true told)
   others _ (no_journal (journal.Version v) is) told = absurd (false≢true told)
-  others _ (no_journal journal.OtherInputs is) told = is
+  others _ (no_journal journal.OtherInputs is) told = inl is
+  others _ (no_journal journal.OtherFlag is) told = inr is
   others _ (no_journal journal.SlotsFull is) told = absurd (false≢true told)
   others _ (no_journal journal.Broken is) told = absurd (false≢true told)
   others _ (no_journal (journal.BadSlot slot) is) told = absurd (false≢true told)
   others _ (foreign_record slot first) told = absurd (false≢true told)
   others _ reading_had_no_memory told = absurd (false≢true told)
 
-  pub other-picture : replay_for plan.digest bytes ≡ Err journal.OtherInputs → (answer : Result Answer RunFault)
+  pub other-picture : (replay_by plan bytes ≡ Err journal.OtherInputs) ⊎ (replay_by plan bytes ≡ Err journal.OtherFlag) → (answer : Result Answer RunFault)
       → IfOk answer (λ (a : Answer). string_bytes a.text ≡ dot_text_of plan unknown) → IfOk answer (λ (a : Answer). IsPicture plan bytes (string_bytes a.text))
-  other-picture other (Ok a) text = subst (IsPicture plan bytes) (sym text) (of_others other)
+  other-picture (inl other) (Ok a) text = subst (IsPicture plan bytes) (sym text) (of_others other)
+  other-picture (inr other) (Ok a) text = subst (IsPicture plan bytes) (sym text) (of_other_flag other)
   other-picture other (Err fault) text = tt
 
   pub run-picture : (records : List Record) (core : Progress) → records_at plan bytes ≡ Some records → core.plan ≡ plan → records ≡ written core.past

@@ -9,8 +9,8 @@ ghost use Rattle.dag_texts.specs.declared.fault.RunFault.TheVariants.{Memory};
 ghost use Rattle.dag_texts.specs.Warnings.{warning_lines};
 ghost use Rattle.run_answers.specs.Audited.{passed_text, refused_text, IsAuditText, IsAuditedAs, IsAuditFault};
 
-use crate::statuses::bytes_in;
-use dag_texts::{Answer, RunFault, plan_with, warning_text};
+use crate::statuses::{bytes_in, plan_by};
+use dag_texts::{Answer, RunFault, warning_text};
 use fate_audit::{AuditNo, Fate, audit};
 use node_machine::Verdict;
 use run_plan::Plan;
@@ -21,7 +21,8 @@ use std::alloc::{AllocError, Global};
 /// Audits the run of the DAG file of this path whose journal has these bytes: whether the journal is
 /// that of a finished run without abort. The DAG file, those of its splices and the submit files of
 /// its nodes stand in the file set; `rescue` is the rescue file that the run read, if it read one. A
-/// journal that is not there is none.
+/// journal that is not there is none. Whether POST scripts run behind failed PRE scripts is what the
+/// journal's header says.
 ///
 /// Where it is, the answer has a line for each ordinary node, in plan order, by its fate, and then
 /// `audit ok`, with status 0; else the line `audit no CODE Name detail`, with status 1.
@@ -42,7 +43,7 @@ pub fn audit_of(
     ensures refused { IfErr result (IsAuditFault (bytes_of files.now) (entries_of files.now) path.now
         (option_map (λ b. b.now) rescue.entry)) }
 {
-    let plan = plan_with(alloc, files, path, rescue)?;
+    let plan = plan_by(alloc, files, path, rescue, journal)?;
     audit_plan(alloc, &plan, bytes_in(journal))
 }
 

@@ -10,8 +10,8 @@ ghost use Rattle.graph_text.specs.Picture.{plan_of, states_of, dot_text_of};
 ghost use Rattle.run_answers.specs.Statused.{records_at, IsRecordsFault};
 ghost use Rattle.run_answers.specs.Drawn.{IsPicture, IsBarePicture, IsDrawnOf, IsDrawnFault, IsJournalDrawnFault, tells_of_others};
 
-use crate::statuses::{core_of, records_of};
-use dag_texts::{Answer, RunFault, plan_of, plan_with, warning_text};
+use crate::statuses::{core_of, plan_by, records_of};
+use dag_texts::{Answer, RunFault, plan_of, warning_text};
 use event_journal::JournalFault;
 use graph_text::{Drawn, dot_text};
 use node_machine::Record;
@@ -71,7 +71,7 @@ fn bare_graph(alloc: Global, files: &FileSet, path: &str) -> Result<Answer, RunF
     ensures status { IfOk result (λ answer. answer.status ≡ 0) }
     ensures refused { IfErr result (IsGraphFault (bytes_of files.now) path.now) }
 {
-    let plan = plan_of(alloc, files, path)?;
+    let plan = plan_of(alloc, files, path, false)?;
     answer_for(alloc, &Drawn::Bare(&plan))
 }
 
@@ -89,7 +89,7 @@ fn graph_by(
     ensures refused { IfErr result (IsDrawnFault (bytes_of files.now) (entries_of files.now) path.now
         (option_map (λ b. b.now) rescue.entry) (Some bytes.now)) }
 {
-    let plan = plan_with(alloc, files, path, rescue)?;
+    let plan = plan_by(alloc, files, path, rescue, Some(bytes))?;
     graph_plan(alloc, &plan, bytes)
 }
 
@@ -106,17 +106,20 @@ fn graph_plan(alloc: Global, plan: &Plan, bytes: &[u8]) -> Result<Answer, RunFau
     }
 }
 
-/// Whether a fault tells that a journal is that of other files.
+/// Whether a fault tells that a journal is that of other files, or of a run with the other flag.
 fn tells_of_others(fault: &RunFault) -> bool
     ensures { result ≡ tells_of_others fault.now }
 {
     match fault {
-        RunFault::InManager(ManagerFault::Journal(JournalFault::OtherInputs)) => true,
+        RunFault::InManager(
+            ManagerFault::Journal(JournalFault::OtherInputs | JournalFault::OtherFlag),
+        ) => true,
         _ => false,
     }
 }
 
-/// The picture of a plan whose journal is that of other files, or why there is none: this fault.
+/// The picture of a plan whose journal is that of other files or of a run with the other flag, or
+/// why there is none: this fault.
 fn graph_unless(
     alloc: Global,
     plan: &Plan,

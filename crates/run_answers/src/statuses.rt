@@ -4,12 +4,13 @@ ghost use Rattle.std.specs.Prelude.{◌≡◌, Some, IfOk, IfErr, string_bytes};
 ghost use Rattle.std.specs.Option.{option_map};
 ghost use Rattle.splices.specs.FileSet.{bytes_of, entries_of};
 ghost use Rattle.sched_core.specs.Run.{written};
+ghost use Rattle.dag_texts.specs.Planned.{IsPlanWith, IsPlanWithFault};
 ghost use Rattle.dag_texts.specs.declared.fault.RunFault.TheVariants.{Memory};
 ghost use Rattle.dag_texts.specs.Warnings.{warning_lines};
-ghost use Rattle.run_answers.specs.Statused.{journal_bytes, records_at, read_fault, IsStatusText, IsRecordsFault, IsStatusOf, IsStatusFault};
+ghost use Rattle.run_answers.specs.Statused.{journal_bytes, flag_by, records_at, read_fault, IsStatusText, IsRecordsFault, IsStatusOf, IsStatusFault};
 
 use dag_texts::{Answer, RunFault, plan_with, warning_text};
-use event_journal::{JournalFault, read_journal, slot_of};
+use event_journal::{JournalFault, flag_in, read_journal, slot_of};
 use node_machine::Record;
 use recovery::replay;
 use run_manager::ManagerFault;
@@ -22,7 +23,8 @@ use std::alloc::Global;
 /// The status of the run of the DAG file of this path whose journal has these bytes: a line for each
 /// node, in plan order. The DAG file, those of its splices and the submit files of its nodes stand in
 /// the file set; `rescue` is the rescue file that the run read, if it read one. No journal, or one
-/// that was not begun, has no records.
+/// that was not begun, has no records. Whether POST scripts run behind failed PRE scripts is what the
+/// journal's header says.
 ///
 /// # Errors
 /// The first fault that opening the files meets (`InFiles`), a cycle (`Cycle`), the first fault of
@@ -41,8 +43,29 @@ pub fn status_of(
     ensures refused { IfErr result (IsStatusFault (bytes_of files.now) (entries_of files.now) path.now
         (option_map (λ b. b.now) rescue.entry) (option_map (λ b. b.now) journal.entry)) }
 {
-    let plan = plan_with(alloc, files, path, rescue)?;
+    let plan = plan_by(alloc, files, path, rescue, journal)?;
     status_plan(alloc, &plan, bytes_in(journal))
+}
+
+/// The plan of the DAG file of this path and of a rescue file, for the run of a journal: POST scripts
+/// run behind failed PRE scripts where its header says so.
+///
+/// # Errors
+/// Those of `plan_with`.
+pub(crate) fn plan_by(
+    alloc: Global,
+    files: &FileSet,
+    path: &str,
+    rescue: Option<&[u8]>,
+    journal: Option<&[u8]>,
+) -> Result<Plan, RunFault>
+    ensures plan { IfOk result (IsPlanWith (flag_by (option_map (λ b. b.now) journal.entry))
+        (bytes_of files.now) (entries_of files.now) path.now (option_map (λ b. b.now) rescue.entry)) }
+    ensures refused { IfErr result (IsPlanWithFault (bytes_of files.now) (entries_of files.now) path.now
+        (option_map (λ b. b.now) rescue.entry)) }
+{
+    let always_post = flag_of(alloc, journal)?;
+    plan_with(alloc, files, path, rescue, always_post)
 }
 
 /// The bytes of a journal; none where there is none.
@@ -52,6 +75,20 @@ pub(crate) fn bytes_in<'a>(journal: Option<&'a [u8]>) -> &'a [u8]
     match journal {
         Some(bytes) => bytes,
         None => &[],
+    }
+}
+
+/// Whether POST scripts run behind failed PRE scripts in the run of a journal, as its header says.
+///
+/// # Errors
+/// `Memory` alone.
+fn flag_of(alloc: Global, journal: Option<&[u8]>) -> Result<bool, RunFault>
+    ensures flag { IfOk result (λ flag. flag ≡ flag_by (option_map (λ b. b.now) journal.entry)) }
+    ensures err { IfErr result (λ fault. fault ≡ Memory) }
+{
+    match flag_in(alloc, bytes_in(journal)) {
+        Ok(flag) => Ok(flag),
+        Err(_) => Err(RunFault::Memory),
     }
 }
 
@@ -86,7 +123,7 @@ pub(crate) fn records_of(alloc: Global, plan: &Plan, bytes: &[u8]) -> Result<Vec
     ensures ok { IfOk result (λ records. records_at plan.now bytes.now ≡ Some records.items) }
     ensures refused { IfErr result (IsRecordsFault plan.now bytes.now) }
 {
-    match read_journal(alloc, bytes, plan.digest()) {
+    match read_journal(alloc, bytes, plan.digest(), plan.always_post()) {
         Ok(Some(records)) => Ok(records),
         Ok(None) => Ok(Vec::new(alloc)),
         Err(fault) => Err(in_journal(fault)),

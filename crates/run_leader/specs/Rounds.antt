@@ -10,13 +10,13 @@ use Rattle.sched_core.specs.Run.{is_lawful}
 use Rattle.event_journal.specs.Disk.{LeavesOnly}
 use Rattle.event_journal.specs.Journal.{is_broken, journal_count, journal_limit}
 use Rattle.event_journal.specs.Groups.{used_in}
-use Rattle.event_journal.specs.Image.{Header, header_of, IsRescueNumber, replay_of, groups_in}
-use Rattle.event_journal.specs.Reading.{replay_for}
+use Rattle.event_journal.specs.Image.{Header, IsRescueNumber, replay_of, groups_in}
 use Rattle.recovery.specs.Recovery.{IsNewLife, IsMomentOfBegin, IsMomentOfRecovery, IsBeginFault, IsRecoveryFault}
 use Rattle.run_manager.specs.declared.fault.ManagerFault.{ManagerFault}
 use Rattle.run_manager.specs.Managed.{Managed, plan_of, past_of, disk_of, IsAcknowledged}
 use Rattle.run_manager.specs.Chain.{ReadsForInputs}
 use Rattle.run_manager.specs.Seal.{IsRescued}
+use Rattle.run_manager.specs.Inputs.{IsHeaderOf, header_for, replay_by}
 use Rattle.job_starter.specs.declared.Call.{Call}
 use Rattle.job_starter.specs.declared.driving.DriveFault.{DriveFault}
 use Rattle.job_starter.specs.Drives.{limits_of}
@@ -48,7 +48,7 @@ IsBegunBy GoOn begun = Unit {0}
 
 -- while a round is opened: an image from before, or a moment of a run that begins, or of one that is recovered
 abbrev pub IsMomentOfOpening : Start → Plan → (List ℕ → Type 0) → List ℕ → List ℕ → Type 0
-IsMomentOfOpening (Begin used next) plan before found = IsMomentOfBegin before (header_of used next plan.digest)
+IsMomentOfOpening (Begin used next) plan before found = IsMomentOfBegin before (header_for used next plan)
 IsMomentOfOpening GoOn plan before found = IsMomentOfRecovery plan before (replay_of found)
 
 -- What a round makes of the journal's disk: a crash at any moment leaves one from before it, a moment of its opening, or one of the
@@ -56,7 +56,7 @@ IsMomentOfOpening GoOn plan before found = IsMomentOfRecovery plan before (repla
 pub record IsRoundOnDisk {D : Type 0} (seen : D → List ℕ) (may_leave : D → List ℕ → Type 0) (moment : D → ℕ) (left_since : D → ℕ → List ℕ → Type 0) (start : Start) (limits : Limits) (plan : Plan)
     (may : List Call → Key → Outcome → Type 0) (past : List Record) (told : List Call) (fault : Option DriveFault) (kept : List Record) (last : List Call) (disk left : D) : Type 0 where
   pub header : Header
-  pub inputs : header.digest ≡ plan.digest
+  pub inputs : IsHeaderOf plan header
   pub any_moment : LeavesOnly moment left_since disk left
       (λ image. IsMomentOfOpening start plan (may_leave disk) (seen disk) image ⊎ IsMomentOfLead limits plan may past told fault kept last header image)
   pub at_the_end : (image : List ℕ) → may_leave left image → IsLastOfLead limits plan may past told fault kept last header image
@@ -80,12 +80,12 @@ pub record IsRound {D R : Type 0} (honest : D → Type 0) (seen : D → List ℕ
 -- why a round is not opened, and what is left of the disk
 abbrev pub IsOpeningFault : {D : Type 0} → (D → ℕ) → (D → ℕ) → (D → Type 0) → (D → List ℕ) → Plan → ℕ → Start → D → D → ManagerFault → Type 0
 IsOpeningFault failures capacity honest seen plan slots (Begin used next) old new = IsBeginFault failures capacity honest slots old new
-IsOpeningFault failures capacity honest seen plan slots GoOn old new = IsRecoveryFault failures capacity honest plan slots (groups_in (seen old)) (replay_for plan.digest (seen old)) old new
+IsOpeningFault failures capacity honest seen plan slots GoOn old new = IsRecoveryFault failures capacity honest plan slots (groups_in (seen old)) (replay_by plan (seen old)) old new
 
 -- The journal on the disk is one of these inputs with the manager's records, and a crash leaves it so.
 pub record IsJournaled {D : Type 0} (seen : D → List ℕ) (may_leave : D → List ℕ → Type 0) (plan : Plan) (manager : Managed D) : Type 0 where
   pub header : Header
-  pub inputs : header.digest ≡ plan.digest
+  pub inputs : IsHeaderOf plan header
   pub acknowledged : IsAcknowledged seen may_leave header manager
 
 -- a manager's life has begun on the records of these bytes, which are lawful

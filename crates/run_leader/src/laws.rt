@@ -7,6 +7,7 @@ ghost use Rattle.node_machine.specs.declared.Record.{Record};
 ghost use Rattle.node_machine.specs.declared.Record.TheVariants.{Life};
 ghost use Rattle.event_journal.specs.Image.{Header};
 ghost use Rattle.run_manager.specs.Chain.{ReadsForInputs, Leaves, life_records};
+ghost use Rattle.run_manager.specs.Inputs.{IsHeaderOf};
 ghost use Rattle.job_starter.specs.declared.Call.{Call};
 ghost use Rattle.job_starter.specs.declared.driving.DriveFault.{DriveFault};
 ghost use Rattle.run_leader.specs.Moments.{IsMomentOfEnd, IsLastOfLead, IsLifeAtEnd};
@@ -20,13 +21,13 @@ pub fn stops_at_end<S: Starter>()
     ensures life { (limits : Limits) (plan : Plan) (starter : S) (past : List Record)
         (told : List Call) (fault : Option DriveFault) (kept : List Record) (last : List Call)
         (header : Header) (found image : List ℕ) →
-        header.digest ≡ plan.digest → ReadsForInputs plan past found →
+        IsHeaderOf plan header → ReadsForInputs plan past found →
         (stop : IsMomentOfEnd limits plan (S.may_tell starter) (Life ∷ past) told fault kept last header image) →
         IsLifeAtEnd past told found image stop }
     // Behind the call: by the records that it kept, an image is one that their life leaves.
     ensures leaves { (limits : Limits) (plan : Plan) (starter : S) (past : List Record)
         (told : List Call) (fault : Option DriveFault) (kept : List Record) (last : List Call)
-        (header : Header) (image : List ℕ) → header.digest ≡ plan.digest →
+        (header : Header) (image : List ℕ) → IsHeaderOf plan header →
         IsLastOfLead limits plan (S.may_tell starter) (Life ∷ past) told fault kept last header image →
         Leaves plan (life_records past kept) image }
 {}

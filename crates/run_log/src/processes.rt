@@ -7,23 +7,23 @@ use std::rt::Files;
 
 /// What the system tells of a process.
 #[derive(Clone, Copy, Debug, PartialEq, Eq)]
-pub struct Standing {
+pub(crate) struct Standing {
     /// Whether it has ended, and waits only for somebody to ask how.
-    pub ended: bool,
+    pub(crate) ended: bool,
     /// The process that started it, or one that stands for that since it ended.
-    pub parent: u32,
+    pub(crate) parent: u32,
     /// Its group: where a terminal's Ctrl-C goes.
-    pub group: u32,
+    pub(crate) group: u32,
     /// Its session.
-    pub session: u32,
+    pub(crate) session: u32,
     /// When it began, in ticks of the system's clock.
-    pub began: u64,
+    pub(crate) began: u64,
 }
 
 /// What a text says that the system has of a process: the third word is its state, the fourth its
 /// parent, the fifth its group, the sixth its session, and the twenty-second when it began. The second
 /// stands in parentheses and may have anything in it.
-pub fn standing_in(stat: &str) -> Option<Standing> {
+pub(crate) fn standing_in(stat: &str) -> Option<Standing> {
     let (_, behind) = stat.rsplit_once(')')?;
     let mut words = behind.split(' ');
     let state = words.nth(1)?;

@@ -2,6 +2,7 @@ pub mod Batched
 pub mod Chain
 pub mod Example
 pub mod Faults
+pub mod Inputs
 pub mod Lives
 pub mod Managed
 pub mod Rescue

@@ -38,30 +38,30 @@ pub specs-append : (dag : Dag) (sources : Sources) (number : ℕ) (xs ys : List 
 specs-append dag sources number [] ys = ap (λ (k : ℕ). specs_from dag sources k ys) (sym (add-zero number))
 specs-append dag sources number (x ∷ xs) ys =
     let shift : number + 1 + length xs ≡ number + suc (length xs) = omega arith in
-    ap (λ (ss : List NodeSpec). spec_of dag.categories (parents_of dag number) (sources.job x) (sources.marked number) x ∷ ss) (specs-append dag sources (number + 1) xs ys
+    ap (λ (ss : List NodeSpec). spec_of sources.always_post dag.categories (parents_of dag number) (sources.job x) (sources.marked number) x ∷ ss) (specs-append dag sources (number + 1) xs ys
     ∙ ap (λ (k : ℕ). specs_from dag sources (number + 1) xs ++ specs_from dag sources k ys) shift)
 
 pub specs-more : (dag : Dag) (sources : Sources) (nodes : List FlatNode) (i : ℕ) (d : FlatNode) → i < length nodes
-    → specs_from dag sources 0 (take (i + 1) nodes) ≡ specs_from dag sources 0 (take i nodes) ++ spec_of dag.categories (parents_of dag i) (sources.job (get_or nodes i d)) (sources.marked i) (get_or nodes i d) ∷ []
+    → specs_from dag sources 0 (take (i + 1) nodes) ≡ specs_from dag sources 0 (take i nodes) ++ spec_of sources.always_post dag.categories (parents_of dag i) (sources.job (get_or nodes i d)) (sources.marked i) (get_or nodes i d) ∷ []
 specs-more dag sources nodes i d small =
     let len : length (take i nodes) ≡ i = grind (arith, common_steps) in
     let start : 0 + length (take i nodes) ≡ i = omega arith in
     ap (specs_from dag sources 0) (take_more nodes i d small) ∙ specs-append dag sources 0 (take i nodes) (get_or nodes i d ∷ [])
-    ∙ ap (λ (k : ℕ). specs_from dag sources 0 (take i nodes) ++ spec_of dag.categories (parents_of dag k) (sources.job (get_or nodes i d)) (sources.marked k) (get_or nodes i d) ∷ []) start
+    ∙ ap (λ (k : ℕ). specs_from dag sources 0 (take i nodes) ++ spec_of sources.always_post dag.categories (parents_of dag k) (sources.job (get_or nodes i d)) (sources.marked k) (get_or nodes i d) ∷ []) start
 
 -- one turn of the loop over the nodes
 pub specs-step : (dag : Dag) (sources : Sources) (seen : List FlatNode) (i : ℕ) (specs new : List NodeSpec) (spec : NodeSpec) (node : FlatNode) (parents : List ℕ) (job : Job) (marked : Bool)
     → seen ≡ dag.nodes → i < length seen → node ≡ get_or seen i node → specs ≡ specs_from dag sources 0 (take i dag.nodes) → new ≡ specs ++ spec ∷ []
-    → spec ≡ spec_of dag.categories parents job marked node → parents ≡ parents_of dag i → job ≡ sources.job node → marked ≡ sources.marked i
+    → spec ≡ spec_of sources.always_post dag.categories parents job marked node → parents ≡ parents_of dag i → job ≡ sources.job node → marked ≡ sources.marked i
     → new ≡ specs_from dag sources 0 (take (i + 1) dag.nodes)
 specs-step dag sources seen i specs new spec node parents job marked same small is specs_are new_is spec_is parents_are job_is marked_is =
     let small_here : i < length dag.nodes = subst (λ (ns : List FlatNode). i < length ns) same small in
     let node_is : node ≡ get_or dag.nodes i node = is ∙ ap (λ (ns : List FlatNode). get_or ns i node) same in
     new_is ∙ ap (λ (ss : List NodeSpec). ss ++ spec ∷ []) specs_are
     ∙ ap (λ (s : NodeSpec). specs_from dag sources 0 (take i dag.nodes) ++ s ∷ [])
-    (spec_is ∙ ap (λ (ps : List ℕ). spec_of dag.categories ps job marked node) parents_are ∙ ap (λ (j : Job). spec_of dag.categories (parents_of dag i) j marked node) job_is
-    ∙ ap (λ (m : Bool). spec_of dag.categories (parents_of dag i) (sources.job node) m node) marked_is
-    ∙ ap (λ (n : FlatNode). spec_of dag.categories (parents_of dag i) (sources.job n) (sources.marked i) n) node_is)
+    (spec_is ∙ ap (λ (ps : List ℕ). spec_of sources.always_post dag.categories ps job marked node) parents_are ∙ ap (λ (j : Job). spec_of sources.always_post dag.categories (parents_of dag i) j marked node) job_is
+    ∙ ap (λ (m : Bool). spec_of sources.always_post dag.categories (parents_of dag i) (sources.job node) m node) marked_is
+    ∙ ap (λ (n : FlatNode). spec_of sources.always_post dag.categories (parents_of dag i) (sources.job n) (sources.marked i) n) node_is)
     ∙ sym (specs-more dag sources dag.nodes i node small_here)
 
 -- Parents are ordinary nodes, and each has an edge to its child.

@@ -63,24 +63,24 @@ fails_at files nodes i d fault small none says =
     (fails_first fault (job_at files (get_or nodes i d)) (λ job. first_fault files rest) says)))
 
 -- the specifications with the same jobs and other marks, which agree for these numbers
-pub specs_same : (dag : Dag) (job : FlatNode → Job) (marked other : ℕ → Bool) (number : ℕ) (nodes : List FlatNode)
+pub specs_same : (always : Bool) (dag : Dag) (job : FlatNode → Job) (marked other : ℕ → Bool) (number : ℕ) (nodes : List FlatNode)
     → ((n : ℕ) → n < number + length nodes → marked n ≡ other n)
-    → specs_from dag (record { job = job; marked = marked }) number nodes ≡ specs_from dag (record { job = job; marked = other }) number nodes
-specs_same dag job marked other number [] same = refl
-specs_same dag job marked other number (x ∷ xs) same =
-    ap (λ (m : Bool). spec_of dag.categories (parents_of dag number) (job x) m x ∷ specs_from dag (record { job = job; marked = marked }) (number + 1) xs) (same number (omega arith))
-    ∙ ap (λ (ss : List NodeSpec). spec_of dag.categories (parents_of dag number) (job x) (other number) x ∷ ss)
-    (specs_same dag job marked other (number + 1) xs (λ n small. same n (omega arith)))
+    → specs_from dag (record { job = job; marked = marked; always_post = always }) number nodes ≡ specs_from dag (record { job = job; marked = other; always_post = always }) number nodes
+specs_same always dag job marked other number [] same = refl
+specs_same always dag job marked other number (x ∷ xs) same =
+    ap (λ (m : Bool). spec_of always dag.categories (parents_of dag number) (job x) m x ∷ specs_from dag (record { job = job; marked = marked; always_post = always }) (number + 1) xs) (same number (omega arith))
+    ∙ ap (λ (ss : List NodeSpec). spec_of always dag.categories (parents_of dag number) (job x) (other number) x ∷ ss)
+    (specs_same always dag job marked other (number + 1) xs (λ n small. same n (omega arith)))
 
-module _ (graph : Network) (files : Option Files) (rescue : Option (List ℕ)) (digest : List ℕ) where
-  pub fails_nodes : (fault : PlanFault) → Fails fault (first_fault files graph.dag.nodes) → Fails fault (plan_at graph files rescue digest)
+module _ (always : Bool) (graph : Network) (files : Option Files) (rescue : Option (List ℕ)) (digest : List ℕ) where
+  pub fails_nodes : (fault : PlanFault) → Fails fault (first_fault files graph.dag.nodes) → Fails fault (plan_at always graph files rescue digest)
   unfolding plan_at
   fails_nodes fault says =
       fails_first fault (first_fault files (all_nodes graph.dag)) _
       (subst (Fails fault) (sym (faults_append files graph.dag.nodes (option_to_list graph.dag.final_node))) (fails_first fault (first_fault files graph.dag.nodes) _ says))
 
   pub fails_final : (fault : PlanFault) → first_fault files graph.dag.nodes ≡ Ok tt → Fails fault (first_fault files (option_to_list graph.dag.final_node))
-      → Fails fault (plan_at graph files rescue digest)
+      → Fails fault (plan_at always graph files rescue digest)
   unfolding plan_at
   fails_final fault none says =
       fails_first fault (first_fault files (all_nodes graph.dag)) _
@@ -92,7 +92,7 @@ module _ (graph : Network) (files : Option Files) (rescue : Option (List ℕ)) (
       ∙ ap (λ (r : Result (Unit {0}) PlanFault). r >>= λ done. first_fault files (option_to_list graph.dag.final_node)) none ∙ none_final
 
   pub fails_rescue : (fault : PlanFault) → first_fault files graph.dag.nodes ≡ Ok tt → first_fault files (option_to_list graph.dag.final_node) ≡ Ok tt
-      → Fails fault (rescued_in graph.dag rescue) → Fails fault (plan_at graph files rescue digest)
+      → Fails fault (rescued_in graph.dag rescue) → Fails fault (plan_at always graph files rescue digest)
   unfolding plan_at
   fails_rescue fault none none_final says =
       fails_rest fault (first_fault files (all_nodes graph.dag)) _ tt (no_fault none none_final) (fails_first fault (rescued_in graph.dag rescue) _ says)
@@ -100,13 +100,13 @@ module _ (graph : Network) (files : Option Files) (rescue : Option (List ℕ)) (
   pub planned_at : (numbers : List ℕ) (marks : List Bool) (specs : List NodeSpec) (final_node : Option NodeSpec)
       → first_fault files graph.dag.nodes ≡ Ok tt → first_fault files (option_to_list graph.dag.final_node) ≡ Ok tt → rescued_in graph.dag rescue ≡ Ok numbers
       → ((n : ℕ) → n < length graph.dag.nodes → slice_index_or marks n false ≡ is_listed numbers n)
-      → specs ≡ specs_from graph.dag (marked_sources files marks) 0 graph.dag.nodes
-      → final_node ≡ option_map (final_spec (marked_sources files [])) graph.dag.final_node
-      → plan_at graph files rescue digest ≡ Ok (record { nodes = specs; final_node = final_node; graph = graph; digest = digest })
+      → specs ≡ specs_from graph.dag (marked_sources always files marks) 0 graph.dag.nodes
+      → final_node ≡ option_map (final_spec (marked_sources always files [])) graph.dag.final_node
+      → plan_at always graph files rescue digest ≡ Ok (record { nodes = specs; final_node = final_node; graph = graph; digest = digest; always_post = always })
   unfolding plan_at
   planned_at numbers marks specs final_node none none_final rescued same specs_are final_is =
-      ap (λ (r : Result (Unit {0}) PlanFault). r >>= λ done. rescued_in graph.dag rescue >>= λ found. Ok (plan_of graph (sources_of files found) digest)) (no_fault none none_final)
-      ∙ ap (λ (r : Result (List ℕ) PlanFault). r >>= λ found. Ok (plan_of graph (sources_of files found) digest)) rescued
-      ∙ ap (λ (ss : List NodeSpec). Ok (record { nodes = ss; final_node = option_map (final_spec (marked_sources files [])) graph.dag.final_node; graph = graph; digest = digest }))
-      (sym (specs_are ∙ specs_same graph.dag (sources_of files []).job (λ n. slice_index_or marks n false) (is_listed numbers) 0 graph.dag.nodes (λ n small. same n (omega arith))))
-      ∙ ap (λ (f : Option NodeSpec). Ok (record { nodes = specs; final_node = f; graph = graph; digest = digest })) (sym final_is)
+      ap (λ (r : Result (Unit {0}) PlanFault). r >>= λ done. rescued_in graph.dag rescue >>= λ found. Ok (plan_of graph (sources_of always files found) digest)) (no_fault none none_final)
+      ∙ ap (λ (r : Result (List ℕ) PlanFault). r >>= λ found. Ok (plan_of graph (sources_of always files found) digest)) rescued
+      ∙ ap (λ (ss : List NodeSpec). Ok (record { nodes = ss; final_node = option_map (final_spec (marked_sources always files [])) graph.dag.final_node; graph = graph; digest = digest; always_post = always }))
+      (sym (specs_are ∙ specs_same always graph.dag (sources_of always files []).job (λ n. slice_index_or marks n false) (is_listed numbers) 0 graph.dag.nodes (λ n small. same n (omega arith))))
+      ∙ ap (λ (f : Option NodeSpec). Ok (record { nodes = specs; final_node = f; graph = graph; digest = digest; always_post = always })) (sym final_is)

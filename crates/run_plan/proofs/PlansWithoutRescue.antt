@@ -31,40 +31,40 @@ is-given (Err fault) = ⊥
 taken : (x y : Plan) (r : Result Plan PlanFault) → r ≡ Ok y → r ≡ Ok x → y ≡ x
 taken x y r is given = sym (ap (or-given x) is) ∙ ap (or-given x) given
 
-pub bare-made : (graph : Network) (digest : List ℕ) (plan : Plan) → plan_at graph None None digest ≡ Ok plan → plan ≡ plan_of graph (sources_of None []) digest
+pub bare-made : (always : Bool) (graph : Network) (digest : List ℕ) (plan : Plan) → plan_at always graph None None digest ≡ Ok plan → plan ≡ plan_of graph (sources_of always None []) digest
 unfolding plan_at
-bare-made graph digest plan is =
-    taken (plan_of graph (sources_of None []) digest) plan (plan_at graph None None digest) is
-    (ap (λ r. r >>= λ none. rescued_in graph.dag None >>= λ numbers. Ok (plan_of graph (sources_of None numbers) digest)) (bare-fine (all_nodes graph.dag)))
+bare-made always graph digest plan is =
+    taken (plan_of graph (sources_of always None []) digest) plan (plan_at always graph None None digest) is
+    (ap (λ r. r >>= λ none. rescued_in graph.dag None >>= λ numbers. Ok (plan_of graph (sources_of always None numbers) digest)) (bare-fine (all_nodes graph.dag)))
 
 -- what follows the nodes' faults: a plan
-abbrev made_from : (graph : Network) (files : Files) (digest : List ℕ) → Result (Unit {0}) PlanFault → Result Plan PlanFault
-made_from graph files digest r = r >>= λ none. Ok (plan_of graph (sources_of (Some files) []) digest)
+abbrev made_from : (always : Bool) (graph : Network) (files : Files) (digest : List ℕ) → Result (Unit {0}) PlanFault → Result Plan PlanFault
+made_from always graph files digest r = r >>= λ none. Ok (plan_of graph (sources_of always (Some files) []) digest)
 
-fine-from : (graph : Network) (files : Files) (digest : List ℕ) (r : Result (Unit {0}) PlanFault) (plan : Plan) → made_from graph files digest r ≡ Ok plan → (r ≡ Ok tt) × (plan.graph ≡ graph)
-fine-from graph files digest (Ok none) plan is =
-    (refl, ap (λ (p : Plan). p.graph) (taken (plan_of graph (sources_of (Some files) []) digest) plan (made_from graph files digest (Ok none)) is refl))
-fine-from graph files digest (Err fault) plan is = absurd (subst is-given (sym is) tt)
+fine-from : (always : Bool) (graph : Network) (files : Files) (digest : List ℕ) (r : Result (Unit {0}) PlanFault) (plan : Plan) → made_from always graph files digest r ≡ Ok plan → (r ≡ Ok tt) × (plan.graph ≡ graph)
+fine-from always graph files digest (Ok none) plan is =
+    (refl, ap (λ (p : Plan). p.graph) (taken (plan_of graph (sources_of always (Some files) []) digest) plan (made_from always graph files digest (Ok none)) is refl))
+fine-from always graph files digest (Err fault) plan is = absurd (subst is-given (sym is) tt)
 
-faulty-from : (graph : Network) (files : Files) (digest : List ℕ) (r : Result (Unit {0}) PlanFault) (fault : PlanFault) → made_from graph files digest r ≡ Err fault → r ≡ Err fault
-faulty-from graph files digest (Ok none) fault is = absurd (subst is-given is tt)
-faulty-from graph files digest (Err other) fault is = ap (λ r. fault-in r) is
+faulty-from : (always : Bool) (graph : Network) (files : Files) (digest : List ℕ) (r : Result (Unit {0}) PlanFault) (fault : PlanFault) → made_from always graph files digest r ≡ Err fault → r ≡ Err fault
+faulty-from always graph files digest (Ok none) fault is = absurd (subst is-given is tt)
+faulty-from always graph files digest (Err other) fault is = ap (λ r. fault-in r) is
   where
     fault-in : Result Plan PlanFault → Result (Unit {0}) PlanFault
     fault-in (Ok plan) = Ok tt
     fault-in (Err fault) = Err fault
 
 -- with submit files: no node has a fault
-pub built-fine : (graph : Network) (files : Files) (digest : List ℕ) (plan : Plan) → plan_at graph (Some files) None digest ≡ Ok plan
+pub built-fine : (always : Bool) (graph : Network) (files : Files) (digest : List ℕ) (plan : Plan) → plan_at always graph (Some files) None digest ≡ Ok plan
     → (first_fault (Some files) (all_nodes graph.dag) ≡ Ok tt) × (plan.graph ≡ graph)
 unfolding plan_at
-built-fine graph files digest plan is = fine-from graph files digest (first_fault (Some files) (all_nodes graph.dag)) plan is
+built-fine always graph files digest plan is = fine-from always graph files digest (first_fault (Some files) (all_nodes graph.dag)) plan is
 
 -- or the first one is told
-pub built-faulty : (graph : Network) (files : Files) (digest : List ℕ) (fault : PlanFault) → plan_at graph (Some files) None digest ≡ Err fault
+pub built-faulty : (always : Bool) (graph : Network) (files : Files) (digest : List ℕ) (fault : PlanFault) → plan_at always graph (Some files) None digest ≡ Err fault
     → first_fault (Some files) (all_nodes graph.dag) ≡ Err fault
 unfolding plan_at
-built-faulty graph files digest fault is = faulty-from graph files digest (first_fault (Some files) (all_nodes graph.dag)) fault is
+built-faulty always graph files digest fault is = faulty-from always graph files digest (first_fault (Some files) (all_nodes graph.dag)) fault is
 
 -- a fault that is told, and not for memory
 pub told-fault : {A : Type 0} (fault : PlanFault) (answer : Result A PlanFault) → Fails fault answer → is_memory fault ≡ false → answer ≡ Err fault

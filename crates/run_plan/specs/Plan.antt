@@ -1,16 +1,17 @@
 -- A plan as contracts see it.
-use Rattle.std.specs.Prelude.{ℕ, ℤ, pos, zero, suc, ◌<◌, nat_lt, Bool, true, false, ◌&&◌, List, [], length, Option, None, unwrap_or, slice_get}
+use Rattle.std.specs.Prelude.{ℕ, zero, suc, ◌<◌, nat_lt, Bool, true, ◌&&◌, List, length, Option, unwrap_or, slice_get}
 use Rattle.std.specs.List.{Contains, list_all}
 use Rattle.dag_graph.specs.Graph.{Network}
 use Rattle.node_specs.specs.Node.{NodeSpec, no_node}
 
--- the ordinary nodes by their numbers, the FINAL node, which has the next number, the graph that they were made from, and
--- the digest of all that the plan was made from
+-- the ordinary nodes by their numbers, the FINAL node, which has the next number, the graph that they were made from, the
+-- digest of all files that the plan was made from, and whether POST runs behind a failed PRE
 pub record Plan : Type 0 where
   pub nodes : List NodeSpec
   pub final_node : Option NodeSpec
   pub graph : Network
   pub digest : List ℕ
+  pub always_post : Bool
 
 abbrev pub node_at : Plan → ℕ → NodeSpec
 node_at plan node = unwrap_or (slice_get plan.nodes node) (unwrap_or plan.final_node no_node)

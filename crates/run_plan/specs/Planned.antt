@@ -13,5 +13,5 @@ pub record IsPlanned (plan : Plan) : Type 0 where
   pub sound : (node : ℕ) → is_sound (node_at plan node) ≡ true
 
 -- where the jobs come from, and which nodes are marked
-abbrev pub marked_sources : Option Files → List Bool → Sources
-marked_sources files marks = record (sources_of files []) { marked = λ number. slice_index_or marks number false }
+abbrev pub marked_sources : Bool → Option Files → List Bool → Sources
+marked_sources always_post files marks = record (sources_of always_post files []) { marked = λ number. slice_index_or marks number false }

@@ -5,24 +5,25 @@ use Rattle.std.specs.Option.{option_map}
 use Rattle.dag_graph.specs.Graph.{Network, parents_of}
 use Rattle.splices.specs.Dag.{Dag}
 use Rattle.splices.specs.declared.flat.FlatNode.{FlatNode}
-use Rattle.node_specs.specs.Node.{Job, Program, NodeSpec}
+use Rattle.node_specs.specs.Node.{Job, NodeSpec}
 use Rattle.node_specs.specs.Specs.{spec_of}
 use Rattle.run_plan.specs.Plan.{Plan}
 
--- what the jobs of nodes are started by, and which nodes a rescue file marks
+-- what the jobs of nodes are started by, which nodes a rescue file marks, and whether POST runs behind a failed PRE
 pub record Sources : Type 0 where
   pub job : FlatNode → Job
   pub marked : ℕ → Bool
+  pub always_post : Bool
 
 -- the specifications of these nodes, the first of which has this number
 abbrev pub specs_from : Dag → Sources → ℕ → List FlatNode → List NodeSpec
 specs_from dag sources number [] = []
 specs_from dag sources number (node ∷ nodes) =
-    spec_of dag.categories (parents_of dag number) (sources.job node) (sources.marked number) node ∷ specs_from dag sources (number + 1) nodes
+    spec_of sources.always_post dag.categories (parents_of dag number) (sources.job node) (sources.marked number) node ∷ specs_from dag sources (number + 1) nodes
 
 -- the specification of the FINAL node, which no rescue file marks, and which is in no category
 abbrev pub final_spec : Sources → FlatNode → NodeSpec
-final_spec sources node = spec_of [] [] (sources.job node) false node
+final_spec sources node = spec_of sources.always_post [] [] (sources.job node) false node
 
 -- the plan of a graph
 abbrev pub plan_of : Network → Sources → List ℕ → Plan
@@ -31,12 +32,9 @@ plan_of graph sources digest = record {
   final_node = option_map (final_spec sources) graph.dag.final_node;
   graph = graph;
   digest = digest;
+  always_post = sources.always_post;
 }
 
 -- a node has one of these numbers
 abbrev pub is_listed : List ℕ → ℕ → Bool
 is_listed numbers number = list_any (λ n. n == number) numbers
-
--- Where no submit file is read, a node's job is started by the path of its submit file.
-abbrev pub bare : List ℕ → Sources
-bare numbers = record { job = λ node. Program node.file; marked = is_listed numbers }

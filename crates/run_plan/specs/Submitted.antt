@@ -113,15 +113,20 @@ abbrev pub rescued_in : Dag → Option (List ℕ) → Result (List ℕ) PlanFaul
 rescued_in dag None = Ok []
 rescued_in dag (Some bytes) = in_rescue (rescued_of dag bytes)
 
-abbrev pub sources_of : Option Files → List ℕ → Sources
-sources_of files numbers = record { job = λ node. job_or_program node (job_at files node); marked = is_listed numbers }
+abbrev pub sources_of : Bool → Option Files → List ℕ → Sources
+sources_of always_post files numbers = record {
+  job = λ node. job_or_program node (job_at files node);
+  marked = is_listed numbers;
+  always_post = always_post;
+}
 
--- The plan of a graph, or the first fault: those of the nodes in plan order, then that of the rescue file.
-unfoldable pub plan_at : Network → Option Files → Option (List ℕ) → List ℕ → Result Plan PlanFault
-plan_at graph files rescue digest =
+-- The plan of a graph, or the first fault: those of the nodes in plan order, then that of the rescue file. The flag says
+-- whether POST runs behind a failed PRE.
+unfoldable pub plan_at : Bool → Network → Option Files → Option (List ℕ) → List ℕ → Result Plan PlanFault
+plan_at always_post graph files rescue digest =
     first_fault files (all_nodes graph.dag) >>= λ none. rescued_in graph.dag rescue >>= λ numbers.
-    Ok (plan_of graph (sources_of files numbers) digest)
+    Ok (plan_of graph (sources_of always_post files numbers) digest)
 
 -- the plan of a graph whose submit files aren't read, with no rescue file
-abbrev pub bare_plan : Network → Plan
-bare_plan graph = plan_of graph (sources_of None []) (digest_of graph.dag.top [] None)
+abbrev pub bare_plan : Bool → Network → Plan
+bare_plan always_post graph = plan_of graph (sources_of always_post None []) (digest_of graph.dag.top [] None)

@@ -19,7 +19,7 @@ use crate::fault::PlanFault;
 use crate::submitted::{fault_in, job_at};
 use dag_graph::Graph;
 use node_machine::Key;
-use node_specs::{ChildCommand, NodeSpec, PhaseFacts};
+use node_specs::{Categories, ChildCommand, NodeSpec, PhaseFacts};
 use rescue_file::{RescueFault, read_rescue};
 use splices::{FileSet, FlatNode};
 use std::alloc::{AllocError, Global};
@@ -31,6 +31,7 @@ pub struct Plan {
     nodes: Vec<NodeSpec>,
     final_node: Option<NodeSpec>,
     digest: [u8; 32],
+    always_post: bool,
     /// what stands for the FINAL node where there is none
     absent: NodeSpec,
 }
@@ -43,6 +44,7 @@ impl Drop for Plan {
             nodes: _,
             final_node: _,
             digest: _,
+            always_post: _,
             absent: _,
         } = self;
     }
@@ -56,14 +58,15 @@ impl Model for Plan {
 
     ghost Value = { PlanValue };
 
-    ghost view = { λ a. record { nodes = a.nodes.items; final_node = a.final_node; graph = a.graph; digest = a.digest } };
+    ghost view = { λ a. record { nodes = a.nodes.items; final_node = a.final_node; graph = a.graph; digest = a.digest; always_post = a.always_post } };
 
-    ghost invariant = { λ a. IsPlanned (record { nodes = a.nodes.items; final_node = a.final_node; graph = a.graph; digest = a.digest }) × (a.absent ≡ no_node) };
+    ghost invariant = { λ a. IsPlanned (record { nodes = a.nodes.items; final_node = a.final_node; graph = a.graph; digest = a.digest; always_post = a.always_post }) × (a.absent ≡ no_node) };
 }
 
 impl Plan {
     /// The plan of a graph whose submit files stand in a set, and of a rescue file, if there is one:
-    /// the nodes that it names are done from the start.
+    /// the nodes that it names are done from the start. With `always_post` the POST script of a node
+    /// runs behind a PRE script that failed, too.
     ///
     /// Each text of a job is expanded once here, for the last attempt that is allowed and the
     /// greatest launch number, so that no fault is left for the run.
@@ -82,18 +85,20 @@ impl Plan {
         graph: Graph,
         files: &FileSet,
         rescue: Option<&[u8]>,
+        always_post: bool,
     ) -> Result<Plan, (Graph, PlanFault)>
-        ensures plan { IfOk result (λ plan. plan_at graph (Some (bytes_of files.now)) (option_map (λ b. b.now) rescue.entry)
+        ensures plan { IfOk result (λ plan. plan_at always_post graph (Some (bytes_of files.now)) (option_map (λ b. b.now) rescue.entry)
             (digest_of graph.dag.top (entries_of files.now) (option_map (λ b. b.now) rescue.entry)) ≡ Ok plan) }
         ensures refused { IfErr result (λ e. (e.0 ≡ graph)
-            × Fails e.1 (plan_at graph (Some (bytes_of files.now)) (option_map (λ b. b.now) rescue.entry)
+            × Fails e.1 (plan_at always_post graph (Some (bytes_of files.now)) (option_map (λ b. b.now) rescue.entry)
             (digest_of graph.dag.top (entries_of files.now) (option_map (λ b. b.now) rescue.entry)))) }
     {
-        Plan::of_parts(alloc, graph, Some(files), rescue)
+        Plan::of_parts(alloc, graph, Some(files), rescue, always_post)
     }
 
     /// The plan of a graph, with no submit file read: each job is started by the path of its submit
-    /// file. The nodes that the rescue file names, if there is one, are done from the start.
+    /// file. The nodes that the rescue file names, if there is one, are done from the start. With
+    /// `always_post` the POST script of a node runs behind a PRE script that failed, too.
     ///
     /// # Errors
     /// The graph is handed back, with the first line of the rescue file that can't be read
@@ -102,14 +107,15 @@ impl Plan {
         alloc: Global,
         graph: Graph,
         rescue: Option<&[u8]>,
+        always_post: bool,
     ) -> Result<Plan, (Graph, PlanFault)>
-        ensures plan { IfOk result (λ plan. plan_at graph None (option_map (λ b. b.now) rescue.entry)
+        ensures plan { IfOk result (λ plan. plan_at always_post graph None (option_map (λ b. b.now) rescue.entry)
             (digest_of graph.dag.top [] (option_map (λ b. b.now) rescue.entry)) ≡ Ok plan) }
         ensures refused { IfErr result (λ e. (e.0 ≡ graph)
-            × Fails e.1 (plan_at graph None (option_map (λ b. b.now) rescue.entry)
+            × Fails e.1 (plan_at always_post graph None (option_map (λ b. b.now) rescue.entry)
             (digest_of graph.dag.top [] (option_map (λ b. b.now) rescue.entry)))) }
     {
-        Plan::of_parts(alloc, graph, None, rescue)
+        Plan::of_parts(alloc, graph, None, rescue, always_post)
     }
 
     fn of_parts(
@@ -117,11 +123,12 @@ impl Plan {
         graph: Graph,
         files: Option<&FileSet>,
         rescue: Option<&[u8]>,
+        always_post: bool,
     ) -> Result<Plan, (Graph, PlanFault)>
-        ensures plan { IfOk result (λ plan. plan_at graph (option_map (λ set. bytes_of set.now) files.entry) (option_map (λ b. b.now) rescue.entry)
+        ensures plan { IfOk result (λ plan. plan_at always_post graph (option_map (λ set. bytes_of set.now) files.entry) (option_map (λ b. b.now) rescue.entry)
             (digest_of graph.dag.top (option_map_or (λ set. entries_of set.now) files.entry []) (option_map (λ b. b.now) rescue.entry)) ≡ Ok plan) }
         ensures refused { IfErr result (λ e. (e.0 ≡ graph)
-            × Fails e.1 (plan_at graph (option_map (λ set. bytes_of set.now) files.entry) (option_map (λ b. b.now) rescue.entry)
+            × Fails e.1 (plan_at always_post graph (option_map (λ set. bytes_of set.now) files.entry) (option_map (λ b. b.now) rescue.entry)
             (digest_of graph.dag.top (option_map_or (λ set. entries_of set.now) files.entry []) (option_map (λ b. b.now) rescue.entry)))) }
     {
         let absent = match NodeSpec::none(alloc) {
@@ -129,12 +136,13 @@ impl Plan {
             Err(_) => return Err((graph, PlanFault::Memory)),
         };
         let digest = digest_of(graph.flat().top(), files, rescue);
-        match nodes_of(alloc, &graph, files, rescue) {
+        match nodes_of(alloc, &graph, files, rescue, always_post) {
             Ok(nodes) => Ok(Plan {
                 graph,
                 nodes: nodes.ordinary,
                 final_node: nodes.final_node,
                 digest,
+                always_post,
                 absent,
             }),
             Err(fault) => Err((graph, fault)),
@@ -181,11 +189,18 @@ impl Plan {
     /// SHA-256 of what the plan was made from: the path of the DAG file, each file of the set with
     /// its name, in the order of the bytes of the names (of none for a bare plan), and the rescue
     /// file. Each of these texts stands behind its length, of eight bytes; before the rescue file
-    /// stands a byte 1, and a byte 0 where there is none.
+    /// stands a byte 1, and a byte 0 where there is none. Whether POST always runs is no part of it.
     pub fn digest(&self) -> &[u8; 32]
         ensures { result.now ≡ self.now.digest }
     {
         &self.digest
+    }
+
+    /// Whether a POST script runs behind a PRE script that failed, too, as `build` was asked.
+    pub fn always_post(&self) -> bool
+        ensures { result ≡ self.now.always_post }
+    {
+        self.always_post
     }
 
     /// The node of this number; that behind the last is the FINAL node. Where there is none, a node
@@ -259,15 +274,16 @@ fn nodes_of(
     graph: &Graph,
     files: Option<&FileSet>,
     rescue: Option<&[u8]>,
+    always_post: bool,
 ) -> Result<Nodes, PlanFault>
-    ensures { (digest : List ℕ) → Gives (λ nodes. record { nodes = nodes.ordinary.items; final_node = nodes.final_node; graph = graph.now; digest = digest }) result
-        (plan_at graph.now (option_map (λ set. bytes_of set.now) files.entry) (option_map (λ b. b.now) rescue.entry) digest) }
+    ensures { (digest : List ℕ) → Gives (λ nodes. record { nodes = nodes.ordinary.items; final_node = nodes.final_node; graph = graph.now; digest = digest; always_post = always_post }) result
+        (plan_at always_post graph.now (option_map (λ set. bytes_of set.now) files.entry) (option_map (λ b. b.now) rescue.entry) digest) }
 {
     let rescued = rescued_in(alloc, graph, rescue);
     let count = graph.flat().nodes().len();
     let marks = marks_in(alloc, count, &rescued)?;
-    let ordinary = specs_of(alloc, graph, files, marks.as_slice())?;
-    let final_node = final_of(alloc, files, graph.flat().final_node())?;
+    let ordinary = specs_of(alloc, graph, files, marks.as_slice(), always_post)?;
+    let final_node = final_of(alloc, files, graph.flat().final_node(), always_post)?;
     let _numbers = rescued?;
     Ok(Nodes {
         ordinary,
@@ -335,17 +351,19 @@ fn specs_of(
     graph: &Graph,
     files: Option<&FileSet>,
     marks: &[bool],
+    always_post: bool,
 ) -> Result<Vec<NodeSpec>, PlanFault>
-    ensures specs { IfOk result (λ specs. specs.items ≡ specs_from graph.now.dag (marked_sources (option_map (λ set. bytes_of set.now) files.entry) marks.now) 0 graph.now.dag.nodes) }
+    ensures specs { IfOk result (λ specs. specs.items ≡ specs_from graph.now.dag (marked_sources always_post (option_map (λ set. bytes_of set.now) files.entry) marks.now) 0 graph.now.dag.nodes) }
     ensures faults { Gives (λ _. tt) result (first_fault (option_map (λ set. bytes_of set.now) files.entry) graph.now.dag.nodes) }
 {
+    let categories = Categories::new(alloc, graph.flat().categories())?;
     let mut specs = Vec::new(alloc);
     for (number, node) in graph.flat().nodes().iter().enumerate() {
         let job = job_at(alloc, files, node)?;
         let parents = graph.parents(number as u32);
         let marked = marks.get(number).copied().unwrap_or(false);
-        let limits = graph.flat().categories();
-        let Ok(spec) = NodeSpec::new(alloc, parents, job, marked, limits, node) else {
+        let Ok(spec) = NodeSpec::new(alloc, parents, job, marked, &categories, node, always_post)
+        else {
             return Err(PlanFault::Memory);
         };
         specs.push(spec)?;
@@ -358,15 +376,17 @@ fn final_of(
     alloc: Global,
     files: Option<&FileSet>,
     node: Option<&FlatNode>,
+    always_post: bool,
 ) -> Result<Option<NodeSpec>, PlanFault>
-    ensures spec { IfOk result (λ spec. spec ≡ option_map (λ n. final_spec (marked_sources (option_map (λ set. bytes_of set.now) files.entry) []) n.now) node.entry) }
+    ensures spec { IfOk result (λ spec. spec ≡ option_map (λ n. final_spec (marked_sources always_post (option_map (λ set. bytes_of set.now) files.entry) []) n.now) node.entry) }
     ensures fault { Gives (λ _. tt) result (first_fault (option_map (λ set. bytes_of set.now) files.entry) (option_to_list (option_map (λ n. n.now) node.entry))) }
 {
     let Some(node) = node else {
         return Ok(None);
     };
     let job = job_at(alloc, files, node)?;
-    match NodeSpec::new(alloc, &[], job, false, &[], node) {
+    let categories = Categories::new(alloc, &[])?;
+    match NodeSpec::new(alloc, &[], job, false, &categories, node, always_post) {
         Ok(spec) => Ok(Some(spec)),
         Err(_) => Err(PlanFault::Memory),
     }

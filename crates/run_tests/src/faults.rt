@@ -171,7 +171,7 @@ fn live(alloc: Global, disk: MemDisk, plan: &Plan, table: &Table, stop: &Stop) -
 
 // The records of a journal, and its disk.
 fn read_back(alloc: Global, plan: &Plan, disk: MemDisk) -> Result<(MemDisk, Vec<Record>), Fail> {
-    match Journal::open(alloc, disk, plan.digest(), SLOTS) {
+    match Journal::open(alloc, disk, plan.digest(), plan.always_post(), SLOTS) {
         Ok(Opened::Found(journal)) => {
             let mut journal = journal;
             let records = journal.records(alloc)?;

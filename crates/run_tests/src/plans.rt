@@ -39,15 +39,16 @@ fn fault_of(refused: (Graph, PlanFault)) -> Fail {
 
 /// The plan of a DAG and the submit files of its nodes.
 pub fn plan_of(alloc: Global, dag: &str, submits: &[File]) -> Result<Plan, Fail> {
-    plan_behind(alloc, dag, submits, None)
+    plan_behind(alloc, dag, submits, None, false)
 }
 
-/// The same, with the rescue file of an earlier round where there is one.
+/// The same, with the rescue file of an earlier round where there is one, and with the flag.
 pub fn plan_behind(
     alloc: Global,
     dag: &str,
     submits: &[File],
     rescue: Option<&[u8]>,
+    always_post: bool,
 ) -> Result<Plan, Fail> {
     let mut files = FileSet::new(alloc);
     files.add(alloc, "x.dag", dag.as_bytes())?;
@@ -56,7 +57,7 @@ pub fn plan_behind(
     }
     let dag = open_dag(alloc, &files, "x.dag")?;
     let graph = Graph::build(alloc, dag)?;
-    match Plan::build(alloc, graph, &files, rescue) {
+    match Plan::build(alloc, graph, &files, rescue, always_post) {
         Ok(plan) => Ok(plan),
         Err(refused) => Err(fault_of(refused)),
     }

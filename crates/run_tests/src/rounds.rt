@@ -140,7 +140,7 @@ fn one_round(
     let Ok(table) = read_table(alloc, round.table.as_bytes()) else {
         panic!(rt; "no table");
     };
-    let plan = plan_behind(alloc, DIAMOND, &SUBMITS, bytes_on(rescue))?;
+    let plan = plan_behind(alloc, DIAMOND, &SUBMITS, bytes_on(rescue), false)?;
     let told = led(rt, alloc, &plan, &table, number);
     drop(plan);
     Ok(due(rt, round, told?))

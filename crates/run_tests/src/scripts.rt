@@ -1,7 +1,7 @@
 // Runs by a script: no child is started, and each call can be made to fail.
 ghost use Rattle.node_machine.specs.OutcomeTable.{HasPossibleOutcomes};
 
-use crate::plans::{File, NO_LIMITS, in_order, plan_of, run};
+use crate::plans::{File, NO_LIMITS, in_order, plan_behind, plan_of, run};
 use crate::same::same;
 use job_starter::{Call, DriveFault, RunEnd, StartFault, Started, Starter};
 use node_machine::{Table, read_table};
@@ -21,6 +21,7 @@ struct Row {
     failing_start: Option<u64>,
     failing_wait: Option<u64>,
     lets_go: bool,
+    always_post: bool,
     limits: Limits,
     // How the run ends, the calls of the starter, and what the nodes come to.
     due: &'static str,
@@ -33,6 +34,7 @@ const QUIET: Row = Row {
     failing_start: None,
     failing_wait: None,
     lets_go: false,
+    always_post: false,
     limits: NO_LIMITS,
     due: "",
 };
@@ -48,7 +50,7 @@ const THREE: &str = "JOB A a.sub\nJOB B a.sub\nJOB C a.sub\n";
 
 const SKIPS: &str = "JOB A a.sub\nSCRIPT PRE A q.sh\nSCRIPT POST A p.sh\nPRE_SKIP A 4\n";
 
-static ROWS: [Row; 14] = [
+static ROWS: [Row; 17] = [
     Row {
         due: "result 0\n",
         ..QUIET
@@ -69,6 +71,30 @@ static ROWS: [Row; 14] = [
         dag: SKIPS,
         table: "A 0 PRE 5\n",
         due: "result 1\nstart 0 Pre\nend 0 Pre Exit(5)\nA Error 1 5\n",
+        ..QUIET
+    },
+    // The same with the flag: POST is started behind the one that fails, and decides.
+    Row {
+        dag: SKIPS,
+        table: "A 0 PRE 4\n",
+        always_post: true,
+        due: "result 0\nstart 0 Pre\nend 0 Pre Exit(4)\nA Done 1 0\n",
+        ..QUIET
+    },
+    Row {
+        dag: SKIPS,
+        table: "A 0 PRE 5\n",
+        always_post: true,
+        due: "result 0\nstart 0 Pre\nend 0 Pre Exit(5)\nstart 0 Post\nend 0 Post Exit(0)\n\
+              A Done 1 0\n",
+        ..QUIET
+    },
+    Row {
+        dag: SKIPS,
+        table: "A 0 PRE 5\nA 0 POST 2\n",
+        always_post: true,
+        due: "result 1\nstart 0 Pre\nend 0 Pre Exit(5)\nstart 0 Post\nend 0 Post Exit(2)\n\
+              A Error 1 2\n",
         ..QUIET
     },
     Row {
@@ -225,7 +251,7 @@ fn shown(alloc: Global, plan: &Plan, table: &Table, row: &Row) -> Result<String,
 fn shown_by(alloc: Global, table: &Table, row: &Row) -> Result<String, Fail>
     requires { HasPossibleOutcomes table.now }
 {
-    let plan = plan_of(alloc, row.dag, &SUBMITS)?;
+    let plan = plan_behind(alloc, row.dag, &SUBMITS, None, row.always_post)?;
     let text = shown(alloc, &plan, table, row);
     drop(plan);
     text

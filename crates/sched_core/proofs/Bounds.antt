@@ -12,8 +12,8 @@ use Rattle.node_machine.specs.declared.Key.{Key}
 use Rattle.node_machine.specs.declared.Course.{Course}
 use Rattle.node_machine.specs.declared.Stand.{Stand}
 use Rattle.node_machine.specs.declared.Ended.{Ended}
-use Rattle.node_machine.specs.Story.{is_set_to, skips, is_exit_0, value_of, value_after}
-use Rattle.node_machine.specs.Stand.{stand_before, closed, step_at, step, steps, stand_after}
+use Rattle.node_machine.specs.Story.{is_set_to, skips, is_exit_0, always_posts, value_of, value_after}
+use Rattle.node_machine.specs.Stand.{stand_before, closed, pre_failed, step_at, step, steps, stand_after}
 use Rattle.node_machine.proofs.Paces.{steps-push, step-attempt, stand-attempt}
 use Rattle.node_machine.proofs.Trees.{got}
 use Rattle.run_plan.specs.Plan.{Plan, node_at, count_of, all_below}
@@ -154,11 +154,14 @@ pre-step course stand outcome has = go stand.phase refl
     go None e = has
     go (Some Pre) e =
         pick (HasPre course) (skips course outcome) (closed course stand.attempt (pos 0) true)
-        (if is_exit_0 outcome then record { attempt = stand.attempt; phase = Some Job; value = stand.value; good = stand.good } else closed course stand.attempt (value_of outcome) false)
+        (if is_exit_0 outcome then record { attempt = stand.attempt; phase = Some Job; value = stand.value; good = stand.good } else pre_failed course stand outcome)
         (pre-closed course stand.attempt (pos 0) true)
         (pick (HasPre course) (is_exit_0 outcome)
-        (record { attempt = stand.attempt; phase = Some Job; value = stand.value; good = stand.good }) (closed course stand.attempt (value_of outcome) false)
-        job-later (pre-closed course stand.attempt (value_of outcome) false))
+        (record { attempt = stand.attempt; phase = Some Job; value = stand.value; good = stand.good }) (pre_failed course stand outcome)
+        job-later
+        (pick (HasPre course) (always_posts course)
+        (record { attempt = stand.attempt; phase = Some Post; value = stand.value; good = stand.good }) (closed course stand.attempt (value_of outcome) false)
+        post-later (pre-closed course stand.attempt (value_of outcome) false)))
     go (Some Job) e =
         pick (HasPre course) course.post
         (record { attempt = stand.attempt; phase = Some Post; value = stand.value; good = stand.good })
@@ -176,6 +179,10 @@ pre-after course es = pre-steps course (stand_before course 0 None false) es (pr
 -- one phase less
 next-less : (post x : ℕ) → (1 + post + x < 2 + post + x)
 next-less post x = omega arith
+
+-- two less, where POST comes behind PRE
+post-less : (post x : ℕ) → (1 + x < 2 + post + x)
+post-less post x = omega arith
 
 -- an ending leaves fewer phases
 pub step-left : (course : Course) (stand : Stand) (outcome : Outcome) (phase : Phase) → HasPre course stand → stand.phase ≡ Some phase → stand.attempt ≤ course.retries
@@ -208,12 +215,15 @@ step-left course stand outcome phase has is le =
     go Pre e =
         subst (λ n. left course (step_at course stand (Some Pre) outcome) < n + phases_in course * (course.retries - stand.attempt)) (two e) (
         pick (λ t. left course t < 2 + (if course.post then 1 else 0) + phases_in course * (course.retries - stand.attempt)) (skips course outcome) (closed course stand.attempt (pos 0) true)
-        (if is_exit_0 outcome then record { attempt = stand.attempt; phase = Some Job; value = stand.value; good = stand.good } else closed course stand.attempt (value_of outcome) false)
+        (if is_exit_0 outcome then record { attempt = stand.attempt; phase = Some Job; value = stand.value; good = stand.good } else pre_failed course stand outcome)
         (closed-left course stand.attempt (pos 0) true (2 + (if course.post then 1 else 0)) le (some-more (if course.post then 1 else 0)))
         (pick (λ t. left course t < 2 + (if course.post then 1 else 0) + phases_in course * (course.retries - stand.attempt)) (is_exit_0 outcome)
-        (record { attempt = stand.attempt; phase = Some Job; value = stand.value; good = stand.good }) (closed course stand.attempt (value_of outcome) false)
+        (record { attempt = stand.attempt; phase = Some Job; value = stand.value; good = stand.good }) (pre_failed course stand outcome)
         (next-less (if course.post then 1 else 0) (phases_in course * (course.retries - stand.attempt)))
-        (closed-left course stand.attempt (value_of outcome) false (2 + (if course.post then 1 else 0)) le (some-more (if course.post then 1 else 0)))))
+        (pick (λ t. left course t < 2 + (if course.post then 1 else 0) + phases_in course * (course.retries - stand.attempt)) (always_posts course)
+        (record { attempt = stand.attempt; phase = Some Post; value = stand.value; good = stand.good }) (closed course stand.attempt (value_of outcome) false)
+        (post-less (if course.post then 1 else 0) (phases_in course * (course.retries - stand.attempt)))
+        (closed-left course stand.attempt (value_of outcome) false (2 + (if course.post then 1 else 0)) le (some-more (if course.post then 1 else 0))))))
     go Job e = job-left course.post refl
     go Post e = decided 1 (omega arith)
 
@@ -285,11 +295,14 @@ quiet-step course stand outcome q = go stand.phase refl
     go None e = inl e
     go (Some Pre) e =
         pick (Quiet course) (skips course outcome) (closed course stand.attempt (pos 0) true)
-        (if is_exit_0 outcome then record { attempt = stand.attempt; phase = Some Job; value = stand.value; good = stand.good } else closed course stand.attempt (value_of outcome) false)
+        (if is_exit_0 outcome then record { attempt = stand.attempt; phase = Some Job; value = stand.value; good = stand.good } else pre_failed course stand outcome)
         (quiet-closed course stand.attempt (pos 0) true)
         (pick (Quiet course) (is_exit_0 outcome)
-        (record { attempt = stand.attempt; phase = Some Job; value = stand.value; good = stand.good }) (closed course stand.attempt (value_of outcome) false)
-        (kept Pre e Job) (quiet-closed course stand.attempt (value_of outcome) false))
+        (record { attempt = stand.attempt; phase = Some Job; value = stand.value; good = stand.good }) (pre_failed course stand outcome)
+        (kept Pre e Job)
+        (pick (Quiet course) (always_posts course)
+        (record { attempt = stand.attempt; phase = Some Post; value = stand.value; good = stand.good }) (closed course stand.attempt (value_of outcome) false)
+        (kept Pre e Post) (quiet-closed course stand.attempt (value_of outcome) false)))
     go (Some Job) e =
         pick (Quiet course) course.post
         (record { attempt = stand.attempt; phase = Some Post; value = stand.value; good = stand.good })

@@ -13,11 +13,10 @@ use Rattle.sched_core.specs.declared.states.Looked.{Looked}
 use Rattle.sched_core.specs.Bound.{all_nodes}
 use Rattle.sched_core.specs.Core.{Shows, failed_after}
 use Rattle.node_machine.proofs.Beginnings.{nil-good}
-use Rattle.ready_queue.specs.Queue.{Queue}
 use Rattle.throttles.specs.Throttled.{Throttled}
 use Rattle.throttles.specs.declared.Limits.{Limits}
 use Rattle.sched_core.specs.Limits.{throttled_in}
-use Rattle.sched_core.specs.Queued.{IsQueued}
+use Rattle.sched_core.specs.Queued.{Classed, IsQueued}
 use Rattle.sched_core.specs.Bound.{sum_below}
 use Rattle.sched_core.proofs.Moves.{fresh-shown}
 use Rattle.sched_core.proofs.Throttling.{fresh-throttled}
@@ -166,7 +165,7 @@ fresh-left plan planned states new = record {
     or-false true = refl
     or-false false = refl
 
-pub fresh-kept : (plan : Plan) → IsPlanned plan → (limits : Limits) (records : List Record) (states : NodeStates) (throttles : Throttled) (done : ℕ) (queue : Queue) → records ≡ [] → AreNew plan states
+pub fresh-kept : (plan : Plan) → IsPlanned plan → (limits : Limits) (records : List Record) (states : NodeStates) (throttles : Throttled) (done : ℕ) (queue : Classed) → records ≡ [] → AreNew plan states
     → throttles ≡ throttled_in limits plan [] → IsQueued plan false states.runs states.left queue → done ≡ sum_below (λ node. if (node_at plan node).done then 1 else 0) (count_of plan)
     → IsKept plan (written records) states false 1 0 throttles 0 done queue
 fresh-kept plan planned limits records states throttles done queue none new t queued d = record {

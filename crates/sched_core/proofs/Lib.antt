@@ -30,5 +30,7 @@ mod Queues
 mod Tallies
 mod Keeping
 mod Settling
+mod Shares
+mod Holding
 mod Undone
 mod Turning

@@ -64,7 +64,7 @@ pub free-next : (plan : Plan) (past : List Record) (o : Option Key) → is_free 
 free-next plan past None h = absurd (false≢true h)
 free-next plan past (Some key) h = (key, refl)
 
-ready-next : (plan : Plan) (past : List Record) (node : ℕ) → is_ready plan past node ≡ true → (key : Key) × (next plan past node ≡ Some key)
+pub ready-next : (plan : Plan) (past : List Record) (node : ℕ) → is_ready plan past node ≡ true → (key : Key) × (next plan past node ≡ Some key)
 unfolding is_ready
 ready-next plan past node h = free-next plan past (next plan past node) (and_parts _ _ h).1
 

@@ -8,8 +8,8 @@ use Rattle.node_machine.specs.declared.Outcome.{Outcome}
 use Rattle.node_machine.specs.declared.Key.{Key}
 use Rattle.node_machine.specs.declared.Stand.{Stand}
 use Rattle.node_machine.specs.declared.Course.{Course}
-use Rattle.node_machine.specs.Story.{phase_number, is_exit_0, skips, value_of, is_set_to}
-use Rattle.node_machine.specs.Stand.{stand_before, step_at, stand_after, next_of, closed}
+use Rattle.node_machine.specs.Story.{phase_number, is_exit_0, skips, always_posts, value_of, is_set_to}
+use Rattle.node_machine.specs.Stand.{stand_before, pre_failed, step_at, stand_after, next_of, closed}
 use Rattle.node_machine.proofs.Standing.{steps-next}
 use Rattle.node_machine.proofs.Trees.{got}
 use Rattle.node_machine.proofs.Paces.{steps-push}
@@ -48,10 +48,14 @@ step-later : (course : Course) (stand : Stand) (o : Option Phase) (outcome : Out
 step-later course stand None outcome = omega arith
 step-later course stand (Some Pre) outcome = go (skips course outcome) (is_exit_0 outcome)
   where
-    go : (a b : Bool) → stand.attempt ≤ (if a then closed course stand.attempt (pos 0) true else if b then record stand { phase = Some Job } else closed course stand.attempt (value_of outcome) false).attempt
+    failed : (c : Bool) → stand.attempt ≤ (if c then record stand { phase = Some Post } else closed course stand.attempt (value_of outcome) false).attempt
+    failed true = omega arith
+    failed false = closed-later course stand.attempt (value_of outcome) false
+
+    go : (a b : Bool) → stand.attempt ≤ (if a then closed course stand.attempt (pos 0) true else if b then record stand { phase = Some Job } else pre_failed course stand outcome).attempt
     go true b = closed-later course stand.attempt (pos 0) true
     go false true = omega arith
-    go false false = closed-later course stand.attempt (value_of outcome) false
+    go false false = failed (always_posts course)
 step-later course stand (Some Job) outcome = go course.post
   where
     go : (a : Bool) → stand.attempt ≤ (if a then record stand { phase = Some Post } else closed course stand.attempt (value_of outcome) (int_eq (value_of outcome) (pos 0))).attempt

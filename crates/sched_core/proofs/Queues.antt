@@ -2,7 +2,7 @@
 use Rattle.std.proofs.Common.{◌≡◌, ℕ, zero, suc, ◌+◌, ◌<◌, Bool, true, false, not, ◌&&◌, ◌||◌, ◌==◌, List, [], ◌∷◌, length, get_or, Option, Some, None, is_none, refl, sym, ap, ◌∙◌, subst, arith, eq-eqb, eqb-true, lt-ltb, if◌then◌else◌}
 use Rattle.std.specs.Prelude.{nat_lt, nat_le}
 use Rattle.std.specs.List.{Contains, list_all}
-use Rattle.std.proofs.lemmas.Bool.{not-true, ltb-true, leb-true, false≢true, false_from_ne_true}
+use Rattle.std.proofs.lemmas.Bool.{ltb-true, leb-true, false≢true, false_from_ne_true}
 use Rattle.std.proofs.lemmas.List.{get_or_default}
 use Rattle.std.proofs.lemmas.List.Elements.{Contains-get_or}
 use Rattle.node_machine.specs.declared.Key.{Key}
@@ -10,7 +10,7 @@ use Rattle.node_machine.specs.declared.Phase.{Phase}
 use Rattle.node_machine.specs.declared.Stand.{Stand}
 use Rattle.node_machine.specs.Stand.{next_of}
 use Rattle.ready_queue.specs.declared.Member.{Member}
-use Rattle.ready_queue.specs.Queue.{Queue, ComesBefore, IsOrdered}
+use Rattle.ready_queue.specs.Queue.{ComesBefore, IsOrdered}
 use Rattle.ready_queue.proofs.Places.{trans, not-itself}
 use Rattle.throttles.specs.declared.Limits.{Limits}
 use Rattle.run_plan.specs.Plan.{Plan, node_at, count_of, all_below}
@@ -19,13 +19,12 @@ use Rattle.run_plan.proofs.PlanFacts.{parents-below}
 use Rattle.node_machine.specs.declared.Record.{Record}
 use Rattle.sched_core.specs.Run.{key_at, next, is_done, outstanding, is_among, is_free, is_nothing, is_aborted, is_ready, is_final_ready, may_launch, is_lawful}
 use Rattle.sched_core.specs.Core.{Shows, run_of, run_at, is_running, IsBestBelow}
-use Rattle.throttles.specs.Throttled.{is_below, all_in, limit_of, of_kind, lets_phase}
-use Rattle.sched_core.specs.Choices.{launchable, if_let_in, startable}
-use Rattle.sched_core.specs.Limits.{member_of, IsBetter, throttled_in}
+use Rattle.sched_core.specs.Choices.{launchable, startable}
+use Rattle.sched_core.specs.Limits.{member_of, IsBetter}
 use Rattle.sched_core.specs.Notes.{AreNotes, notes_at}
 use Rattle.sched_core.specs.States.{NodeStates, AreLeft, IsStateAt, IsStateOf, left_at, done_at, undone_in, is_ready_by, is_ready_at}
 use Rattle.sched_core.specs.declared.states.NodeState.{NodeState}
-use Rattle.sched_core.specs.Queued.{IsQueued, AreWaiting}
+use Rattle.sched_core.specs.Queued.{Classed, IsQueued, AreWaiting}
 use Rattle.sched_core.proofs.Keys.{same-self, Each}
 use Rattle.sched_core.proofs.Sweeps.{all_below-from, all_below-not, all_below-same}
 use Rattle.sched_core.proofs.Held.{Within, outstanding-within}
@@ -102,24 +101,31 @@ ready-shown plan past lawful node lt state is aborted flag =
         ∙ (λ j. none-left (is_done plan past) (node_at plan node).parents j && free-by plan past lawful node j)
         ∙ (λ j. not (sym e j) && list_all (is_done plan past) (node_at plan node).parents && is_free plan past (next plan past node))
 
+-- an ordinary node is ready just where its state says so
+pub ready-at : (plan : Plan) → IsPlanned plan → (past : List Record) (states : NodeStates) (aborted : Bool) (jobs : ℕ) → Shows plan past states.runs aborted jobs
+    → AreNotes plan past states.notes → AreLeft plan aborted states.runs states.left → (node : ℕ) → node < count_of plan
+    → is_ready_at plan aborted states.runs states.left node ≡ is_ready plan past node
+ready-at plan planned past states aborted jobs s notes left node lt =
+    let state : NodeState = record { run = run_at states.runs node; notes = notes_at states.notes node; parents_left = left_at states.left node } in
+    ready-shown plan past s.lawful node lt state
+    (state-shown plan planned past states aborted jobs s notes left node state (omega (arith, lt)) (record { run = refl; notes = refl; left = refl })) aborted s.aborted_is
+
 -- the members of a core's queue
 pub waiting-are : (plan : Plan) → IsPlanned plan → (past : List Record) (states : NodeStates) (aborted : Bool) (jobs : ℕ) → Shows plan past states.runs aborted jobs
     → AreNotes plan past states.notes → AreLeft plan aborted states.runs states.left
-    → (queue : Queue) (members : List Member) → IsQueued plan aborted states.runs states.left queue → members ≡ queue.members → IsOrdered queue.members → AreWaiting plan past members
-waiting-are plan planned past states aborted jobs s notes left queue members queued is ordered = subst (AreWaiting plan past) (sym is) (record {
+    → (classed : Classed) (members : List Member) → IsQueued plan aborted states.runs states.left classed → members ≡ classed.queue.members → IsOrdered classed.queue.members
+    → AreWaiting plan past members
+waiting-are plan planned past states aborted jobs s notes left classed members queued is ordered = subst (AreWaiting plan past) (sym is) (record {
   ordered = ordered;
   each = queued.are.each;
   ready = λ node lt r. queued.ready node lt (at node lt ∙ r);
   only = λ member has.
       let own = queued.are.each member has in
-      sym (at member.node own.0) ∙ queued.only member.node own.0 (subst (Contains queue.members) own.1 has);
+      sym (at member.node own.0) ∙ queued.only member.node own.0 (subst (Contains classed.queue.members) own.1 has);
 })
   where
     at : (node : ℕ) → node < count_of plan → is_ready_at plan aborted states.runs states.left node ≡ is_ready plan past node
-    at node lt =
-        let state : NodeState = record { run = run_at states.runs node; notes = notes_at states.notes node; parents_left = left_at states.left node } in
-        ready-shown plan past s.lawful node lt state
-        (state-shown plan planned past states aborted jobs s notes left node state (omega (arith, lt)) (record { run = refl; notes = refl; left = refl })) aborted s.aborted_is
+    at = ready-at plan planned past states aborted jobs s notes left
 
 -- members in order, ordinary nodes with their priorities, among which are all that are ready
 pub record HaveReady (plan : Plan) (past : List Record) (members : List Member) : Type 0 where
@@ -151,27 +157,21 @@ none-ready plan past members are = go members refl
         ∙ false_from_ne_true _ (λ t. let l = eqb-true (length (m ∷ ms)) 0 t in omega (arith, l))
         ∙ sym (all_below-not (λ node. not (is_ready plan past node)) (count_of plan) m.node (are.each m has).0 (ap not (are.only m has)))
 
--- what may be started of an ordinary node is ready
-pub startable-ready : (limits : Limits) (plan : Plan) (past : List Record) (node : ℕ) (key : Key) → node < count_of plan → startable limits plan past node ≡ Some key → is_ready plan past node ≡ true
+-- what may be launched of an ordinary node is ready
+pub launchable-ready : (plan : Plan) (past : List Record) (node : ℕ) (key : Key) → node < count_of plan → launchable plan past node ≡ Some key → is_ready plan past node ≡ true
 unfolding may_launch
-startable-ready limits plan past node key lt e =
-    let may = (launchable-next plan past node key (startable-parts limits plan past node key e).0).0 in
+launchable-ready plan past node key lt e =
+    let may = (launchable-next plan past node key e).0 in
     (λ j. if sym (lt-ltb node (count_of plan) lt) j then is_ready plan past node else (node == count_of plan) && is_final_ready plan past) ∙ may
 
--- where as many children run as may, none may be started
-pub full-none : (limits : Limits) (plan : Plan) (past : List Record) → not (is_below limits.children (all_in (throttled_in limits plan (outstanding plan past)).running)) ≡ true
-    → (node : ℕ) → startable limits plan past node ≡ None
-full-none limits plan past full node = go (launchable plan past node)
-  where
-    shut : is_below limits.children (all_in (throttled_in limits plan (outstanding plan past)).running) ≡ false
-    shut = not-true _ full
+-- and what is ready may be launched
+pub ready-launchable : (plan : Plan) (past : List Record) (node : ℕ) (key : Key) → node < count_of plan → is_ready plan past node ≡ true → next plan past node ≡ Some key → launchable plan past node ≡ Some key
+unfolding may_launch
+ready-launchable plan past node key lt ready is =
+    (λ j. if ((λ i. if lt-ltb node (count_of plan) lt i then is_ready plan past node else (node == count_of plan) && is_final_ready plan past) ∙ ready) j then next plan past node else None) ∙ is
 
-    go : (o : Option Key) → if_let_in limits plan past o ≡ None
-    go None = refl
-    go (Some key) = λ j.
-        if shut j && is_below (limit_of limits key.phase) (of_kind key.phase (throttled_in limits plan (outstanding plan past)).running)
-        && lets_phase (throttled_in limits plan (outstanding plan past)) key.phase (node_at plan key.node).category
-        then Some key else None
+pub startable-ready : (limits : Limits) (plan : Plan) (past : List Record) (node : ℕ) (key : Key) → node < count_of plan → startable limits plan past node ≡ Some key → is_ready plan past node ≡ true
+startable-ready limits plan past node key lt e = launchable-ready plan past node key lt (startable-parts limits plan past node key e).0
 
 -- where no member may be started, none may
 pub none-best : (limits : Limits) (plan : Plan) (past : List Record) (members : List Member) → HaveReady plan past members

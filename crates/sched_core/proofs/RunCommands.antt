@@ -1,5 +1,5 @@
 -- The commands of a run are those that are read from the table.
-use Rattle.std.proofs.Common.{◌≡◌, ℕ, zero, suc, ◌+◌, ◌<◌, ◌≤◌, pos, negsuc, Bool, true, false, not, List, [], ◌∷◌, ◌++◌, refl, sym, ap, ◌∙◌, subst, arith, if◌then◌else◌}
+use Rattle.std.proofs.Common.{◌≡◌, ℕ, zero, suc, ◌+◌, ◌<◌, ◌≤◌, pos, negsuc, Bool, true, false, not, ◌&&◌, List, [], ◌∷◌, ◌++◌, refl, sym, ap, ◌∙◌, subst, arith, if◌then◌else◌}
 use Rattle.std.specs.List.{list_all}
 use Rattle.std.proofs.lemmas.Bool.{and_parts}
 use Rattle.node_machine.specs.declared.Phase.{Phase}
@@ -8,7 +8,7 @@ use Rattle.node_machine.specs.declared.Ended.{Ended}
 use Rattle.node_machine.specs.declared.Course.{Course}
 use Rattle.node_machine.specs.declared.Outcome.{Outcome}
 use Rattle.node_machine.specs.declared.Key.{Key}
-use Rattle.node_machine.specs.Story.{Table, value_of, ends_with, outcome_in, has_ended, ended, decided_by, with_job, with_pre, attempt, skips, is_exit_0, is_last, attempts_from, story, phases_of}
+use Rattle.node_machine.specs.Story.{Table, value_of, ends_with, outcome_in, has_ended, ended, decided_by, with_job, with_failed_pre, with_pre, attempt, skips, is_exit_0, always_posts, is_last, attempts_from, story, phases_of}
 use Rattle.node_machine.specs.declared.State.TheVariants.{Done, NotRun}
 use Rattle.node_machine.proofs.Trees.{Told}
 use Rattle.node_machine.proofs.Beginnings.{masked, next-some}
@@ -23,7 +23,7 @@ use Rattle.sched_core.specs.Run.{history, is_lawful, may_follow}
 use Rattle.sched_core.specs.Fate.{Fate, is_done_state, without_attempts, told_by, fate_by, AreFates}
 use Rattle.sched_core.specs.Agree.{IsAlike, HaveSameCommands, Agree}
 use Rattle.sched_core.specs.Lives.{HasOutcomesOf}
-use Rattle.sched_core.specs.Commands.{plain_facts, pre_value_of, facts_by, command_by, with_commands, facts_in}
+use Rattle.sched_core.specs.Commands.{plain_facts, is_without_job, job_value_of, pre_value_of, facts_by, command_by, with_commands, facts_in}
 use Rattle.sched_core.proofs.Held.{histories-are}
 use Rattle.sched_core.proofs.LivesLemmas.{told-by, lawful-tail}
 use Rattle.sched_core.proofs.Matching.{fates-agree}
@@ -43,12 +43,31 @@ module _ (course : Course) (es : List Ended) (column : ℕ → Phase → Outcome
       go true has = ap value_of (told-outcome (masked course column) es i Pre told (ended has) ∙ pre-kept course column i)
       go false has = refl
 
+  -- no job runs by these phases where none does by the column
+  without-job : (course.pre ≡ true → has_ended es i Pre ≡ true) → is_without_job course (outcome_in es i Pre) ≡ is_without_job course (column i Pre)
+  without-job ended = go course.pre refl
+    where
+      go : (b : Bool) → course.pre ≡ b → (b && not (is_exit_0 (outcome_in es i Pre))) ≡ (b && not (is_exit_0 (column i Pre)))
+      go true has = ap (λ o. not (is_exit_0 o)) (told-outcome (masked course column) es i Pre told (ended has) ∙ pre-kept course column i)
+      go false has = refl
+
+  job-value-is : HasBefore course es i Post
+      → job_value_of course (outcome_in es i Pre) (outcome_in es i Job) ≡ job_value_of course (column i Pre) (ends_with course Job (column i Job))
+  job-value-is before =
+      (λ j. if without-job before.1 j then negsuc 1003 else value_of (outcome_in es i Job))
+      ∙ go (is_without_job course (column i Pre)) refl
+    where
+      go : (b : Bool) → is_without_job course (column i Pre) ≡ b
+          → (if b then negsuc 1003 else value_of (outcome_in es i Job)) ≡ (if b then negsuc 1003 else value_of (ends_with course Job (column i Job)))
+      go true is = refl
+      go false is = job-value (before.0 (masked course column) told (ap (is_without_job course) (pre-kept course column i) ∙ is))
+
   same-ends : (phase : Phase) → HasBefore course es i phase → (facts : PhaseFacts)
-      → facts.job_value ≡ value_of (outcome_in es i Job) → facts.pre_value ≡ pre_value_of course (outcome_in es i Pre)
+      → facts.job_value ≡ job_value_of course (outcome_in es i Pre) (outcome_in es i Job) → facts.pre_value ≡ pre_value_of course (outcome_in es i Pre)
       → HaveSameEnds phase facts (facts_by course column i)
   same-ends Pre before facts job pre = tt
   same-ends Job before facts job pre = tt
-  same-ends Post before facts job pre = (job ∙ job-value before.0, pre ∙ pre-value before.1)
+  same-ends Post before facts job pre = (job ∙ job-value-is before, pre ∙ pre-value before.1)
 
 -- a launch is started by the command of the table
 pub launch-command : (plan : Plan) (table : Table) (newer past : List Record) (key : Key) (number : ℕ)
@@ -85,7 +104,7 @@ pub same-command : (plan : Plan) (table : Table) (plan' : Plan) (table' : Table)
     → command_by plan table node attempt phase ≡ command_by plan' table' node' attempt phase
 same-command plan table plan' table' node node' alike commands attempt allowed phase starts =
     (λ j. command_of (node_at plan node) attempt phase (plain_facts
-    (value_of (ends_with (alike.course j) Job (alike.outcomes attempt Job j)))
+    (job_value_of (alike.course j) (alike.outcomes attempt Pre j) (ends_with (alike.course j) Job (alike.outcomes attempt Job j)))
     (pre_value_of (alike.course j) (alike.outcomes attempt Pre j))))
     ∙ commands.same attempt allowed phase starts _ _
 
@@ -118,11 +137,16 @@ of-attempt P course i outcomes own = pre course.pre
     pre false = job [] tt
     pre true = go (skips course (outcomes Pre)) (is_exit_0 (outcomes Pre))
       where
+        failed : (c : Bool) → EachOf P (if c then decided_by (outcomes Post) (ended i outcomes Pre ∷ ended i outcomes Post ∷ [])
+            else record { ended = ended i outcomes Pre ∷ []; value = value_of (outcomes Pre); good = false }).ended
+        failed true = (own Pre, (own Post, tt))
+        failed false = (own Pre, tt)
+
         go : (a b : Bool) → EachOf P (if a then record { ended = ended i outcomes Pre ∷ []; value = pos 0; good = true }
-            else if b then with_job course i outcomes (ended i outcomes Pre ∷ []) else record { ended = ended i outcomes Pre ∷ []; value = value_of (outcomes Pre); good = false }).ended
+            else if b then with_job course i outcomes (ended i outcomes Pre ∷ []) else with_failed_pre course i outcomes).ended
         go true b = (own Pre, tt)
         go false true = job (ended i outcomes Pre ∷ []) (own Pre, tt)
-        go false false = (own Pre, tt)
+        go false false = failed (always_posts course)
 
 -- no attempt passes the retries
 from-allowed : (course : Course) (outcomes : ℕ → Phase → Outcome) (n i left : ℕ) → i + left ≤ n → EachOf (λ e. e.attempt ≤ n) (phases_of (attempts_from course outcomes i left))

@@ -11,7 +11,7 @@ use Rattle.node_machine.specs.declared.Stand.{Stand}
 use Rattle.node_machine.specs.declared.Ended.{Ended}
 use Rattle.node_machine.proofs.Trees.{got}
 use Rattle.node_machine.specs.NodeProgress.{NodeProgress}
-use Rattle.node_machine.specs.Story.{next_after, is_good_after, value_of}
+use Rattle.node_machine.specs.Story.{next_after, is_good_after}
 use Rattle.node_machine.specs.NodeRun.{ended_with}
 use Rattle.node_machine.specs.Stand.{next_of, stand_after}
 use Rattle.node_machine.proofs.Standing.{steps-next}
@@ -20,7 +20,7 @@ use Rattle.node_machine.specs.declared.Record.{Record}
 use Rattle.node_machine.specs.declared.Record.TheVariants.{Life, Launch, End, Finish}
 use Rattle.sched_core.specs.Run.{written, history, key_at, next, is_done, is_in_error, is_met, has_abort_value, is_aborted, outstanding, is_among, is_lawful, may_follow}
 use Rattle.sched_core.specs.Core.{Shows, Takes, run_at, aborted_in, has_abort_at, is_stuck_at, failed_after}
-use Rattle.sched_core.specs.Commands.{failed_in, dag_status_in, newest_launch, pre_value_of, facts_in}
+use Rattle.sched_core.specs.Commands.{failed_in, dag_status_in, newest_launch, job_value_of, pre_value_of, facts_in}
 use Rattle.sched_core.specs.Bound.{sum_below}
 use Rattle.node_machine.proofs.Beginnings.{nil-next}
 use Rattle.sched_core.specs.declared.notes.AttemptNotes.{AttemptNotes}
@@ -324,7 +324,7 @@ facts-noted plan past notes failed lawful is key among own own_is aborted aborte
     (λ j. record {
       launch = (noted j).launch;
       job_launch = (noted j).job_launch;
-      job_value = value_of (unwrap_or (noted j).job (Exit 0));
+      job_value = job_value_of (node_at plan key.node).course (unwrap_or (noted j).pre (Exit 0)) (unwrap_or (noted j).job (Exit 0));
       pre_value = pre_value_of (node_at plan key.node).course (unwrap_or (noted j).pre (Exit 0));
       dag_status = if aborted_is j then 3 else if is.failed_is j == 0 then 0 else 2;
       failed = is.failed_is j;
@@ -332,7 +332,8 @@ facts-noted plan past notes failed lawful is key among own own_is aborted aborte
     ∙ (λ j. record {
       launch = newest.1 j;
       job_launch = newest_launch past (phase_key key.node (newest.0 j) Job);
-      job_value = value_of (unwrap_or (first_ended past (phase_key key.node (newest.0 j) Job)) (Exit 0));
+      job_value = job_value_of (node_at plan key.node).course (unwrap_or (first_ended past (phase_key key.node (newest.0 j) Pre)) (Exit 0))
+          (unwrap_or (first_ended past (phase_key key.node (newest.0 j) Job)) (Exit 0));
       pre_value = pre_value_of (node_at plan key.node).course (unwrap_or (first_ended past (phase_key key.node (newest.0 j) Pre)) (Exit 0));
       dag_status = dag_status_in plan past;
       failed = failed_in plan past;
@@ -340,7 +341,9 @@ facts-noted plan past notes failed lawful is key among own own_is aborted aborte
     ∙ (λ j. record {
       launch = newest_launch past key;
       job_launch = newest_launch past (phase_key key.node key.attempt Job);
-      job_value = value_of (first-outcome past (phase_key key.node key.attempt Job) (first_ended past (phase_key key.node key.attempt Job)) refl j);
+      job_value = job_value_of (node_at plan key.node).course
+          (first-outcome past (phase_key key.node key.attempt Pre) (first_ended past (phase_key key.node key.attempt Pre)) refl j)
+          (first-outcome past (phase_key key.node key.attempt Job) (first_ended past (phase_key key.node key.attempt Job)) refl j);
       pre_value = pre_value_of (node_at plan key.node).course (first-outcome past (phase_key key.node key.attempt Pre) (first_ended past (phase_key key.node key.attempt Pre)) refl j);
       dag_status = dag_status_in plan past;
       failed = failed_in plan past;

@@ -18,7 +18,8 @@ use Rattle.sched_core.specs.States.{AreLeft, left_at, done_at, undone_in}
 use Rattle.sched_core.specs.Turns.{times}
 use Rattle.ready_queue.proofs.Edits.{by_lt}
 use Rattle.sched_core.proofs.Sweeps.{run_at-same, run_at-other, run_at-stopped}
-use Rattle.sched_core.proofs.Settling.{at-same, at-other, set-own, by_same}
+use Rattle.sched_core.proofs.Settling.{at-same, at-other, set-own}
+use Rattle.sched_core.proofs.Shares.{by_same}
 use Rattle.sched_core.proofs.Taking.{one-abort}
 use Rattle.sched_core.proofs.Undone.{undone-same, undone-less, times-turned, times-above}
 
@@ -197,6 +198,10 @@ aborts-own plan runs node run aborted inside calm flag going =
         and-true : (b : Bool) → (b && true) ≡ b
         and-true true = refl
         and-true false = refl
+
+pub or-right : (a b : Bool) → b ≡ true → (a || b) ≡ true
+or-right true b e = refl
+or-right false b e = e
 
 pub or-left : (a b : Bool) → (a || b) ≡ false → a ≡ false
 or-left true b h = absurd (false≢true (sym h))

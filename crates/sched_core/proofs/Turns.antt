@@ -1,5 +1,5 @@
 -- What ended before a phase's turn.
-use Rattle.std.proofs.Common.{◌≡◌, ℕ, zero, suc, ◌≤◌, Bool, true, false, ◌&&◌, ◌||◌, List, [], ◌∷◌, ◌++◌, ◌==◌, Option, Some, None, refl, sym, ap, ◌∙◌, subst, append_assoc, append-nil, eq-eqb, eqb-true, if◌then◌else◌}
+use Rattle.std.proofs.Common.{◌≡◌, ℕ, zero, suc, ◌≤◌, Bool, true, false, not, ◌&&◌, ◌||◌, List, [], ◌∷◌, ◌++◌, ◌==◌, Option, Some, None, refl, sym, ap, ◌∙◌, subst, append_assoc, append-nil, eq-eqb, eqb-true, if◌then◌else◌}
 use Rattle.std.proofs.lemmas.Bool.{and_parts, and_from, false≢true, or_right}
 use Rattle.node_machine.specs.declared.Phase.{Phase}
 use Rattle.node_machine.specs.declared.Phase.TheVariants.{Pre, Job, Post}
@@ -7,9 +7,10 @@ use Rattle.node_machine.specs.declared.Outcome.{Outcome}
 use Rattle.node_machine.specs.declared.Outcome.TheVariants.{Exit}
 use Rattle.node_machine.specs.declared.Ended.{Ended}
 use Rattle.node_machine.specs.declared.Course.{Course}
-use Rattle.node_machine.specs.Story.{Attempt, skips, is_exit_0, is_last, phase_number, is_phase, outcome_in, has_ended, next_after, is_history}
+use Rattle.node_machine.specs.Story.{Attempt, skips, is_exit_0, always_posts, is_last, phase_number, is_phase, outcome_in, has_ended, next_after, is_history}
 use Rattle.node_machine.specs.Stand.{next_of, stand_after}
-use Rattle.node_machine.proofs.Trees.{Tree, Over, Ask, got, job_tree, attempt_tree, tree_from, after, Plays, Told, one_of}
+use Rattle.sched_core.specs.Commands.{is_without_job}
+use Rattle.node_machine.proofs.Trees.{Tree, Over, Ask, got, job_tree, failed_tree, attempt_tree, tree_from, after, Plays, Told, one_of}
 use Rattle.node_machine.proofs.Beginnings.{phase-eq, tree_of, masked}
 use Rattle.node_machine.proofs.Paces.{stand-attempt}
 use Rattle.node_machine.proofs.Standing.{steps-next}
@@ -18,7 +19,14 @@ use Rattle.node_machine.proofs.Standing.{steps-next}
 abbrev pub HasBefore : Course → List Ended → ℕ → Phase → Type 0
 HasBefore course es i Pre = Unit {0}
 HasBefore course es i Job = course.pre ≡ true → has_ended es i Pre ≡ true
-HasBefore course es i Post = (has_ended es i Job ≡ true) × (course.pre ≡ true → has_ended es i Pre ≡ true)
+HasBefore course es i Post =
+    ((told : ℕ → Phase → Outcome) → Told told es → is_without_job course (told i Pre) ≡ false → has_ended es i Job ≡ true)
+    × (course.pre ≡ true → has_ended es i Pre ≡ true)
+
+-- what was told of the phase that ended last
+told-last : (told : ℕ → Phase → Outcome) (es : List Ended) (e : Ended) → Told told (es ++ e ∷ []) → told e.attempt e.phase ≡ e.outcome
+told-last told [] e t = t.0
+told-last told (x ∷ es) e t = told-last told es e t.1
 
 is-itself : (i : ℕ) (phase : Phase) (outcome : Outcome) → is_phase (got i phase outcome) i phase ≡ true
 is-itself i phase outcome = and_from _ _ (eq-eqb i i refl) (eq-eqb (phase_number phase) (phase_number phase) refl)
@@ -53,9 +61,22 @@ module _ (course : Course) (i : ℕ) (next : Attempt → Tree) (later : (a : Att
     λ y.
         let now = es ++ got i Job y ∷ [] in
         one_of (AsksInOrder course now) course.post
-        ((ended-last es i Job y, λ has. ended-still es (got i Job y ∷ []) i Pre (pre has)), λ z. later _ (now ++ got i Post z ∷ []))
+        ((λ told t runs. ended-last es i Job y, λ has. ended-still es (got i Job y ∷ []) i Pre (pre has)), λ z. later _ (now ++ got i Post z ∷ []))
         (later _ now),
   )
+
+  order-failed : (es : List Ended) (x : Outcome) → course.pre ≡ true → is_exit_0 x ≡ false
+      → AsksInOrder course (es ++ got i Pre x ∷ []) (failed_tree course i x next)
+  order-failed es x has failed =
+      let now = es ++ got i Pre x ∷ [] in
+      one_of (AsksInOrder course now) (always_posts course) (
+        (
+          λ told t runs. absurd (false≢true (sym runs ∙ (λ j. has j && not (is_exit_0 (told-last told es (got i Pre x) t j))) ∙ (λ j. not (failed j)))),
+          λ h. ended-last es i Pre x,
+        ),
+        λ z. later _ (now ++ got i Post z ∷ []),
+      )
+      (later _ now)
 
   order-attempt : (es : List Ended) → AsksInOrder course es (attempt_tree course i next)
   order-attempt es =
@@ -65,7 +86,7 @@ module _ (course : Course) (i : ℕ) (next : Attempt → Tree) (later : (a : Att
         λ x.
             let now = es ++ got i Pre x ∷ [] in
             one_of (AsksInOrder course now) (skips course x) (later _ now)
-            (one_of (AsksInOrder course now) (is_exit_0 x) (order-job now (got i Pre x ∷ []) (λ h. ended-last es i Pre x)) (later _ now)),
+            (by_case (AsksInOrder course now) (is_exit_0 x) (λ is. order-job now (got i Pre x ∷ []) (λ h. ended-last es i Pre x)) (λ failed. order-failed es x has failed)),
       ))
       (λ none. order-job es [] (λ h. absurd (false≢true (sym none ∙ h))))
 

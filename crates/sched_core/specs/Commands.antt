@@ -1,12 +1,12 @@
 -- The command of each phase of a run: by the outcomes of a table, and by the records.
-use Rattle.std.specs.Prelude.{ℕ, ℤ, negsuc, Bool, true, false, ◌==◌, List, [], ◌∷◌, if◌then◌else◌}
+use Rattle.std.specs.Prelude.{ℕ, ℤ, negsuc, Bool, true, false, not, ◌&&◌, ◌==◌, List, [], ◌∷◌, if◌then◌else◌}
 use Rattle.node_machine.specs.declared.Phase.{Phase}
 use Rattle.node_machine.specs.declared.Phase.TheVariants.{Pre, Job}
 use Rattle.node_machine.specs.declared.Outcome.{Outcome}
 use Rattle.node_machine.specs.declared.Key.{Key}
 use Rattle.node_machine.specs.declared.Ended.{Ended}
 use Rattle.node_machine.specs.declared.Course.{Course}
-use Rattle.node_machine.specs.Story.{Table, value_of, ends_with}
+use Rattle.node_machine.specs.Story.{Table, value_of, ends_with, is_exit_0}
 use Rattle.node_specs.specs.declared.command.PhaseFacts.{PhaseFacts}
 use Rattle.run_plan.specs.Plan.{Plan, node_at, count_of}
 use Rattle.node_specs.specs.Commands.{CommandOrFault, command_of, starts_child}
@@ -30,10 +30,19 @@ plain_facts job_value pre_value = record {
 abbrev pub pre_value_of : Course → Outcome → ℤ
 pre_value_of course outcome = if course.pre then value_of outcome else negsuc 0
 
+-- PRE is there and failed, so that no job runs
+abbrev pub is_without_job : Course → Outcome → Bool
+is_without_job course pre = course.pre && not (is_exit_0 pre)
+
+-- the value of the job, where PRE and it have these outcomes; -1004 where no job runs behind a failed PRE
+abbrev pub job_value_of : Course → Outcome → Outcome → ℤ
+job_value_of course pre job = if is_without_job course pre then negsuc 1003 else value_of job
+
 -- what a node's outcomes say of an attempt; the job of a NOOP has the value 0
 abbrev pub facts_by : Course → (ℕ → Phase → Outcome) → ℕ → PhaseFacts
 facts_by course column attempt =
-    plain_facts (value_of (ends_with course Job (column attempt Job))) (pre_value_of course (column attempt Pre))
+    plain_facts (job_value_of course (column attempt Pre) (ends_with course Job (column attempt Job)))
+    (pre_value_of course (column attempt Pre))
 
 -- the command of a phase in an attempt, read from the table
 abbrev pub command_by : Plan → Table → ℕ → ℕ → Phase → CommandOrFault
@@ -64,12 +73,14 @@ newest_launch (Life ∷ past) key = newest_launch past key
 newest_launch (End other outcome ∷ past) key = newest_launch past key
 newest_launch (Finish status ∷ past) key = newest_launch past key
 
--- What the records say when a key is launched, its launch among them. A job that did not end has the value 0.
+-- What the records say when a key is launched, its launch among them. A job that did not end has the value 0, and -1004
+-- behind a failed PRE, where it does not run.
 abbrev pub facts_in : Plan → List Record → Key → PhaseFacts
 facts_in plan records key = record {
   launch = newest_launch records key;
   job_launch = newest_launch records (record key { phase = Job });
-  job_value = value_of (table_of records key.node key.attempt Job);
+  job_value = job_value_of (node_at plan key.node).course (table_of records key.node key.attempt Pre)
+      (table_of records key.node key.attempt Job);
   pre_value = pre_value_of (node_at plan key.node).course (table_of records key.node key.attempt Pre);
   dag_status = dag_status_in plan records;
   failed = failed_in plan records;

@@ -16,7 +16,7 @@ use Rattle.sched_core.specs.Run.{written}
 use Rattle.sched_core.specs.Rounds.{Round}
 
 abbrev pub job_alone : ℕ → Bool → Course
-job_alone retries post = record { pre = false; noop = false; post = post; retries = retries; unless_exit = None; pre_skip = None; abort_on = None }
+job_alone retries post = record { pre = false; noop = false; post = post; always_post = false; retries = retries; unless_exit = None; pre_skip = None; abort_on = None }
 
 abbrev pub node : ℕ → Course → Bool → List ℕ → NodeSpec
 node name course done parents = record { name = name ∷ []; course = course; done = done; parents = parents; abort_return = None; priority = pos 0; category = None; orders = no_orders }
@@ -32,6 +32,7 @@ two_nodes = record {
   final_node = None;
   graph = no_graph;
   digest = [];
+  always_post = false;
 }
 
 abbrev pub key : ℕ → ℕ → Phase → Key
@@ -55,6 +56,7 @@ diamond = record {
   final_node = None;
   graph = no_graph;
   digest = [];
+  always_post = false;
 }
 
 -- a crash once the launch of B is recorded, and one once the end of B is
@@ -74,11 +76,12 @@ diamond_life = written (
 abbrev pub abort_plan : Plan
 abort_plan = record {
   nodes =
-      node 66 (record { pre = false; noop = false; post = false; retries = 3; unless_exit = None; pre_skip = None; abort_on = Some (pos 7) }) false []
+      node 66 (record { pre = false; noop = false; post = false; always_post = false; retries = 3; unless_exit = None; pre_skip = None; abort_on = Some (pos 7) }) false []
       ∷ node 65 (job_alone 0 false) false [] ∷ [];
   final_node = Some (node 70 (job_alone 0 false) false []);
   graph = no_graph;
   digest = [];
+  always_post = false;
 }
 
 abbrev pub abort_run : List Record
@@ -90,11 +93,12 @@ abort_run = written (
 abbrev pub noop_plan : Plan
 noop_plan = record {
   nodes =
-      node 65 (record { pre = true; noop = true; post = true; retries = 0; unless_exit = None; pre_skip = None; abort_on = None }) false []
+      node 65 (record { pre = true; noop = true; post = true; always_post = false; retries = 0; unless_exit = None; pre_skip = None; abort_on = None }) false []
       ∷ node 66 (job_alone 0 false) true (0 ∷ []) ∷ node 67 (job_alone 0 false) false (1 ∷ []) ∷ [];
   final_node = None;
   graph = no_graph;
   digest = [];
+  always_post = false;
 }
 
 abbrev pub noop_table : Table
@@ -107,6 +111,24 @@ noop_run = written (
     Life ∷ Launch (key 0 0 Pre) 0 ∷ Launch (key 2 0 Job) 1 ∷ End (key 0 0 Pre) (Exit 0) ∷ Launch (key 0 0 Job) 2
     ∷ End (key 0 0 Job) (Exit 0) ∷ Launch (key 0 0 Post) 0 ∷ End (key 0 0 Post) (Exit 2) ∷ End (key 2 0 Job) (Exit 0) ∷ Finish 1 ∷ [])
 
+-- A has both scripts, and POST runs behind a failed PRE; B stands below A
+abbrev pub always_plan : Plan
+always_plan = record {
+  nodes =
+      node 65 (record { pre = true; noop = false; post = true; always_post = true; retries = 0; unless_exit = None; pre_skip = Some (pos 4); abort_on = None }) false []
+      ∷ node 66 (job_alone 0 false) false (0 ∷ []) ∷ [];
+  final_node = None;
+  graph = no_graph;
+  digest = [];
+  always_post = true;
+}
+
+-- PRE fails, no job of A runs, and POST is good
+abbrev pub always_run : List Record
+always_run = written (
+    Life ∷ Launch (key 0 0 Pre) 0 ∷ End (key 0 0 Pre) (Exit 5) ∷ Launch (key 0 0 Post) 0 ∷ End (key 0 0 Post) (Exit 0)
+    ∷ Launch (key 1 0 Job) 1 ∷ End (key 1 0 Job) (Exit 0) ∷ Finish 0 ∷ [])
+
 -- A above B, which has a retry, and Y beside them
 abbrev pub plan_p : Plan
 plan_p = record {
@@ -114,6 +136,7 @@ plan_p = record {
   final_node = None;
   graph = no_graph;
   digest = [];
+  always_post = false;
 }
 
 -- the same A and B behind X
@@ -123,6 +146,7 @@ plan_q = record {
   final_node = None;
   graph = no_graph;
   digest = [];
+  always_post = false;
 }
 
 -- all goes well
@@ -138,11 +162,12 @@ first_fails b node attempt Post = Exit 0
 -- A, whose PRE script has these words
 abbrev pub scripted : List (List ℕ) → Plan
 scripted words = record {
-  nodes = record (node 65 (record { pre = true; noop = false; post = false; retries = 1; unless_exit = None; pre_skip = None; abort_on = None }) false [])
+  nodes = record (node 65 (record { pre = true; noop = false; post = false; always_post = false; retries = 1; unless_exit = None; pre_skip = None; abort_on = None }) false [])
       { orders = record { folder = codes "work"; pre = Some words; post = None; job = Program (codes "A.sub") } } ∷ [];
   final_node = None;
   graph = no_graph;
   digest = [];
+  always_post = false;
 }
 
 -- its script is told the attempt; how many nodes failed, which is known in the whole run alone; and 0 always
@@ -165,10 +190,11 @@ abbrev pub stopped_plan : Bool → Plan
 stopped_plan done = record {
   nodes =
       node 65 (job_alone 0 false) done []
-      ∷ node 66 (record { pre = false; noop = false; post = false; retries = 0; unless_exit = None; pre_skip = None; abort_on = Some (pos 7) }) false (0 ∷ []) ∷ [];
+      ∷ node 66 (record { pre = false; noop = false; post = false; always_post = false; retries = 0; unless_exit = None; pre_skip = None; abort_on = Some (pos 7) }) false (0 ∷ []) ∷ [];
   final_node = None;
   graph = no_graph;
   digest = [];
+  always_post = false;
 }
 
 -- B ends so
@@ -194,7 +220,7 @@ next_round = record {
 
 -- a job that fails in one round and is good in the next
 abbrev pub one_job : Plan
-one_job = record { nodes = node 65 (job_alone 0 false) false [] ∷ []; final_node = None; graph = no_graph; digest = [] }
+one_job = record { nodes = node 65 (job_alone 0 false) false [] ∷ []; final_node = None; graph = no_graph; digest = []; always_post = false }
 
 abbrev pub run_to : Outcome → ℕ → List Record
 run_to outcome status = written (Life ∷ Launch (key 0 0 Job) 1 ∷ End (key 0 0 Job) outcome ∷ Finish status ∷ [])

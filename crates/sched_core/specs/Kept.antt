@@ -2,7 +2,6 @@
 use Rattle.std.specs.Prelude.{◌≡◌, ℕ, Bool, List, Option, Some, None, nat_lt, if◌then◌else◌}
 use Rattle.node_machine.specs.declared.Record.{Record}
 use Rattle.node_machine.specs.declared.Record.TheVariants.{Life, Launch, End, Finish}
-use Rattle.ready_queue.specs.Queue.{Queue}
 use Rattle.run_plan.specs.Plan.{Plan, count_of}
 use Rattle.throttles.specs.Throttled.{Throttled}
 use Rattle.sched_core.specs.declared.states.Looked.{Looked}
@@ -10,10 +9,10 @@ use Rattle.sched_core.specs.Core.{Shows}
 use Rattle.sched_core.specs.Limits.{IsThrottled}
 use Rattle.sched_core.specs.Notes.{IsNoted}
 use Rattle.sched_core.specs.States.{NodeStates, AreMany, AreLeft, IsStateOf}
-use Rattle.sched_core.specs.Queued.{IsQueued}
+use Rattle.sched_core.specs.Queued.{Classed, IsQueued}
 use Rattle.sched_core.specs.Tally.{IsTallied}
 
-pub record IsKept (plan : Plan) (past : List Record) (states : NodeStates) (aborted : Bool) (status jobs : ℕ) (throttles : Throttled) (failed done : ℕ) (queue : Queue) : Type 0 where
+pub record IsKept (plan : Plan) (past : List Record) (states : NodeStates) (aborted : Bool) (status jobs : ℕ) (throttles : Throttled) (failed done : ℕ) (queue : Classed) : Type 0 where
   pub shows : Shows plan past states.runs aborted jobs
   pub throttled : IsThrottled plan past throttles
   pub noted : IsNoted plan past states.notes failed

@@ -6,14 +6,14 @@ use Rattle.node_machine.specs.declared.Outcome.{Outcome}
 use Rattle.node_machine.specs.declared.Key.{Key}
 use Rattle.node_machine.specs.declared.Outcome.TheVariants.{Exit}
 use Rattle.node_machine.specs.declared.Course.{Course}
-use Rattle.node_machine.specs.Story.{phase_number, value_of}
+use Rattle.node_machine.specs.Story.{phase_number}
 use Rattle.node_specs.specs.declared.command.PhaseFacts.{PhaseFacts}
 use Rattle.run_plan.specs.Plan.{Plan, count_of}
 use Rattle.node_machine.specs.declared.Record.{Record}
 use Rattle.node_machine.specs.declared.Record.TheVariants.{Life, Launch, End, Finish}
 use Rattle.sched_core.specs.declared.notes.AttemptNotes.{AttemptNotes}
 use Rattle.sched_core.specs.Run.{is_same}
-use Rattle.sched_core.specs.Commands.{newest_launch, pre_value_of, failed_in}
+use Rattle.sched_core.specs.Commands.{newest_launch, job_value_of, pre_value_of, failed_in}
 
 -- the outcome that a record says of a phase, and the one that the oldest record that says one does
 abbrev pub ended_by : Record → Key → Option Outcome
@@ -85,12 +85,12 @@ notes_after notes (Launch key number) = slice_set notes key.node (with_launch (n
 notes_after notes (End key outcome) = slice_set notes key.node (with_end (notes_at notes key.node) key.phase outcome)
 notes_after notes (Finish status) = notes
 
--- the facts of a launch, by what is noted of its attempt; a job that did not end has the value 0
+-- the facts of a launch, by what is noted of its attempt; a job that did not end has the value 0, and -1004 behind a failed PRE
 abbrev pub noted_facts : Course → AttemptNotes → Bool → ℕ → PhaseFacts
 noted_facts course notes aborted failed = record {
   launch = notes.launch;
   job_launch = notes.job_launch;
-  job_value = value_of (unwrap_or notes.job (Exit 0));
+  job_value = job_value_of course (unwrap_or notes.pre (Exit 0)) (unwrap_or notes.job (Exit 0));
   pre_value = pre_value_of course (unwrap_or notes.pre (Exit 0));
   dag_status = if aborted then 3 else if failed == 0 then 0 else 2;
   failed = failed;

@@ -14,10 +14,9 @@ ghost use Rattle.sched_core.specs.Looks.{further_looks};
 
 use crate::nodes::{is_done_at, is_met_by};
 use crate::notes::{with_end, with_launch};
-use crate::ready::{is_ready_by, settle};
+use crate::ready::{ClassedQueue, is_ready_by, settle};
 use crate::states::{Looked, States};
 use node_machine::{Key, NodeRun, Outcome, Record, State};
-use ready_queue::ReadyQueue;
 use run_plan::Plan;
 
 /// What the end of a phase makes of its node.
@@ -75,7 +74,7 @@ fn launch(
     plan: &Plan,
     aborted: bool,
     states: &mut States,
-    queue: &mut ReadyQueue,
+    queue: &mut ClassedQueue,
     looked: Looked,
     key: Key,
     number: u64,
@@ -101,7 +100,7 @@ fn launch(
 }
 
 /// What was launched is outstanding no more.
-fn forget_launches(plan: &Plan, aborted: bool, states: &mut States, queue: &mut ReadyQueue)
+fn forget_launches(plan: &Plan, aborted: bool, states: &mut States, queue: &mut ClassedQueue)
     requires many { AreMany plan.now states.old }
     requires idle { IsIdleFinal plan.now states.old.runs }
     requires queued { IsQueued plan.now aborted states.old.runs states.old.left queue.old }
@@ -159,7 +158,7 @@ fn stop_others(plan: &Plan, states: &mut States, node: u32)
 }
 
 /// A node is done: its children have a parent less that is not.
-fn count_down(plan: &Plan, states: &mut States, queue: &mut ReadyQueue, node: u32)
+fn count_down(plan: &Plan, states: &mut States, queue: &mut ClassedQueue, node: u32)
     requires node { node < count_of plan.now }
     requires many { AreMany plan.now states.old }
     requires queued { IsQueued plan.now false states.old.runs states.old.left queue.old }
@@ -186,7 +185,7 @@ fn end(
     plan: &Plan,
     aborted: bool,
     states: &mut States,
-    queue: &mut ReadyQueue,
+    queue: &mut ClassedQueue,
     looked: Looked,
     key: Key,
     outcome: Outcome,
@@ -215,7 +214,7 @@ fn end(
     let _graph = plan.graph();
     settle(plan, aborted, states, queue, was, looked);
     if turn.aborts {
-        queue.clear();
+        queue.clear(plan);
         stop_others(plan, states, key.node);
     } else if turn.is_done {
         count_down(plan, states, queue, key.node);
@@ -228,7 +227,7 @@ pub fn advance(
     plan: &Plan,
     aborted: bool,
     states: &mut States,
-    queue: &mut ReadyQueue,
+    queue: &mut ClassedQueue,
     looked: Option<Looked>,
     entry: Record,
 ) -> Turn

@@ -2,14 +2,14 @@
 //! refused.
 //! No program calls these functions.
 
-ghost use Rattle.std.specs.Prelude.{◌≡◌, ◌≢◌, ℕ, ◌<◌, ◌+◌, ◌*◌, length, List, [], ◌∷◌, ◌++◌, map, drop, pos, codes, Ok, true, false, IsTrue, IsFalse};
+ghost use Rattle.std.specs.Prelude.{◌≡◌, ◌≢◌, ℕ, ◌<◌, ◌+◌, ◌*◌, length, List, [], ◌∷◌, ◌++◌, map, drop, pos, codes, negsuc, Ok, true, false, IsTrue, IsFalse};
 ghost use Rattle.std.specs.List.{list_all, Contains};
 ghost use Rattle.node_machine.specs.declared.Phase.{Phase};
 ghost use Rattle.node_machine.specs.declared.Outcome.{Outcome};
 ghost use Rattle.node_machine.specs.Story.{Table, story, phases_of, BeginsWith};
 ghost use Rattle.node_machine.specs.declared.Record.{Record};
 ghost use Rattle.node_machine.specs.declared.Record.TheVariants.{Life, Launch, End, Finish};
-ghost use Rattle.node_machine.specs.declared.Phase.TheVariants.{Pre, Job};
+ghost use Rattle.node_machine.specs.declared.Phase.TheVariants.{Pre, Job, Post};
 ghost use Rattle.node_machine.specs.declared.Outcome.TheVariants.{Exit, Signal};
 ghost use Rattle.node_machine.specs.declared.State.TheVariants.{Done, Error, NotRun};
 ghost use Rattle.run_plan.specs.Plan.{Plan, node_at, count_of, IsRankedBy};
@@ -17,11 +17,11 @@ ghost use Rattle.node_specs.specs.Commands.{bare_command, command_of, is_sound, 
 ghost use Rattle.sched_core.specs.Run.{table_of, history, is_done, is_lawful, is_finished, is_aborted, is_launched, may_follow};
 ghost use Rattle.sched_core.specs.Fate.{Fate, AreFates, shown, is_done_state};
 ghost use Rattle.sched_core.specs.Bound.{all_phases};
-ghost use Rattle.sched_core.specs.Commands.{plain_facts, command_by};
+ghost use Rattle.sched_core.specs.Commands.{plain_facts, command_by, facts_in};
 ghost use Rattle.sched_core.specs.Agree.{HaveSameCommands, Agree};
 ghost use Rattle.sched_core.specs.Lives.{HasOutcomesOf, IsRunBy, IsTurnOf};
 ghost use Rattle.sched_core.specs.Rounds.{Round, AreRounds, AreCalm, RoundsAgree, WasMarked, is_marked};
-ghost use Rattle.sched_core.specs.Example.{key, two_nodes, its_run, diamond, diamond_run, diamond_life, abort_plan, abort_run, noop_plan, noop_table, noop_run, plan_p, plan_q, first_fails, round_of, stopped_round, next_round, told_attempt, told_failed, told_0, told_run, first_good};
+ghost use Rattle.sched_core.specs.Example.{key, two_nodes, its_run, diamond, diamond_run, diamond_life, abort_plan, abort_run, always_plan, always_run, noop_plan, noop_table, noop_run, plan_p, plan_q, first_fails, round_of, stopped_round, next_round, told_attempt, told_failed, told_0, told_run, first_good};
 ghost use Rattle.node_machine.specs.declared.Key.{Key};
 
 /// Such plans and runs exist: each list is lawful and finished, and shows these states and values.
@@ -55,6 +55,12 @@ pub fn examples()
     ensures noop_outcomes { IsRunBy noop_plan noop_table noop_run }
     ensures noop_sound { is_sound (node_at noop_plan 0) ≡ true }
     ensures noop_plain { uses_whole_run (node_at noop_plan 0) ≡ false }
+    // Behind a PRE that failed, POST's value is the attempt's, and its words tell that no job ran.
+    ensures always { IsTrue (is_finished always_plan always_run) }
+    ensures always_values { map (λ node. (shown always_plan always_run node).value)
+        (0 ∷ 1 ∷ []) ≡ Some (pos 0) ∷ Some (pos 0) ∷ [] }
+    ensures always_facts { facts_in always_plan (drop 4 always_run) (key 0 0 Post)
+        ≡ record (plain_facts (negsuc 1003) (pos 5)) { launch = 0 } }
     ensures noop_values { map (λ node. (shown noop_plan noop_run node).value)
         (0 ∷ 1 ∷ 2 ∷ []) ≡ Some (pos 2) ∷ None ∷ Some (pos 0) ∷ [] }
 {}

@@ -2,7 +2,7 @@
 
 ghost use Rattle.std.specs.Prelude.{◌≡◌, ◌==◌, unwrap_or, if◌then◌else◌};
 ghost use Rattle.node_machine.specs.declared.Outcome.TheVariants.{Exit};
-ghost use Rattle.sched_core.specs.Commands.{pre_value_of};
+ghost use Rattle.sched_core.specs.Commands.{is_without_job, job_value_of, pre_value_of};
 ghost use Rattle.sched_core.specs.Notes.{noted_facts};
 
 use crate::notes::AttemptNotes;
@@ -30,6 +30,25 @@ fn pre_value(spec: &NodeSpec, outcome: Outcome) -> i32
     }
 }
 
+/// Whether no job runs in an attempt whose PRE has this outcome.
+fn is_without_job(spec: &NodeSpec, pre: Outcome) -> bool
+    ensures { result ≡ is_without_job spec.now.course pre }
+{
+    spec.course().pre && !matches!(pre, Outcome::Exit(0))
+}
+
+/// The value of the job, where PRE and it have these outcomes; -1004 where no job runs behind a PRE
+/// script that failed.
+fn job_value(spec: &NodeSpec, pre: Outcome, job: Outcome) -> i32
+    ensures { result ≡ job_value_of spec.now.course pre job }
+{
+    if is_without_job(spec, pre) {
+        -1004
+    } else {
+        value_of(job)
+    }
+}
+
 /// The state of the DAG: 3 where it was aborted, else 2 where nodes are in error, else 0.
 fn dag_status(aborted: bool, failed: u32) -> u8
     ensures { result ≡ (if aborted then 3 else if failed == 0 then 0 else 2) }
@@ -50,7 +69,7 @@ pub fn noted_facts(spec: &NodeSpec, notes: AttemptNotes, aborted: bool, failed: 
     PhaseFacts {
         launch: notes.launch,
         job_launch: notes.job_launch,
-        job_value: value_of(outcome_of(notes.job)),
+        job_value: job_value(spec, outcome_of(notes.pre), outcome_of(notes.job)),
         pre_value: pre_value(spec, outcome_of(notes.pre)),
         dag_status: dag_status(aborted, failed),
         failed,

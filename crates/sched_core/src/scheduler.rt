@@ -12,11 +12,11 @@ ghost use Rattle.sched_core.specs.Kept.{place_of, IsLookedFor};
 ghost use Rattle.sched_core.specs.Looks.{stops, most_looks, further_looks};
 ghost use Rattle.sched_core.specs.Choices.{launchable, startable, IsChoice};
 ghost use Rattle.sched_core.specs.Limits.{lets_in};
-ghost use Rattle.sched_core.specs.Queued.{AreWaiting};
+ghost use Rattle.sched_core.specs.Queued.{AreWaiting, AreHeld};
 ghost use Rattle.sched_core.specs.Ahead.{launch_of, launched, launches, may_launch_all, fitting, ends_of, AreChosen, NothingToStart};
 ghost use Rattle.sched_core.specs.Limits.{limits_of, throttled_in};
 ghost use Rattle.sched_core.specs.Round.{IsRound};
-ghost use Rattle.throttles.specs.Throttled.{with_one, is_below, all_in};
+ghost use Rattle.throttles.specs.Throttled.{with_one};
 ghost use Rattle.sched_core.specs.Commands.{facts_in};
 
 use crate::advancing::advance;
@@ -27,12 +27,12 @@ use crate::nodes::{
     last_is_finish, last_is_open, may_end, next_at, number_of, push_in_room, status_after,
     throttle,
 };
-use crate::ready::{fresh_queue, is_ready_by};
+use crate::ready::{ClassedQueue, fresh_queue, is_ready_by};
 use crate::states::{Looked, NodeState, States};
 use crate::{Choice, CoreFault};
 use node_machine::{Ended, Key, Outcome, Record, State};
 use node_specs::PhaseFacts;
-use ready_queue::{Member, ReadyQueue};
+use ready_queue::Member;
 use run_plan::Plan;
 use std::alloc::Global;
 use std::marker::Model;
@@ -52,7 +52,7 @@ pub struct Core<'a> {
     /// the ordinary nodes in error, and those that are done
     failed: u32,
     done: u32,
-    queue: ReadyQueue,
+    queue: ClassedQueue,
 }
 
 // Each function that lets a value go calls this; a derived drop stands in each, part by part.
@@ -692,20 +692,30 @@ impl<'a> Core<'a> {
         }
     }
 
-    /// Whether as many children run as may.
-    fn is_full(&self) -> bool
-        ensures { result ≡ not (is_below self.now.limits.children
-            (all_in (throttled_in self.now.limits self.now.plan (outstanding self.now.plan self.now.past)).running)) }
+    /// Whether these throttles hold each ordinary phase that may be launched: no node waits whose
+    /// next phase is of a kind, or of a job's category, that they let in. It goes over no nodes.
+    fn is_held(&self, throttles: &Throttles) -> bool
+        requires { throttles.now.categories ≡ limits_of self.now.plan }
+        ensures { IsTrue result ↔ AreHeld self.now.plan self.now.past throttles.now }
     {
-        let _plan = self.plan;
-        self.throttles.is_full()
+        let _records = &self.records;
+        let _graph = self.plan.graph();
+        self.queue.is_held(throttles)
+    }
+
+    /// Whether what runs holds each ordinary phase that may be launched.
+    fn is_held_now(&self) -> bool
+        ensures { IsTrue result → IsBestBelow self.now.limits self.now.plan self.now.past (count_of self.now.plan) None }
+    {
+        let _records = &self.records;
+        self.is_held(&self.throttles)
     }
 
     /// Of the ordinary nodes the best whose phase may be launched and is let in.
     fn best_ordinary(&self) -> Option<Key>
         ensures { IsBestBelow self.now.limits self.now.plan self.now.past (count_of self.now.plan) result }
     {
-        if self.is_full() {
+        if self.is_held_now() {
             return None;
         }
         for member in self.waiting() {
@@ -794,13 +804,15 @@ impl<'a> Core<'a> {
             Err(_) => return Err(CoreFault::Memory),
         };
         let mut keys = Vec::new(alloc);
+        let mut held = self.is_held(&throttles);
         let mut place = 0;
-        while place < members.len() && keys.len() < max && !throttles.is_full() {
+        while place < members.len() && keys.len() < max && !held {
             if let Some(key) = self.startable_behind(&keys, &throttles, members[place].node) {
                 self.count_launch(&keys, &mut throttles, key);
                 if keys.push(key).is_err() {
                     return Err(CoreFault::Memory);
                 }
+                held = self.is_held(&throttles);
             }
             place += 1;
         }

@@ -60,24 +60,24 @@ not_many : (many : Bool) → (if many then Err TooManyNodes else accepted) ≡ a
 not_many true is = absurd cc
 not_many false is = refl
 
-few_if : (used : Used) (cs : List Command) → check_count used cs ≡ accepted → (used.nodes + (own_count cs + length (finals_in cs)) ≤ 4096) × (used.splices ≤ 4096)
+few_if : (used : Used) (cs : List Command) → check_count used cs ≡ accepted → (used.nodes + (own_count cs + length (finals_in cs)) ≤ 65536) × (used.splices ≤ 4096)
 few_if used cs is =
-    let both = or_parts (nat_lt 4096 (used.nodes + (own_count cs + length (finals_in cs)))) (nat_lt 4096 used.splices) (not_many _ is) in
-    (ltb-false 4096 (used.nodes + (own_count cs + length (finals_in cs))) both.0, ltb-false 4096 used.splices both.1)
+    let both = or_parts (nat_lt 65536 (used.nodes + (own_count cs + length (finals_in cs)))) (nat_lt 4096 used.splices) (not_many _ is) in
+    (ltb-false 65536 (used.nodes + (own_count cs + length (finals_in cs))) both.0, ltb-false 4096 used.splices both.1)
 
-not_over : (n : ℕ) → n ≤ 4096 → nat_lt 4096 n ≡ false
-not_over n few = grind (arith, nat_tests)
+not_over : (most n : ℕ) → n ≤ most → nat_lt most n ≡ false
+not_over most n few = grind (arith, nat_tests)
 
-count_passes : (used : Used) (cs : List Command) → used.nodes + (own_count cs + length (finals_in cs)) ≤ 4096 → used.splices ≤ 4096 → check_count used cs ≡ accepted
+count_passes : (used : Used) (cs : List Command) → used.nodes + (own_count cs + length (finals_in cs)) ≤ 65536 → used.splices ≤ 4096 → check_count used cs ≡ accepted
 count_passes used cs nodes splices =
     ap (λ (many : Bool). if many then Err TooManyNodes else accepted)
-    (or_from (nat_lt 4096 (used.nodes + (own_count cs + length (finals_in cs)))) (nat_lt 4096 used.splices) (not_over _ nodes) (not_over used.splices splices))
+    (or_from (nat_lt 65536 (used.nodes + (own_count cs + length (finals_in cs)))) (nat_lt 4096 used.splices) (not_over 65536 _ nodes) (not_over 4096 used.splices splices))
 
 -- Files that keep the rules, so many in one another, behind those that were opened before.
 record Fits (left : ℕ) (used : Used) (f : Forest) : Type 0 where
   pub regular : AreRegular f
   pub depth : forest_depth f ≤ left
-  pub nodes : used.nodes + forest_declared f ≤ 4096
+  pub nodes : used.nodes + forest_declared f ≤ 65536
   pub splices : used.splices + forest_splices f ≤ 4096
 
 abbrev FitsTree : ℕ → Used → Tree → Type 0
@@ -184,7 +184,7 @@ joined_fit left used f g front back =
     let few_splices = back.splices in
     record { regular = joined_regular f g front.regular back.regular; depth = depth_joined f g left front.depth back.depth; nodes = omega arith; splices = omega arith }
 
-none_fits : (left : ℕ) (used : Used) → used.nodes ≤ 4096 → used.splices ≤ 4096 → Fits left used none
+none_fits : (left : ℕ) (used : Used) → used.nodes ≤ 65536 → used.splices ≤ 4096 → Fits left used none
 none_fits left used nodes splices = record { regular = tt; depth = omega arith; nodes = omega arith; splices = omega arith }
 
 one_fits : (left : ℕ) (used : Used) (name : List ℕ) (tree : Tree) → finals_in tree.file.commands ≡ [] → FitsTree left (with_splice used) tree → Fits left used (more name tree.file tree.inner none)
@@ -197,7 +197,7 @@ one_fits (suc left) used name tree final fits =
     record { regular = (fits.0, final, within.regular, tt); depth = omega arith; nodes = omega arith; splices = omega arith }
 
 module _ (left : ℕ) (opener : Opener) (each : (used : Used) (above : List (List ℕ)) (folder path : List ℕ) (tree : Tree) → 0 < length above → opener used above folder path ≡ Ok tree → FitsTree left used tree × MayHaveFinal above tree.file.commands) where
-  line_fits : (c : Command) (used : Used) (above : List (List ℕ)) (folder : List ℕ) (first : Forest) → 0 < length above → open_line opener used above folder c ≡ Ok first → used.nodes ≤ 4096 → used.splices ≤ 4096 → Fits left used first
+  line_fits : (c : Command) (used : Used) (above : List (List ℕ)) (folder : List ℕ) (first : Forest) → 0 < length above → open_line opener used above folder c ≡ Ok first → used.nodes ≤ 65536 → used.splices ≤ 4096 → Fits left used first
   line_fits (Splice name file dir) used above folder first some is nodes splices =
       let s : Spliced = record { name = name; file = file; dir = dir } in
       let path = splice_path folder s in
@@ -208,7 +208,7 @@ module _ (left : ℕ) (opener : Opener) (each : (used : Used) (above : List (Lis
       subst (Fits left used) (given (more name.text b.0.file b.0.inner none) first b.2) (one_fits left used name.text b.0 (none_below above path b.0.file.commands some o.1) o.0)
   line_fits c used above folder first some is nodes splices = subst (Fits left used) (given none first is) (none_fits left used nodes splices)
 
-  lines_fit : (cs : List Command) (used : Used) (above : List (List ℕ)) (folder : List ℕ) (f : Forest) → 0 < length above → open_lines opener used above folder cs ≡ Ok f → used.nodes ≤ 4096 → used.splices ≤ 4096 → Fits left used f
+  lines_fit : (cs : List Command) (used : Used) (above : List (List ℕ)) (folder : List ℕ) (f : Forest) → 0 < length above → open_lines opener used above folder cs ≡ Ok f → used.nodes ≤ 65536 → used.splices ≤ 4096 → Fits left used f
   lines_fit [] used above folder f some is nodes splices = subst (Fits left used) (given none f is) (none_fits left used nodes splices)
   lines_fit (c ∷ cs) used above folder f some is nodes splices =
       let a = bound (open_line opener used above folder c) _ f is in

@@ -27,7 +27,7 @@ pub record IsGroupBelow (count : ℕ) (group : EdgeGroup) : Type 0 where
   pub parents : All (λ n. n < count) group.parents
   pub children : All (λ n. n < count) group.children
 
--- edges between the ordinary nodes, of which there are at most 4,096
+-- edges between the ordinary nodes, of which there are at most 65,536
 pub record IsWithin (dag : Dag) : Type 0 where
-  pub few : length dag.nodes ≤ 4096
+  pub few : length dag.nodes ≤ 65536
   pub edges : All (IsBelow (length dag.nodes)) dag.edges

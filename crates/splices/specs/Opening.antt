@@ -60,10 +60,10 @@ abbrev pub check_lines : List ℕ → List Command → List Command → Result (
 check_lines path before [] = Ok tt
 check_lines path before (c ∷ cs) = check_line path before c >>= λ _. check_lines path (before ++ c ∷ []) cs
 
--- with those of this file, there are at most 4,096 nodes, FINAL among them, and 4,096 splices
+-- with those of this file, there are at most 65,536 nodes, FINAL among them, and 4,096 splices
 abbrev pub check_count : Used → List Command → Result (Unit {0}) DagFault
 check_count used commands =
-    if nat_lt 4096 (used.nodes + (own_count commands + length (finals_in commands))) || nat_lt 4096 used.splices then Err TooManyNodes else Ok tt
+    if nat_lt 65536 (used.nodes + (own_count commands + length (finals_in commands))) || nat_lt 4096 used.splices then Err TooManyNodes else Ok tt
 
 abbrev pub check_file : Used → List (List ℕ) → List ℕ → List Command → Result (Unit {0}) DagFault
 check_file used above path commands =

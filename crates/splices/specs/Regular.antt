@@ -33,11 +33,11 @@ abbrev pub AreRegular : Forest → Type 0
 AreRegular none = Unit {0}
 AreRegular (more name file inner others) = DeclareOnce file.commands × (finals_in file.commands ≡ []) × AreRegular inner × AreRegular others
 
--- The files of a DAG: at most 32 lie in the top file, one in the other, with at most 4,096 nodes, FINAL among them, and 4,096
+-- The files of a DAG: at most 32 lie in the top file, one in the other, with at most 65,536 nodes, FINAL among them, and 4,096
 -- splices.
 pub record IsRegular (tree : Tree) : Type 0 where
   pub once : DeclareOnce tree.file.commands
   pub inner : AreRegular tree.inner
   pub depth : forest_depth tree.inner ≤ 32
-  pub nodes : (own_count tree.file.commands + length (finals_in tree.file.commands)) + forest_declared tree.inner ≤ 4096
+  pub nodes : (own_count tree.file.commands + length (finals_in tree.file.commands)) + forest_declared tree.inner ≤ 65536
   pub splices : forest_splices tree.inner ≤ 4096

@@ -31,7 +31,7 @@ pub enum DagFault {
     /// The file of this path lies in 33 others.
     TooDeep(Text),
 
-    /// Over 4,096 nodes, FINAL among them, or over 4,096 splices.
+    /// Over 65,536 nodes, FINAL among them, or over 4,096 splices.
     TooManyNodes,
 
     /// A FINAL line in the file of a splice.

@@ -285,7 +285,7 @@ impl FlatDag {
     ghost use Rattle.splices.specs.Dag.{IsBelow, IsGroupBelow, IsWithin};
     ghost use Rattle.splices.specs.Places.{edges_of};
 
-    /// The DAG of these nodes and edges: at most 4,096 nodes, and both ends of each edge among them.
+    /// The DAG of these nodes and edges: at most 65,536 nodes, and both ends of each edge among them.
     pub fn new(
         top: Text,
         nodes: Vec<FlatNode>,
@@ -315,10 +315,10 @@ impl FlatDag {
         self.top.as_str()
     }
 
-    /// The ordinary nodes in plan order, at most 4,096.
+    /// The ordinary nodes in plan order, at most 65,536.
     pub fn nodes(&self) -> &[FlatNode]
         ensures are { result.now ≡ self.now.nodes }
-        ensures few { length self.now.nodes ≤ 4096 }
+        ensures few { length self.now.nodes ≤ 65536 }
     {
         self.nodes.as_slice()
     }

@@ -23,7 +23,7 @@ const RECORDS: [Record; 3] = [
 
 /// The journal with these: the batch has slot 1, and its records 2 and 3.
 const TOGETHER: [u8; SIZE] = [
-    0x4A, 1, 0, 0, 0, 0, 0, 1, 7, 7, 7, 7, 7, 7, 7, 7, 7, 7, 7, 7, 7, 7, 7, 7, 7, 7, 7, 7, 7, 7, 7,
+    0x4A, 2, 0, 0, 0, 0, 0, 1, 7, 7, 7, 7, 7, 7, 7, 7, 7, 7, 7, 7, 7, 7, 7, 7, 7, 7, 7, 7, 7, 7, 7,
     7, 7, 7, 7, 7, 7, 7, 7, 7, 0, 0, 0, 0, 0, 0, 0, 0, 0, 0, 0, 0, 0, 0, 0, 0, 0, 0, 0, 0, 0, 0, 0,
     0, 0x4F, 1, 0, 0, 0, 0, 0, 0, 0, 0, 0, 0, 0, 0, 0, 0, 0, 0, 0, 0, 0, 0, 0, 0, 0, 0, 0, 0, 0, 0,
     0, 0, 0x4F, 5, 0, 2, 0, 0, 0, 0, 0, 0, 0, 0, 0, 0, 0, 0, 0, 0, 0, 0, 0, 0, 0, 0, 0, 0, 0, 0, 0,
@@ -134,7 +134,7 @@ fn faults_of_a_batch(rt: HostRuntime) -> Result<(), Fail> {
 fn goes_on_behind_a_batch(rt: HostRuntime) -> Result<(), Fail> {
     let alloc = rt.alloc();
     let disk = changed(alloc, &TOGETHER, SIZE, 192, 0)?;
-    let Ok(Opened::Found(mut journal)) = Journal::open(alloc, disk, &DIGEST, 5) else {
+    let Ok(Opened::Found(mut journal)) = Journal::open(alloc, disk, &DIGEST, false, 5) else {
         panic!(rt; "a journal");
     };
     same(&rt, add(&mut journal, &Record::Life), Ok(()));

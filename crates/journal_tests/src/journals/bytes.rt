@@ -1,7 +1,9 @@
 // The bytes of a journal.
 ghost use Rattle.std.specs.Prelude.{◌≡◌, ◌≤◌, ◌<◌, IfOk, length, vec_len};
 
-use crate::journals::runs::{FAILS_ONCE, JOB, RECORDS, SIZE, records_on, written};
+use crate::journals::runs::{
+    DIGEST, FAILS_ONCE, JOB, RECORDS, SIZE, begin_with, read_and_add, records_on, written,
+};
 use crate::same::same;
 use event_journal::{Journal, JournalFault, Peek, decode_record, encode_record, has_slot};
 use journal_disks::MemDisk;
@@ -19,6 +21,7 @@ fn journal_bytes(rt: HostRuntime) -> Result<(), Fail> {
     let wanted = Peek {
         used: 0,
         next: 1,
+        always_post: false,
         finished: true,
     };
     same(&rt, seen, Some(wanted));
@@ -111,9 +114,8 @@ fn every_prefix_of_a_journal(rt: HostRuntime) -> Result<(), Fail> {
 fn faults_of_an_image(rt: HostRuntime) -> Result<(), Fail> {
     for (at, byte, fault) in [
         (0, 0, JournalFault::NotAJournal),
-        (1, 2, JournalFault::Version(2)),
-        (2, 1, JournalFault::NotAJournal),
-        (3, 1, JournalFault::NotAJournal),
+        (1, 0, JournalFault::Version(0)),
+        (1, 3, JournalFault::Version(3)),
         (8, 0, JournalFault::OtherInputs),
         (39, 0, JournalFault::OtherInputs),
         (40, 1, JournalFault::NotAJournal),
@@ -138,21 +140,122 @@ fn faults_of_an_image(rt: HostRuntime) -> Result<(), Fail> {
     Ok(())
 }
 
+// A digest stands before a flag, and both before a bad slot.
 #[test]
-fn a_digest_stands_before_a_bad_slot(rt: HostRuntime) -> Result<(), Fail> {
+fn order_of_faults(rt: HostRuntime) -> Result<(), Fail> {
     let alloc = rt.alloc();
-    let disk = changed(alloc, &FAILS_ONCE, SIZE, 65, 5)?;
-    match Journal::open(alloc, disk, &[8; 32], 16) {
-        Ok(_) => panic!(rt; "other inputs"),
-        Err((disk, fault)) => {
-            same(&rt, fault, JournalFault::OtherInputs);
-            let mut disk = disk;
-            same(
-                &rt,
-                Journal::peek(alloc, &mut disk),
-                Err(JournalFault::BadSlot(0)),
-            );
+    let bad_slot = JournalFault::BadSlot(0);
+    for (digest, always_post, wanted) in [
+        ([8; 32], true, JournalFault::OtherInputs),
+        ([8; 32], false, JournalFault::OtherInputs),
+        (DIGEST, true, JournalFault::OtherFlag),
+        (DIGEST, false, bad_slot),
+    ] {
+        let disk = changed(alloc, &FAILS_ONCE, SIZE, 65, 5)?;
+        match Journal::open(alloc, disk, &digest, always_post, 16) {
+            Ok(_) => panic!(rt; "a record in a bad slot"),
+            Err((disk, fault)) => {
+                same(&rt, (always_post, fault), (always_post, wanted));
+                let mut disk = disk;
+                same(&rt, Journal::peek(alloc, &mut disk), Err(bad_slot));
+            }
         }
+    }
+    Ok(())
+}
+
+#[test]
+fn flag_of_a_new_journal(rt: HostRuntime) -> Result<(), Fail> {
+    let alloc = rt.alloc();
+    for (always_post, front) in [
+        (false, [0x4A, 2, 0, 0, 0, 0, 0, 1]),
+        (true, [0x4A, 2, 1, 0, 0, 0, 0, 1]),
+    ] {
+        let disk = begin_with(alloc, MemDisk::new(alloc, 1000), always_post, 16)?.into_disk();
+        same(&rt, disk.bytes().get(..8), Some(front.as_slice()));
+    }
+    Ok(())
+}
+
+/// Bytes 1 to 3 of a journal, and what opening it answers with the flag false, and with it true.
+static FRONTS: [([u8; 3], Option<JournalFault>, Option<JournalFault>); 10] = [
+    ([2, 0, 0], None, Some(JournalFault::OtherFlag)),
+    ([2, 1, 0], Some(JournalFault::OtherFlag), None),
+    ([1, 0, 0], None, Some(JournalFault::OtherFlag)),
+    ([1, 1, 0], NO_JOURNAL, NO_JOURNAL),
+    ([2, 2, 0], NO_JOURNAL, NO_JOURNAL),
+    ([1, 0, 1], NO_JOURNAL, NO_JOURNAL),
+    ([2, 0, 1], NO_JOURNAL, NO_JOURNAL),
+    ([7, 0, 1], NO_JOURNAL, NO_JOURNAL),
+    ([7, 0, 0], VERSION_7, VERSION_7),
+    ([7, 5, 0], VERSION_7, VERSION_7),
+];
+
+const NO_JOURNAL: Option<JournalFault> = Some(JournalFault::NotAJournal);
+
+const VERSION_7: Option<JournalFault> = Some(JournalFault::Version(7));
+
+fn with_front(alloc: Global, front: [u8; 3]) -> Result<MemDisk, AllocError> {
+    let mut bytes = FAILS_ONCE;
+    bytes[1..4].copy_from_slice(&front);
+    Ok(MemDisk::of(alloc, Vec::from_slice(alloc, &bytes)?, 1000))
+}
+
+// Opens the journal with this front. Where it is one with this flag, its records are read and one is
+// added, and nothing changes of its header or its records.
+fn opened_as(
+    rt: &impl Abort,
+    alloc: Global,
+    front: [u8; 3],
+    always_post: bool,
+    wanted: Option<JournalFault>,
+) -> Result<(), AllocError> {
+    let before = with_front(alloc, front)?;
+    let answer = read_and_add(alloc, with_front(alloc, front)?, always_post);
+    let found = answer.as_ref().err().copied();
+    same(
+        rt,
+        (front, always_post, found),
+        (front, always_post, wanted),
+    );
+    if let Ok((records, disk)) = &answer {
+        same(rt, records.as_slice(), RECORDS.as_slice());
+        same(rt, disk.bytes().len(), SIZE + 32);
+        let (found, due) = (disk.bytes().get(..SIZE - 1), before.bytes().get(..SIZE - 1));
+        same(rt, found, due);
+    }
+    drop(answer);
+    Ok(())
+}
+
+// A peek says the flag with which the journal is opened, or else what opening answers with either.
+fn peeked_as(
+    rt: &impl Abort,
+    alloc: Global,
+    front: [u8; 3],
+    without: Option<JournalFault>,
+    with: Option<JournalFault>,
+) -> Result<(), AllocError> {
+    let wanted = match (without, with) {
+        (None, _) => Ok(Some(false)),
+        (_, None) => Ok(Some(true)),
+        (Some(fault), _) => Err(fault),
+    };
+    let told = match Journal::peek(alloc, &mut with_front(alloc, front)?) {
+        Ok(Some(peek)) => Ok(Some(peek.always_post)),
+        Ok(None) => Ok(None),
+        Err(fault) => Err(fault),
+    };
+    same(rt, (front, told), (front, wanted));
+    Ok(())
+}
+
+#[test]
+fn versions_and_flags(rt: HostRuntime) -> Result<(), Fail> {
+    for (front, without, with) in FRONTS {
+        peeked_as(&rt, rt.alloc(), front, without, with)?;
+        opened_as(&rt, rt.alloc(), front, false, without)?;
+        opened_as(&rt, rt.alloc(), front, true, with)?;
     }
     Ok(())
 }
@@ -211,6 +314,7 @@ fn fault_codes(rt: HostRuntime) -> Result<(), Fail> {
         (JournalFault::Broken, "J7 Broken"),
         (JournalFault::Memory, "J8 Memory"),
         (JournalFault::BadSlot(3), "J9 BadSlot 3"),
+        (JournalFault::OtherFlag, "J10 OtherFlag"),
     ] {
         let told = format!(in rt.alloc(); "{fault}")?;
         same(&rt, told.as_str(), text);

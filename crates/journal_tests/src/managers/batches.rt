@@ -183,7 +183,8 @@ fn with_strange(
     disk: MemDisk,
     alone: bool,
 ) -> MemDisk {
-    let Ok(Opened::Found(mut journal)) = Journal::open(alloc, disk, plan.digest(), SLOTS) else {
+    let Ok(Opened::Found(mut journal)) = Journal::open(alloc, disk, plan.digest(), false, SLOTS)
+    else {
         panic!(rt; "no journal");
     };
     let answer = if alone {

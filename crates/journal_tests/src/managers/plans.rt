@@ -38,7 +38,7 @@ pub fn plan_of(alloc: Global, text: &str) -> Result<Plan, Fail> {
     files.add(alloc, "x.dag", text.as_bytes())?;
     let dag = open_dag(alloc, &files, "x.dag")?;
     let graph = Graph::build(alloc, dag)?;
-    match Plan::build_bare(alloc, graph, None) {
+    match Plan::build_bare(alloc, graph, None, false) {
         Ok(plan) => Ok(plan),
         Err(refused) => Err(fault_of(refused)),
     }

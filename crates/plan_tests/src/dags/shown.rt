@@ -48,7 +48,7 @@ fn answer_of_dag(alloc: Global, view: View, dag: FlatDag) -> Result<String, Allo
 }
 
 fn answer_of_graph(alloc: Global, view: View, graph: Graph) -> Result<String, AllocError> {
-    let built = built_of(Plan::build_bare(alloc, graph, None));
+    let built = built_of(Plan::build_bare(alloc, graph, None, false));
     let text = told(alloc, view, &built);
     drop(built);
     text

@@ -51,8 +51,8 @@ fn planned(
 ) -> Built {
     let rescue = bytes_of(rescue);
     built_of(match kind {
-        Kind::Full => Plan::build(alloc, graph, files, rescue),
-        Kind::Bare => Plan::build_bare(alloc, graph, rescue),
+        Kind::Full => Plan::build(alloc, graph, files, rescue, false),
+        Kind::Bare => Plan::build_bare(alloc, graph, rescue, false),
     })
 }
 

@@ -147,14 +147,14 @@ fn faults(rt: HostRuntime) -> Result<(), Fail> {
 
 /// How many nodes the plan of a graph has.
 fn count_of(alloc: Global, graph: Graph, files: &FileSet) -> Result<String, Fail> {
-    let answer = built_of(Plan::build(alloc, graph, files, None));
+    let answer = built_of(Plan::build(alloc, graph, files, None, false));
     told_of(alloc, answer, "", &Look::Count)
 }
 
 /// The answer for x.dag, which hands the graph back while the submit file is missing.
 fn handed_back(alloc: Global, files: &FileSet) -> Result<Built, Fail> {
     let graph = graph_of(alloc, files, "x.dag")?;
-    Ok(built_of(Plan::build(alloc, graph, files, None)))
+    Ok(built_of(Plan::build(alloc, graph, files, None, false)))
 }
 
 /// How many nodes the plan has of a graph that was handed back.

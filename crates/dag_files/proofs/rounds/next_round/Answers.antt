@@ -19,4 +19,4 @@ returns-clause-by g c =
     (elim c.match-branch-2.branch [
       | in-None w ↦ rw w.journal-is tt
       | in-Some w ↦ rw w.journal-is tt
-    ]) c.number_read.ensures c.number_after.ensures.behind refl
+    ]) c.number_read.ensures c.number_after.ensures.behind refl refl

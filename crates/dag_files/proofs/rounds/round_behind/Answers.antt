@@ -41,4 +41,4 @@ returns-clause-by g c = λ autorescue.
     (elim c.match-branch-3.branch [
       | in-None w ↦ rw w.journal-is tt
       | in-Some w ↦ rw w.journal-is tt
-    ]) refl c.number_after.ensures.behind refl
+    ]) refl c.number_after.ensures.behind refl refl

@@ -38,6 +38,11 @@ returns-in_err-_lock-clause-refused g c =
     handed-on (IsRunFault c.args.top.now c.args.options.now) c.from_residual-in_err-_lock.result c.from_residual-in_err-_lock.ensures.1
     (λ fault same. subst (IsRunFault c.args.top.now c.args.options.now) (sym same) (not_alone c.in_err-_lock.field-0.0 (planned-for c.args.top.now c.args.options.now c.in_ok-files.files c.in_ok-graph.graph c.in_ok-round.round c.in_ok-plan.plan c.in_ok-graph.ensures.graph c.in_ok-round.ensures.by c.in_ok-plan.ensures.plan) c.in_err-_lock.ensures))
 
+pub returns-in_err-has_room_for_names-clause-refused : goal.returns-in_err-has_room_for_names-clause-refused
+returns-in_err-has_room_for_names-clause-refused g c =
+    handed-on (IsRunFault c.args.top.now c.args.options.now) c.from_residual-in_err-has_room_for_names.result c.from_residual-in_err-has_room_for_names.ensures.1
+    (λ fault same. subst (IsRunFault c.args.top.now c.args.options.now) (sym same) (not_alone c.in_err-has_room_for_names.field-0.0 (planned-for c.args.top.now c.args.options.now c.in_ok-files.files c.in_ok-graph.graph c.in_ok-round.round c.in_ok-plan.plan c.in_ok-graph.ensures.graph c.in_ok-round.ensures.by c.in_ok-plan.ensures.plan) c.in_err-has_room_for_names.ensures))
+
 pub returns-in_err-found-clause-refused : goal.returns-in_err-found-clause-refused
 returns-in_err-found-clause-refused g c =
     handed-on (IsRunFault c.args.top.now c.args.options.now) c.from_residual-in_err-found.result c.from_residual-in_err-found.ensures.1

@@ -4,11 +4,8 @@ use Rattle.dag_texts.specs.declared.fault.RunFault.TheVariants.{Memory}
 use Rattle.dag_files.proofs.RunFaults.{by-fault}
 use Rattle.dag_main.proofs.runs.run_planned.Goals as goal
 
-pub returns-in_err-rescue_name-clause-refused : goal.returns-in_err-rescue_name-clause-refused
-returns-in_err-rescue_name-clause-refused g c = by-fault IsStopFault c.in_err-rescue_name.field-0.0 (subst IsStopFault (sym c.in_err-rescue_name.ensures.err) leading_had_no_memory) c.from_residual.result c.from_residual.ensures.1
-
 pub returns-in_err-rescue-clause-refused : goal.returns-in_err-rescue-clause-refused
-returns-in_err-rescue-clause-refused g c = by-fault IsStopFault c.in_err-rescue.field-0.0 (subst IsStopFault (sym c.in_err-rescue.ensures) leading_had_no_memory) c.from_residual-in_err-rescue.result c.from_residual-in_err-rescue.ensures.1
+returns-in_err-rescue-clause-refused g c = by-fault IsStopFault c.in_err-rescue.field-0.0 (subst IsStopFault (sym c.in_err-rescue.ensures) leading_had_no_memory) c.from_residual.result c.from_residual.ensures.1
 
 pub returns-in_err-journal_path-clause-refused : goal.returns-in_err-journal_path-clause-refused
 returns-in_err-journal_path-clause-refused g c = by-fault IsStopFault Memory leading_had_no_memory c.from_residual-in_err-journal_path.result c.from_residual-in_err-journal_path.ensures.1

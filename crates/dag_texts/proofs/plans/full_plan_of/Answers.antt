@@ -1,5 +1,5 @@
 use Rattle.splices.specs.FileSet.{bytes_of}
-use Rattle.std.proofs.Common.{subst, sym}
+use Rattle.std.proofs.Common.{false, subst, sym}
 use Rattle.dag_texts.specs.Checked.{IsCheckFault, has_no_graph}
 use Rattle.dag_texts.proofs.Refusals.{handed-on}
 use Rattle.dag_texts.proofs.PlansOfFiles.{full-dag, full-acyclic, full-sound, full-refused}
@@ -7,19 +7,19 @@ use Rattle.dag_texts.proofs.plans.full_plan_of.Goals as goal
 
 pub returns-in-Ok-clause-dag : goal.returns-in-Ok-clause-dag
 returns-in-Ok-clause-dag c =
-    full-dag (bytes_of c.args.files.now) c.args.path.now c.in_ok-graph.graph _ c.in_ok-graph.ensures.graph.is_dag c.in_ok-graph.ensures.graph.acyclic c.in-Ok.plan c.in-Ok.ensures.plan
+    full-dag false (bytes_of c.args.files.now) c.args.path.now c.in_ok-graph.graph _ c.in_ok-graph.ensures.graph.is_dag c.in_ok-graph.ensures.graph.acyclic c.in-Ok.plan c.in-Ok.ensures.plan
 
 pub returns-in-Ok-clause-acyclic : goal.returns-in-Ok-clause-acyclic
 returns-in-Ok-clause-acyclic c =
-    full-acyclic (bytes_of c.args.files.now) c.args.path.now c.in_ok-graph.graph _ c.in_ok-graph.ensures.graph.is_dag c.in_ok-graph.ensures.graph.acyclic c.in-Ok.plan c.in-Ok.ensures.plan
+    full-acyclic false (bytes_of c.args.files.now) c.args.path.now c.in_ok-graph.graph _ c.in_ok-graph.ensures.graph.is_dag c.in_ok-graph.ensures.graph.acyclic c.in-Ok.plan c.in-Ok.ensures.plan
 
 pub returns-in-Ok-clause-sound : goal.returns-in-Ok-clause-sound
 returns-in-Ok-clause-sound c =
-    full-sound (bytes_of c.args.files.now) c.args.path.now c.in_ok-graph.graph _ c.in_ok-graph.ensures.graph.is_dag c.in_ok-graph.ensures.graph.acyclic c.in-Ok.plan c.in-Ok.ensures.plan
+    full-sound false (bytes_of c.args.files.now) c.args.path.now c.in_ok-graph.graph _ c.in_ok-graph.ensures.graph.is_dag c.in_ok-graph.ensures.graph.acyclic c.in-Ok.plan c.in-Ok.ensures.plan
 
 pub returns-in-Err-clause-refused : goal.returns-in-Err-clause-refused
 returns-in-Err-clause-refused c =
-    rw (c.in_plan.ensures) (full-refused (bytes_of c.args.files.now) c.args.path.now c.in_ok-graph.graph _ c.in_ok-graph.ensures.graph.is_dag c.in_ok-graph.ensures.graph.acyclic c.in-Err.fault c.in-Err.ensures.refused.1)
+    rw (c.in_plan.ensures) (full-refused false (bytes_of c.args.files.now) c.args.path.now c.in_ok-graph.graph _ c.in_ok-graph.ensures.graph.is_dag c.in_ok-graph.ensures.graph.acyclic c.in-Err.fault c.in-Err.ensures.refused.1)
 
 pub returns-in_err-graph-clause-refused : goal.returns-in_err-graph-clause-refused
 returns-in_err-graph-clause-refused c =

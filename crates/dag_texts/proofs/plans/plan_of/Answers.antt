@@ -5,7 +5,7 @@ use Rattle.dag_texts.proofs.plans.plan_of.Goals as goal
 
 pub returns-clause-plan : goal.returns-clause-plan
 returns-clause-plan c =
-    is-plan (bytes_of c.args.files.now) c.args.path.now c.in_ok-graph.graph c.in-Ok.plan c.in_ok-graph.ensures.graph.is_dag c.in_ok-graph.ensures.graph.acyclic c.in-Ok.ensures.plan
+    is-plan c.args.always_post (bytes_of c.args.files.now) c.args.path.now c.in_ok-graph.graph c.in-Ok.plan c.in_ok-graph.ensures.graph.is_dag c.in_ok-graph.ensures.graph.acyclic c.in-Ok.ensures.plan
     (rw (← c.graph.ensures.is) c.order-order.ensures.parents_first)
 
 pub returns-in_default-clause-refused : goal.returns-in_default-clause-refused

@@ -25,4 +25,4 @@ returns-clause-report g c = IfOk-weaker c.rehearse_text.result _ _
 
 pub returns-clause-refused : goal.returns-clause-refused
 returns-clause-refused g c = weaker (IsRefusal _) c.rehearse_text.result c.rehearse_text.ensures.refused
-    (λ fault why. not_rehearsed _ _ _ _ c.in_ok-files.files fault (ap is_some c.bytes_of.ensures ∙ c.in_ok-table.ensures.named) why)
+    (λ fault why. not_rehearsed _ _ _ _ _ c.in_ok-files.files fault (ap is_some c.bytes_of.ensures ∙ c.in_ok-table.ensures.named) why)

@@ -14,9 +14,10 @@ use Rattle.event_journal.specs.Slot.{record_in, guess}
 use Rattle.event_journal.specs.Groups.{groups_of, records_at}
 use Rattle.event_journal.specs.Image.{replay_of}
 use Rattle.run_manager.specs.Example.{one_node, end_of_a, first_held, second_held}
-use Rattle.job_starter.specs.Drives.{IsHeld, launches, starts, ends, settles, no_step, one_more}
+use Rattle.job_starter.specs.Drives.{launches, starts, ends, settles, no_step, one_more}
 use Rattle.node_machine.specs.declared.Phase.TheVariants.{Job}
 use Rattle.sched_core.specs.Example.{key}
+use Rattle.sched_core.specs.Ahead.{NothingToStart}
 use Rattle.job_starter.specs.Example.{unlimited, child_of_a, its_calls}
 use Rattle.job_starter.proofs.examples.examples.Goals as goal
 
@@ -26,7 +27,7 @@ either past true = refl
 either past false = refl
 
 -- A runs, and no other node is there
-held : IsHeld unlimited one_node second_held
+held : NothingToStart unlimited one_node second_held
 unfolding story attempts_after next_after is_good_after value_after is_aborted is_ready is_final_ready may_launch
 held zero = refl
 held (suc zero) = refl

@@ -3,8 +3,9 @@ use Rattle.node_machine.specs.declared.Record.{Record}
 use Rattle.throttles.specs.declared.Limits.{Limits}
 use Rattle.run_plan.specs.Plan.{Plan}
 use Rattle.sched_core.specs.Run.{is_aborted}
+use Rattle.sched_core.specs.Ahead.{NothingToStart}
 use Rattle.run_manager.specs.Managed.{plan_of, past_of}
-use Rattle.job_starter.specs.Drives.{at_rest, limits_of, AreInStep, IsHeld, IsTurn, IsRoundOf, IsNearerEnd, is_aborted_between, round_refused, no_step, none_started}
+use Rattle.job_starter.specs.Drives.{at_rest, limits_of, AreInStep, IsTurn, IsRoundOf, IsNearerEnd, is_aborted_between, round_refused, no_step, none_started}
 use Rattle.job_starter.specs.Causes.{no_memory_for_round}
 use Rattle.job_starter.specs.Stretches.{IsCutShort}
 use Rattle.job_starter.proofs.RoundTurns.{turn-before, turn-still, turn-calm, turn-stops}
@@ -68,7 +69,7 @@ returns-then-is_empty-clause-done g c =
     let via = at_rest (past_of mid) (told c.loop-keys.starter) in
     let size : length c.in-Ok.keys.items ≡ 0 = search rules in
     let held = c.in-Ok.ensures.held (none-there c.in-Ok.keys.items size) in
-    inl (subst (λ (l : Limits). IsHeld l plan (past_of mid)) i.0.limits_are (subst (λ (p : Plan). IsHeld (limits_of mid) p (past_of mid)) i.0.plan_is held))
+    inl (subst (λ (l : Limits). NothingToStart l plan (past_of mid)) i.0.limits_are (subst (λ (p : Plan). NothingToStart (limits_of mid) p (past_of mid)) i.0.plan_is held))
 
 pub returns-then-is_empty-clause-turn : goal.returns-then-is_empty-clause-turn
 returns-then-is_empty-clause-turn g c =
@@ -100,9 +101,9 @@ returns-then-is_empty-clause-nearer g c = λ key chosen.
     let via = at_rest (past_of mid) (told c.loop-keys.starter) in
     let size : length c.in-Ok.keys.items ≡ 0 = search rules in
     let held = c.in-Ok.ensures.held (none-there c.in-Ok.keys.items size) in
-    let here : IsHeld limits plan (past_of mid) = subst (λ (l : Limits). IsHeld l plan (past_of mid)) i.0.limits_are (subst (λ (p : Plan). IsHeld (limits_of mid) p (past_of mid)) i.0.plan_is held) in
+    let here : NothingToStart limits plan (past_of mid) = subst (λ (l : Limits). NothingToStart l plan (past_of mid)) i.0.limits_are (subst (λ (p : Plan). NothingToStart (limits_of mid) p (past_of mid)) i.0.plan_is held) in
     elim i.4 [
-      | inl same ↦ (let bad : None ≡ Some key = sym (subst (IsHeld limits plan) same here key.node) ∙ chosen.0 in absurd cc)
+      | inl same ↦ (let bad : None ≡ Some key = sym (subst (NothingToStart limits plan) same here key.node) ∙ chosen.0 in absurd cc)
       | inr nearer ↦ nearer
     ]
 

@@ -3,6 +3,7 @@ use Rattle.run_plan.specs.Plan.{Plan}
 use Rattle.node_machine.specs.declared.Record.{Record}
 use Rattle.node_machine.specs.declared.Record.TheVariants.{Life}
 use Rattle.run_manager.specs.Managed.{Reads}
+use Rattle.run_manager.specs.Inputs.{IsHeaderOf}
 use Rattle.recovery.proofs.laws.one_life.Goals as goal
 
 pub returns-clause-begun : goal.returns-clause-begun
@@ -22,7 +23,7 @@ returns-clause-recovered g c disk manager now past own handed left recovered lif
   reads = inr (
     recovered.header,
     subst (λ (l : List Record). Reads recovered.header l (g.D.Disk.seen disk)) (same_tail Life recovered.past past (sym recovered.records ∙ life)) recovered.found,
-    recovered.inputs ∙ ap (λ (p : Plan). p.digest) (sym plan_is),
+    subst (λ (p : Plan). IsHeaderOf p recovered.header) (sym plan_is) recovered.inputs,
   );
   goes_on = inr (own, adds ∙ ap (λ (l : List Record). own ++ l) life);
   lawful = lawful;

@@ -4,10 +4,10 @@ use Rattle.run_plan.specs.Plan.{Plan}
 use Rattle.node_machine.specs.declared.Record.{Record}
 use Rattle.node_machine.specs.declared.Record.TheVariants.{Life}
 use Rattle.sched_core.specs.Run.{is_lawful}
-use Rattle.event_journal.specs.Image.{header_of}
 use Rattle.event_journal.specs.Journal.{with_record}
 use Rattle.run_manager.specs.Lives.{LifeRecords, GoesOn}
 use Rattle.run_manager.specs.Chain.{IsLifeOf, Leaves, ReadsForInputs, commands_in, life_of, life_records}
+use Rattle.run_manager.specs.Inputs.{header_for}
 use Rattle.std.proofs.lemmas.Bool.{and_parts}
 use Rattle.recovery.proofs.Lives.{with_life, life_lawful}
 use Rattle.recovery.proofs.laws.stops.Goals as goal
@@ -37,10 +37,10 @@ returns-clause-in_begin g c disk plan used next image fresh (inl (inl was)) = in
 returns-clause-in_begin g c disk plan used next image fresh (inl (inr (inl none))) =
     inr (idle plan (g.D.Disk.seen disk) [] image (inl (fresh, refl)) refl (without plan (life_records [] []) image (inl refl) refl (inl (none, refl))))
 returns-clause-in_begin g c disk plan used next image fresh (inl (inr (inr reads))) =
-    inr (idle plan (g.D.Disk.seen disk) [] image (inl (fresh, refl)) refl (without plan (life_records [] []) image (inl refl) refl (inr (header_of used next plan.digest, reads, refl))))
+    inr (idle plan (g.D.Disk.seen disk) [] image (inl (fresh, refl)) refl (without plan (life_records [] []) image (inl refl) refl (inr (header_for used next plan, reads, (refl, refl)))))
 returns-clause-in_begin g c disk plan used next image fresh (inr reads) =
     inr (idle plan (g.D.Disk.seen disk) [] image (inl (fresh, refl)) refl
-    (with_one plan (life_records [] []) Life image (inr ([], refl)) (life_lawful plan [] refl refl) (inr (header_of used next plan.digest, reads, refl))))
+    (with_one plan (life_records [] []) Life image (inr ([], refl)) (life_lawful plan [] refl refl) (inr (header_for used next plan, reads, (refl, refl)))))
 
 pub returns-clause-in_recover : goal.returns-clause-in_recover
 returns-clause-in_recover g c disk plan image (inl was) = inl was

@@ -13,9 +13,9 @@ pub returns-clause-report : goal.returns-clause-report
 returns-clause-report c =
     answered (λ (answer : Answer). ReportsRun c.args.limits c.in_ok-plan.plan c.in_ok-table.table (string_bytes answer.text) answer.status)
     (λ (answer : Answer). string_bytes answer.warnings ≡ warning_lines c.in_ok-plan.plan.graph.dag.warnings)
-    (λ (answer : Answer). IsRehearsalOf (bytes_of c.args.files.now) c.args.path.now (option_map (λ b. b.now) c.args.outcomes) c.args.limits (string_bytes answer.text) (string_bytes answer.warnings) answer.status)
+    (λ (answer : Answer). IsRehearsalOf c.args.always_post (bytes_of c.args.files.now) c.args.path.now (option_map (λ b. b.now) c.args.outcomes) c.args.limits (string_bytes answer.text) (string_bytes answer.warnings) answer.status)
     c.rehearse_plan.result
-    (λ answer run notes. rehearsal-of (bytes_of c.args.files.now) c.args.path.now _ c.args.limits c.in_ok-plan.plan c.in_ok-table.table c.in_ok-plan.ensures.plan c.in_ok-table.ensures.entries
+    (λ answer run notes. rehearsal-of c.args.always_post (bytes_of c.args.files.now) c.args.path.now _ c.args.limits c.in_ok-plan.plan c.in_ok-table.table c.in_ok-plan.ensures.plan c.in_ok-table.ensures.entries
     (string_bytes answer.text) (string_bytes answer.warnings) answer.status run notes)
     c.rehearse_plan.ensures.run c.rehearse_plan.ensures.warnings
 

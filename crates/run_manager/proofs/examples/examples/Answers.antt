@@ -13,20 +13,20 @@ pub returns-clause-on_bytes : goal.returns-clause-on_bytes
 unfolding story attempts_after next_after is_good_after value_after is_aborted is_ready is_final_ready may_launch may_follow replay_of groups_of records_at record_in guess command_of
 returns-clause-on_bytes c = (
   record {
-    reads = inr (its_header, refl, refl);
+    reads = inr (its_header, refl, (refl, refl));
     goes_on = inr (Finish 0 ∷ [], refl);
     lawful = refl;
     hands_over = ([], refl);
-    leaves = record { added = []; few = omega arith; goes_on = inr (Finish 0 ∷ [], refl); lawful = refl; reads = inr (its_header, refl, refl) };
+    leaves = record { added = []; few = omega arith; goes_on = inr (Finish 0 ∷ [], refl); lawful = refl; reads = inr (its_header, refl, (refl, refl)) };
   },
   refl,
   (
     record {
-      reads = inr (its_header, refl, refl);
+      reads = inr (its_header, refl, (refl, refl));
       goes_on = inr (launch_of_a 2 ∷ [], refl);
       lawful = refl;
       hands_over = ([], refl);
-      leaves = record { added = end_of_a ∷ []; few = omega arith; goes_on = inr (end_of_a ∷ launch_of_a 2 ∷ [], refl); lawful = refl; reads = inr (its_header, refl, refl) };
+      leaves = record { added = end_of_a ∷ []; few = omega arith; goes_on = inr (end_of_a ∷ launch_of_a 2 ∷ [], refl); lawful = refl; reads = inr (its_header, refl, (refl, refl)) };
     },
     refl,
     (
@@ -35,7 +35,7 @@ returns-clause-on_bytes c = (
         goes_on = inr (launch_of_a 1 ∷ [], refl);
         lawful = refl;
         hands_over = (command_of_a ∷ [], refl);
-        leaves = record { added = []; few = omega arith; goes_on = inr (launch_of_a 1 ∷ [], refl); lawful = refl; reads = inr (its_header, refl, refl) };
+        leaves = record { added = []; few = omega arith; goes_on = inr (launch_of_a 1 ∷ [], refl); lawful = refl; reads = inr (its_header, refl, (refl, refl)) };
       },
       refl,
     ),

@@ -23,7 +23,7 @@ returns c = λ digest.
     let nodes = c.nodes-count.ensures.are ∙ ap (λ (d : Dag). d.nodes) c.flat.ensures in
     let marked = subst (λ (r : Result (Vec ℕ Global) PlanFault). IfOk r (λ numbers. (n : ℕ) → n < length c.nodes-count.result.now → slice_index_or c.in_ok-marks.marks.items n false ≡ is_listed numbers.items n))
     c.in_ok-_numbers.was c.in_ok-marks.ensures in
-    planned_at c.args.graph.now (option_map (λ (set : Bor FileSet). bytes_of set.now) c.args.files) (option_map (λ (b : Bor (List ℕ)). b.now) c.args.rescue) digest
+    planned_at c.args.always_post c.args.graph.now (option_map (λ (set : Bor FileSet). bytes_of set.now) c.args.files) (option_map (λ (b : Bor (List ℕ)). b.now) c.args.rescue) digest
     c.in_ok-_numbers._numbers.items c.as_slice.result.now c.in_ok-ordinary.ordinary.items c.in_ok-final_node.final_node
     c.in_ok-ordinary.ensures.faults (search rules) (search rules)
     (λ n small. ap (λ (m : List Bool). slice_index_or m n false) c.as_slice.ensures.value ∙ marked n (subst (λ (ns : List FlatNode). n < length ns) (sym nodes) small))

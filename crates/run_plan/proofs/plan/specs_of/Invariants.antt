@@ -8,6 +8,6 @@ use Rattle.run_plan.proofs.plan.specs_of.Given as goal
 
 abbrev pub invariant-loop-number : goal.invariant-loop-number
 invariant-loop-number l = record {
-  specs : l.specs.items ≡ specs_from l.graph.dag (marked_sources (option_map (λ set. bytes_of set.now) l.files) l.marks) 0 (take l.number l.graph.dag.nodes);
+  specs : l.specs.items ≡ specs_from l.graph.dag (marked_sources l.always_post (option_map (λ set. bytes_of set.now) l.files) l.marks) 0 (take l.number l.graph.dag.nodes);
   none : first_fault (option_map (λ set. bytes_of set.now) l.files) (take l.number l.graph.dag.nodes) ≡ Ok tt;
 }

@@ -6,10 +6,11 @@ use Rattle.run_plan.specs.Plan.{count_of}
 use Rattle.dag_graph.specs.Graph.{children_of}
 use Rattle.sched_core.specs.Core.{run_at}
 use Rattle.sched_core.specs.States.{NodeStates, AreLeft, left_at}
+use Rattle.sched_core.specs.Queued.{IsQueued}
 use Rattle.sched_core.specs.Turns.{times, turn_of}
 use Rattle.sched_core.specs.declared.advancing.Turn.{Turn}
 use Rattle.sched_core.proofs.Sweeps.{run_at-same, run_at-other}
-use Rattle.sched_core.proofs.Turning.{left-ended, left-enough, left-done, or-left}
+use Rattle.sched_core.proofs.Turning.{left-ended, left-enough, left-done, or-left, or-right}
 use Rattle.sched_core.proofs.advancing.end.Goals as goal
 
 pub count_down-requires-clause-enough : goal.count_down-requires-clause-enough
@@ -86,3 +87,8 @@ stop_others-requires-clause-idle c =
     ap (λ (rs : List NodeProgress). (run_at rs (count_of plan)).running) runs
     ∙ ap (λ (r : NodeProgress). r.running) (run_at-other states.runs node run (count_of plan) (λ e. omega (arith, e, lt)))
     ∙ c.requires.ending.idle lt
+
+pub returns-then-turn-clause-queued : goal.returns-then-turn-clause-queued
+returns-then-turn-clause-queued c =
+    let runs = c.stop_others.new.states.runs in let left = c.stop_others.new.states.left in
+    subst (λ b. IsQueued c.args.plan.now b runs left c.clear.new.self) (sym (or-right c.args.aborted c.turn_of-turn.result.aborts c.if-turn.true)) (c.clear.ensures runs left)

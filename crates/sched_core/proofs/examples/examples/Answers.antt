@@ -40,6 +40,18 @@ pub returns-clause-abort_states : goal.returns-clause-abort_states
 unfolding story attempts_after next_after is_good_after value_after is_aborted is_ready is_final_ready may_launch may_follow
 returns-clause-abort_states c = refl
 
+pub returns-clause-always : goal.returns-clause-always
+unfolding story attempts_after next_after is_good_after value_after is_aborted is_ready is_final_ready may_launch may_follow
+returns-clause-always c = refl
+
+pub returns-clause-always_values : goal.returns-clause-always_values
+unfolding story attempts_after next_after is_good_after value_after is_aborted is_ready is_final_ready may_launch may_follow
+returns-clause-always_values c = refl
+
+pub returns-clause-always_facts : goal.returns-clause-always_facts
+unfolding story attempts_after next_after is_good_after value_after is_aborted is_ready is_final_ready may_launch may_follow
+returns-clause-always_facts c = refl
+
 pub returns-clause-noop : goal.returns-clause-noop
 unfolding story attempts_after next_after is_good_after value_after is_aborted is_ready is_final_ready may_launch may_follow
 returns-clause-noop c = refl

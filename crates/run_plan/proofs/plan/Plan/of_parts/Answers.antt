@@ -12,7 +12,7 @@ use Rattle.run_plan.proofs.plan.Plan.of_parts.Goals as goal
 
 pub invariant_of-result : goal.invariant_of-result
 invariant_of-result c = (
-  planned c.args.graph (option_map (λ (set : Bor FileSet). bytes_of set.now) c.args.files) (option_map (λ (b : Bor (List ℕ)). b.now) c.args.rescue) c.digest_of-digest.result _
+  planned c.args.always_post c.args.graph (option_map (λ (set : Bor FileSet). bytes_of set.now) c.args.files) (option_map (λ (b : Bor (List ℕ)). b.now) c.args.rescue) c.digest_of-digest.result _
       (c.in-Ok-nodes_of.ensures c.digest_of-digest.result),
   c.in-Ok.ensures,
 )
@@ -23,8 +23,8 @@ returns-in-Ok-nodes_of-clause-plan c =
     let rescue = option_map (λ (b : Bor (List ℕ)). b.now) c.args.rescue in
     let entries = option_map_or (λ (set : Bor FileSet). entries_of set.now) c.args.files [] in
     let digest = c.digest_of-digest.ensures ∙ ap (λ (top : List ℕ). digest_of top entries rescue) (c.top.ensures ∙ ap (λ (d : Dag). d.top) c.flat.ensures) in
-    subst (λ (found : List ℕ). plan_at c.args.graph files rescue found
-    ≡ Ok (record { nodes = c.in-Ok-nodes_of.nodes.ordinary.items; final_node = c.in-Ok-nodes_of.nodes.final_node; graph = c.args.graph; digest = c.digest_of-digest.result }))
+    subst (λ (found : List ℕ). plan_at c.args.always_post c.args.graph files rescue found
+    ≡ Ok (record { nodes = c.in-Ok-nodes_of.nodes.ordinary.items; final_node = c.in-Ok-nodes_of.nodes.final_node; graph = c.args.graph; digest = c.digest_of-digest.result; always_post = c.args.always_post }))
     digest (c.in-Ok-nodes_of.ensures c.digest_of-digest.result)
 
 pub returns-in-Err-nodes_of-clause-refused : goal.returns-in-Err-nodes_of-clause-refused
@@ -33,4 +33,4 @@ returns-in-Err-nodes_of-clause-refused c =
     let rescue = option_map (λ (b : Bor (List ℕ)). b.now) c.args.rescue in
     let entries = option_map_or (λ (set : Bor FileSet). entries_of set.now) c.args.files [] in
     let digest = c.digest_of-digest.ensures ∙ ap (λ (top : List ℕ). digest_of top entries rescue) (c.top.ensures ∙ ap (λ (d : Dag). d.top) c.flat.ensures) in
-    (refl, subst (λ (found : List ℕ). Fails c.in-Err-nodes_of.fault (plan_at c.args.graph files rescue found)) digest (c.in-Err-nodes_of.ensures c.digest_of-digest.result))
+    (refl, subst (λ (found : List ℕ). Fails c.in-Err-nodes_of.fault (plan_at c.args.always_post c.args.graph files rescue found)) digest (c.in-Err-nodes_of.ensures c.digest_of-digest.result))

@@ -9,7 +9,7 @@ returns-then-index-len-clause-parents c = rw (← c.self.view_is) (parents-below
 pub returns-in-Some-clause-is : goal.returns-in-Some-clause-is
 returns-in-Some-clause-is c =
     let le : length c.self.inside.nodes.items ≤ c.args.node = omega arith in
-    rw (← c.self.view_is) (sym (node-past (record { nodes = c.self.inside.nodes.items; final_node = c.self.inside.final_node; graph = c.self.inside.graph; digest = c.self.inside.digest }) c.args.node le ∙ ap (λ (o : Option NodeSpec). unwrap_or o no_node) c.in-Some.is))
+    rw (← c.self.view_is) (sym (node-past (record { nodes = c.self.inside.nodes.items; final_node = c.self.inside.final_node; graph = c.self.inside.graph; digest = c.self.inside.digest; always_post = c.self.inside.always_post }) c.args.node le ∙ ap (λ (o : Option NodeSpec). unwrap_or o no_node) c.in-Some.is))
 
 pub returns-in-Some-clause-parents : goal.returns-in-Some-clause-parents
 returns-in-Some-clause-parents c = rw (← c.self.view_is) (parents-below _ c.self.invariant.0 c.args.node)
@@ -17,7 +17,7 @@ returns-in-Some-clause-parents c = rw (← c.self.view_is) (parents-below _ c.se
 pub returns-in-None-clause-is : goal.returns-in-None-clause-is
 returns-in-None-clause-is c =
     let le : length c.self.inside.nodes.items ≤ c.args.node = omega arith in
-    rw (← c.self.view_is) (c.self.invariant.1 ∙ sym (node-past (record { nodes = c.self.inside.nodes.items; final_node = c.self.inside.final_node; graph = c.self.inside.graph; digest = c.self.inside.digest }) c.args.node le ∙ ap (λ (o : Option NodeSpec). unwrap_or o no_node) c.in-None.is))
+    rw (← c.self.view_is) (c.self.invariant.1 ∙ sym (node-past (record { nodes = c.self.inside.nodes.items; final_node = c.self.inside.final_node; graph = c.self.inside.graph; digest = c.self.inside.digest; always_post = c.self.inside.always_post }) c.args.node le ∙ ap (λ (o : Option NodeSpec). unwrap_or o no_node) c.in-None.is))
 
 pub returns-in-None-clause-parents : goal.returns-in-None-clause-parents
 returns-in-None-clause-parents c = rw (← c.self.view_is) (parents-below _ c.self.invariant.0 c.args.node)

@@ -1,11 +1,11 @@
-use Rattle.std.proofs.Common.{pos, sym, ◌∙◌, arith}
+use Rattle.std.proofs.Common.{pos, sym, arith}
 use Rattle.std.proofs.lemmas.List.{get_or_default}
 use Rattle.sched_core.specs.Choices.{startable}
-use Rattle.sched_core.proofs.Queues.{have-ready, full-none, waiting-node, step-test, none-best, first-best}
+use Rattle.sched_core.proofs.Queues.{have-ready, waiting-node, step-test, none-best, first-best}
 use Rattle.sched_core.proofs.scheduler.Core.best_ordinary.Goals as goal
 
-pub returns-then-is_full : goal.returns-then-is_full
-returns-then-is_full c = λ node lt. full-none c.args.self.now.limits c.args.self.now.plan c.args.self.now.past (sym c.is_full.ensures ∙ c.if-is_full.true) node
+pub returns-then-is_held_now : goal.returns-then-is_held_now
+returns-then-is_held_now c = c.is_held_now.ensures c.if-is_held_now.true
 
 pub startable-requires : goal.startable-requires
 startable-requires c =

@@ -1,15 +1,17 @@
-use Rattle.std.proofs.Common.{not, ◌≡◌, ◌∙◌, ◌+◌, ◌<◌, ◌≤◌, pos, List, [], ◌∷◌, ◌++◌, length, get_or, None, Some, ap, sym, subst, arith, rules}
+use Rattle.std.proofs.Common.{◌≡◌, ◌∙◌, ◌+◌, ◌<◌, ◌≤◌, pos, List, [], ◌∷◌, ◌++◌, length, get_or, None, Some, ap, sym, subst, arith, rules}
 use Rattle.node_machine.specs.declared.Key.{Key}
 use Rattle.ready_queue.specs.declared.Member.{Member}
 use Rattle.run_plan.specs.Plan.{count_of, node_at}
 use Rattle.run_plan.specs.Planned.{IsPlanned}
-use Rattle.throttles.specs.Throttled.{Throttled, is_below, all_in, with_one}
+use Rattle.throttles.specs.Throttled.{Throttled, with_one}
 use Rattle.sched_core.specs.Choices.{startable}
 use Rattle.sched_core.specs.Ahead.{launched}
+use Rattle.sched_core.specs.Queued.{AreHeld}
 use Rattle.sched_core.proofs.Best.{startable-node}
-use Rattle.sched_core.proofs.Queues.{have-ready, waiting-node, full-none}
+use Rattle.sched_core.proofs.Holding.{held-none}
+use Rattle.sched_core.proofs.Queues.{have-ready, waiting-node}
 use Rattle.sched_core.proofs.Ahead.{Going, goes-by, goes-on, all-passed}
-use Rattle.sched_core.proofs.scheduler.Core.ordinary_round.Goals.{in-Some+else-is_err, in_default, then-loop-place-test+then-len-max+else-not-is_full, then-loop-place-test+else-len-max, else-loop-place-test}
+use Rattle.sched_core.proofs.scheduler.Core.ordinary_round.Goals.{in-Some+else-is_err, in_default, then-loop-place-test+then-len-max+else-not-held, then-loop-place-test+else-len-max, else-loop-place-test}
 use Rattle.sched_core.proofs.scheduler.Core.ordinary_round.Goals as goal
 
 abbrev member : Member
@@ -66,6 +68,10 @@ loop-place-preserved c =
             (to_throttles keys c.loop-place.throttles (sym w.throttles-is)
             (goes-by limits plan past members c.args.max place keys c.loop-place.throttles c.loop-place-test.true member going none))
       ];
+      held = λ t. elim c.match-startable_behind.branch [
+        | in-Some+else-is_err w ↦ subst (AreHeld plan past) (sym w.throttles-is) (w.is_held-held-in-Some.ensures.0 (sym w.held-is ∙ t))
+        | in_default w ↦ subst (AreHeld plan past) (sym w.throttles-is) (c.loop-place.invariant.held (sym w.held-is ∙ t))
+      ];
     }
 
 pub returns-clause-ok : goal.returns-clause-ok
@@ -79,9 +85,8 @@ returns-clause-ok c =
         | then-loop-place-test+else-len-max w ↦
             let full : c.args.max ≤ length c.loop-place.keys.items = search rules in
             absurd (omega (arith, full, fewer))
-        | then-loop-place-test+then-len-max+else-not-is_full w ↦
-            λ node lt. full-none c.args.self.now.limits c.args.self.now.plan (launched c.args.self.now.past c.loop-place.keys.items)
-            (ap (λ (t : Throttled). not (is_below t.limits.children (all_in t.running))) (sym going.counted) ∙ sym w.is_full.ensures ∙ search rules) node
+        | then-loop-place-test+then-len-max+else-not-held w ↦
+            held-none c.args.self.now.limits c.args.self.now.plan c.args.self.now.past c.loop-place.keys.items c.loop-place.throttles going.counted (c.loop-place.invariant.held (search rules))
         | else-loop-place-test w ↦
             all-passed c.args.self.now.limits c.args.self.now.plan c.args.self.now.past c.waiting-members.result.now (have-ready c.args.self.now.plan c.args.self.now.past c.waiting-members.result.now c.waiting-members.ensures) c.loop-place.keys.items
             (λ k d lt. going.passed k d (omega (arith, lt, w.loop-place-test.false)))
