@@ -1502,6 +1502,60 @@ def outputs_are_synced(folder):
         same([what for what in seen[first:] if what != "other"], wanted)
 
 
+@contextlib.contextmanager
+def mounted(image, place):
+    """The file system of an image, at a place."""
+    os.makedirs(place, exist_ok=True)
+    subprocess.run(["mount", "-o", "loop", image, place], check=True, capture_output=True)
+    try:
+        yield place
+    finally:
+        subprocess.run(["umount", place], check=True, capture_output=True)
+
+
+def made_image(image):
+    """A new file system of 16 MB, in a file."""
+    with open(image, "wb") as file:
+        file.truncate(1 << 24)
+    subprocess.run(["mkfs.ext4", "-q", "-F", image], check=True, capture_output=True)
+
+
+def can_mount():
+    """Whether an image can be made and mounted here."""
+    with tempfile.TemporaryDirectory() as path:
+        try:
+            made_image(os.path.join(path, "image"))
+            with mounted(os.path.join(path, "image"), os.path.join(path, "disk")):
+                return True
+        except (OSError, subprocess.SubprocessError):
+            return False
+
+
+def outputs_behind_a_power_cut(folder):
+    """Where the power fails, the output of a node that the journal has as done is on the disk; where outputs aren't synced, it may be empty."""
+    for options, empty in (([], False), (["--sync-output", "0"], True)):
+        made_image(folder.at("image"))
+        with mounted(folder.at("image"), folder.at("disk")) as place:
+            disk = Folder(folder.program, place)
+            disk.write("x.dag", "JOB A a.sub\nJOB B b.sub\nJOB C c.sub\nPARENT A CHILD B\nPARENT B CHILD C\n")
+            disk.echo("a", "b")
+            disk.shell("c", "echo >started\nwhile ! test -e stop; do sleep 0.02; done\n")
+            subprocess.run(["sync", "-f", place], check=True)
+            run = disk.start("run", *options, "x.dag")
+            disk.wait_for("started")
+            shutil.copy(folder.at("image"), folder.at("behind"))
+            disk.write("stop", "")
+            run.communicate(timeout=10)
+        with mounted(folder.at("behind"), folder.at("disk")) as place:
+            disk = Folder(folder.program, place)
+            same([line.split()[:2] for line in disk.call("status", "x.dag")[0].splitlines()[:2]], [["A", "DONE"], ["B", "DONE"]])
+            outputs = [disk.read(name) if disk.there(name) else b"" for name in ("a.out", "b.out")]
+            if empty:
+                same(b"" in outputs, True)
+            else:
+                same(outputs, [b"a\n", b"b\n"])
+
+
 ROWS = [
     diamond,
     status_without_a_journal,
@@ -1578,6 +1632,10 @@ def main():
         rows += [the_order_of_the_disk, outputs_are_synced, cut_short_while_going_back, a_child_that_was_being_started]
     else:
         print("strace is not installed: the order in which the disk is written is not looked at, and no call of going back is cut short, and no child while it is started")
+    if can_mount():
+        rows.append(outputs_behind_a_power_cut)
+    else:
+        print("no file system can be made and mounted here: what a power cut leaves is not looked at")
     if len(sys.argv) > 2:
         rows = [row for row in rows if sys.argv[2] in row.__name__]
     failed = 0
