@@ -712,14 +712,15 @@ def endings_that_nobody_is_told(folder):
 
 def names_that_are_too_long(folder):
     """The longest name of a round is that of a rescue file that is put away: 14 bytes more than the DAG file's."""
-    for length, fits in ((241, True), (242, False), (251, False)):
+    # Where there is no room for the journal's name either, that it can't be read comes first, and then that there is no room for the lock's.
+    for length, longest in ((241, None), (242, ".rescue999.old"), (247, ".rescue999.old"), (251, ".lock")):
         name = "x" * length
         folder.write(name, "JOB A a.sub\n")
         folder.echo("a")
-        if fits:
+        if longest is None:
             same(folder.call("run", name), ("A DONE attempts=1 value=0\nresult 0\n", "", 0))
         else:
-            refused(folder, ("run", name), f"X2 FileRefused {name}.rescue999.old")
+            refused(folder, ("run", name), f"X2 FileRefused {name}{longest}")
             same([other for other in os.listdir(folder.path) if other.startswith(name) and other[length:length + 1] == "."], [])
 
 
@@ -1419,9 +1420,9 @@ def cut_short_while_going_back(folder):
     _, wanted, calls, _, ends = tried([])
     same(wanted[2], 1)
     renamed = [number for number, line in enumerate(calls) if line.startswith("rename")]
-    # Three rescue files, the highest first, the sync of the folder, and the journal.
-    same([calls[number].split('"')[1][-3:] for number in renamed], ["004", "003", "002", "nal"])
-    same(renamed, [renamed[0], renamed[0] + 1, renamed[0] + 2, renamed[0] + 4])
+    # Three rescue files, the highest first, the sync of the folder, and the journal; at the end the round's own rescue file.
+    same([calls[number].split('"')[1][-3:] for number in renamed], ["004", "003", "002", "nal", "new"])
+    same(renamed[:4], [renamed[0], renamed[0] + 1, renamed[0] + 2, renamed[0] + 4])
     numbers = ["002", "003", "004"]
     old = {number: folder.read(f"x.dag.rescue{number}") for number in numbers}
     syncs = sum(line.startswith("fsync") for line in calls[: renamed[0]])

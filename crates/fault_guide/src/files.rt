@@ -81,7 +81,7 @@ static FILES: [Fault; 11] = [
         name: "TooManyNodes",
         when: "more than 65,536 nodes, or more than 4,096 splices",
         detail: "",
-        example: "    $ for i in {1..4097}; do echo \"JOB N$i a.sub\"; done > x.dag
+        example: "    $ for i in {1..65537}; do echo \"JOB N$i a.sub\"; done > x.dag
     $ dagrun check x.dag
     dagrun: S7 TooManyNodes
 ",
