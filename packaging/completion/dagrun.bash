@@ -13,6 +13,7 @@ _dagrun() {
     case $before in
         --autorescue) values='0 1' ;;
         --orphans) values='kill wait leave' ;;
+        --sync-output) values='0 1' ;;
         --dorescuefrom|--maxjobs|--maxpost|--maxpre) return ;;
     esac
     if [ -n "$values" ]; then
@@ -21,11 +22,11 @@ _dagrun() {
     fi
     case $command in
         '') options='run status audit check rehearse graph explain help version --help' ;;
-        run) options='--maxjobs --maxpre --maxpost --autorescue --dorescuefrom --orphans --help' ;;
+        run) options='--maxjobs --maxpre --maxpost --autorescue --dorescuefrom --always-run-post --sync-output --orphans --help' ;;
         status) options='--help' ;;
         audit) options='--help' ;;
         check) options='--help' ;;
-        rehearse) options='--maxjobs --maxpre --maxpost --help' ;;
+        rehearse) options='--maxjobs --maxpre --maxpost --always-run-post --help' ;;
         graph) options='--help' ;;
         explain) options='--help' ;;
         help) options='--help' ;;

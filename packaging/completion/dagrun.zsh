@@ -28,6 +28,8 @@ _dagrun() {
                 '--maxpost=[How many POST scripts may run at once]:N:' \
                 '--autorescue=[0\: a new round reads no rescue file]:0 or 1:(0 1)' \
                 '--dorescuefrom=[Begins a new round by the rescue file of this number; those of higher numbers are renamed to .old]:N:' \
+                '--always-run-post[POST scripts run behind PRE scripts that failed, too, and decide]' \
+                '--sync-output=[0\: the files of output and error are not brought to the disk before an ending is recorded]:0 or 1:(0 1)' \
                 '--orphans=[What is done with processes that a manager which was killed left running; kill where it is not given \[possible values\: kill, wait, leave\]]:kill or wait or leave:(kill wait leave)' \
                 '1:DAG:_files -g "*.dag"'
             ;;
@@ -52,6 +54,7 @@ _dagrun() {
                 '--maxjobs=[How many jobs may run at once; 0 is no limit]:N:' \
                 '--maxpre=[How many PRE scripts may run at once]:N:' \
                 '--maxpost=[How many POST scripts may run at once]:N:' \
+                '--always-run-post[POST scripts run behind PRE scripts that failed, too, and decide]' \
                 '1:DAG:_files -g "*.dag"' \
                 '2::OUTCOMES:_files'
             ;;
