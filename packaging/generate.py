@@ -11,7 +11,7 @@ import sys
 
 HERE = os.path.dirname(os.path.abspath(__file__))
 # The values of options that take one of a few.
-VALUES = {"autorescue": ["0", "1"], "sync-output": ["0", "1"], "orphans": ["kill", "wait", "leave"]}
+VALUES = {"autorescue": ["0", "1"], "sync-output": ["0", "1"], "orphans": ["kill", "wait", "leave"], "progress": ["auto", "always", "never"]}
 
 
 class Help:
@@ -44,7 +44,8 @@ class Help:
         return found
 
     def arguments(self):
-        return [(name.strip("<>[]"), name.startswith("<"), text) for name, text in self.parts["Arguments"]]
+        # "[NODE]..." may be given more than once.
+        return [(name.removesuffix("...").strip("<>[]"), name.startswith("<"), text) for name, text in self.parts["Arguments"]]
 
 
 def roff(text):

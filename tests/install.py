@@ -246,9 +246,9 @@ def completion_of_bash(folder):
     for name in ("one.dag", "two words.dag", "one.outcomes"):
         write(f"{folder}/{name}", "")
     os.mkdir(f"{folder}/below")
-    same(completed(folder, "dagrun "), ["--help", "audit", "check", "explain", "graph", "help", "rehearse", "run", "status", "version"])
+    same(completed(folder, "dagrun "), ["--help", "audit", "check", "explain", "graph", "help", "rehearse", "run", "salvage", "status", "times", "version", "why"])
     same(completed(folder, "dagrun r"), ["rehearse", "run"])
-    same(completed(folder, "dagrun run --"), ["--always-run-post", "--autorescue", "--dorescuefrom", "--help", "--maxjobs", "--maxpost", "--maxpre", "--orphans", "--sync-output"])
+    same(completed(folder, "dagrun run --"), ["--always-run-post", "--autorescue", "--dorescuefrom", "--help", "--maxjobs", "--maxpost", "--maxpre", "--orphans", "--progress", "--resume", "--sync-output", "--trust-owner"])
     same(completed(folder, "dagrun rehearse --max"), ["--maxjobs", "--maxpost", "--maxpre"])
     same(completed(folder, "dagrun status --m"), [])
     same(completed(folder, "dagrun run --autorescue "), ["0", "1"])
@@ -437,7 +437,7 @@ def options_of_condor_submit_dag(folder):
     same((said.splitlines()[0], told, status), ("File for submitting this DAG: x.dag.condor.sub", "", 0))
     same(open(f"{folder}/below/ran").read(), f"{folder}/below\n")
     same(os.listdir(f"{folder}/outputs"), ["x.dag.dagman.out"])
-    for name in ("journal", "log"):
+    for name in ("inputs", "journal", "log"):
         os.remove(f"{folder}/below/x.dag.{name}")
     same(call(f"{folder}/below", SUBMIT, "-no_submit", "x.dag"), (TOLD, "", 0))
     same(sorted(os.listdir(f"{folder}/below")), ["a.sh", "a.sub", "ran", "x.dag", "x.dag.condor.sub"])

@@ -14,7 +14,7 @@ import subprocess
 import sys
 import tempfile
 
-from journals import check_records, is_finished, records_in
+from journals import HEADER, SLOT, check_records, is_finished, records_in, slots_in
 
 HERE = os.path.dirname(os.path.abspath(__file__))
 # So many places in a row that refuse nothing are the end.
@@ -101,6 +101,47 @@ class Running:
         return True
 
 
+def cut_journal(folder, records):
+    """Leaves so many records of the journal, each alone behind its gate."""
+    path = os.path.join(folder, "x.dag.journal")
+    with open(path, "rb") as file:
+        journal = file.read()
+    kept = [journal[at : at + SLOT] for at in slots_in(journal)[0][:records]]
+    with open(path, "wb") as file:
+        file.write(journal[:HEADER] + b"".join(kept) + b"\0")
+
+
+class Salvaging:
+    """`salvage` in a copy of a folder whose round was cut short."""
+
+    def __init__(self, folder, library, work, program):
+        self.base, self.library = folder, library
+        self.folder = os.path.join(work, "salvage")
+        self.words = (program, "salvage", "x.dag")
+        self.copy()
+        self.wanted = call(self.folder, library, 0, *self.words)
+        if self.wanted[2]:
+            sys.exit(f"salvage: {self.wanted}")
+
+    def copy(self):
+        shutil.rmtree(self.folder, ignore_errors=True)
+        shutil.copytree(self.base, self.folder)
+
+    def refuses(self, place):
+        self.copy()
+        answer = call(self.folder, self.library, place, *self.words)
+        if answer == self.wanted:
+            return False
+        if not is_refusal(answer):
+            sys.exit(f"salvage: allocation {place} was refused, and: {answer}")
+        # Where the journal is put away already the rescue file stands there.
+        if os.path.exists(os.path.join(self.folder, "x.dag.journal")):
+            again = call(self.folder, self.library, 0, *self.words)
+            if again != self.wanted:
+                sys.exit(f"salvage: allocation {place} was refused, and then it answers {again}")
+        return True
+
+
 class Writing:
     """A writer that appends eight records."""
 
@@ -150,6 +191,8 @@ def main():
         call(second, library, 0, program, "run", "x.dag")
         for name in ("status", "audit", "graph"):
             each(name, step, Reading(second, library, program, name, "x.dag"))
+        cut_journal(second, 3)
+        each("salvage", step, Salvaging(second, library, work, program))
         each("writer", step, Writing(work, library, writer))
 
 

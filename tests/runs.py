@@ -6,6 +6,7 @@
 Values are worked out by hand from the rules in docs/MANUAL.md. The last line is 'N passed, M failed'."""
 import contextlib
 import fcntl
+import hashlib
 import os
 import re
 import shutil
@@ -15,6 +16,7 @@ import subprocess
 import sys
 import tempfile
 import time
+import xml.etree.ElementTree
 
 from journals import HEADER, SLOT, slots_in
 
@@ -712,8 +714,7 @@ def endings_that_nobody_is_told(folder):
 
 def names_that_are_too_long(folder):
     """The longest name of a round is that of a rescue file that is put away: 14 bytes more than the DAG file's."""
-    # Where there is no room for the journal's name either, that it can't be read comes first, and then that there is no room for the lock's.
-    for length, longest in ((241, None), (242, ".rescue999.old"), (247, ".rescue999.old"), (251, ".lock")):
+    for length, longest in ((241, None), (242, ".rescue999.old"), (247, ".rescue999.old"), (251, ".rescue999.old")):
         name = "x" * length
         folder.write(name, "JOB A a.sub\n")
         folder.echo("a")
@@ -770,7 +771,20 @@ def limits_of_a_call(folder):
     lines = [f"JOB {name} job.sub\nSCRIPT PRE {name} count.sh pre {name}\nSCRIPT POST {name} count.sh post {name}\n" for name in names]
     folder.write("x.dag", "".join(lines) + "".join(f'VARS {name} me="{name}"\n' for name in names))
     folder.write("job.sub", "executable = count.sh\narguments = job $(me)\nqueue\n")
-    folder.write("count.sh", '#!/bin/sh\n: > on.$1.$2\nls -d on.$1.* | wc -l >> most.$1\nsleep 0.2\nrm on.$1.$2\n')
+    # A child waits until as many of its kind are there as may be, and then a moment for one more, so that none misses another.
+    folder.write("count.sh", '''#!/bin/sh
+: > on.$1.$2
+for turn in 1 2 3 4 5 6 7 8 9 10 11 12 13 14 15 16 17 18 19 20; do
+    if [ "$(ls -d on.$1.* | wc -l)" -ge "$(cat due.$1)" ]; then break; fi
+    if [ -e met.$1 ]; then break; fi
+    sleep 0.1
+done
+if [ "$(ls -d on.$1.* | wc -l)" -ge "$(cat due.$1)" ]; then : > met.$1; fi
+ls -d on.$1.* | wc -l >> most.$1
+sleep 0.2
+ls -d on.$1.* | wc -l >> most.$1
+rm on.$1.$2
+''')
     os.chmod(folder.at("count.sh"), 0o755)
     report = "".join(f"{name} DONE attempts=1 value=0\n" for name in names) + "result 0\n"
     # None is whatever the limits of the others leave.
@@ -780,17 +794,14 @@ def limits_of_a_call(folder):
         (("x.dag", "--maxpost=1", "--maxpre", "+2"), (2, None, 1)),
         (("x.dag", "--maxjobs=65535"), (6, 6, 6)),
     ):
-        # On a busy machine children may miss one another, so a run is tried again; more than a limit are never there.
-        for _ in range(5):
-            same(folder.call("run", *words), (report, "", 0))
-            found = [max(int(line) for line in folder.read(f"most.{kind}").split()) for kind in ("pre", "job", "post")]
-            due = [at_once if limit is None else limit for at_once, limit in zip(found, most)]
-            same([at_once <= limit for at_once, limit in zip(found, due)], [True] * 3)
-            if found == due:
-                break
-        same(found, due)
+        for kind, limit in zip(("pre", "job", "post"), most):
+            folder.write(f"due.{kind}", str(limit or 1))
+        same(folder.call("run", *words), (report, "", 0))
+        found = [max(int(line) for line in folder.read(f"most.{kind}").split()) for kind in ("pre", "job", "post")]
+        same(found, [at_once if limit is None else limit for at_once, limit in zip(found, most)])
         for kind in ("pre", "job", "post"):
-            os.remove(folder.at(f"most.{kind}"))
+            for name in (f"most.{kind}", f"met.{kind}"):
+                os.remove(folder.at(name))
 
 
 def limits_of_the_environment(folder):
@@ -1153,7 +1164,7 @@ def closed_streams(folder):
     folder.write("a.sub", "executable = /bin/sh\narguments = look.sh\noutput = out\nqueue\n")
     folder.write("look.sh", 'for i in 0 1 2 3 4 5 6 7 8 9; do if [ -e /proc/$$/fd/$i ]; then printf "$i "; fi; done\n')
     for closed in ("0<&-", "1>&-", "2>&-", "0<&- 1>&- 2>&-"):
-        for name in ("x.dag.journal", "x.dag.log", "x.dag.lock"):
+        for name in ("x.dag.journal", "x.dag.log"):
             if folder.there(name):
                 os.remove(folder.at(name))
         done = subprocess.run(["sh", "-c", f'exec "$0" run x.dag {closed}', folder.program], cwd=folder.path, capture_output=True, timeout=60)
@@ -1163,7 +1174,7 @@ def closed_streams(folder):
         same(folder.read("out"), b"0 1 2 ")
         # The journal is as it is elsewhere: Life, launch, end, Finish, and the closed gate.
         same(len(folder.read("x.dag.journal")), HEADER + SLOT * 4 + 1)
-        same((folder.read("x.dag.lock"), len(events_of(folder))), (b"", 4))
+        same((folder.there("x.dag.lock"), len(events_of(folder))), (False, 4))
 
 
 def no_process_to_be_had(folder):
@@ -1186,6 +1197,390 @@ def no_process_to_be_had(folder):
     same("hold" in {line[0] for line in fields_of(folder)}, True)
 
 
+def why(folder, *names):
+    """What `why` says of x.dag, which tells no warning."""
+    text, told, status = folder.call("why", "x.dag", *names)
+    same((told, status), ("", 0))
+    return text
+
+
+def lines_of(text, word):
+    """The lines of an answer of `why` that begin with this word, without it."""
+    return [line[4:].removeprefix(word).strip() for line in text.splitlines() if line.startswith("    " + word)]
+
+
+def mended(folder, submit, *said, repair=None, program="a.sh", script=None, first=lambda folder: None):
+    """A job that fails: `why` says how it is mended, which is done, and then it runs."""
+    folder.write("x.dag", "JOB A a.sub\n")
+    folder.write("a.sub", submit + "\nqueue\n")
+    if script is not None:
+        folder.write(program, script)
+    first(folder)
+    report, told, status = folder.call("run", "x.dag")
+    same((report.splitlines()[-1], told, status), ("result 1", "", 1))
+    text = why(folder)
+    here = os.path.realpath(folder.path)
+    for line in said:
+        if line.replace("HERE", here) not in text.splitlines():
+            raise AssertionError(f"found\n{text}\nand not the line\n{line}")
+    if repair is None:
+        # What stands behind the colon is the command that mends it.
+        subprocess.run(lines_of(text, "repair")[0].split(": ", 1)[1], shell=True, cwd="/", check=True)
+    else:
+        repair(folder)
+    report, told, status = folder.call("run", "x.dag")
+    same((report.splitlines()[-1], told, status), ("result 0", "", 0))
+
+
+def no_permission(folder):
+    mended(
+        folder, "executable = a.sh",
+        "A ERROR: its job was not started: HERE/a.sh: Permission denied (os error 13), in attempt 1 of 1; no node waits for it",
+        "    command  HERE/a.sh", "    folder   HERE", "    error    not kept: no file is named for it",
+        "    repair   it may not be executed: chmod +x HERE/a.sh", script="#!/bin/sh\nexit 0\n",
+    )
+
+
+def no_first_line(folder):
+    mended(
+        folder, "executable = a.sh",
+        "A ERROR: its job was not started: HERE/a.sh: Exec format error (os error 8), in attempt 1 of 1; no node waits for it",
+        "    repair   its first line does not say what reads it: write #!/bin/sh there, or what does", script="exit 0\n",
+        first=lambda folder: os.chmod(folder.at("a.sh"), 0o755), repair=lambda folder: folder.write("a.sh", "#!/bin/sh\nexit 0\n"),
+    )
+
+
+def a_carriage_return(folder):
+    mended(
+        folder, "executable = a.sh", r"    repair   its first line ends with a carriage return (CR): sed -i 's/\r$//' HERE/a.sh",
+        script="#!/bin/sh\r\nexit 0\r\n", first=lambda folder: os.chmod(folder.at("a.sh"), 0o755),
+    )
+
+
+def no_such_program(folder):
+    mended(
+        folder, "executable = bin/tool",
+        "A ERROR: its job was not started: HERE/bin/tool: No such file or directory (os error 2), in attempt 1 of 1; no node waits for it",
+        "    repair   there is no such program: put it there, or mend its path: HERE/bin/tool",
+        repair=lambda folder: (os.mkdir(folder.at("bin")), os.symlink("/bin/true", folder.at("bin/tool"))),
+    )
+
+
+def no_reader(folder):
+    mended(
+        folder, "executable = a.sh", "    repair   its first line names a program that is missing: /no/such/reader",
+        script="#!/no/such/reader -x\nexit 0\n", first=lambda folder: os.chmod(folder.at("a.sh"), 0o755),
+        repair=lambda folder: folder.write("a.sh", "#!/bin/sh\nexit 0\n"),
+    )
+
+
+def no_output_folder(folder):
+    mended(
+        folder, "executable = /bin/echo\narguments = x\noutput = logs/new/a.out",
+        "A ERROR: its job was not started: HERE/logs/new/a.out: No such file or directory (os error 2), in attempt 1 of 1; no node waits for it",
+        "    output   HERE/logs/new/a.out", "    repair   that folder is missing: mkdir -p HERE/logs/new",
+    )
+    same(folder.read("logs/new/a.out"), b"x\n")
+
+
+def no_script(folder):
+    """The shell's own words are lost, since no file is named for them."""
+    mended(
+        folder, "executable = /bin/sh\narguments = steps.sh 1",
+        "    command  /bin/sh steps.sh 1", "    error    not kept: no file is named for it",
+        "    repair   the file that it is to read is missing: HERE/steps.sh", repair=lambda folder: folder.write("steps.sh", "exit 0\n"),
+    )
+
+
+def no_working_folder(folder):
+    mended(
+        folder, "executable = /bin/true\ninitialdir = work",
+        "A ERROR: its job was not started: HERE/work: No such file or directory (os error 2), in attempt 1 of 1; no node waits for it",
+        "    folder   HERE/work", "    repair   that folder is missing: mkdir -p HERE/work",
+    )
+
+
+def no_process(folder):
+    """The system has none to give, and no child runs that might end."""
+    folder.write("x.dag", "JOB A a.sub\n")
+    folder.write("a.sub", "executable = /bin/true\nqueue\n")
+    shutil.copy(folder.program, folder.at("program"))
+    as_another = {}
+    if os.getuid() == 0:
+        user = 54322
+        for path in (folder.path, *(folder.at(name) for name in os.listdir(folder.path))):
+            os.chown(path, user, user)
+        as_another = {"user": user, "group": user, "extra_groups": []}
+    words = ["prlimit", "--nproc=1", folder.at("program"), "run", "x.dag"]
+    done = subprocess.run(words, cwd=folder.path, capture_output=True, timeout=60, **as_another)
+    same((done.stdout.decode(), done.returncode), ("A ERROR attempts=1 value=-1001\nresult 1\n", 1))
+    repair = lines_of(why(folder), "repair")[0]
+    same(repair.startswith("the system had no process or descriptor to give for ten seconds: let fewer run at once, as by --maxjobs 4, or raise its limits"), True)
+    same(folder.call("run", "--trust-owner", "x.dag"), ("A DONE attempts=1 value=0\nresult 0\n", "", 0))
+
+
+def why_attempts(folder):
+    """Retries; the last five lines of an error output, cut, escaped, and the last one without its end; a signal."""
+    folder.write("x.dag", "JOB fetch fetch.sub\nJOB B b.sub\nJOB C c.sub\nJOB D d.sub\nPARENT fetch CHILD D\nRETRY fetch 2\nRETRY B 2 UNLESS-EXIT 4\n")
+    folder.write("fetch.sub", "executable = /bin/sh\narguments = \"fetch.sh 'a b'\"\noutput = fetch.out\nerror = fetch.err\nqueue\n")
+    long = "x" * 159 + "yz"
+    folder.write("fetch.sh", f"for i in 1 2 3 4 5 6; do echo line $i >&2; done\necho {long} >&2\nprintf '\\033[31mred\\ttab\\r' >&2\nexit 2\n")
+    folder.shell("b", "exit 4\n")
+    folder.shell("c", "kill -9 $$\n")
+    folder.echo("d")
+    report = "fetch ERROR attempts=3 value=2\nB ERROR attempts=1 value=4\nC ERROR attempts=1 value=-9\nD NOT_READY attempts=0 value=-\nresult 1\n"
+    same(folder.call("run", "x.dag"), (report, "", 1))
+    here = os.path.realpath(folder.path)
+    text = why(folder)
+    same(re.sub(r"took     \d+\.\d{3} s", "took     0.000 s", text), f"""fetch ERROR: its job ended with exit 2, in attempt 3 of 3; 1 node waits for it
+    command  /bin/sh fetch.sh 'a b'
+    folder   {here}
+    output   {here}/fetch.out
+    error    {here}/fetch.err
+    took     0.000 s
+    last lines of its error output:
+        line 4
+        line 5
+        line 6
+        {"x" * 159}y [cut]
+        \\x1b[31mred\\ttab\\r
+
+B ERROR: its job ended with exit 4, in attempt 1 of 3; no node waits for it
+    retries  none: 4 is the value of its UNLESS-EXIT
+    command  /bin/sh b.sh
+    folder   {here}
+    output   not kept: no file is named for it
+    error    not kept: no file is named for it
+    took     0.000 s
+
+C ERROR: its job ended with signal 9 (SIGKILL), in attempt 1 of 1; no node waits for it
+    command  /bin/sh c.sh
+    folder   {here}
+    output   not kept: no file is named for it
+    error    not kept: no file is named for it
+    took     0.000 s
+""")
+    # The nodes that are named, in their order.
+    same([line.split()[0] for line in why(folder, "C", "D", "fetch").splitlines() if line[:1].strip()], ["C", "D", "fetch"])
+    same(why(folder, "D"), "D NOT_READY: waits for fetch (ERROR)\n")
+    # A round that goes on from a rescue file, whose error output is another one each time.
+    for content, said in (
+        (b"", "    its error output is empty"), (None, "    the file of its error output is missing"),
+        (b"a" * 70000 + b"\nlast\n", "        last"), (b"b" * 70000, "        [cut] " + "b" * 160 + " [cut]"),
+        (b"\xff\n", "        \N{REPLACEMENT CHARACTER}"),
+    ):
+        if content is None:
+            os.unlink(folder.at("fetch.err"))
+        else:
+            folder.write("fetch.err", content)
+        same(why(folder, "fetch").splitlines()[-1], said)
+    os.mkdir(folder.at("fetch.err.d"))
+    os.unlink(folder.at("fetch.err"))
+    os.rename(folder.at("fetch.err.d"), folder.at("fetch.err"))
+    same(why(folder, "fetch").splitlines()[-1], "    its error output is no file that can be quoted")
+    os.rmdir(folder.at("fetch.err"))
+    os.mkfifo(folder.at("fetch.err"))
+    same(why(folder, "fetch").splitlines()[-1], "    its error output is no file that can be quoted")
+
+
+def why_scripts(folder):
+    """PRE and POST that fail, and what had failed before a POST."""
+    folder.write("x.dag", "JOB A a.sub\nJOB B b.sub\nJOB C c.sub\nJOB E b.sub NOOP\nSCRIPT PRE A pre.sh x\nSCRIPT POST B post.sh $RETURN\nSCRIPT PRE C none.sh\nSCRIPT POST E post.sh 9\n")
+    folder.write("pre.sh", "#!/bin/sh\nexit 3\n")
+    folder.write("post.sh", "#!/bin/sh\nexit $1\n")
+    for name in ("pre.sh", "post.sh"):
+        os.chmod(folder.at(name), 0o755)
+    folder.echo("a", "c")
+    folder.write("b.sh", "echo no such table >&2\nexit 5\n")
+    folder.write("b.sub", "executable = /bin/sh\narguments = b.sh\nerror = b.err\nqueue\n")
+    report = "A ERROR attempts=1 value=3\nB ERROR attempts=1 value=5\nC ERROR attempts=1 value=-1001\nE ERROR attempts=1 value=9\nresult 1\n"
+    same(folder.call("run", "x.dag"), (report, "", 1))
+    here = os.path.realpath(folder.path)
+    text = re.sub(r"    took     \d+\.\d{3} s\n", "", why(folder))
+    same(text, f"""A ERROR: its PRE script ended with exit 3, in attempt 1 of 1; no node waits for it
+    command  {here}/pre.sh x
+    folder   {here}
+    output   not kept: that of a script never is
+    error    not kept: that of a script never is
+
+B ERROR: its POST script ended with exit 5, in attempt 1 of 1; no node waits for it
+    command  {here}/post.sh 5
+    folder   {here}
+    output   not kept: that of a script never is
+    error    not kept: that of a script never is
+    before that, its job ended with exit 5
+    command  /bin/sh b.sh
+    folder   {here}
+    output   not kept: no file is named for it
+    error    {here}/b.err
+    last lines of its error output:
+        no such table
+
+C ERROR: its PRE script was not started: {here}/none.sh: No such file or directory (os error 2), in attempt 1 of 1; no node waits for it
+    command  {here}/none.sh
+    folder   {here}
+    output   not kept: that of a script never is
+    error    not kept: that of a script never is
+    repair   there is no such program: put it there, or mend its path: {here}/none.sh
+
+E ERROR: its POST script ended with exit 9, in attempt 1 of 1; no node waits for it
+    command  {here}/post.sh 9
+    folder   {here}
+    output   not kept: that of a script never is
+    error    not kept: that of a script never is
+""")
+
+
+def why_waiting(folder):
+    """Who waits for whom: a diamond and a chain of which some nodes are done from the start, names, and names that are none."""
+    folder.write("x.dag", DIAMOND + "JOB E a.sub\nJOB F b.sub\nJOB G c.sub DONE\nJOB H d.sub\nJOB I d.sub\n"
+                 "PARENT A CHILD G\nPARENT G CHILD H\nPARENT E F CHILD I\nFINAL Z z.sub\n")
+    for name in "abz":
+        folder.shell(name, "exit 1\n")
+    folder.echo("c", "d")
+    report = ("A ERROR attempts=1 value=1\nB NOT_READY attempts=0 value=-\nC NOT_READY attempts=0 value=-\nD NOT_READY attempts=0 value=-\n"
+              "E ERROR attempts=1 value=1\nF ERROR attempts=1 value=1\nG DONE attempts=0 value=-\nH DONE attempts=1 value=0\nI NOT_READY attempts=0 value=-\n"
+              "Z ERROR attempts=1 value=1\nresult 1\n")
+    same(folder.call("run", "x.dag"), (report, "", 1))
+    heads = [line for line in why(folder).splitlines() if line[:1].strip()]
+    ended = "ERROR: its job ended with exit 1, in attempt 1 of 1;"
+    same(heads, [f"A {ended} 3 nodes wait for it", f"E {ended} 1 node waits for it", f"F {ended} 1 node waits for it", f"Z {ended} no node waits for it"])
+    same(why(folder, "B", "D", "I", "G", "H"), """B NOT_READY: waits for A (ERROR)
+
+D NOT_READY: waits for B (NOT_READY) and C (NOT_READY)
+    because of A (ERROR)
+
+I NOT_READY: waits for E (ERROR) and F (ERROR)
+
+G DONE: it was done from the start, by its files or a rescue file
+
+H DONE: its job ended with exit 0, in attempt 1 of 1
+""")
+    same(folder.call("why", "x.dag", "A", "BB"), ("", "dagrun: x.dag has no node BB; the nearest name is B\n", 125))
+    same(folder.call("why", "x.dag", "nothing like it"), ("", "dagrun: x.dag has no node 'nothing like it'\n", 125))
+
+
+def why_many(folder):
+    """A chain, and a node that waits for many."""
+    names = [f"n{number:02}" for number in range(40)]
+    folder.write("x.dag", "".join(f"JOB {name} a.sub\n" for name in names) + "".join(f"PARENT {a} CHILD {b}\n" for a, b in zip(names, names[1:]))
+                 + "JOB wide b.sub\n" + "".join(f"JOB w{number} a.sub\nPARENT w{number} CHILD wide\n" for number in range(10)))
+    folder.shell("a", "exit 1\n")
+    folder.echo("b")
+    same(folder.call("run", "x.dag")[2], 1)
+    heads = [line for line in why(folder).splitlines() if line[:1].strip()]
+    same(heads[0], "n00 ERROR: its job ended with exit 1, in attempt 1 of 1; 39 nodes wait for it")
+    same([line.split()[0] for line in heads[1:]], [f"w{number}" for number in range(10)])
+    same(why(folder, "n39"), "n39 NOT_READY: waits for n38 (NOT_READY)\n    because of n00 (ERROR)\n")
+    same(why(folder, "wide"), "wide NOT_READY: waits for " + ", ".join(f"w{number} (ERROR)" for number in range(8)) + " and 2 more\n")
+
+
+def why_no_round(folder):
+    folder.write("x.dag", DIAMOND)
+    folder.echo(*"abcd")
+    same(why(folder), "no round was begun\nno node is in error\n")
+    same(why(folder, "B", "A"), "no round was begun\n\nB NOT_READY: waits for A (READY)\n\nA READY: its job is next, in attempt 1 of 1\n")
+    same(folder.call("run", "x.dag"), (ALL_DONE, "", 0))
+    same(why(folder), "no node is in error\n")
+    # What `status` refuses is refused.
+    folder.write("a.sub", "executable = /bin/true\nqueue\n")
+    refused(folder, ["why", "x.dag"], "J5 OtherInputs")
+    refused(folder, ["why", "y.dag"], "S1 MissingFile y.dag")
+
+
+def why_by_the_journal(folder):
+    """Without a log, and with one that says other things or nothing that can be read."""
+    folder.write("x.dag", "JOB A a.sub\nRETRY A 1\n")
+    folder.write("a.sub", "executable = /bin/sh\narguments = a.sh $(RETRY)\nerror = a.err\nqueue\n")
+    folder.write("a.sh", "echo attempt $1 >&2\nexit 7\n")
+    same(folder.call("run", "x.dag")[2], 1)
+    here = os.path.realpath(folder.path)
+    bare = f"""A ERROR: its job ended with exit 7, in attempt 2 of 2; no node waits for it
+    command  /bin/sh a.sh 1
+    folder   {here}
+    output   not kept: no file is named for it
+    error    {here}/a.err
+    last lines of its error output:
+        attempt 1
+"""
+    log = folder.read("x.dag.log")
+    os.unlink(folder.at("x.dag.log"))
+    same(why(folder), bare)
+    os.mkdir(folder.at("x.dag.log"))
+    same(why(folder), bare)
+    os.rmdir(folder.at("x.dag.log"))
+    end = b"2026-01-01T00:00:00.000Z\tend\tA\tJOB\t1\t77\t"
+    for hostile in (b"", b"\n\n\0\xff\t\t\n", end + b"exit=3\tseconds=9.999\n", end + b"exit=7\tseconds=9.999", b"x\tlife\t-\n", log[: len(log) // 9]):
+        folder.write("x.dag.log", hostile)
+        same(why(folder), bare)
+    # Lines and events that are none are passed over.
+    folder.write("x.dag.log", log + b"\xff\n2027\tdance\tA\tJOB\t1\t5\tseconds=1\nend\tA\n" + end.replace(b"JOB\t1", b"JOB\t0") + b"exit=7\tseconds=8.888\n" + end)
+    text = why(folder)
+    same((re.sub(r"    took     \d\.\d{3} s\n", "", text), len(lines_of(text, "took"))), (bare, 1))
+    # An ending that the journal has and the log has not: its child was started, and no more is known.
+    folder.write("x.dag.log", end + b"exit=7\tseconds=1.5\x1b[2J\n")
+    same(lines_of(why(folder), "took"), ["1.5\\x1b[2J s"])
+
+
+def why_while_it_runs(folder):
+    folder.write("x.dag", "JOB A a.sub\nJOB B b.sub\nPARENT A CHILD B\n")
+    folder.shell("a", ": > begun\nwhile [ ! -e go ]; do sleep 0.02; done\n")
+    folder.echo("b")
+    manager = folder.start("run", "x.dag")
+    folder.wait_for("begun")
+    text = why(folder, "A", "B")
+    here = os.path.realpath(folder.path)
+    found = re.fullmatch(rf"A SUBMITTED: its job runs, in attempt 1 of 1, since (\S+Z), as process (\d+)\n    command  /bin/sh a.sh\n    folder   {here}\n"
+                         r"    output   not kept: no file is named for it\n    error    not kept: no file is named for it\n\nB NOT_READY: waits for A \(runs\)\n", text)
+    if not found:
+        raise AssertionError(f"found\n{text}")
+    same(runs_still(int(found[2])), True)
+    same(why(folder), "no node is in error\n")
+    folder.write("go", "")
+    same((manager.communicate(timeout=30)[0].decode(), manager.returncode), ("A DONE attempts=1 value=0\nB DONE attempts=1 value=0\nresult 0\n", 0))
+
+
+def why_behind_a_kill(folder):
+    """A manager was killed: what runs is told by the journal and the log, and that it runs no more by the system."""
+    folder.shell("a", "if [ -e again ]; then exit 0; fi\necho $$ > process\nmv process begun\nexec sleep 100\n")
+    folder.write("x.dag", "JOB A a.sub\n")
+    manager = folder.start("run", "x.dag")
+    folder.wait_for("begun")
+    for _ in range(500):
+        if b"\tstart\tA\t" in folder.read("x.dag.log"):
+            break
+        time.sleep(0.01)
+    manager.kill()
+    manager.wait(timeout=30)
+    manager.stdout.close()
+    manager.stderr.close()
+    process = int(folder.read("begun"))
+    folder.write("again", "")
+    head = why(folder, "A").splitlines()[0]
+    same(head.endswith(f", as process {process}"), True)
+    os.kill(process, signal.SIGKILL)
+    for _ in range(500):
+        if not os.path.exists(f"/proc/{process}"):
+            break
+        time.sleep(0.01)
+    gone = f"    process  {process} is not there any more: its manager has not told how it ended; where none works, dagrun run goes on with the round"
+    same(why(folder, "A").splitlines()[1], gone)
+    same(folder.call("run", "x.dag"), ("A DONE attempts=1 value=0\nresult 0\n", "", 0))
+
+
+def why_aborted(folder):
+    folder.write("x.dag", "JOB A a.sub\nJOB B b.sub\nJOB C b.sub\nPARENT B CHILD C\nABORT-DAG-ON A 7\nRETRY A 3\n")
+    folder.shell("a", "while [ ! -e b ]; do sleep 0.02; done; exit 7\n")
+    folder.shell("b", ": > b; exec sleep 30\n")
+    same(folder.call("run", "x.dag")[2], 7)
+    lines = why(folder).splitlines()
+    same(lines[:4], ["the round was aborted by A, whose value is that of its ABORT-DAG-ON line", "",
+                     "A ERROR: its job ended with exit 7, in attempt 1 of 4; no node waits for it",
+                     "    aborted  the round: 7 is the value of its ABORT-DAG-ON line"])
+    same(why(folder, "B").splitlines()[2:], ["B READY: its job is next, in attempt 1 of 1; the round was aborted, so it does not start"])
+    same(why(folder, "C").splitlines()[2:], ["C NOT_READY: waits for B (READY)"])
+
+
 def in_another_folder(folder):
     """The files beside a DAG file stand in its folder, submit files and jobs in the folder of the call."""
     os.mkdir(folder.at("dags"))
@@ -1193,7 +1588,7 @@ def in_another_folder(folder):
     folder.echo("a")
     same(folder.call("run", "dags/x.dag"), ("A DONE attempts=1 value=0\nresult 0\n", "", 0))
     same(sorted(os.listdir(folder.path)), ["a.out", "a.sub", "dags"])
-    same(sorted(os.listdir(folder.at("dags"))), ["x.dag", "x.dag.journal", "x.dag.lock", "x.dag.log"])
+    same(sorted(os.listdir(folder.at("dags"))), ["x.dag", "x.dag.inputs", "x.dag.journal", "x.dag.log"])
 
 
 def the_example(folder):
@@ -1310,9 +1705,10 @@ def refusals_of_going_back(folder):
     folder.write("x.dag.rescue001", "DONE A\nDONE Q\n")
     is_refused(1, "E2 UnknownNode x.dag.rescue001:2")
     folder.write("x.dag.rescue001", RESCUE_OF_TWO)
-    with open(folder.at("x.dag.lock")) as lock:
+    with open(folder.at("x.dag.lock"), "w") as lock:
         fcntl.flock(lock, fcntl.LOCK_EX)
         is_refused(1, "X2 FileRefused x.dag.lock")
+        os.remove(folder.at("x.dag.lock"))
     os.rename(folder.at("d.sub"), folder.at("d.away"))
     is_refused(1, "P1 MissingFile d.sub")
     # A run that has not ended, even where its header has a number that no rescue file has.
@@ -1332,7 +1728,7 @@ def refusals_of_going_back(folder):
     same(folder.call("run", "--dorescuefrom", "1", "x.dag")[1:], ("", 0))
     same(sorted(rescues(folder)), ["001", "002.old"])
     # Nothing is to be seen of a call that is refused in a folder where no run was.
-    for name in ("x.dag.journal", "x.dag.journal.old", "x.dag.lock"):
+    for name in ("x.dag.journal", "x.dag.journal.old"):
         os.remove(folder.at(name))
     is_refused(2, "E4 NotThere 2")
     same(folder.there("x.dag.lock"), False)
@@ -1365,6 +1761,8 @@ def a_folder_that_may_not_be_written(folder):
         pass
     program = folder.at("program")
     shutil.copy(folder.program, program)
+    # As a manager left it that was killed.
+    folder.write("x.dag.lock", "")
     as_another = {}
     if os.getuid() == 0:
         # The superuser may write anywhere.
@@ -1410,7 +1808,7 @@ def cut_short_while_going_back(folder):
             shutil.copytree(folder.path, copy.path)
             tracing = ["strace", "-qqq", "-e", "trace=rename,fsync", "-e", "signal=none", "-o", os.path.join(path, "calls"), *fault]
             done = subprocess.run([*tracing, copy.program, *words], cwd=copy.path, capture_output=True, timeout=60)
-            calls = [line for line in open(os.path.join(path, "calls")).read().splitlines() if ".dag.log" not in line]
+            calls = [line for line in open(os.path.join(path, "calls")).read().splitlines() if ".dag.log" not in line and ".dag.inputs" not in line]
             cut = (done.stdout.decode(), done.stderr.decode(), done.returncode)
             between = everything(copy)
             if fault and done.returncode not in (0, 1):
@@ -1428,7 +1826,8 @@ def cut_short_while_going_back(folder):
     syncs = sum(line.startswith("fsync") for line in calls[: renamed[0]])
     for call, count in (("rename", 4), ("fsync", 2)):
         for number in range(1, count + 1):
-            place = number if call == "rename" else number + syncs
+            # Before all of these what the round begins with is written and renamed.
+            place = number + (1 if call == "rename" else syncs)
             for how in ("signal=SIGKILL", "error=EIO", "error=ENOSPC"):
                 done, answer, _, between, found = tried(["-e", f"inject={call}:{how}:when={place}"])
                 if how.startswith("error"):
@@ -1489,7 +1888,7 @@ def outputs_are_synced(folder):
         (("run", "--autorescue", "0", "--sync-output", "0", "x.dag"), ["end 0", "end 1", "end 2"]),
     ):
         reader = subprocess.Popen(["cat", folder.at("pipe")], stdout=subprocess.DEVNULL)
-        subprocess.run(["strace", "-y", "-e", "trace=pwrite64,fsync", "-e", "signal=none", "-o", "calls", folder.program, *words], cwd=folder.path, capture_output=True, timeout=60)
+        subprocess.run(["strace", "-y", "-e", "trace=pwrite64,fsync,fdatasync", "-e", "signal=none", "-o", "calls", folder.program, *words], cwd=folder.path, capture_output=True, timeout=60)
         reader.wait(timeout=10)
         seen, ends = [], 0
         for line in folder.read("calls").decode(errors="replace").splitlines():
@@ -1501,6 +1900,386 @@ def outputs_are_synced(folder):
         # The folder is synced once more as the round begins.
         first = seen.index("a.out") if "a.out" in seen else seen.index("end 0")
         same([what for what in seen[first:] if what != "other"], wanted)
+
+
+def sums_of(folder, *names):
+    """The lines that `sha256sum` writes of these files."""
+    return "".join(f"{hashlib.sha256(folder.read(name)).hexdigest()}  {name}\n" for name in names)
+
+
+def checked(folder, name="x.dag.inputs"):
+    """What `sha256sum -c` says of the files that a round was begun with, and its status."""
+    done = subprocess.run(["sha256sum", "-c", name], cwd=folder.path, capture_output=True, timeout=60, env={**os.environ, "LC_ALL": "C"})
+    return done.stdout.decode(), done.returncode
+
+
+def head_of(folder, name="x.dag"):
+    """The comment with the digest that stands in the header of the journal."""
+    return f"# dagrun inputs, digest {folder.read(name + '.journal')[8:40].hex()}\n"
+
+
+def rescue_of(total, *names):
+    """The text of a rescue file, as docs/MANUAL.md has it."""
+    return (f"# Rescue DAG file\n# Total number of Nodes: {total}\n# Nodes premarked DONE: {len(names)}\n\n" + "".join(f"DONE {name}\n" for name in names)).encode()
+
+
+def what_a_round_began_with(folder):
+    """x.dag.inputs names the DAG file, those of splices, the submit files and the rescue file, and `sha256sum` reads it."""
+    os.mkdir(folder.at("sub"))
+    folder.write("x.dag", "JOB A a.sub\nJOB B b.sub\nSPLICE S s.dag DIR sub\nPARENT A CHILD B S\n")
+    folder.write("sub/s.dag", "JOB X x.sub NOOP\nJOB Y y.sub\n")
+    folder.echo("a")
+    folder.write("sub/y.sub", "executable = /bin/true\nqueue\n")
+    folder.shell("b", "exit 1\n")
+    same(folder.call("run", "x.dag")[2], 1)
+    # In the order of the bytes of the paths; a NOOP's submit file is not looked at.
+    files = ["a.sub", "b.sub", "sub/s.dag", "sub/y.sub", "x.dag"]
+    same(folder.read("x.dag.inputs").decode(), head_of(folder) + sums_of(folder, *files))
+    same(checked(folder), ("".join(f"{name}: OK\n" for name in files), 0))
+    folder.write("b.sub", "executable = /bin/false\nqueue\n")
+    same(checked(folder), ("".join(f"{name}: {'FAILED' if name == 'b.sub' else 'OK'}\n" for name in files), 1))
+    # The next round reads a rescue file, which stands last.
+    same(folder.call("run", "x.dag")[2], 1)
+    same(folder.read("x.dag.inputs").decode(), head_of(folder) + sums_of(folder, *files, "x.dag.rescue001"))
+    same(checked(folder), ("".join(f"{name}: OK\n" for name in [*files, "x.dag.rescue001"]), 0))
+    same(folder.there("x.dag.inputs.new"), False)
+    # One that goes on leaves it as it is.
+    folder.cut_journal(1)
+    before = os.stat(folder.at("x.dag.inputs"))
+    same(folder.call("run", "x.dag")[2], 1)
+    after = os.stat(folder.at("x.dag.inputs"))
+    same((after.st_ino, after.st_mtime_ns), (before.st_ino, before.st_mtime_ns))
+
+
+def inputs_with_odd_names(folder):
+    """`sha256sum` writes a backslash, a line feed and a carriage return in a name in another way."""
+    for name, written in (("a\\b.dag", "a\\\\b.dag"), ("a\nb.dag", "a\\nb.dag"), ("a\rb.dag", "a\\rb.dag"), ("\\\\n\n.dag", "\\\\\\\\n\\n.dag"), ("a  b.dag", "a  b.dag"), ("\u00e4.dag", "\u00e4.dag")):
+        folder.write(name, "JOB A a\\n.sub\n")
+        folder.write("a\\n.sub", "executable = /bin/true\nqueue\n")
+        same(folder.call("run", name), (ONE_DONE, "", 0))
+        mark = "\\" if written != name else ""
+        files = [(name, mark + hashlib.sha256(folder.read(name)).hexdigest() + f"  {written}\n"), ("a\\n.sub", "\\" + hashlib.sha256(folder.read("a\\n.sub")).hexdigest() + "  a\\\\n.sub\n")]
+        wanted = head_of(folder, name) + "".join(line for _, line in sorted(files, key=lambda file: file[0].encode()))
+        same(folder.read(name + ".inputs").decode(), wanted)
+        same(checked(folder, name + ".inputs")[1], 0)
+        same(subprocess.run(["sha256sum", name], cwd=folder.path, capture_output=True).stdout.decode(), files[0][1])
+        journal = folder.read(name + ".journal")
+        # Life, the launch of A, its end.
+        folder.write(name + ".journal", journal[: HEADER + SLOT * 3] + b"\0")
+        folder.write("a\\n.sub", "executable = /bin/false\nqueue\n")
+        same(folder.call("salvage", name), (f"1 of 1 nodes are done: {name}.rescue001\nchanged since the round began: a\\n.sub\n", "", 0))
+        same(folder.read(name + ".rescue001"), rescue_of(1, "A"))
+
+
+def salvaged_behind_a_kill(folder):
+    """A round is cut short, the submit file of the node that ran is corrected, and what is left runs."""
+    folder.write("x.dag", DIAMOND)
+    for name in "acd":
+        folder.shell(name, f"echo ran >> {name}.ran\n")
+    folder.shell("b", "echo $$ > b.process\nmv b.process b.began\nwhile ! test -e stop; do sleep 0.05; done\nexit 3\n")
+    run = folder.start("run", "x.dag")
+    folder.wait_for("b.began")
+    # Life, the launch and the end of A, the launches of B and C, the end of C.
+    folder.wait_for_launch(6)
+    run.kill()
+    run.communicate(timeout=10)
+    folder.write("b.sub", "executable = /bin/echo\narguments = b\noutput = b.out\nqueue\n")
+    refused(folder, ("run", "--orphans", "leave", "x.dag"), "J5 OtherInputs")
+    journal, inputs = folder.read("x.dag.journal"), folder.read("x.dag.inputs")
+    children = folder.read("x.dag.children")
+    same(folder.call("salvage", "x.dag"), ("2 of 4 nodes are done: x.dag.rescue001\nchanged since the round began: b.sub\n", "", 0))
+    same(folder.read("x.dag.rescue001"), rescue_of(4, "A", "C"))
+    same((folder.there("x.dag.journal"), folder.read("x.dag.journal.old"), folder.there("x.dag.rescue001.new")), (False, journal, False))
+    same((folder.read("x.dag.inputs"), folder.read("x.dag.children")), (inputs, children))
+    # The process that was left is dealt with by the round that follows.
+    process = int(folder.read("b.began"))
+    same(runs_still(process), True)
+    report = "A DONE attempts=0 value=-\nB DONE attempts=1 value=0\nC DONE attempts=0 value=-\nD DONE attempts=1 value=0\nresult 0\n"
+    same(folder.call("run", "x.dag"), (report, "", 0))
+    same(runs_still(process), False)
+    same([folder.read(f"{name}.ran") for name in "acd"], [b"ran\n"] * 3)
+    same(folder.call("audit", "x.dag")[2], 0)
+
+
+def cut_short(folder, journal, *records):
+    """Puts a journal there that has this header and these records."""
+    folder.write("x.dag.journal", journal[:HEADER] + b"".join(records) + b"\0")
+
+
+def salvaged_at_each_moment(folder):
+    """What is marked behind each record of a diamond: the nodes that have ended well, and none that runs."""
+    folder.write("x.dag", DIAMOND)
+    folder.echo(*"abcd")
+    same(folder.call("run", "x.dag"), (ALL_DONE, "", 0))
+    journal, inputs = folder.read("x.dag.journal"), folder.read("x.dag.inputs")
+    records, done = [], []
+    for record, ended in (
+        (None, ""),
+        (LIFE, ""),
+        (launched(0, 1), ""),
+        (exited(0, 0), "A"),
+        (LIFE, ""),
+        (batch(launched(1, 2), launched(2, 3)), ""),
+        (exited(2, 0), "C"),
+        (exited(1, 0), "B"),
+        (launched(3, 4), ""),
+        (exited(3, 0), "D"),
+    ):
+        records += [record] if record else []
+        done += [ended] if ended else []
+        cut_short(folder, journal, *records)
+        folder.write("x.dag.inputs", inputs)
+        for name in rescues(folder):
+            os.remove(folder.at("x.dag.rescue" + name))
+        before = folder.read("x.dag.journal")
+        names = sorted(done)
+        same(folder.call("salvage", "x.dag"), (f"{len(names)} of 4 nodes are done: x.dag.rescue001\n", "", 0))
+        same(rescues(folder), {"001": rescue_of(4, *names)})
+        same((folder.there("x.dag.journal"), folder.read("x.dag.journal.old")), (False, before))
+        report = "".join(f"{name} DONE attempts={0 if name in names else 1} value={'-' if name in names else 0}\n" for name in "ABCD") + "result 0\n"
+        same(folder.call("run", "x.dag"), (report, "", 0))
+    # A node that failed is not marked.
+    cut_short(folder, journal, LIFE, launched(0, 1), exited(0, 0), batch(launched(1, 2), launched(2, 3)), exited(2, 1))
+    folder.write("x.dag.inputs", inputs)
+    same(folder.call("salvage", "x.dag"), ("1 of 4 nodes are done: x.dag.rescue001\n", "", 0))
+    same(folder.read("x.dag.rescue001"), rescue_of(4, "A"))
+
+
+def salvaged_with_submit_files_that_are_broken(folder):
+    """Submit files are not read but for their sums: they may be changed, broken, folders or missing."""
+    folder.write("x.dag", DIAMOND)
+    folder.echo(*"abcd")
+    folder.call("run", "x.dag")
+    folder.cut_journal(3)
+    folder.write("a.sub", b"\xff\0no submit file\n")
+    os.remove(folder.at("b.sub"))
+    os.remove(folder.at("c.sub"))
+    os.mkdir(folder.at("c.sub"))
+    lines = "changed since the round began: a.sub\nmissing since the round began: b.sub\nchanged since the round began: c.sub\n"
+    same(folder.call("salvage", "x.dag"), ("1 of 4 nodes are done: x.dag.rescue001\n" + lines, "", 0))
+    same(folder.read("x.dag.rescue001"), rescue_of(4, "A"))
+
+
+def salvaged_with_the_flag(folder):
+    """The records of a round with --always-run-post are read by the flag of the journal's header."""
+    always(folder)
+    same(folder.call("run", "--always-run-post", "x.dag")[2], 0)
+    # Life, the launch of PRE and its end, the launch of POST and its end: the node is done.
+    folder.cut_journal(5)
+    folder.write("a.sub", "executable = /bin/false\nqueue\n")
+    same(folder.call("salvage", "x.dag"), ("1 of 1 nodes are done: x.dag.rescue001\nchanged since the round began: a.sub\n", "", 0))
+    same(folder.read("x.dag.rescue001"), rescue_of(1, "A"))
+    # Without the flag a failed PRE is the node's end, and no POST may be launched behind it.
+    folder.write("x.dag.journal", changed(folder.read("x.dag.journal.old"), 2, 0))
+    refused(folder, ("salvage", "x.dag"), "M2 Foreign 3")
+
+
+def salvaged_rounds(folder):
+    """A round that read the rescue file of a number, and one with the greatest."""
+    for code in three_rounds(folder):
+        if code == 4:
+            break
+    # The second round has read 001, so A and B are done; C ended with 4, and it wrote 002. It is cut short before C was launched.
+    journal = folder.read("x.dag.journal")
+    cut_short(folder, journal, LIFE)
+    os.remove(folder.at("x.dag.rescue002"))
+    folder.write("c.sub", "executable = /bin/true\nqueue\n")
+    same(folder.call("salvage", "x.dag"), ("2 of 4 nodes are done: x.dag.rescue002\nchanged since the round began: c.sub\n", "", 0))
+    same(rescues(folder), {"001": RESCUE_OF_TWO, "002": RESCUE_OF_TWO})
+    report = "A DONE attempts=0 value=-\nB DONE attempts=0 value=-\nC DONE attempts=1 value=0\nD DONE attempts=1 value=0\nresult 0\n"
+    same(folder.call("run", "x.dag"), (report, "", 0))
+    same(folder.read("x.dag.journal")[4:8].hex(), "00020003")
+    # 999 is written again, as by a run.
+    folder.write("x.dag.rescue999", rescue_of(4, "A"))
+    same(folder.call("run", "x.dag")[2], 0)
+    same(folder.read("x.dag.journal")[4:8].hex(), "03e703e7")
+    cut_short(folder, folder.read("x.dag.journal"), LIFE, launched(1, 1), exited(1, 0))
+    same(folder.call("salvage", "x.dag"), ("2 of 4 nodes are done: x.dag.rescue999\n", "", 0))
+    same(folder.read("x.dag.rescue999"), rescue_of(4, "A", "B"))
+
+
+def salvaged_splices(folder):
+    """The files of splices are as they were; nodes of splices are marked by their full names."""
+    folder.write("x.dag", "JOB A a.sub\nSPLICE S s.dag\nFINAL F f.sub\nPARENT A CHILD S\n")
+    folder.write("s.dag", "JOB X x.sub\nJOB Y y.sub\nPARENT X CHILD Y\n")
+    folder.echo("a", "x", "y", "f")
+    same(folder.call("run", "x.dag")[2], 0)
+    # Life, the launches and ends of A and S+X.
+    folder.cut_journal(5)
+    before = everything(folder)
+    folder.write("s.dag", "JOB X x.sub\nJOB Y y.sub\n")
+    refused(folder, ("salvage", "x.dag"), "R6 Changed s.dag")
+    os.remove(folder.at("s.dag"))
+    refused(folder, ("salvage", "x.dag"), "S1 MissingFile s.dag")
+    folder.write("s.dag", before["s.dag"])
+    same(everything(folder), before)
+    folder.write("y.sub", "executable = /bin/true\nqueue\n")
+    same(folder.call("salvage", "x.dag"), ("2 of 3 nodes are done: x.dag.rescue001\nchanged since the round began: y.sub\n", "", 0))
+    same(folder.read("x.dag.rescue001"), rescue_of(3, "A", "S+X"))
+    report = "A DONE attempts=0 value=-\nS+X DONE attempts=0 value=-\nS+Y DONE attempts=1 value=0\nF DONE attempts=1 value=0\nresult 0\n"
+    same(folder.call("run", "x.dag"), (report, "", 0))
+
+
+def refusals_of_salvage(folder):
+    """Each is told by one line, and nothing is changed."""
+    folder.write("x.dag", DIAMOND)
+    folder.echo(*"abd")
+    folder.shell("c", "exit 1\n")
+    words = ("salvage", "x.dag")
+    refused(folder, words, "R1 NoJournal x.dag.journal")
+    same(folder.there("x.dag.lock"), False)
+    same(folder.call("run", "x.dag")[2], 1)
+    refused(folder, words, "R2 Ended x.dag.journal")
+    # The second round reads 001, in which A and B are done. It is cut short.
+    same(folder.call("run", "x.dag")[2], 1)
+    refused(folder, words, "R2 Ended x.dag.journal")
+    cut_short(folder, folder.read("x.dag.journal"), LIFE, launched(2, 1))
+    os.remove(folder.at("x.dag.rescue002"))
+    whole = everything(folder)
+    journal, inputs = whole["x.dag.journal"], whole["x.dag.inputs"]
+    lines = inputs.splitlines(keepends=True)
+    for name, text, line in (
+        ("x.dag.journal", None, "R1 NoJournal x.dag.journal"),
+        ("x.dag.journal", b"", "R1 NoJournal x.dag.journal"),
+        ("x.dag.journal", b"\0", "R1 NoJournal x.dag.journal"),
+        ("x.dag.journal", b"\0" + journal[1 : HEADER + 1], "R1 NoJournal x.dag.journal"),
+        ("x.dag.journal", b"no journal" * 10, "J3 NotAJournal"),
+        ("x.dag.journal", journal[:HEADER], "J3 NotAJournal"),
+        ("x.dag.journal", changed(journal, 1, 3), "J4 Version 3"),
+        ("x.dag.journal", journal[: HEADER + SLOT + 7], "J9 BadSlot 1"),
+        # One number in the header is none that a rescue file has: 1001 and 1024.
+        ("x.dag.journal", changed(changed(journal, 4, 3), 5, 0xE9), "E4 NotThere 1001"),
+        ("x.dag.journal", changed(changed(journal, 6, 4), 7, 0), "E4 NotThere 1024"),
+        ("x.dag.journal", changed(journal, 7, 0), "E4 NotThere 0"),
+        ("x.dag.journal", changed(journal, 8, journal[8] ^ 1), "R5 OtherRound x.dag.inputs"),
+        # The end of C, which was not launched.
+        ("x.dag.journal", journal[: HEADER + SLOT] + exited(2, 0) + b"\0", "M2 Foreign 1"),
+        # A is marked by the rescue file, so it may not be launched.
+        ("x.dag.journal", journal[: HEADER + SLOT] + launched(0, 1) + b"\0", "M2 Foreign 1"),
+        ("x.dag.inputs", None, "R3 NoInputs x.dag.inputs"),
+        ("x.dag.inputs", b"", "R4 BadInputs x.dag.inputs"),
+        ("x.dag.inputs", b"".join(lines[1:]), "R4 BadInputs x.dag.inputs"),
+        ("x.dag.inputs", inputs[:-1], "R4 BadInputs x.dag.inputs"),
+        ("x.dag.inputs", inputs + b"\n", "R4 BadInputs x.dag.inputs"),
+        ("x.dag.inputs", inputs + b"# a comment\n", "R4 BadInputs x.dag.inputs"),
+        ("x.dag.inputs", inputs.replace(b"  x.dag\n", b" *x.dag\n"), "R4 BadInputs x.dag.inputs"),
+        ("x.dag.inputs", inputs.replace(b"  x.dag\n", b"  x.dag\r\n"), "R4 BadInputs x.dag.inputs"),
+        ("x.dag.inputs", lines[0].upper() + b"".join(lines[1:]), "R4 BadInputs x.dag.inputs"),
+        ("x.dag.inputs", lines[0] + b"\\" + b"".join(lines[1:]), "R4 BadInputs x.dag.inputs"),
+        ("x.dag.inputs", lines[0] + lines[1].upper() + b"".join(lines[2:]), "R4 BadInputs x.dag.inputs"),
+        ("x.dag.inputs", inputs + b"\xff\n", "R4 BadInputs x.dag.inputs"),
+        ("x.dag.inputs", lines[0][:-66] + b"0" + lines[0][-64:] + b"".join(lines[1:]), "R4 BadInputs x.dag.inputs"),
+        # It says nothing of the rescue file, of the DAG file.
+        ("x.dag.inputs", b"".join(lines[:-1]), "R7 NotListed x.dag.rescue001"),
+        ("x.dag.inputs", b"".join(line for line in lines if not line.endswith(b"  x.dag\n")), "R7 NotListed x.dag"),
+        ("x.dag", DIAMOND + "# a comment more\n", "R6 Changed x.dag"),
+        ("x.dag", None, "S1 MissingFile x.dag"),
+        ("x.dag.rescue001", RESCUE_OF_TWO + b"DONE C\n", "R6 Changed x.dag.rescue001"),
+        ("x.dag.rescue001", None, "R6 Changed x.dag.rescue001"),
+    ):
+        if text is None:
+            os.remove(folder.at(name))
+        else:
+            folder.write(name, text)
+        before = everything(folder)
+        refused(folder, words, line)
+        same(everything(folder), before)
+        folder.write(name, whole[name])
+    # Called by another path, it is another round's.
+    refused(folder, ("salvage", "./x.dag"), "R7 NotListed ./x.dag")
+    with locked(folder):
+        refused(folder, words, "X2 FileRefused x.dag.lock")
+        os.remove(folder.at("x.dag.lock"))
+    same(everything(folder), whole)
+    for name in ("x.dag.inputs", "x.dag.journal", "x.dag.rescue001"):
+        os.remove(folder.at(name))
+        os.mkdir(folder.at(name))
+        refused(folder, words, f"X2 FileRefused {name}")
+        os.rmdir(folder.at(name))
+        folder.write(name, whole[name])
+    # The rescue file can't be written: nothing is put away. Then the same call goes on.
+    os.mkdir(folder.at("x.dag.rescue002.new"))
+    refused(folder, words, "X2 FileRefused x.dag.rescue002")
+    same(everything(folder), whole)
+    os.rmdir(folder.at("x.dag.rescue002.new"))
+    same(folder.call(*words), ("2 of 4 nodes are done: x.dag.rescue002\n", "", 0))
+    refused(folder, words, "R1 NoJournal x.dag.journal")
+
+
+def inputs_that_can_not_be_written(folder):
+    """A run depends on it in nothing."""
+    folder.write("x.dag", DIAMOND)
+    folder.echo(*"abcd")
+    os.mkdir(folder.at("x.dag.inputs"))
+    same(folder.call("run", "x.dag"), (ALL_DONE, "", 0))
+    os.rmdir(folder.at("x.dag.inputs"))
+    folder.write("x.dag.inputs", "of another round\n")
+    os.remove(folder.at("x.dag.inputs.new"))
+    os.mkdir(folder.at("x.dag.inputs.new"))
+    same(folder.call("run", "x.dag"), (ALL_DONE, "", 0))
+    same(folder.read("x.dag.inputs"), b"of another round\n")
+    os.rmdir(folder.at("x.dag.inputs.new"))
+    folder.write("x.dag.inputs.new", "of one that was cut short" * 99)
+    same(folder.call("run", "x.dag"), (ALL_DONE, "", 0))
+    same(folder.read("x.dag.inputs").decode(), head_of(folder) + sums_of(folder, "a.sub", "b.sub", "c.sub", "d.sub", "x.dag"))
+    # It is replaced by the round that begins next, and before that it says nothing of it.
+    first = folder.read("x.dag.inputs")
+    folder.write("a.sub", "executable = /bin/true\nqueue\n")
+    same(folder.call("run", "x.dag"), (ALL_DONE, "", 0))
+    folder.cut_journal(3)
+    second = folder.read("x.dag.inputs")
+    folder.write("x.dag.inputs", first)
+    refused(folder, ("salvage", "x.dag"), "R5 OtherRound x.dag.inputs")
+    folder.write("x.dag.inputs", second)
+    same(folder.call("salvage", "x.dag"), ("1 of 4 nodes are done: x.dag.rescue001\n", "", 0))
+
+
+def cut_short_while_salvaging(folder):
+    """Salvage is killed, or its call fails, at any write, sync, cut or renaming: the same call goes on, and so does a run of the same files."""
+    folder.write("x.dag", DIAMOND)
+    folder.echo(*"abcd")
+    same(folder.call("run", "x.dag"), (ALL_DONE, "", 0))
+    folder.cut_journal(3)
+    calls_of = ("openat", "pwrite64", "fsync", "rename")
+    paths = ["x.dag.rescue001", "x.dag.rescue001.new", "x.dag.journal", "x.dag.journal.old", "", "./"]
+
+    def tried(copy, *fault):
+        traced = [word for path in paths for word in ("-P", copy.at(path) if path else copy.path)]
+        words = ["strace", "-qqq", "-e", "trace=" + ",".join(calls_of), "-e", "signal=none", "-o", "../calls", *traced, *fault]
+        done = subprocess.run([*words, copy.program, "salvage", "x.dag"], cwd=copy.path, capture_output=True, timeout=60)
+        return done, open(copy.at("../calls")).read().splitlines()
+
+    with tempfile.TemporaryDirectory() as path:
+        copy = Folder(folder.program, os.path.join(path, "copy"))
+        shutil.copytree(folder.path, copy.path)
+        done, calls = tried(copy)
+        same((done.stdout, done.returncode), (b"1 of 4 nodes are done: x.dag.rescue001\n", 0))
+        ends = everything(copy)
+        counts = {name: sum(line.startswith(name + "(") for line in calls) for name in calls_of}
+    # The rescue file is written, synced and named, and the folder synced, before the journal is renamed and the folder synced again.
+    order = [line.split("(")[0] for line in calls if not line.startswith("openat")]
+    same(order, ["pwrite64", "fsync", "rename", "fsync", "rename", "fsync"])
+    for call, count in counts.items():
+        for number in range(1, count + 1):
+            for how in ("signal=SIGKILL", "error=EIO", "error=ENOSPC"):
+                with tempfile.TemporaryDirectory() as path:
+                    copy = Folder(folder.program, os.path.join(path, "copy"))
+                    shutil.copytree(folder.path, copy.path)
+                    done, _ = tried(copy, "-e", f"inject={call}:{how}:when={number}")
+                    named = copy.there("x.dag.rescue001")
+                    if not copy.there("x.dag.journal"):
+                        # The journal is put away only where the rescue file is there, whole.
+                        same((named, copy.read("x.dag.journal.old")), (True, folder.read("x.dag.journal")))
+                    if named:
+                        same(copy.read("x.dag.rescue001"), rescue_of(4, "A"))
+                    again = Folder(folder.program, os.path.join(path, "again"))
+                    shutil.copytree(copy.path, again.path)
+                    if again.there("x.dag.journal"):
+                        same(again.call("salvage", "x.dag"), ("1 of 4 nodes are done: x.dag.rescue001\n", "", 0))
+                        same(everything(again), ends)
+                    done_before = 0 if not copy.there("x.dag.journal") else 1
+                    first = "A DONE attempts=1 value=0\n" if done_before else "A DONE attempts=0 value=-\n"
+                    same(copy.call("run", "x.dag"), (first + ALL_DONE.split("\n", 1)[1], "", 0))
 
 
 @contextlib.contextmanager
@@ -1557,6 +2336,252 @@ def outputs_behind_a_power_cut(folder):
                 same(outputs, [b"a\n", b"b\n"])
 
 
+def a_lock_that_was_removed(folder):
+    """The journal is locked, too: who finds no lock file does not get in, and a manager that ends removes its own file alone."""
+    folder.write("x.dag", "JOB A a.sub\n")
+    folder.shell("a", ": > begun\nwhile [ ! -e go ]; do sleep 0.02; done\n")
+    first = folder.start("run", "x.dag")
+    folder.wait_for("begun")
+    same(folder.there("x.dag.lock"), True)
+    os.remove(folder.at("x.dag.lock"))
+    refused(folder, ("run", "x.dag"), "X2 FileRefused x.dag.lock")
+    same(folder.there("x.dag.lock"), False)
+    folder.write("x.dag.lock", "somebody's")
+    folder.write("go", "")
+    same(first.communicate(timeout=30), (b"A DONE attempts=1 value=0\nresult 0\n", b""))
+    same(folder.read("x.dag.lock"), b"somebody's")
+    # A file that is there and not locked is no lock; the manager that ends removes it.
+    same(folder.call("run", "x.dag"), ("A DONE attempts=1 value=0\nresult 0\n", "", 0))
+    same(folder.there("x.dag.lock"), False)
+
+
+def no_lock_is_left(folder):
+    """Neither behind a run, nor behind a refusal under the lock."""
+    folder.write("x.dag", "JOB A a.sub\n")
+    folder.echo("a")
+    folder.call("run", "x.dag")
+    same(folder.there("x.dag.lock"), False)
+    journal = folder.read("x.dag.journal")
+    folder.write("x.dag.journal", journal[: HEADER + SLOT + 7])
+    refused(folder, ("run", "x.dag"), "J9 BadSlot 1")
+    same(folder.there("x.dag.lock"), False)
+
+
+def special_files_beside(folder):
+    """What is no regular file is not opened in the place of one, and no symbolic link is followed."""
+    folder.write("x.dag", "JOB A a.sub\nJOB B b.sub\n")
+    folder.echo("a")
+    folder.shell("b", "exit 1\n")
+    for name in ("x.dag.journal", "x.dag.lock", "x.dag.children"):
+        for make in (lambda path: os.symlink("target", path), os.mkfifo, os.mkdir):
+            # A folder in the place of the journal is J1, as the system says it.
+            if (name, make) == ("x.dag.journal", os.mkdir):
+                continue
+            make(folder.at(name))
+            refused(folder, ("run", "x.dag"), f"X2 FileRefused {name}")
+            same([folder.there(other) for other in ("target", "a.out", "x.dag.log")], [False, False, False])
+            if os.path.isdir(folder.at(name)):
+                os.rmdir(folder.at(name))
+            else:
+                os.remove(folder.at(name))
+    # No run depends on its log.
+    os.symlink("target", folder.at("x.dag.log"))
+    same(folder.call("run", "x.dag")[2], 1)
+    same(folder.there("target"), False)
+    os.rename(folder.at("x.dag.rescue001"), folder.at("elsewhere"))
+    os.symlink("elsewhere", folder.at("x.dag.rescue001"))
+    refused(folder, ("run", "x.dag"), "X2 FileRefused x.dag.rescue001")
+    os.remove(folder.at("x.dag.journal"))
+    os.symlink("target", folder.at("x.dag.journal"))
+    refused(folder, ("status", "x.dag"), "X2 FileRefused x.dag.journal")
+
+
+def permissions_of_what_is_made(folder):
+    """What the mask of the process leaves of 0644."""
+    folder.write("x.dag", "JOB A a.sub\nJOB B b.sub\n")
+    folder.echo("a")
+    folder.shell("b", "exit 1\n")
+    for mask, wanted in ((0o000, 0o644), (0o077, 0o600)):
+        for name in ("x.dag.journal", "x.dag.journal.old", "x.dag.log", "x.dag.rescue001", "x.dag.rescue002"):
+            if folder.there(name):
+                os.remove(folder.at(name))
+        subprocess.run([folder.program, "run", "x.dag"], cwd=folder.path, capture_output=True, timeout=60, preexec_fn=lambda: os.umask(mask))
+        same([os.stat(folder.at(name)).st_mode & 0o777 for name in ("x.dag.journal", "x.dag.log", "x.dag.rescue001")], [wanted] * 3)
+
+
+def special_inputs(folder):
+    """A DAG file and a table may be pipes; else inputs are regular files, and none of the system's own texts."""
+    folder.echo("a")
+    for name in ("/dev/zero", "/dev/null", "."):
+        refused(folder, ("check", name), f"S1 MissingFile {name}")
+    folder.write("x.dag", "JOB A a.sub\n")
+    for name in ("/dev/zero", "/dev/null", "."):
+        refused(folder, ("rehearse", "x.dag", name), f"X2 FileRefused {name}")
+    done = subprocess.run(["bash", "-c", f"{folder.program} rehearse <(echo JOB A a.sub) <(echo A 0 JOB 3)"], cwd=folder.path, capture_output=True, timeout=60)
+    same(done.stdout.decode().splitlines()[:2], ["A ERROR attempts=1 value=3", "result 1"])
+    os.mkfifo(folder.at("pipe.sub"))
+    for submit in ("pipe.sub", "/dev/zero", "/proc/self/environ"):
+        folder.write("y.dag", f"JOB A {submit}\n")
+        refused(folder, ("check", "y.dag"), f"P1 MissingFile {submit}")
+        folder.write("y.dag", f"SPLICE A {submit}\n")
+        refused(folder, ("check", "y.dag"), f"S1 MissingFile {submit}")
+
+
+def inputs_of_many_bytes(folder):
+    """No input of more than 256 MiB is read: a file is refused at once, a pipe behind so many bytes."""
+    folder.write("x.dag", "JOB A a.sub\n")
+    folder.echo("a")
+    for name, words in (("big.dag", ("check", "big.dag")), ("a.sub", ("check", "x.dag")), ("table", ("rehearse", "x.dag", "table"))):
+        with open(folder.at(name), "wb") as file:
+            file.truncate((1 << 28) + 1)
+        same(folder.call(*words), ("", "dagrun: X1 Memory\n", 125))
+    done = subprocess.run(["bash", "-c", f"head -c 268435457 /dev/zero | {folder.program} check -"], cwd=folder.path, capture_output=True, timeout=60)
+    same((done.stdout, done.stderr, done.returncode), (b"", b"dagrun: X1 Memory\n", 125))
+
+
+NOBODY = 65534
+
+
+def files_of_other_users(folder):
+    """In a folder into which others may put files, a run goes by its user's own alone, unless root trusts them."""
+    folder.write("x.dag", "JOB A a.sub\nJOB B b.sub\n")
+    folder.echo("a")
+    folder.shell("b", "exit 1\n")
+    folder.call("run", "x.dag")
+    for suffix in ("journal", "lock", "children", "rescue"):
+        for mode, words, wanted in ((0o777, [], None), (0o777, ["--trust-owner"], ("", 1)), (0o755, [], ("", 1))):
+            name = f"x.dag.{suffix}"
+            if suffix == "rescue":
+                name = sorted(other for other in os.listdir(folder.path) if other.startswith(name))[-1]
+            if not folder.there(name):
+                folder.write(name, "")
+            os.chown(folder.at(name), NOBODY, NOBODY)
+            os.chmod(folder.path, mode)
+            # A folder of one's own, into which nobody else may put files, is trusted.
+            if wanted is None:
+                refused(folder, ("run", *words, "x.dag"), f"X2 FileRefused {name}")
+            else:
+                same(folder.call("run", *words, "x.dag")[1:], wanted)
+            if folder.there(name):
+                os.chown(folder.at(name), os.getuid(), os.getgid())
+
+
+def what_the_system_said(folder):
+    """Where a call of the journal is refused, the log has the call and the reason."""
+    folder.write("x.dag", "JOB A a.sub\nJOB B a.sub\nPARENT A CHILD B\n")
+    folder.echo("a")
+    words = ["strace", "-qqq", "-o", "calls", "-e", "trace=fdatasync", "-e", "signal=none", "-e", "inject=fdatasync:error=EIO:when=3", folder.program, "run", "x.dag"]
+    done = subprocess.run(words, cwd=folder.path, capture_output=True, timeout=60)
+    same((done.stdout, done.stderr, done.returncode), (b"", b"dagrun: J1 Device\n", 125))
+    last = folder.read("x.dag.log").decode().splitlines()[-1].split("\t")
+    same((last[1], last[6:]), ("stop", ["fault='J1 Device'", "reason='journal: fdatasync: Input/output error (os error 5)'"]))
+    same(folder.call("run", "x.dag")[2], 0)
+
+
+def a_report_again(folder):
+    """With --resume a round that has ended is told again, and starts nothing; else it goes on, or one begins."""
+    folder.write("x.dag", "JOB A a.sub\nJOB B b.sub\nPARENT A CHILD B\nJOB C c.sub\n")
+    folder.shell("a", "echo ran >> a.ran\n")
+    folder.shell("b", "echo ran >> b.ran\n[ -e good ]\n")
+    folder.shell("c", "exit 0\n")
+    report = "A DONE attempts=1 value=0\nB ERROR attempts=1 value=1\nC DONE attempts=1 value=0\nresult 1\n"
+    same(folder.call("run", "--resume", "x.dag"), (report, "", 1))
+    before = {name: folder.read(name) for name in os.listdir(folder.path)}
+    same(folder.call("run", "--resume", "x.dag"), (report, "", 1))
+    same({name: folder.read(name) for name in os.listdir(folder.path)}, before)
+    # Its rescue file has been written since, which is not the one that it read.
+    folder.write("good", "")
+    again = "A DONE attempts=0 value=-\nB DONE attempts=1 value=0\nC DONE attempts=0 value=-\nresult 0\n"
+    same(folder.call("run", "x.dag"), (again, "", 0))
+    same(folder.call("run", "--resume", "x.dag"), (again, "", 0))
+    same([folder.read(name) for name in ("a.ran", "b.ran")], [b"ran\n", b"ran\n" * 2])
+    # A round that was cut short goes on: behind Life and the launches of B.
+    folder.cut_journal(2)
+    same(folder.call("run", "--resume", "x.dag")[2], 0)
+    same(folder.read("b.ran"), b"ran\n" * 3)
+    folder.write("c.sh", "exit 0 # changed\n")
+    same(folder.call("run", "--resume", "x.dag"), (again, "", 0))
+    folder.write("c.sub", "executable = /bin/true\nqueue\n")
+    refused(folder, ("run", "--resume", "x.dag"), "J5 OtherInputs")
+    same(folder.call("run", "--resume", "--dorescuefrom", "1", "x.dag")[2], 125)
+
+
+def the_end_of_a_journal(folder):
+    """A manager that goes on writes what stands at the journal's end again before it syncs it first, and one that begins does not."""
+    folder.write("x.dag", "JOB A a.sub\n")
+    folder.echo("a")
+    calls = {}
+    for turn in ("begins", "goes on"):
+        subprocess.run(["strace", "-y", "-e", "trace=pwrite64,fsync,fdatasync", "-e", "signal=none", "-o", "calls", folder.program, "run", "x.dag"], cwd=folder.path, capture_output=True, timeout=60)
+        lines = [line for line in folder.read("calls").decode(errors="replace").splitlines() if "x.dag.journal>" in line]
+        calls[turn] = [re.match(r"(\w+)\(\d+<[^>]*>(?:, .*, (\d+), (\d+))?\)", line).groups() for line in lines]
+        size = HEADER + 2 * SLOT + 1
+        folder.cut_journal(2)
+    same(calls["begins"][0][0], "fsync")
+    # Before the lock the journal is looked at, which syncs it; under the lock twice, once more for the round, and then by the manager.
+    written = [at for at, call in enumerate(calls["goes on"]) if call[0] == "pwrite64"][0]
+    same([call[0] for call in calls["goes on"][:written]], ["fsync"] * written)
+    same(calls["goes on"][written], ("pwrite64", str(size), "0"))
+    same(calls["goes on"][written + 1][0], "fsync")
+
+
+def when_the_steps_ran(folder):
+    """A row for each phase by the log, in the order in which they began, with the critical path; and a picture of the same."""
+    folder.write("x.dag", DIAMOND + "RETRY C 1\nSCRIPT POST D /bin/true\n")
+    folder.shell("a", "sleep 0.05\n")
+    folder.shell("b", "sleep 0.05\n")
+    folder.shell("c", "sleep 0.2\n[ -e once ] && exit 0\n: >once\nexit 4\n")
+    folder.shell("d", "exit 0\n")
+    same(folder.call("run", "x.dag")[2], 0)
+    text, faults, status = folder.call("times", "x.dag")
+    same((faults, status), ("", 0))
+    rows = [line.split("\t") for line in text.splitlines()]
+    same(rows[0], ["node", "phase", "attempt", "begin", "seconds", "ended", "path"])
+    wanted = {
+        ("A", "JOB", "0", "exit 0", "*"), ("B", "JOB", "0", "exit 0", "-"), ("C", "JOB", "0", "exit 4", "*"), ("C", "JOB", "1", "exit 0", "*"),
+        ("D", "JOB", "0", "exit 0", "*"), ("D", "POST", "0", "exit 0", "*"),
+    }
+    same({(*row[:3], *row[5:]) for row in rows[1:]}, wanted)
+    begins = [float(row[3]) for row in rows[1:]]
+    same(begins, sorted(begins))
+    # A busy machine may write the line of a start late.
+    same([row[0] for row in rows[1:] if not 0 <= float(row[4]) < 10], [])
+    picture = xml.etree.ElementTree.fromstring(folder.call("times", "--svg", "x.dag")[0])
+    of = "{http://www.w3.org/2000/svg}"
+    titles = [bar.find(of + "title").text for bar in picture.iter(of + "rect") if bar.find(of + "title") is not None]
+    same([title.split(":")[0] for title in titles], [" ".join(row[:3]) for row in rows[1:]])
+    names = [text.text for text in picture.iter(of + "text") if text.text in "ABCD"]
+    same(names, list(dict.fromkeys(row[0] for row in rows[1:])))
+    # What runs, and what was lost with its manager.
+    folder.write("y.dag", "JOB A a.sub\nJOB E e.sub\nPARENT A CHILD E\n")
+    folder.shell("e", ": >begun\nexec sleep 60\n")
+    first = folder.start("run", "y.dag")
+    folder.wait_for("begun")
+    same([line.split("\t")[5:] for line in folder.call("times", "y.dag")[0].splitlines()[1:]], [["exit 0", "*"], ["runs", "*"]])
+    first.kill()
+    first.wait(timeout=30)
+    os.remove(folder.at("begun"))
+    second = folder.start("run", "y.dag")
+    folder.wait_for("begun")
+    same([line.split("\t")[5] for line in folder.call("times", "y.dag")[0].splitlines()[1:]], ["exit 0", "lost", "runs"])
+    second.kill()
+    second.wait(timeout=30)
+    # FINAL waits for all.
+    folder.write("z.dag", "JOB A a.sub\nJOB D d.sub\nFINAL F d.sub\n")
+    folder.call("run", "z.dag")
+    same({tuple(line.split("\t")[0::6]) for line in folder.call("times", "z.dag")[0].splitlines()[1:]}, {("A", "*"), ("D", "-"), ("F", "*")})
+
+
+def times_without_a_log(folder):
+    folder.write("x.dag", "JOB A a.sub\n")
+    refused(folder, ("times", "x.dag"), "X2 FileRefused x.dag.log")
+    folder.write("x.dag.log", b"\xff\nno line\n2026-11-25T23:40:00.000Z\tstart\tB\tJOB\t0\t7\n2026-11-25T23:39:00.000Z\tend\tB\tJOB\t0\t7\texit=0\n2026-11-25T23:41:00.000Z\tstart\tA")
+    # A node that the DAG doesn't have has a row, and a clock that went back does not go back here.
+    same(folder.call("times", "x.dag"), ("node\tphase\tattempt\tbegin\tseconds\tended\tpath\nB\tJOB\t0\t0.000\t0.000\texit 0\t*\n", "", 0))
+    os.remove(folder.at("x.dag"))
+    refused(folder, ("times", "x.dag"), "S1 MissingFile x.dag")
+
+
 ROWS = [
     diamond,
     status_without_a_journal,
@@ -1599,6 +2624,15 @@ ROWS = [
     a_second_manager,
     a_lock_for_a_moment,
     a_journal_that_is_being_written,
+    a_lock_that_was_removed,
+    no_lock_is_left,
+    special_files_beside,
+    permissions_of_what_is_made,
+    special_inputs,
+    inputs_of_many_bytes,
+    a_report_again,
+    when_the_steps_ran,
+    times_without_a_log,
     endings_that_nobody_is_told,
     names_that_are_too_long,
     stopped_by_sigterm,
@@ -1623,6 +2657,34 @@ ROWS = [
     children_that_can_not_be_read,
     closed_streams,
     no_process_to_be_had,
+    no_permission,
+    no_first_line,
+    a_carriage_return,
+    no_such_program,
+    no_reader,
+    no_output_folder,
+    no_script,
+    no_working_folder,
+    no_process,
+    why_attempts,
+    why_scripts,
+    why_waiting,
+    why_many,
+    why_no_round,
+    why_by_the_journal,
+    why_while_it_runs,
+    why_behind_a_kill,
+    why_aborted,
+    what_a_round_began_with,
+    inputs_with_odd_names,
+    inputs_that_can_not_be_written,
+    salvaged_behind_a_kill,
+    salvaged_at_each_moment,
+    salvaged_with_submit_files_that_are_broken,
+    salvaged_with_the_flag,
+    salvaged_rounds,
+    salvaged_splices,
+    refusals_of_salvage,
 ]
 
 
@@ -1630,9 +2692,13 @@ def main():
     program = os.path.realpath(sys.argv[1])
     rows = list(ROWS)
     if shutil.which("strace"):
-        rows += [the_order_of_the_disk, outputs_are_synced, cut_short_while_going_back, a_child_that_was_being_started]
+        rows += [the_order_of_the_disk, outputs_are_synced, cut_short_while_going_back, a_child_that_was_being_started, what_the_system_said, the_end_of_a_journal, cut_short_while_salvaging]
     else:
         print("strace is not installed: the order in which the disk is written is not looked at, and no call of going back is cut short, and no child while it is started")
+    if os.getuid() == 0:
+        rows.append(files_of_other_users)
+    else:
+        print("this is not root: whose the files are that stand beside a DAG is not looked at")
     if can_mount():
         rows.append(outputs_behind_a_power_cut)
     else:

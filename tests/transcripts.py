@@ -18,7 +18,7 @@ TOP = os.path.realpath(os.path.join(os.path.dirname(__file__), ".."))
 PAGES = {
     "docs/FROM_DAGMAN.md": None,
     "docs/FROM_MAKE.md": None,
-    "docs/MANUAL.md": ["A picture of the graph", "What a fault says"],
+    "docs/MANUAL.md": ["Why a node failed", "A picture of the graph", "A round whose submit files were changed", "What a fault says"],
 }
 
 

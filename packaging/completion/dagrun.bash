@@ -6,13 +6,14 @@ _dagrun() {
     if [ "$word" = '=' ]; then word=''; elif [ "$before" = '=' ]; then before=${COMP_WORDS[COMP_CWORD - 2]}; fi
     for ((place = 1; place < COMP_CWORD; place++)); do
         case $command:${COMP_WORDS[place]} in
-        :run|:status|:audit|:check|:rehearse|:graph|:explain|:help|:version) command=${COMP_WORDS[place]} ;;
+        :run|:status|:why|:times|:salvage|:audit|:check|:rehearse|:graph|:explain|:help|:version) command=${COMP_WORDS[place]} ;;
         ?*:*.dag | rehearse:-) dag=${COMP_WORDS[place]} ;;
         esac
     done
     case $before in
         --autorescue) values='0 1' ;;
         --orphans) values='kill wait leave' ;;
+        --progress) values='auto always never' ;;
         --sync-output) values='0 1' ;;
         --dorescuefrom|--maxjobs|--maxpost|--maxpre) return ;;
     esac
@@ -21,9 +22,12 @@ _dagrun() {
         return
     fi
     case $command in
-        '') options='run status audit check rehearse graph explain help version --help' ;;
-        run) options='--maxjobs --maxpre --maxpost --autorescue --dorescuefrom --always-run-post --sync-output --orphans --help' ;;
+        '') options='run status why times salvage audit check rehearse graph explain help version --help' ;;
+        run) options='--maxjobs --maxpre --maxpost --autorescue --dorescuefrom --always-run-post --sync-output --orphans --progress --resume --trust-owner --help' ;;
         status) options='--help' ;;
+        why) options='--help' ;;
+        times) options='--svg --help' ;;
+        salvage) options='--help' ;;
         audit) options='--help' ;;
         check) options='--help' ;;
         rehearse) options='--maxjobs --maxpre --maxpost --always-run-post --help' ;;
@@ -38,7 +42,7 @@ _dagrun() {
     fi
     case $command in
         help)
-            COMPREPLY=($(compgen -W 'run status audit check rehearse graph explain help version' -- "$word"))
+            COMPREPLY=($(compgen -W 'run status why times salvage audit check rehearse graph explain help version' -- "$word"))
             return
             ;;
         explain|version) return ;;

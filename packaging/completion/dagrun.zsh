@@ -5,6 +5,9 @@ _dagrun() {
     commands=(
         'run:Runs a DAG file, or goes on with a run that was cut short'
         'status:Says where each node of a run stands, by its journal'
+        'why:Says why nodes are in error, and for whom others wait'
+        'times:Says when each phase of a run began and how long it took, by its log'
+        'salvage:Makes a rescue file of a round that was cut short, whose submit files were changed since'
         'audit:Says whether a journal is that of a finished run, and what its nodes came to'
         'check:Reads a DAG file with its splices, and says whether it is right'
         'rehearse:Runs a DAG file at the outcomes of a table, and starts no program'
@@ -31,9 +34,29 @@ _dagrun() {
                 '--always-run-post[POST scripts run behind PRE scripts that failed, too, and decide]' \
                 '--sync-output=[0\: the files of output and error are not brought to the disk before an ending is recorded]:0 or 1:(0 1)' \
                 '--orphans=[What is done with processes that a manager which was killed left running; kill where it is not given \[possible values\: kill, wait, leave\]]:kill or wait or leave:(kill wait leave)' \
+                '--progress=[Whether standard error shows how far the run is; auto where it is not given\: on a terminal \[possible values\: auto, always, never\]]:auto or always or never:(auto always never)' \
+                '--resume[Where the last round has ended, prints its report again and starts nothing]' \
+                '--trust-owner[Root goes by the journal, the rescue files and the lock of another user, and others by those of root]' \
                 '1:DAG:_files -g "*.dag"'
             ;;
         status)
+            _arguments \
+                '(-h --help)'{-h,--help}'[Print help]' \
+                '1:DAG:_files -g "*.dag"'
+            ;;
+        why)
+            _arguments \
+                '(-h --help)'{-h,--help}'[Print help]' \
+                '1:DAG:_files -g "*.dag"' \
+                '2::NODE:'
+            ;;
+        times)
+            _arguments \
+                '(-h --help)'{-h,--help}'[Print help]' \
+                '--svg[A picture of the run over time, in place of a table]' \
+                '1:DAG:_files -g "*.dag"'
+            ;;
+        salvage)
             _arguments \
                 '(-h --help)'{-h,--help}'[Print help]' \
                 '1:DAG:_files -g "*.dag"'
@@ -71,7 +94,7 @@ _dagrun() {
         help)
             _arguments \
                 '(-h --help)'{-h,--help}'[Print help]' \
-                '1::COMMAND:(run status audit check rehearse graph explain help version)'
+                '1::COMMAND:(run status why times salvage audit check rehearse graph explain help version)'
             ;;
         version)
             _arguments \

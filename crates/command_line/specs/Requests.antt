@@ -1,10 +1,10 @@
 -- What the words of a command line ask for.
-use Rattle.std.specs.Prelude.{◌≡◌, ◌<◌, ℕ, Bool, List, Option, Some, None, string_bytes}
+use Rattle.std.specs.Prelude.{◌≡◌, ◌<◌, ℕ, Bool, List, Option, Some, None, map, string_bytes}
 use Rattle.std.specs.Option.{option_map}
 use Rattle.throttles.specs.declared.Limits.{Limits}
 use Rattle.command_line.specs.declared.request.RunOptions.{RunOptions}
 use Rattle.command_line.specs.declared.request.Request.{Request}
-use Rattle.command_line.specs.declared.request.Request.TheVariants.{Check, Run, Status, Audit, Rehearse, Graph, Page}
+use Rattle.command_line.specs.declared.request.Request.TheVariants.{Check, Run, Status, Audit, Rehearse, Graph, Why, Times, Salvage, Page}
 
 -- a command with its words: the path of the DAG file first; or the page that is to be printed, which the words alone determine
 pub data Asked : Type 0 where
@@ -14,6 +14,9 @@ pub data Asked : Type 0 where
   audits : List ℕ → Asked
   rehearses : List ℕ → Option (List ℕ) → Limits → Bool → Asked
   draws : List ℕ → Asked
+  asks_why : List ℕ → List (List ℕ) → Asked
+  times : List ℕ → Bool → Asked
+  salvages : List ℕ → Asked
   shows : List ℕ → Asked
 
 -- what a request asks for
@@ -24,6 +27,9 @@ asked_by (Status dag) = tells_status dag.now
 asked_by (Audit dag) = audits dag.now
 asked_by (Rehearse dag outcomes limits always_post) = rehearses dag.now (option_map (λ t. t.now) outcomes) limits always_post
 asked_by (Graph dag) = draws dag.now
+asked_by (Why dag nodes) = asks_why dag.now (map (λ n. n.now) nodes.items)
+asked_by (Times dag svg) = times dag.now svg
+asked_by (Salvage dag) = salvages dag.now
 asked_by (Page text) = shows (string_bytes text)
 
 -- no limits but that on all children
@@ -45,4 +51,7 @@ limits_in (tells_status dag) = None
 limits_in (audits dag) = None
 limits_in (rehearses dag outcomes limits always_post) = Some limits
 limits_in (draws dag) = None
+limits_in (asks_why dag nodes) = None
+limits_in (times dag svg) = None
+limits_in (salvages dag) = None
 limits_in (shows text) = None

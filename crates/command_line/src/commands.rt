@@ -12,12 +12,16 @@ enum Kind {
     Needed,
     /// A word that may be there.
     Optional,
+    /// Any number of words, or none.
+    Many,
     /// An option with a number from 0 to 65,535.
     Number,
     /// An option with 0 or 1.
     Switch,
     /// An option with no word of its own.
     Flag,
+    /// The same, which can't stand beside this other option.
+    FlagWithout(&'static str),
     /// An option with one of these words.
     Choice(&'static [&'static str]),
 }
@@ -109,13 +113,43 @@ const COMMAND: ArgumentRow = ArgumentRow {
     help: "A command; without it all are listed",
 };
 
+const PROGRESS: ArgumentRow = ArgumentRow {
+    name: "progress",
+    kind: Kind::Choice(&["auto", "always", "never"]),
+    help: "Whether standard error shows how far the run is; auto where it is not given: on a terminal",
+};
+
+const TRUST_OWNER: ArgumentRow = ArgumentRow {
+    name: "trust-owner",
+    kind: Kind::Flag,
+    help: "Root goes by the journal, the rescue files and the lock of another user, and others by those of root",
+};
+
+const RESUME: ArgumentRow = ArgumentRow {
+    name: "resume",
+    kind: Kind::FlagWithout("dorescuefrom"),
+    help: "Where the last round has ended, prints its report again and starts nothing",
+};
+
+const NODES: ArgumentRow = ArgumentRow {
+    name: "NODE",
+    kind: Kind::Many,
+    help: "The nodes that are asked for; without one, all that are in error",
+};
+
+const SVG: ArgumentRow = ArgumentRow {
+    name: "svg",
+    kind: Kind::Flag,
+    help: "A picture of the run over time, in place of a table",
+};
+
 const ORPHANS: ArgumentRow = ArgumentRow {
     name: "orphans",
     kind: Kind::Choice(&["kill", "wait", "leave"]),
     help: "What is done with processes that a manager which was killed left running; kill where it is not given",
 };
 
-static COMMANDS: [CommandRow; 9] = [
+static COMMANDS: [CommandRow; 12] = [
     CommandRow {
         name: "run",
         about: "Runs a DAG file, or goes on with a run that was cut short",
@@ -129,10 +163,14 @@ static COMMANDS: [CommandRow; 9] = [
             ALWAYS_POST,
             SYNC_OUTPUT,
             ORPHANS,
+            PROGRESS,
+            RESUME,
+            TRUST_OWNER,
         ],
         examples: "  dagrun run x.dag                    runs x.dag, or goes on with its round
   dagrun run --maxjobs 4 x.dag        with 4 jobs at once at most
   dagrun run --dorescuefrom 1 x.dag   goes back to x.dag.rescue001
+  dagrun run --resume x.dag           begins no round behind one that has ended
 ",
     },
     CommandRow {
@@ -141,6 +179,29 @@ static COMMANDS: [CommandRow; 9] = [
         arguments: &[FILE],
         examples: "  dagrun status x.dag                 where each node stands, also while it runs
   watch dagrun status x.dag           again and again
+",
+    },
+    CommandRow {
+        name: "why",
+        about: "Says why nodes are in error, and for whom others wait",
+        arguments: &[FILE, NODES],
+        examples: "  dagrun why x.dag                    all nodes in error, those first that hold up most
+  dagrun why x.dag Report             why Report is in error, or for whom it waits
+",
+    },
+    CommandRow {
+        name: "times",
+        about: "Says when each phase of a run began and how long it took, by its log",
+        arguments: &[FILE, SVG],
+        examples: "  dagrun times x.dag                  a table, for a spreadsheet
+  dagrun times --svg x.dag > x.svg    a picture of the run over time
+",
+    },
+    CommandRow {
+        name: "salvage",
+        about: "Makes a rescue file of a round that was cut short, whose submit files were changed since",
+        arguments: &[FILE],
+        examples: "  dagrun salvage x.dag                keeps what is done; `dagrun run x.dag` starts the rest
 ",
     },
     CommandRow {
@@ -206,26 +267,31 @@ const FIRST_EXAMPLES: &str = "  dagrun check x.dag      whether the files of x.d
   dagrun help run         how run is called
 ";
 
-fn argument_of<'a>(alloc: Global, row: &ArgumentRow) -> Arg<'a> {
+fn argument_of<'a>(alloc: Global, row: &ArgumentRow) -> Result<Arg<'a>, AllocError> {
     let argument = Arg::new(alloc, row.name)
         .action(ArgAction::Set)
         .help(row.help);
-    match row.kind {
+    Ok(match row.kind {
         Kind::Needed => argument.required(true),
         Kind::Optional => argument,
+        Kind::Many => argument.num_args(0..).action(ArgAction::Append),
         Kind::Number => argument.long(row.name).value_parser(value_parser!(u16)),
         Kind::Switch => argument
             .long(row.name)
             .value_parser(value_parser!(u8).range(0..=1)),
         Kind::Flag => argument.long(row.name).action(ArgAction::SetTrue),
+        Kind::FlagWithout(other) => argument
+            .long(row.name)
+            .action(ArgAction::SetTrue)
+            .conflicts_with(other)?,
         Kind::Choice(words) => argument.long(row.name).value_parser(words),
-    }
+    })
 }
 
 fn command_of<'a>(alloc: Global, row: &CommandRow) -> Result<Command<'a>, AllocError> {
     let mut command = Command::new(alloc, row.name).about(row.about);
     for argument in row.arguments {
-        command = command.arg(argument_of(alloc, argument))?;
+        command = command.arg(argument_of(alloc, argument)?)?;
     }
     Ok(command)
 }

@@ -5,4 +5,4 @@ mod commands;
 mod pages;
 mod request;
 
-pub use request::{OrphanRule, Request, RunOptions, WordsFault, read_words};
+pub use request::{OrphanRule, ProgressRule, Request, RunOptions, WordsFault, read_words};

@@ -32,6 +32,17 @@ pub enum OrphanRule {
     Leave,
 }
 
+/// Whether standard error shows how far a run is.
+#[derive(Clone, Copy, Debug, PartialEq, Eq)]
+pub enum ProgressRule {
+    /// Where it is a terminal.
+    Auto,
+    /// Whatever it is.
+    Always,
+    /// It shows nothing.
+    Never,
+}
+
 /// How a run is to be done.
 #[derive(Clone, Copy, Debug, PartialEq, Eq)]
 pub struct RunOptions {
@@ -49,6 +60,12 @@ pub struct RunOptions {
     /// Whether the files that take the output and the errors of a job are brought to the disk before its
     /// ending is recorded.
     pub sync_output: bool,
+    /// Whether standard error shows how far the run is.
+    pub progress: ProgressRule,
+    /// Whether no round begins where the last one has ended: its report is printed again.
+    pub resume: bool,
+    /// Whether root goes by files of others that stand beside the DAG file, and others by those of root.
+    pub trust_owner: bool,
 }
 
 /// What the words of a command line ask for.
@@ -87,6 +104,24 @@ pub enum Request<'a> {
 
     /// `graph DAG`: the path of the DAG file.
     Graph {
+        dag: &'a str,
+    },
+
+    /// `why DAG [NODE ..]`: the path of the DAG file, and the names of nodes; none for all that are in
+    /// error.
+    Why {
+        dag: &'a str,
+        nodes: Vec<&'a str>,
+    },
+
+    /// `times DAG`: the path of the DAG file, and whether a picture is asked for.
+    Times {
+        dag: &'a str,
+        svg: bool,
+    },
+
+    /// `salvage DAG`: the path of the DAG file.
+    Salvage {
         dag: &'a str,
     },
 
@@ -153,6 +188,15 @@ fn orphan_rule_of(found: &ArgMatches<'_>) -> OrphanRule {
     }
 }
 
+/// Whether standard error shows how far a run is: where it is a terminal, unless it is said.
+fn progress_of(found: &ArgMatches<'_>) -> ProgressRule {
+    match found.get_str("progress") {
+        Some("always") => ProgressRule::Always,
+        Some("never") => ProgressRule::Never,
+        _ => ProgressRule::Auto,
+    }
+}
+
 /// The options of a run.
 fn options_of(found: &ArgMatches<'_>) -> RunOptions
     ensures { AreLimits result.limits }
@@ -164,12 +208,24 @@ fn options_of(found: &ArgMatches<'_>) -> RunOptions
         orphans: orphan_rule_of(found),
         always_post: found.get_flag("always-run-post"),
         sync_output: found.get_one::<u8>("sync-output") != Some(0),
+        progress: progress_of(found),
+        resume: found.get_flag("resume"),
+        trust_owner: found.get_flag("trust-owner"),
     }
 }
 
 /// The path of the DAG file, which each command has.
 fn dag_of<'a>(found: &ArgMatches<'a>) -> &'a str {
     found.get_str("DAG").unwrap_or("-")
+}
+
+/// The nodes that are asked for.
+fn nodes_of<'a>(alloc: Global, found: &ArgMatches<'a>) -> Result<Vec<&'a str>, AllocError> {
+    let mut nodes = Vec::new(alloc);
+    if let Some(words) = found.get_strs("NODE") {
+        nodes.extend_from_slice(words)?;
+    }
+    Ok(nodes)
 }
 
 /// The request of no words.
@@ -225,6 +281,15 @@ fn request_of<'a>(alloc: Global, matches: &ArgMatches<'a>) -> Result<Request<'a>
             always_post: found.get_flag("always-run-post"),
         }),
         Some(("graph", found)) => Ok(Request::Graph { dag: dag_of(found) }),
+        Some(("why", found)) => Ok(Request::Why {
+            dag: dag_of(found),
+            nodes: nodes_of(alloc, found)?,
+        }),
+        Some(("times", found)) => Ok(Request::Times {
+            dag: dag_of(found),
+            svg: found.get_flag("svg"),
+        }),
+        Some(("salvage", found)) => Ok(Request::Salvage { dag: dag_of(found) }),
         Some((command, found)) => page_of(alloc, command, found),
         None => Ok(bare_rehearsal()),
     }

@@ -1,5 +1,5 @@
 -- What stands beside a DAG file, and what is told of it.
-use Rattle.std.specs.Prelude.{◌≡◌, ◌≤◌, ◌+◌, ℕ, Bool, true, false, nat_lt, List, ◌++◌, Option, Some, None, is_some, codes, string_bytes, String, if◌then◌else◌}
+use Rattle.std.specs.Prelude.{◌≡◌, ◌≢◌, ◌<◌, ◌≤◌, ◌+◌, ◌-◌, ℕ, Bool, true, false, nat_lt, List, ◌++◌, length, slice_index, Option, Some, None, is_some, codes, string_bytes, String, if◌then◌else◌}
 use Rattle.std.specs.Global.{Global}
 use Rattle.rescue_file.specs.Numbered.{IsNumber}
 use Rattle.event_journal.specs.declared.fault.JournalFault.{JournalFault}
@@ -14,6 +14,26 @@ use Rattle.dag_texts.specs.declared.fault.RunFault.TheVariants.{NotThere, Unfini
 -- `top.journal`
 abbrev pub journal_name_of : List ℕ → List ℕ
 journal_name_of top = top ++ codes ".journal"
+
+-- How many bytes the name of a file has by its path: those behind the last slash, or all where there is none.
+pub data IsNameLength (path : List ℕ) : ℕ → Type 0 where
+  no_slash : ((place : ℕ) → place < length path → slice_index path place ≢ 47) → IsNameLength path (length path)
+  behind_slash : (slash : ℕ) → slash < length path → slice_index path slash ≡ 47 →
+      ((place : ℕ) → slash < place → place < length path → slice_index path place ≢ 47) → IsNameLength path (length path - slash - 1)
+
+-- the longest path of a file that a round can need beside its DAG file: that of the last rescue file, once it is put away
+abbrev pub longest_path_of : List ℕ → List ℕ
+longest_path_of top = top ++ codes ".rescue999.old"
+
+-- its name is one that a file can have: it has at most 255 bytes
+abbrev pub HasRoomForNames : List ℕ → Type 0
+HasRoomForNames top = (bytes : ℕ) × IsNameLength (longest_path_of top) bytes × (bytes ≤ 255)
+
+-- its name is too long, and it is told; or memory ran out
+pub data IsRoomFault (top : List ℕ) : RunFault → Type 0 where
+  too_long : (file : String Global) (bytes : ℕ) → IsNameLength (longest_path_of top) bytes → 255 < bytes → string_bytes file ≡ longest_path_of top →
+      IsRoomFault top (FileRefused file)
+  naming_had_no_memory : IsRoomFault top Memory
 
 -- the system refuses a file, or memory ran out
 pub data IsFileFault : RunFault → Type 0 where

@@ -4,28 +4,28 @@ ghost use Rattle.std.specs.Prelude.{◌≡◌, ◌≤◌, IfOk, IfErr};
 ghost use Rattle.rescue_file.specs.Numbered.{IsNumber, rescue_name_of};
 ghost use Rattle.splices.specs.Paths.{join};
 ghost use Rattle.dag_texts.specs.declared.fault.RunFault.TheVariants.{Memory};
-ghost use Rattle.dag_files.specs.Beside.{journal_name_of, IsFileFault};
+ghost use Rattle.dag_files.specs.Beside.{journal_name_of, IsFileFault, IsNameLength, HasRoomForNames, IsRoomFault};
 
+use crate::locking::{Lock, lock_in_time, lock_opened};
+use crate::owners::is_trusted;
 use crate::rescues::numbers_above;
 use dag_reader::Text;
 use dag_texts::RunFault;
+use journal_disks::require_regular;
+use memchr::memrchr;
 use rescue_file::{pick_number, rescue_name};
 use splices::path_in;
 use std::alloc::{AllocError, Global};
-use std::fs::{File, OpenOptions};
+use std::fs::{self, File};
 use std::io::{self, ErrorKind};
 use std::rt::Files;
-use std::time::{Clock, Duration};
-use std::{fs, thread};
+use std::time::Clock;
 
 /// The greatest number of a rescue file.
 pub const LAST_NUMBER: u16 = 999;
 
 /// The greatest length of a file's name in bytes, on the file systems of Linux.
 const LONGEST_NAME: usize = 255;
-
-/// How often a lock that another process has is tried again.
-const LOCK_TRIES: u32 = 33;
 
 /// A DAG file, and the folder from which its path is taken where it is relative.
 #[derive(Clone, Copy)]
@@ -78,15 +78,14 @@ pub fn rescue_path(alloc: Global, top: &str, number: u16) -> Result<Text, RunFau
     }
 }
 
-/// Whether a file comes to be locked by this process, tried every ten milliseconds.
-fn is_locked_in_time<R: Clock>(rt: &R, file: &File) -> bool {
-    for _ in 0..LOCK_TRIES {
-        if file.try_lock().is_ok() {
-            return true;
-        }
-        thread::sleep(rt, Duration::from_millis(10));
+/// How many bytes the name of a file has by its path.
+fn name_length(path: &[u8]) -> usize
+    ensures { IsNameLength path.now result }
+{
+    match memrchr(b'/', path) {
+        Some(slash) => path.len() - slash - 1,
+        None => path.len(),
     }
-    file.try_lock().is_ok()
 }
 
 /// The last part of a path.
@@ -160,7 +159,8 @@ impl<'a> Place<'a> {
     /// The bytes of the file of this path; none where it is missing.
     ///
     /// # Errors
-    /// `FileRefused` with the path of a file that the system refuses to read; `Memory`.
+    /// `FileRefused` with the path of a file that the system refuses to read, or that is no regular file;
+    /// `Memory`.
     pub fn read<R: Files + AllocGlobal>(
         &self,
         rt: &R,
@@ -169,42 +169,120 @@ impl<'a> Place<'a> {
         ensures { IfErr result IsFileFault }
     {
         let place = self.at(rt.alloc(), path)?;
-        match fs::read(rt, place.as_str()) {
+        match read_regular(rt, place.as_str()) {
             Ok(bytes) => Ok(Some(bytes)),
             Err(error) if error.kind() == ErrorKind::NotFound => Ok(None),
             Err(error) => Err(refused(rt.alloc(), path, &error)),
         }
     }
 
-    /// Locks the file beside the DAG file that is named for it, until the handle is dropped or the
-    /// process ends; the file is made where it is missing. Where another process has it, it is tried
+    /// Locks the file beside the DAG file that is named for it, until the lock is given back or dropped or
+    /// the process ends; the file is made where it is missing. Where another process has it, it is tried
     /// again for a third of a second: a child that a manager was making as it was killed holds its lock
-    /// for a moment.
+    /// for a moment. The journal, where there is one, is locked too: a lock file that somebody removed
+    /// lets nobody in.
     ///
     /// # Errors
-    /// `FileRefused` with the path of the lock, where the system refuses it or another process has
-    /// it; `Memory`.
+    /// `FileRefused` with the path of the lock, where the system refuses it, it is no regular file, or
+    /// another process has it or the journal; `Memory`.
     pub fn lock<R: Files<File = File> + Clock + AllocGlobal>(
         &self,
         rt: &R,
-    ) -> Result<File, RunFault>
+    ) -> Result<Lock, RunFault>
         ensures { IfErr result IsFileFault }
     {
         let alloc = rt.alloc();
         let path = lock_path(alloc, self.top)?;
         let place = self.at(alloc, path.as_str())?;
-        let opened = OpenOptions::new()
-            .write(true)
-            .create(true)
-            .open(rt, place.as_str());
-        let file = match opened {
-            Ok(file) => file,
+        let file = match lock_in_time(rt, place.as_str()) {
+            Ok(Some(file)) => file,
+            Ok(None) => return Err(self.taken(alloc)),
             Err(error) => return Err(refused(alloc, path.as_str(), &error)),
         };
-        if is_locked_in_time(rt, &file) {
-            return Ok(file);
+        let mut lock = Lock::of(file);
+        match self.lock_journal(rt, &mut lock) {
+            Ok(()) => Ok(lock),
+            Err(fault) => {
+                self.unlock(rt, lock);
+                Err(fault)
+            }
         }
-        Err(self.taken(alloc))
+    }
+
+    /// Locks the journal, where there is one that may be read. A round that begins calls this once it has
+    /// made its journal, too.
+    ///
+    /// # Errors
+    /// `FileRefused` with the path of the lock, where another process has locked the journal; `Memory`.
+    pub fn lock_journal<R: Files<File = File> + Clock + AllocGlobal>(
+        &self,
+        rt: &R,
+        lock: &mut Lock,
+    ) -> Result<(), RunFault>
+        ensures { IfErr result IsFileFault }
+    {
+        let alloc = rt.alloc();
+        lock.frees_journal();
+        let place = self.at(alloc, journal_path(alloc, self.top)?.as_str())?;
+        let Ok(journal) = File::open(rt, place.as_str()) else {
+            return Ok(());
+        };
+        if !lock_opened(rt, &journal) {
+            return Err(self.taken(alloc));
+        }
+        lock.holds(journal);
+        Ok(())
+    }
+
+    /// Gives a lock back: the file that is named for it is removed while it is locked, where the name is
+    /// still that of this file.
+    pub fn unlock<R: Files + AllocGlobal>(&self, rt: &R, lock: Lock) {
+        let alloc = rt.alloc();
+        if let Ok(path) = lock_path(alloc, self.top) {
+            if let Ok(place) = self.at(alloc, path.as_str()) {
+                lock.remove_file(rt, place.as_str());
+            }
+        }
+    }
+
+    /// Sees to it that the file of this path, which stands beside the DAG file, was put there by nobody
+    /// else: where others may put files into that folder, and it is there, it is this user's. With
+    /// `trust_owner` root trusts the files of others, and others trust those of root.
+    ///
+    /// # Errors
+    /// `FileRefused` with the path of a file that may be another user's; `Memory`.
+    pub fn trusts<R: Files + AllocGlobal>(
+        &self,
+        rt: &R,
+        path: &str,
+        trust_owner: bool,
+    ) -> Result<(), RunFault>
+        ensures { IfErr result IsFileFault }
+    {
+        let alloc = rt.alloc();
+        let folder = self.at(alloc, folder_of(self.top))?;
+        let place = self.at(alloc, path)?;
+        if is_trusted(rt, folder.as_str(), place.as_str(), trust_owner) {
+            return Ok(());
+        }
+        match String::from_str(alloc, path) {
+            Ok(path) => Err(RunFault::FileRefused(path)),
+            Err(_) => Err(RunFault::Memory),
+        }
+    }
+
+    /// Sees to it that the file of this path is no symbolic link, pipe, socket or device.
+    ///
+    /// # Errors
+    /// `FileRefused` with the path of such a one; `Memory`.
+    pub fn is_regular<R: Files + AllocGlobal>(&self, rt: &R, path: &str) -> Result<(), RunFault>
+        ensures { IfErr result IsFileFault }
+    {
+        let place = self.at(rt.alloc(), path)?;
+        match require_regular(rt, place.as_str()) {
+            Ok(()) => Ok(()),
+            Err(error) => Err(refused(rt.alloc(), path, &error)),
+        }
     }
 
     /// Whether the longest name that a round can need beside the DAG file, that of a rescue file that
@@ -213,12 +291,13 @@ impl<'a> Place<'a> {
     /// # Errors
     /// `FileRefused` with that name, where it is longer than 255 bytes; `Memory`.
     pub fn has_room_for_names(&self, alloc: Global) -> Result<(), RunFault>
-        ensures { IfErr result IsFileFault }
+        ensures room { IfOk result (λ _. HasRoomForNames self.now.top.now) }
+        ensures refused { IfErr result (IsRoomFault self.now.top.now) }
     {
         let Ok(longest) = Text::joined(alloc, self.top, ".rescue999.old") else {
             return Err(RunFault::Memory);
         };
-        if base_of(longest.as_str()).len() <= LONGEST_NAME {
+        if name_length(longest.as_str().as_bytes()) <= LONGEST_NAME {
             return Ok(());
         }
         match String::from_str(alloc, longest.as_str()) {
@@ -320,6 +399,12 @@ impl<'a> Place<'a> {
         }
         self.sync_names(rt, folder_of(self.top))
     }
+}
+
+/// The bytes of a regular file.
+fn read_regular<R: Files + AllocGlobal>(rt: &R, path: &str) -> io::Result<Vec<u8>> {
+    require_regular(rt, path)?;
+    fs::read(rt, path)
 }
 
 /// Brings the names in a folder to the disk.

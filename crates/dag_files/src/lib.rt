@@ -3,11 +3,18 @@
 #![tactic(auto)]
 
 mod beside;
+mod inputs;
 mod loading;
+mod locking;
+mod owners;
 mod rescues;
 mod rounds;
 
 pub use beside::{LAST_NUMBER, Place, journal_path, refused, rescue_path};
-pub use loading::{Reading, files_in, files_of};
+pub use inputs::{MOST_BYTES, read_input};
+pub use loading::{Reading, dag_files_in, files_in, files_of};
+pub use locking::Lock;
 pub use rescues::numbers_above;
-pub use rounds::{Journaled, Round, bytes_of, disk_at, named, rescue_disk, rescue_of, round_of};
+pub use rounds::{
+    Journaled, Round, bytes_of, journal_disk, named, rescue_disk, rescue_of, round_of,
+};

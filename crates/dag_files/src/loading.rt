@@ -4,12 +4,12 @@ ghost use Rattle.std.specs.Prelude.{◌≡◌, codes, IfErr};
 ghost use Rattle.dag_texts.specs.declared.fault.RunFault.TheVariants.{Memory};
 ghost use Rattle.dag_files.specs.Beside.{IsInputFault};
 
+use crate::inputs::{read_at_most, read_input};
 use dag_reader::{Command, ReadFault, Text, Word, read_dag};
 use dag_texts::RunFault;
 use splices::{FileSet, path_in};
 use std::alloc::Global;
-use std::fs;
-use std::io::{ErrorKind, Read};
+use std::io::ErrorKind;
 use std::rt::Files;
 
 /// How many lines that name a file are followed at most: far more than may be opened.
@@ -34,10 +34,11 @@ pub enum Reading {
 
 /// The DAG file of this path, `-` for standard input, with the files of its splices and of theirs,
 /// and, if asked for, the submit files of all nodes but NOOPs, each read once. A file that can't be
-/// read stays missing.
+/// read stays missing, and so does what is no regular file, but for a DAG file that is a pipe.
 ///
 /// # Errors
-/// `FileRefused` with `-` where standard input can't be read; `Memory`.
+/// `FileRefused` with `-` where standard input can't be read; `Memory`, also for a file of more than
+/// 256 MiB.
 pub fn files_of<R: Files + Input + AllocGlobal>(
     rt: &R,
     top: &str,
@@ -53,12 +54,27 @@ pub fn files_of<R: Files + Input + AllocGlobal>(
 /// submit files are read too.
 ///
 /// # Errors
-/// `Memory` alone.
+/// `Memory` alone, also for a file of more than 256 MiB.
 pub fn files_in<R: Files + AllocGlobal>(rt: &R, seat: &str, top: &str) -> Result<FileSet, RunFault>
     ensures { IfErr result (λ fault. fault ≡ Memory) }
 {
-    let bytes = read_file(rt, seat, top)?;
+    let bytes = read_file(rt, seat, top, true)?;
     files_from(rt, seat, top, bytes, Reading::SubmitFilesToo)
+}
+
+/// The DAG file of a run and the files of its splices, as `files_in` reads them, without submit files.
+///
+/// # Errors
+/// `Memory` alone.
+pub fn dag_files_in<R: Files + AllocGlobal>(
+    rt: &R,
+    seat: &str,
+    top: &str,
+) -> Result<FileSet, RunFault>
+    ensures { IfErr result (λ fault. fault ≡ Memory) }
+{
+    let bytes = read_file(rt, seat, top, true)?;
+    files_from(rt, seat, top, bytes, Reading::SplicesAlone)
 }
 
 /// The DAG file of these bytes, if it could be read, and the files that its lines name.
@@ -105,7 +121,7 @@ fn add_file<R: Files + AllocGlobal>(
     if files.get(path).is_some() {
         return Ok(());
     }
-    let Some(bytes) = read_file(rt, seat, path)? else {
+    let Some(bytes) = read_file(rt, seat, path, false)? else {
         return Ok(());
     };
     if let Wanted::Splice { folder, .. } = next {
@@ -208,33 +224,34 @@ fn read_top<R: Files + Input + AllocGlobal>(rt: &R, path: &str) -> Result<Option
     ensures { IfErr result (IsInputFault path.now) }
 {
     if path == "-" {
-        return Ok(Some(read_input(rt)?));
+        return Ok(Some(read_standard_input(rt)?));
     }
-    read_file(rt, "", path)
+    read_file(rt, "", path, true)
 }
 
-/// The bytes of a file as seen from a folder, unless it can't be read.
+/// The bytes of a file as seen from a folder, unless it can't be read; where pipes are read, it may be
+/// one. More than 256 MiB are answered as if there were no memory for them.
 fn read_file<R: Files + AllocGlobal>(
     rt: &R,
     seat: &str,
     path: &str,
+    pipes: bool,
 ) -> Result<Option<Vec<u8>>, RunFault>
     ensures { IfErr result (λ fault. fault ≡ Memory) }
 {
     let place = path_in(rt.alloc(), seat, path)?;
-    match fs::read(rt, place.as_str()) {
+    match read_input(rt, place.as_str(), pipes) {
         Ok(bytes) => Ok(Some(bytes)),
         Err(error) if error.kind() == ErrorKind::OutOfMemory => Err(RunFault::Memory),
         Err(_) => Ok(None),
     }
 }
 
-fn read_input<R: Input + AllocGlobal>(rt: &R) -> Result<Vec<u8>, RunFault>
+fn read_standard_input<R: Input + AllocGlobal>(rt: &R) -> Result<Vec<u8>, RunFault>
     ensures { IfErr result (IsInputFault (codes "-")) }
 {
-    let mut bytes = Vec::new(rt.alloc());
-    match rt.reader().read_to_end(&mut bytes) {
-        Ok(_) => Ok(bytes),
+    match read_at_most(rt.alloc(), rt.reader()) {
+        Ok(bytes) => Ok(bytes),
         Err(error) if error.kind() == ErrorKind::OutOfMemory => Err(RunFault::Memory),
         Err(_) => Err(RunFault::FileRefused(String::from_str(rt.alloc(), "-")?)),
     }

@@ -68,7 +68,7 @@ fn number_read(autorescue: bool, highest: u16) -> u16
 ///
 /// # Errors
 /// `Memory` alone.
-pub fn disk_at<R: Files<File = File> + AllocGlobal + Copy + Drop>(
+fn disk_at<R: Files<File = File> + AllocGlobal + Copy + Drop>(
     rt: R,
     place: &Place<'_>,
     path: &str,
@@ -78,6 +78,22 @@ pub fn disk_at<R: Files<File = File> + AllocGlobal + Copy + Drop>(
     let alloc = rt.alloc();
     let at = place.at(alloc, path)?;
     Ok(FileDisk::at(rt, String::from_str(alloc, at.as_str())?))
+}
+
+/// The disk of the journal, for the manager that holds the lock. Nothing is opened yet.
+///
+/// # Errors
+/// `Memory` alone.
+pub fn journal_disk<R: Files<File = File> + AllocGlobal + Copy + Drop>(
+    rt: R,
+    place: &Place<'_>,
+) -> Result<FileDisk<R>, RunFault>
+    ensures { IfErr result (λ fault. fault ≡ Memory) }
+{
+    let alloc = rt.alloc();
+    let path = journal_path(alloc, place.top)?;
+    let at = place.at(alloc, path.as_str())?;
+    Ok(FileDisk::renewed(rt, String::from_str(alloc, at.as_str())?))
 }
 
 /// The disk of the rescue file of this number, from 1 to 999, which is written beside it, under its name
@@ -234,11 +250,13 @@ fn unfinished(peek: &Peek) -> Result<Round, RunFault>
 ///
 /// # Errors
 /// `NotThere` with the number of a file that is missing where the round goes back to it; `FileRefused`
-/// with the path of a file that the system refuses to read; `Memory`.
+/// with the path of a file that may be another user's, as `Place::trusts` tells it, or that the system
+/// refuses to read; `Memory`.
 pub fn rescue_of<R: Files + AllocGlobal>(
     rt: &R,
     place: &Place<'_>,
     round: &Round,
+    trust_owner: bool,
 ) -> Result<Option<Vec<u8>>, RunFault>
     requires used { round.now.used ≤ 999 }
     requires back { round.now.goes_back ≡ true → IsNumber round.now.used }
@@ -249,6 +267,7 @@ pub fn rescue_of<R: Files + AllocGlobal>(
         return Ok(None);
     }
     let path = rescue_path(rt.alloc(), place.top, round.used)?;
+    place.trusts(rt, path.as_str(), trust_owner)?;
     let bytes = place.read(rt, path.as_str())?;
     if round.goes_back && bytes.is_none() {
         return Err(RunFault::NotThere(round.used));

@@ -1,5 +1,5 @@
 -- What a run prints, by its plan.
-use Rattle.std.proofs.Common.{◌≡◌, ℕ, List}
+use Rattle.std.proofs.Common.{◌≡◌, ℕ, List, Result, Ok, Err, IfOk, string_bytes}
 use Rattle.splices.specs.FileSet.{bytes_of}
 use Rattle.splices.specs.declared.file_set.FileSet.{FileSet}
 use Rattle.dag_graph.specs.Graph.{Network}
@@ -10,6 +10,8 @@ use Rattle.dag_files.specs.Beside.{IsRoundBy}
 use Rattle.dag_main.specs.Runs.{start_by, IsPlannedRun, IsPlannedFor, IsLedRun, IsRunOf}
 use Rattle.dag_texts.specs.Planned.{IsGraphOf}
 use Rattle.dag_texts.specs.Warnings.{warning_lines}
+use Rattle.dag_texts.specs.declared.fault.RunFault.{RunFault}
+use Rattle.dag_texts.specs.declared.warnings.Answer.{Answer}
 
 pub run-of : (path : List ℕ) (options : RunOptions) (files : FileSet) (graph : Network) (round : Round) (plan : Plan) → IsGraphOf (bytes_of files) path graph
     → IsRoundBy options.autorescue options.dorescuefrom options.always_post round → IsPlannedRun files graph round plan → (text warnings : List ℕ) (status : ℕ) → IsLedRun options.limits plan (start_by round) text status
@@ -27,6 +29,16 @@ run-of path options files graph round plan is_graph is_round (rescue, rescue_is,
     warnings_are = notes;
   };
 }
+
+-- the answer of a round that was led to its end
+pub answer-of : (path : List ℕ) (options : RunOptions) (files : FileSet) (graph : Network) (round : Round) (plan : Plan) → IsGraphOf (bytes_of files) path graph
+    → IsRoundBy options.autorescue options.dorescuefrom options.always_post round → IsPlannedRun files graph round plan → (r : Result Answer RunFault)
+    → IfOk r (λ answer. IsLedRun options.limits plan (start_by round) (string_bytes answer.text) answer.status)
+    → IfOk r (λ answer. string_bytes answer.warnings ≡ warning_lines plan.graph.dag.warnings)
+    → IfOk r (λ answer. IsRunOf path options (string_bytes answer.text) (string_bytes answer.warnings) answer.status)
+answer-of path options files graph round plan is_graph is_round planned (Ok answer) led notes =
+    run-of path options files graph round plan is_graph is_round planned (string_bytes answer.text) (string_bytes answer.warnings) answer.status led notes
+answer-of path options files graph round plan is_graph is_round planned (Err fault) led notes = tt
 
 pub planned-for : (path : List ℕ) (options : RunOptions) (files : FileSet) (graph : Network) (round : Round) (plan : Plan) → IsGraphOf (bytes_of files) path graph
     → IsRoundBy options.autorescue options.dorescuefrom options.always_post round → IsPlannedRun files graph round plan → IsPlannedFor path options

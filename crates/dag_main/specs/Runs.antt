@@ -22,7 +22,7 @@ use Rattle.run_leader.specs.Causes.{IsManagerStop}
 use Rattle.dag_files.specs.declared.rounds.Journaled.{Journaled}
 use Rattle.dag_files.specs.declared.rounds.Journaled.TheVariants as journals
 use Rattle.dag_files.specs.declared.rounds.Round.{Round}
-use Rattle.dag_files.specs.Beside.{IsFileFault, IsRoundFault, IsRoundBy, IsRescueOf, IsRescueFault}
+use Rattle.dag_files.specs.Beside.{IsFileFault, IsRoomFault, IsRoundFault, IsRoundBy, IsRescueOf, IsRescueFault}
 use Rattle.dag_texts.specs.Planned.{IsGraphOf, IsGraphFault, IsPlanBy, IsPlanByFault, in_line, named_by}
 use Rattle.dag_texts.specs.Told.{IsToldOf}
 use Rattle.dag_texts.specs.declared.fault.RunFault.{RunFault}
@@ -74,11 +74,20 @@ pub data IsFindingFault (options : RunOptions) : RunFault → Type 0 where
   no_round : (fault : RunFault) → IsRoundFault options.dorescuefrom fault → IsFindingFault options fault
   no_rescue : (round : Round) (fault : RunFault) → IsRoundBy options.autorescue options.dorescuefrom options.always_post round → IsRescueFault round fault → IsFindingFault options fault
 
--- The same as it is found first: where the journal can't be read, it may also be told that another manager is at work, or that the lock is
--- refused.
-pub data IsFirstFault (options : RunOptions) : RunFault → Type 0 where
-  not_found_at_first : (fault : RunFault) → IsFindingFault options fault → IsFirstFault options fault
-  another_at_work : (fault : RunFault) → IsFileFault fault → IsFirstFault options fault
+-- Why it is not told so under the lock: a name beside the DAG file would be too long; another manager is at work, or the lock is refused; or
+-- as above.
+pub data IsLockedFault (path : List ℕ) (options : RunOptions) : RunFault → Type 0 where
+  no_room_for_lock : (fault : RunFault) → IsRoomFault path fault → IsLockedFault path options fault
+  lock_refused : (fault : RunFault) → IsFileFault fault → IsLockedFault path options fault
+  not_found_locked : (fault : RunFault) → IsFindingFault options fault → IsLockedFault path options fault
+
+-- The same as it is found first: a file beside the DAG file may be another user's, or is no regular one, or memory ran out; then as above,
+-- but a journal that can't be read is looked at again under the lock.
+pub data IsFirstFault (path : List ℕ) (options : RunOptions) : RunFault → Type 0 where
+  not_ours : (fault : RunFault) → IsFileFault fault → IsFirstFault path options fault
+  not_found_at_first : (fault : RunFault) → IsFindingFault options fault → IsFirstFault path options fault
+  looked_again : (journal : ManagerFault) (fault : RunFault) → IsFindingFault options (InManager journal) → IsLockedFault path options fault →
+      IsFirstFault path options fault
 
 -- Why the round has no plan: a submit file, a text of a job or a line of the rescue file has a fault, that of a line told with the name
 -- of the rescue file; memory ran out.
@@ -88,14 +97,21 @@ pub data IsRoundPlanFault (files : FileSet) (path : List ℕ) (graph : Network) 
       IsRoundPlanFault files path graph (named_by (in_line fault) (Some (rescue_name_of path number)) fault)
   planning_had_no_memory : IsRoundPlanFault files path graph Memory
 
--- Why a run is not led to its end: what an earlier manager left running can't be ended, or a rescue file, or the journal of the round before,
--- can't be renamed; the manager refuses, for a disk or for what stands on it; the starter refuses; or memory ran out.
+-- Why a run is not led to its end: what an earlier manager left running can't be ended, a rescue file, or the journal of the round before,
+-- can't be renamed, or another process has locked the journal; the manager refuses, for a disk or for what stands on it; the starter refuses; or memory ran out.
 pub data IsStopFault : RunFault → Type 0 where
   not_cleared : (fault : RunFault) → IsFileFault fault → IsStopFault fault
   manager_refused : (fault : ManagerFault) → IsManagerStop fault → IsStopFault (InManager fault)
   no_memory_for_child : IsStopFault StartMemory
   no_ending_told : IsStopFault WaitFault
   leading_had_no_memory : IsStopFault Memory
+
+-- Why the round is not led to its end once the lock is held, the first cause first: it is not told again which round this is, or it is
+-- another one by now; or it is stopped.
+pub data IsHeldFault (options : RunOptions) : RunFault → Type 0 where
+  not_found_again : (fault : RunFault) → IsFindingFault options fault → IsHeldFault options fault
+  another_was_at_work : (fault : RunFault) → IsFileFault fault → IsHeldFault options fault
+  not_led : (fault : RunFault) → IsStopFault fault → IsHeldFault options fault
 
 -- the plan of the round that the options ask for
 pub record IsPlannedFor (path : List ℕ) (options : RunOptions) : Type 0 where
@@ -108,13 +124,13 @@ pub record IsPlannedFor (path : List ℕ) (options : RunOptions) : Type 0 where
   pub planned : IsPlannedRun files graph round plan
 
 -- Why `run` is refused, the first cause first. Each is met where those before it are not: the files make no graph; it is not
--- told which round this is, or what its rescue file says; the round has no plan; a name beside the DAG file would be too long, another
--- manager is at work, or the lock is refused; under the lock it is not told again which round this is; the run is not led to its end.
+-- told which round this is, or what its rescue file says; the round has no plan; a name beside the DAG file would be too long; another
+-- manager is at work, or the lock is refused; under the lock the round is another one, or is not led to its end.
 pub data IsRunFault (path : List ℕ) (options : RunOptions) : RunFault → Type 0 where
   no_graph : (files : FileSet) (fault : RunFault) → IsGraphFault (bytes_of files) path fault → IsRunFault path options fault
-  not_found : (files : FileSet) (graph : Network) (fault : RunFault) → IsGraphOf (bytes_of files) path graph → IsFirstFault options fault → IsRunFault path options fault
+  not_found : (files : FileSet) (graph : Network) (fault : RunFault) → IsGraphOf (bytes_of files) path graph → IsFirstFault path options fault → IsRunFault path options fault
   no_plan : (files : FileSet) (graph : Network) (fault : RunFault) → IsGraphOf (bytes_of files) path graph → IsRoundPlanFault files path graph fault → IsRunFault path options fault
+  no_room : (fault : RunFault) → IsPlannedFor path options → IsRoomFault path fault → IsRunFault path options fault
   not_alone : (fault : RunFault) → IsPlannedFor path options → IsFileFault fault → IsRunFault path options fault
-  not_found_again : (fault : RunFault) → IsPlannedFor path options → IsFindingFault options fault → IsRunFault path options fault
-  not_led : (fault : RunFault) → IsPlannedFor path options → IsStopFault fault → IsRunFault path options fault
+  not_held : (fault : RunFault) → IsPlannedFor path options → IsHeldFault options fault → IsRunFault path options fault
   no_memory : IsRunFault path options Memory

@@ -3,8 +3,10 @@
 #![tactic(auto)]
 
 mod beginning;
+mod progress;
 mod runs;
 
 pub use command_line::RunOptions;
 pub use dag_texts::{Answer, RunFault};
+pub use run_progress::Screen;
 pub use runs::run_dag;

@@ -7,13 +7,18 @@ ghost use Rattle.run_leader.specs.Rounds.{IsNumbered};
 ghost use Rattle.dag_texts.specs.Planned.{IsPlanBy};
 ghost use Rattle.run_leader.specs.Causes.{MayStop};
 ghost use Rattle.dag_files.specs.Beside.{IsFileFault, IsRoundBy, IsRescueOf};
-ghost use Rattle.dag_main.specs.Runs.{start_by, IsPlannedRun, IsLedRun, IsRunOf, IsFindingFault, IsFirstFault, IsRoundPlanFault, IsStopFault, IsRunFault};
+ghost use Rattle.dag_texts.specs.Warnings.{warning_lines};
+ghost use Rattle.dag_main.specs.Runs.{start_by, IsPlannedRun, IsLedRun, IsRunOf, IsFindingFault, IsLockedFault, IsFirstFault, IsRoundPlanFault, IsStopFault, IsHeldFault, IsRunFault};
 
-use crate::beginning::{forget_children, ignores_endings, life_of, settled, watcher_of};
+use crate::beginning::{
+    forget_children, has_own_files, ignores_endings, keep_inputs, life_of, make_journal, settled,
+    watcher_of,
+};
+use crate::progress::{RoundWatcher, progress_of};
 use command_line::RunOptions;
 use dag_files::{
-    Journaled, Place, Round, bytes_of, disk_at, files_in, journal_path, named, rescue_disk,
-    rescue_of, rescue_path, round_of,
+    Journaled, Lock, Place, Round, bytes_of, files_in, journal_disk, named, rescue_disk, rescue_of,
+    rescue_path, round_of,
 };
 use dag_graph::Graph;
 use dag_texts::{Answer, RunFault, graph_of, plan_by, warning_text};
@@ -26,6 +31,7 @@ use run_leader::{Start, run_round};
 use run_log::RunWatcher;
 use run_manager::ManagerFault;
 use run_plan::Plan;
+use run_progress::Screen;
 use splices::FileSet;
 use std::alloc::Global;
 use std::fs::File;
@@ -33,6 +39,13 @@ use std::process::Processes;
 use std::rt::Files;
 use std::time::Clock;
 use throttles::Limits;
+
+/// Why a run is stopped, and what the system said, where it refused a call of a disk.
+#[derive(Drop)]
+struct Stop {
+    fault: RunFault,
+    reason: Option<String>,
+}
 
 /// What a run prints, and its exit status.
 #[derive(Drop)]
@@ -93,6 +106,25 @@ fn start_of(round: &Round) -> Start
     }
 }
 
+/// What the system refused of a call of the journal or of the rescue file, and why; none where it refused
+/// nothing.
+fn reason_of<R: Files<File = File> + Drop>(
+    alloc: Global,
+    journal: &FileDisk<R>,
+    rescue: &Option<FileDisk<R>>,
+) -> Option<String> {
+    if let Some(refusal) = journal.refusal() {
+        return format!(in alloc; "journal: {refusal}").ok();
+    }
+    match rescue {
+        Some(rescue) => match rescue.refusal() {
+            Some(refusal) => format!(in alloc; "rescue file: {refusal}").ok(),
+            None => None,
+        },
+        None => None,
+    }
+}
+
 /// Leads a round of a plan to its end on these disks, with children of this process of which the watcher
 /// is told, and answers what it prints.
 fn led_by<
@@ -106,21 +138,30 @@ fn led_by<
     limits: Limits,
     disks: (FileDisk<R>, FileDisk<R>),
     watcher: W,
-) -> Result<Report, RunFault>
+) -> Result<Report, Stop>
     requires numbered { IsNumbered start }
     ensures led { IfOk result (λ report. IsLedRun limits plan.now start
         (string_bytes report.text) report.status) }
-    ensures refused { IfErr result IsStopFault }
+    ensures refused { IfErr result (λ stop. IsStopFault stop.fault) }
 {
     let alloc = rt.alloc();
     let (journal, rescue) = disks;
-    let mut starter = ProcessStarter::new(LocalSystem::new(alloc, rt, folder, watcher)?);
+    let Ok(system) = LocalSystem::new(alloc, rt, folder, watcher) else {
+        return Err(Stop {
+            fault: RunFault::Memory,
+            reason: None,
+        });
+    };
+    let mut starter = ProcessStarter::new(system);
     match run_round(alloc, journal, plan, start, limits, &mut starter, rescue) {
         Ok((_journal, led)) => Ok(Report {
             text: led.text,
             status: led.status,
         }),
-        Err((_journal, (_rescue, fault))) => Err(in_run(fault)),
+        Err((journal, (rescue, fault))) => Err(Stop {
+            fault: in_run(fault),
+            reason: reason_of(alloc, &journal, &rescue),
+        }),
     }
 }
 
@@ -142,19 +183,27 @@ fn put_away<R: Files<File = File> + AllocGlobal + Clone + Drop>(
     Ok(())
 }
 
+/// The text, where there is one.
+fn text_in(text: &Option<String>) -> Option<&str> {
+    match text {
+        Some(text) => Some(text.as_str()),
+        None => None,
+    }
+}
+
 /// Tells how a manager ended, and forgets its children.
 fn tell_end<R: Files<File = File> + Clock + AllocGlobal + Copy + Drop>(
     rt: R,
     place: &Place<'_>,
     watcher: &mut RunWatcher<'_, R>,
-    ended: &Result<Report, RunFault>,
+    ended: &Result<Report, Stop>,
     some_left: bool,
 ) {
     match ended {
         Ok(report) => watcher.finishes(report.text.as_str(), report.status),
-        Err(fault) => {
-            if let Ok(line) = format!(in rt.alloc(); "{fault}") {
-                watcher.stops(line.as_str());
+        Err(stop) => {
+            if let Ok(line) = format!(in rt.alloc(); "{}", stop.fault) {
+                watcher.stops(line.as_str(), text_in(&stop.reason));
             }
         }
     }
@@ -165,13 +214,14 @@ fn tell_end<R: Files<File = File> + Clock + AllocGlobal + Copy + Drop>(
 
 /// Leads a round of a plan to its end on these disks, once no process of an earlier manager is in its
 /// way, and answers what it prints.
-fn run_on<R: Processes + Files<File = File> + Clock + AllocGlobal + Copy + Drop>(
+fn run_on<R: Processes + Files<File = File> + Clock + Screen + AllocGlobal + Copy + Drop>(
     rt: R,
     place: &Place<'_>,
     plan: &Plan,
     round: &Round,
     options: &RunOptions,
     disks: (FileDisk<R>, FileDisk<R>),
+    lock: &mut Lock,
 ) -> Result<Report, RunFault>
     requires next { IsRescueNumber round.now.next }
     ensures led { IfOk result (λ report. IsLedRun options.now.limits plan.now (start_by round.now)
@@ -183,9 +233,12 @@ fn run_on<R: Processes + Files<File = File> + Clock + AllocGlobal + Copy + Drop>
     }
     let left = settled(&rt, place, options.orphans)?;
     put_away(&rt, place, round)?;
-    let mut watcher = watcher_of(rt, place, plan, round, left.as_str(), options.sync_output)?;
-    watcher.begins(&life_of(place, round, options));
+    make_journal(&rt, place, round, lock)?;
+    let mut log = watcher_of(rt, place, plan, round, left.as_str(), options.sync_output)?;
+    log.begins(&life_of(place, round, options));
     let start = start_of(round);
+    let progress = progress_of(rt, place, plan, round, options);
+    let mut watcher = RoundWatcher { log, progress };
     let ended = led_by(
         rt,
         place.folder,
@@ -195,27 +248,31 @@ fn run_on<R: Processes + Files<File = File> + Clock + AllocGlobal + Copy + Drop>
         disks,
         &mut watcher,
     );
-    tell_end(rt, place, &mut watcher, &ended, !left.is_empty());
-    ended
+    watcher.progress.ends();
+    tell_end(rt, place, &mut watcher.log, &ended, !left.is_empty());
+    match ended {
+        Ok(report) => Ok(report),
+        Err(stop) => Err(stop.fault),
+    }
 }
 
 /// Runs a round of a plan on the disks beside the DAG file, and answers what it prints.
-fn run_planned<R: Processes + Files<File = File> + Clock + AllocGlobal + Copy + Drop>(
+fn run_planned<R: Processes + Files<File = File> + Clock + Screen + AllocGlobal + Copy + Drop>(
     rt: R,
     place: &Place<'_>,
     plan: &Plan,
     round: &Round,
     options: &RunOptions,
+    lock: &mut Lock,
 ) -> Result<Report, RunFault>
     requires next { IsRescueNumber round.now.next }
     ensures led { IfOk result (λ report. IsLedRun options.now.limits plan.now (start_by round.now)
         (string_bytes report.text) report.status) }
     ensures refused { IfErr result IsStopFault }
 {
-    let alloc = rt.alloc();
     let rescue = rescue_disk(rt, place, round.next)?;
-    let journal = disk_at(rt, place, journal_path(alloc, place.top)?.as_str())?;
-    run_on(rt, place, plan, round, options, (journal, rescue))
+    let journal = journal_disk(rt, place)?;
+    run_on(rt, place, plan, round, options, (journal, rescue), lock)
 }
 
 /// The round that this run of a DAG is, and the bytes of the rescue file that it reads.
@@ -239,7 +296,7 @@ fn round_with_rescue<R: Files<File = File> + AllocGlobal + Copy + Drop>(
         options.dorescuefrom,
         options.always_post,
     )?;
-    let rescue = rescue_of(&rt, place, &round)?;
+    let rescue = rescue_of(&rt, place, &round, options.trust_owner)?;
     Ok((round, rescue))
 }
 
@@ -248,8 +305,10 @@ fn round_with_rescue<R: Files<File = File> + AllocGlobal + Copy + Drop>(
 /// one has stopped, or it is told that one is at work.
 ///
 /// # Errors
-/// As `round_with_rescue`; where the journal can't be read and another manager runs the DAG,
-/// `FileRefused` with the file that it has locked.
+/// `FileRefused` with a file beside the DAG file that may be another user's, or that is no regular file;
+/// then as `round_with_rescue`, but where the journal can't be read and a name beside the DAG file would be
+/// too long, `FileRefused` with that name, or where another manager runs the DAG with the file that it has
+/// locked.
 fn first_look<R: Files<File = File> + Clock + AllocGlobal + Copy + Drop>(
     rt: R,
     place: &Place<'_>,
@@ -258,22 +317,75 @@ fn first_look<R: Files<File = File> + Clock + AllocGlobal + Copy + Drop>(
     ensures numbers { IfOk result (λ found. IsRescueNumber found.0.next × (found.0.used ≤ 999)) }
     ensures by { IfOk result (λ found. IsRoundBy options.now.autorescue options.now.dorescuefrom options.now.always_post found.0) }
     ensures rescue { IfOk result (λ found. IsRescueOf found.0 (option_map (λ b. b.items) found.1)) }
-    ensures refused { IfErr result (IsFirstFault options.now) }
+    ensures refused { IfErr result (IsFirstFault place.now.top.now options.now) }
 {
+    has_own_files(&rt, place, options.trust_owner)?;
     match round_with_rescue(rt, place, options) {
-        Err(RunFault::InManager(_)) => {
-            let _lock = place.lock(&rt)?;
-            round_with_rescue(rt, place, options)
-        }
+        Err(RunFault::InManager(_journal)) => look_locked(rt, place, options),
         Ok(found) => Ok(found),
         Err(fault) => Err(fault),
     }
 }
 
+/// The same as it is found under the lock.
+///
+/// # Errors
+/// `FileRefused` with a name beside the DAG file that would be too long, or with the lock, where it is
+/// refused or another manager has it; then as `round_with_rescue`.
+fn look_locked<R: Files<File = File> + Clock + AllocGlobal + Copy + Drop>(
+    rt: R,
+    place: &Place<'_>,
+    options: &RunOptions,
+) -> Result<(Round, Option<Vec<u8>>), RunFault>
+    ensures numbers { IfOk result (λ found. IsRescueNumber found.0.next × (found.0.used ≤ 999)) }
+    ensures by { IfOk result (λ found. IsRoundBy options.now.autorescue options.now.dorescuefrom options.now.always_post found.0) }
+    ensures rescue { IfOk result (λ found. IsRescueOf found.0 (option_map (λ b. b.items) found.1)) }
+    ensures refused { IfErr result (IsLockedFault place.now.top.now options.now) }
+{
+    place.has_room_for_names(rt.alloc())?;
+    let lock = place.lock(&rt)?;
+    let found = round_with_rescue(rt, place, options);
+    place.unlock(&rt, lock);
+    found
+}
+
 /// Whether the round and its rescue file are still those that were found before the lock was taken:
 /// where they aren't, another manager was at work meanwhile.
-fn is_same(round: &Round, rescue: &Option<Vec<u8>>, found: &(Round, Option<Vec<u8>>)) -> bool {
-    round == &found.0 && bytes_of(rescue) == bytes_of(&found.1)
+fn is_same(found: &(Round, Option<Vec<u8>>), again: &(Round, Option<Vec<u8>>)) -> bool {
+    found.0 == again.0 && bytes_of(&found.1) == bytes_of(&again.1)
+}
+
+/// Runs the round that was found before the lock was taken, with the rescue file that it reads, where it is
+/// still found, and answers what is printed. What a round begins with is kept first.
+fn run_locked<R: Processes + Files<File = File> + Clock + Screen + AllocGlobal + Copy + Drop>(
+    rt: R,
+    place: &Place<'_>,
+    files: &FileSet,
+    plan: &Plan,
+    found: &(Round, Option<Vec<u8>>),
+    options: &RunOptions,
+    lock: &mut Lock,
+) -> Result<Answer, RunFault>
+    requires next { IsRescueNumber found.now.0.next }
+    ensures led { IfOk result (λ answer. IsLedRun options.now.limits plan.now (start_by found.now.0)
+        (string_bytes answer.text) answer.status) }
+    ensures warnings { IfOk result (λ answer. string_bytes answer.warnings ≡ warning_lines plan.now.graph.dag.warnings) }
+    ensures refused { IfErr result (IsHeldFault options.now) }
+{
+    let alloc = rt.alloc();
+    let (round, rescue) = found;
+    let again = round_with_rescue(rt, place, options)?;
+    if !is_same(found, &again) {
+        return Err(place.taken(alloc));
+    }
+    let warnings = warning_text(alloc, plan.graph().flat().warnings())?;
+    keep_inputs(rt, place, plan, round, files, bytes_of(rescue))?;
+    let report = run_planned(rt, place, plan, round, options, lock)?;
+    Ok(Answer {
+        text: report.text,
+        warnings,
+        status: report.status,
+    })
 }
 
 /// Runs the DAG file of this path with children of this process. Relative paths are taken from the
@@ -290,19 +402,20 @@ fn is_same(round: &Round, rescue: &Option<Vec<u8>>, found: &(Round, Option<Vec<u
 ///
 /// # Errors
 /// In this order, each before anything is started or changed: a fault of the files (`InFiles`), a
-/// cycle (`Cycle`), a rescue file that is asked for and not there (`NotThere`), a journal that can't be
+/// cycle (`Cycle`), a file beside the DAG file that may be another user's or is no regular file
+/// (`FileRefused`), a rescue file that is asked for and not there (`NotThere`), a journal that can't be
 /// read (`InManager`), an unfinished run where a rescue file is asked for (`Unfinished`), else a number
 /// in its header that no rescue file has (`NotThere`), a folder or a rescue file that the system
-/// refuses to read (`FileRefused`), the first fault of the submit files and the texts of jobs
+/// refuses to read or that may be another user's (`FileRefused`), the first fault of the submit files and the texts of jobs
 /// (`InPlan`) and then of the rescue file (`InRescue`), another manager that runs the DAG
-/// (`FileRefused` with the file that it has locked; behind a journal that can't be read too), and a name
+/// (`FileRefused` with the file that it has locked; behind a journal that can't be read too), behind a name
 /// beside the DAG file that would be too long (`FileRefused` with it). Then a process to which the system
 /// doesn't tell how children end (`WaitFault`), a process of an earlier manager that can't be
 /// ended (`FileRefused` with the file that names them), and a rescue file or a journal that can't be
 /// renamed (`FileRefused`); the same options go on from there. Then those of the manager
 /// (`InManager`) and of the children (`StartMemory`, `WaitFault`); what was recorded stays. Want of
 /// memory may stand before any.
-pub fn run_dag<R: Processes + Files<File = File> + Clock + AllocGlobal + Copy + Drop>(
+pub fn run_dag<R: Processes + Files<File = File> + Clock + Screen + AllocGlobal + Copy + Drop>(
     rt: R,
     folder: &str,
     top: &str,
@@ -319,19 +432,11 @@ pub fn run_dag<R: Processes + Files<File = File> + Clock + AllocGlobal + Copy + 
     let place = Place { folder, top };
     let files = files_in(&rt, folder, top)?;
     let graph = graph_of(alloc, &files, top)?;
-    let (round, rescue) = first_look(rt, &place, options)?;
-    let plan = plan_of_round(alloc, &place, &files, graph, &round, bytes_of(&rescue))?;
+    let found = first_look(rt, &place, options)?;
+    let plan = plan_of_round(alloc, &place, &files, graph, &found.0, bytes_of(&found.1))?;
     place.has_room_for_names(alloc)?;
-    let _lock = place.lock(&rt)?;
-    let found = round_with_rescue(rt, &place, options)?;
-    if !is_same(&round, &rescue, &found) {
-        return Err(place.taken(alloc));
-    }
-    let warnings = warning_text(alloc, plan.graph().flat().warnings())?;
-    let report = run_planned(rt, &place, &plan, &round, options)?;
-    Ok(Answer {
-        text: report.text,
-        warnings,
-        status: report.status,
-    })
+    let mut lock = place.lock(&rt)?;
+    let answer = run_locked(rt, &place, &files, &plan, &found, options, &mut lock);
+    place.unlock(&rt, lock);
+    answer
 }

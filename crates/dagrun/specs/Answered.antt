@@ -1,9 +1,9 @@
 -- What the program answers to a request, and its exit status (docs/MANUAL.md, "The command line").
-use Rattle.std.specs.Prelude.{◌≡◌, ◌≤◌, ℕ, Bool, false, List, [], Option, None, Result, Ok, codes, is_some, IfSome}
+use Rattle.std.specs.Prelude.{◌≡◌, ◌≤◌, ℕ, Bool, true, false, List, [], ◌++◌, length, Option, Some, None, Result, Ok, codes, is_some, IfSome}
 use Rattle.splices.specs.FileSet.{bytes_of}
 use Rattle.splices.specs.declared.file_set.FileSet.{FileSet}
 use Rattle.throttles.specs.declared.Limits.{Limits}
-use Rattle.command_line.specs.Requests.{Asked, checks, runs, tells_status, audits, rehearses, draws, shows, no_limits, limits_in, AreLimits}
+use Rattle.command_line.specs.Requests.{Asked, checks, runs, tells_status, audits, rehearses, draws, asks_why, times, salvages, shows, no_limits, limits_in, AreLimits}
 use Rattle.command_line.specs.declared.request.RunOptions.{RunOptions}
 use Rattle.dag_files.specs.Beside.{IsFileFault, IsInputFault}
 use Rattle.dag_texts.specs.Checked.{IsCheckOf, IsCheckFault}
@@ -11,13 +11,23 @@ use Rattle.dag_texts.specs.declared.fault.RunFault.{RunFault}
 use Rattle.dag_texts.specs.declared.warnings.Answer.{Answer}
 use Rattle.dag_main.specs.Runs.{IsRunOf, IsRunFault}
 use Rattle.run_answers.specs.Asked.{IsToldOfRun, IsToldFault}
+use Rattle.run_answers.specs.Reported.{IsReportHere}
+use Rattle.run_times.specs.Told.{IsTimesOf, IsTimesFault}
 use Rattle.run_answers.specs.declared.by_journal.Question.TheVariants.{Status, Audit, Graph}
 use Rattle.run_answers.specs.declared.by_journal.Question.{Question}
+use Rattle.salvage.specs.Salvaged.{IsSalvageOf}
+use Rattle.failure_answers.specs.Answered.{IsWhyOf}
 use Rattle.rehearsal.specs.Rehearsed.{IsRehearsalOf, IsRehearsalFault}
 
 -- What `check` answers, of some files of the path.
 abbrev pub IsCheck : (path text warnings : List ℕ) → (status : ℕ) → Type 0
 IsCheck path text warnings status = (files : FileSet) × IsCheckOf (bytes_of files) path text warnings status
+
+-- What `run` answers: what is printed of a round that was led to its end; or, where that is asked for, what was printed of the last round, which
+-- has ended.
+pub data IsRun (path : List ℕ) (options : RunOptions) (text warnings : List ℕ) (status : ℕ) : Type 0 where
+  led : IsRunOf path options text warnings status → IsRun path options text warnings status
+  told_again : options.resume ≡ true → IsReportHere path text warnings status → IsRun path options text warnings status
 
 -- What `rehearse` answers, of some files of the path, and of the text of a table where one is named.
 pub record IsRehearsal (path : List ℕ) (outcomes : Option (List ℕ)) (limits : Limits) (always_post : Bool) (text warnings : List ℕ) (status : ℕ) : Type 0 where
@@ -26,15 +36,24 @@ pub record IsRehearsal (path : List ℕ) (outcomes : Option (List ℕ)) (limits 
   pub is_named : is_some table ≡ is_some outcomes
   pub rehearsed : IsRehearsalOf always_post (bytes_of files) path table limits text warnings status
 
+-- What `salvage` answers: what it made of a round that was cut short; or the line of a cause that no other command has, as a warning, with
+-- nothing printed and exit status 125.
+pub data IsSalvage (path : List ℕ) : (text warnings : List ℕ) → (status : ℕ) → Type 0 where
+  salvaged : (text warnings : List ℕ) (status : ℕ) → IsSalvageOf path text warnings status → IsSalvage path text warnings status
+  not_salvaged : (warnings : List ℕ) → IsSalvage path [] warnings 125
+
 -- The answer to a request: the text that is printed, the warnings, and the exit status.
 abbrev pub IsAnswerTo : Asked → (text warnings : List ℕ) → (status : ℕ) → Type 0
 IsAnswerTo (checks path) text warnings status = IsCheck path text warnings status
-IsAnswerTo (runs path options) text warnings status = IsRunOf path options text warnings status
+IsAnswerTo (runs path options) text warnings status = IsRun path options text warnings status
 IsAnswerTo (tells_status path) text warnings status = IsToldOfRun Status path text warnings status
 IsAnswerTo (audits path) text warnings status = IsToldOfRun Audit path text warnings status
 IsAnswerTo (rehearses path outcomes limits always_post) text warnings status =
     IsRehearsal path outcomes limits always_post text warnings status
 IsAnswerTo (draws path) text warnings status = IsToldOfRun Graph path text warnings status
+IsAnswerTo (asks_why path nodes) text warnings status = IsWhyOf path (length nodes) text warnings status
+IsAnswerTo (times path svg) text warnings status = IsTimesOf path svg text warnings status
+IsAnswerTo (salvages path) text warnings status = IsSalvage path text warnings status
 IsAnswerTo (shows page) text warnings status = (text ≡ page) × (warnings ≡ []) × (status ≡ 0)
 
 -- what a question asks for
@@ -51,18 +70,25 @@ dag_of (tells_status path) = path
 dag_of (audits path) = path
 dag_of (rehearses path outcomes limits always_post) = path
 dag_of (draws path) = path
+dag_of (asks_why path nodes) = path
+dag_of (times path svg) = path
+dag_of (salvages path) = path
 dag_of (shows page) = []
 
 -- Why a request is refused: the system refuses standard input, where its path asks for that, or the folder or a file, or memory ran out; or
--- for a cause of the call that it is for.
+-- for a cause of the call that it is for. Of `salvage` no cause is said.
 pub data IsRefusal : Asked → RunFault → Type 0 where
   input_not_read : (asked : Asked) (fault : RunFault) → IsInputFault (dag_of asked) fault → IsRefusal asked fault
   not_read : (asked : Asked) (fault : RunFault) → IsFileFault fault → IsRefusal asked fault
   not_checked : (path : List ℕ) (files : FileSet) (fault : RunFault) → IsCheckFault (bytes_of files) path fault → IsRefusal (checks path) fault
   not_run : (path : List ℕ) (options : RunOptions) (fault : RunFault) → IsRunFault path options fault → IsRefusal (runs path options) fault
+  not_told_again : (path : List ℕ) (options : RunOptions) (fault : RunFault) → options.resume ≡ true → IsToldFault Status path fault → IsRefusal (runs path options) fault
   no_status : (path : List ℕ) (fault : RunFault) → IsToldFault Status path fault → IsRefusal (tells_status path) fault
   not_audited : (path : List ℕ) (fault : RunFault) → IsToldFault Audit path fault → IsRefusal (audits path) fault
+  not_timed : (path : List ℕ) (svg : Bool) (fault : RunFault) → IsTimesFault path fault → IsRefusal (times path svg) fault
   not_drawn : (path : List ℕ) (fault : RunFault) → IsToldFault Graph path fault → IsRefusal (draws path) fault
+  not_salvaged_as_run : (path : List ℕ) (fault : RunFault) → IsRefusal (salvages path) fault
+  not_why : (path : List ℕ) (nodes : List (List ℕ)) (fault : RunFault) → IsToldFault Status path fault → IsRefusal (asks_why path nodes) fault
   not_rehearsed : (path : List ℕ) (outcomes table : Option (List ℕ)) (limits : Limits) (always_post : Bool) (files : FileSet) (fault : RunFault) →
       is_some table ≡ is_some outcomes → IsRehearsalFault (bytes_of files) path table fault → IsRefusal (rehearses path outcomes limits always_post) fault
 

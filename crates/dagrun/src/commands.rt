@@ -1,25 +1,31 @@
 //! The program's commands over the system's files and streams.
 
-ghost use Rattle.std.specs.Prelude.{◌≡◌, IfOk, IfErr, is_some, length, string_bytes};
+ghost use Rattle.std.specs.Prelude.{◌≡◌, ℕ, List, [], ◌++◌, Some, IfOk, IfErr, is_some, length, map, string_bytes, codes};
 ghost use Rattle.std.specs.Option.{option_map};
-ghost use Rattle.command_line.specs.Requests.{asked_by, checks, runs, rehearses, shows};
+ghost use Rattle.command_line.specs.Requests.{asked_by, checks, runs, rehearses, times, salvages, asks_why, shows};
 ghost use Rattle.dag_files.specs.Beside.{IsFileFault};
-ghost use Rattle.dag_main.specs.Runs.{IsRunOf};
 ghost use Rattle.run_answers.specs.Asked.{IsToldOfRun};
-ghost use Rattle.dagrun.specs.Answered.{IsCheck, IsRehearsal, IsAnswerTo, IsRefusal, IsExit, IsStatusOf, asked_of};
+ghost use Rattle.dag_texts.specs.declared.fault.RunFault.TheVariants.{Memory};
+ghost use Rattle.salvage.specs.Faults.{fault_text};
+ghost use Rattle.run_times.specs.Told.{IsTimesOf};
+ghost use Rattle.dagrun.specs.Answered.{IsCheck, IsRun, IsRehearsal, IsSalvage, IsAnswerTo, IsRefusal, IsExit, IsStatusOf, asked_of};
 
+use crate::telling::tell_more;
 use command_line::{Request, RunOptions, WordsFault, read_words};
-use dag_files::{Reading, bytes_of, files_of, refused};
-use dag_main::run_dag;
+use dag_files::{Reading, bytes_of, files_of, read_input, refused};
+use dag_main::{Screen, run_dag};
 use dag_texts::{Answer, RunFault, check_text};
+use failure_answers::why_here;
 use rehearsal::rehearse_text;
-use run_answers::{Question, told_here};
+use run_answers::{Question, report_here, told_here};
+use run_times::times_here;
+use salvage::{SalvageFault, salvage_here};
 use std::alloc::Global;
+use std::env;
 use std::fs::File;
 use std::process::Processes;
 use std::rt::{Env, Files};
 use std::time::Clock;
-use std::{env, fs};
 use throttles::Limits;
 
 /// The exit status of whatever is refused.
@@ -32,24 +38,18 @@ const REFUSED: u8 = 125;
 /// command line is told by clap's text on standard error, a refused input by one line
 /// `dagrun: CODE Name detail`, both with status 125 and nothing on standard output.
 pub fn run<
-    R: Files<File = File>
-        + Processes
-        + Clock
-        + Env
-        + Input
-        + Print
-        + Eprint
-        + AllocGlobal
-        + Copy
-        + Drop,
+    R: Files<File = File> + Processes + Clock + Input + Print + Screen + AllocGlobal + Copy + Drop,
 >(rt: &R, words: &[&str]) -> u8
     // It is that of the answer to what the words may ask for, or 125.
     ensures { IsExit (length words.now) result }
 {
     match read_words(rt.alloc(), words) {
-        Ok(request) => finish(rt, answer(rt, request)),
+        Ok(request) => {
+            let dag = dag_in(&request);
+            finish(rt, dag, answer(rt, request))
+        }
         Err(WordsFault::Told(text)) => refuse_words(rt, text.as_str()),
-        Err(WordsFault::Memory) => refuse(rt, RunFault::Memory),
+        Err(WordsFault::Memory) => refuse(rt, None, RunFault::Memory),
     }
 }
 
@@ -58,7 +58,7 @@ pub fn run<
 /// # Errors
 /// The system refuses the folder in which the program was called or a file, or memory; else those of
 /// the call that the request is for.
-fn answer<R: Files<File = File> + Processes + Clock + Env + Input + AllocGlobal + Copy + Drop>(
+fn answer<R: Files<File = File> + Processes + Clock + Screen + Input + AllocGlobal + Copy + Drop>(
     rt: &R,
     request: Request<'_>,
 ) -> Result<Answer, RunFault>
@@ -71,6 +71,9 @@ fn answer<R: Files<File = File> + Processes + Clock + Env + Input + AllocGlobal 
         Request::Status { dag } => told(rt, dag, Question::Status),
         Request::Audit { dag } => told(rt, dag, Question::Audit),
         Request::Graph { dag } => told(rt, dag, Question::Graph),
+        Request::Why { dag, nodes } => why(rt, dag, &nodes),
+        Request::Times { dag, svg } => times(rt, dag, svg),
+        Request::Salvage { dag } => salvage(rt, dag),
         Request::Page { text } => Ok(page(rt.alloc(), text)),
         Request::Check { dag } => check(rt, dag),
         Request::Rehearse {
@@ -101,16 +104,39 @@ fn refuse_words<R: Eprint>(rt: &R, text: &str) -> u8
     REFUSED
 }
 
-/// Tells why a request is refused.
-fn refuse<R: Eprint>(rt: &R, fault: RunFault) -> u8
+/// The path of the DAG file that a request is for; none for a page.
+fn dag_in<'a>(request: &Request<'a>) -> Option<&'a str> {
+    match request {
+        Request::Run { dag, .. }
+        | Request::Status { dag }
+        | Request::Audit { dag }
+        | Request::Graph { dag }
+        | Request::Why { dag, .. }
+        | Request::Times { dag, .. }
+        | Request::Salvage { dag }
+        | Request::Check { dag }
+        | Request::Rehearse { dag, .. } => Some(*dag),
+        Request::Page { text: _ } => None,
+    }
+}
+
+/// Tells why a request is refused that is for this DAG file; at a terminal, also what may help.
+fn refuse<R: Files + Screen + AllocGlobal>(rt: &R, dag: Option<&str>, fault: RunFault) -> u8
     ensures { result ≡ 125 }
 {
     let _ = eprintln!(rt; "dagrun: {fault}");
+    if let Ok(line) = format!(in rt.alloc(); "{fault}") {
+        tell_more(rt, dag, line.as_str());
+    }
     REFUSED
 }
 
-/// Prints an answer, or why there is none, and gives the exit status.
-fn finish<R: Print + Eprint>(rt: &R, answer: Result<Answer, RunFault>) -> u8
+/// Prints the answer to a request for this DAG file, or why there is none, and gives the exit status.
+fn finish<R: Files + Print + Screen + AllocGlobal>(
+    rt: &R,
+    dag: Option<&str>,
+    answer: Result<Answer, RunFault>,
+) -> u8
     ensures { IsStatusOf answer result }
 {
     match answer {
@@ -126,7 +152,7 @@ fn finish<R: Print + Eprint>(rt: &R, answer: Result<Answer, RunFault>) -> u8
                 }
             }
         }
-        Err(fault) => refuse(rt, fault),
+        Err(fault) => refuse(rt, dag, fault),
     }
 }
 
@@ -140,16 +166,23 @@ fn folder_now<R: Env + AllocGlobal>(rt: &R) -> Result<String, RunFault>
     }
 }
 
-fn run_here<R: Files<File = File> + Processes + Clock + Env + AllocGlobal + Copy + Drop>(
+/// Runs the DAG file of this path; or, where the options ask for it and its last round has ended, answers
+/// what that printed.
+fn run_here<R: Files<File = File> + Processes + Clock + Screen + AllocGlobal + Copy + Drop>(
     rt: &R,
     dag: &str,
     options: &RunOptions,
 ) -> Result<Answer, RunFault>
     ensures run { IfOk result (λ answer.
-        IsRunOf dag.now options.now (string_bytes answer.text) (string_bytes answer.warnings) answer.status) }
+        IsRun dag.now options.now (string_bytes answer.text) (string_bytes answer.warnings) answer.status) }
     ensures refused { IfErr result (IsRefusal (runs dag.now options.now)) }
 {
     let folder = folder_now(rt)?;
+    if options.resume {
+        if let Some(answer) = report_here(rt, folder.as_str(), dag)? {
+            return Ok(answer);
+        }
+    }
     run_dag(*rt, folder.as_str(), dag, options)
 }
 
@@ -164,6 +197,54 @@ fn told<R: Files + Env + AllocGlobal>(
 {
     let folder = folder_now(rt)?;
     told_here(rt, folder.as_str(), dag, question)
+}
+
+fn why<R: Files<File = File> + Env + AllocGlobal>(
+    rt: &R,
+    dag: &str,
+    nodes: &[&str],
+) -> Result<Answer, RunFault>
+    ensures told { IfOk result (λ answer. IsAnswerTo (asks_why dag.now (map (λ n. n.now) nodes.now))
+        (string_bytes answer.text) (string_bytes answer.warnings) answer.status) }
+    ensures refused { IfErr result (IsRefusal (asks_why dag.now (map (λ n. n.now) nodes.now))) }
+{
+    let folder = folder_now(rt)?;
+    why_here(rt, folder.as_str(), dag, nodes)
+}
+
+/// What is told of a fault that no other command has: its line, as a warning, and status 125.
+///
+/// # Errors
+/// `Memory` alone.
+fn told_salvage(alloc: Global, fault: &SalvageFault) -> Result<Answer, RunFault>
+    ensures told { (line : List ℕ) → fault_text fault.now ≡ Some line → IfOk result (λ answer.
+        string_bytes answer.warnings ≡ codes "dagrun: " ++ (line ++ codes "\n")) }
+    ensures text { IfOk result (λ answer. string_bytes answer.text ≡ []) }
+    ensures status { IfOk result (λ answer. answer.status ≡ 125) }
+    ensures err { IfErr result (λ fault. fault ≡ Memory) }
+{
+    let warnings = format!(in alloc; "dagrun: {fault}\n")?;
+    Ok(Answer {
+        text: String::new(alloc),
+        warnings,
+        status: REFUSED,
+    })
+}
+
+fn salvage<R: Files<File = File> + Clock + Env + AllocGlobal + Copy + Drop>(
+    rt: &R,
+    dag: &str,
+) -> Result<Answer, RunFault>
+    ensures salvaged { IfOk result (λ answer. IsSalvage dag.now
+        (string_bytes answer.text) (string_bytes answer.warnings) answer.status) }
+    ensures refused { IfErr result (IsRefusal (salvages dag.now)) }
+{
+    let folder = folder_now(rt)?;
+    match salvage_here(*rt, folder.as_str(), dag) {
+        Ok(answer) => Ok(answer),
+        Err(SalvageFault::Refused(fault)) => Err(fault),
+        Err(fault) => told_salvage(rt.alloc(), &fault),
+    }
 }
 
 fn check<R: Files + Input + AllocGlobal>(rt: &R, dag: &str) -> Result<Answer, RunFault>
@@ -200,6 +281,16 @@ fn rehearse<R: Files + Input + AllocGlobal>(
     )
 }
 
+/// When the phases of the last round ran.
+fn times<R: Files + Env + AllocGlobal>(rt: &R, dag: &str, svg: bool) -> Result<Answer, RunFault>
+    ensures told { IfOk result (λ answer.
+        IsTimesOf dag.now svg (string_bytes answer.text) (string_bytes answer.warnings) answer.status) }
+    ensures refused { IfErr result (IsRefusal (times dag.now svg)) }
+{
+    let folder = folder_now(rt)?;
+    times_here(rt, folder.as_str(), dag, svg)
+}
+
 /// The table of outcomes, where one is named.
 fn outcomes_of<R: Files + AllocGlobal>(
     rt: &R,
@@ -214,10 +305,15 @@ fn outcomes_of<R: Files + AllocGlobal>(
     }
 }
 
+/// The bytes of a table of outcomes: a regular file, or a pipe.
+///
+/// # Errors
+/// `FileRefused` with the path of another sort of file, or of one that the system refuses to read;
+/// `Memory`, also for more than 256 MiB.
 fn read_outcomes<R: Files + AllocGlobal>(rt: &R, path: &str) -> Result<Vec<u8>, RunFault>
     ensures { IfErr result IsFileFault }
 {
-    match fs::read(rt, path) {
+    match read_input(rt, path, true) {
         Ok(bytes) => Ok(bytes),
         Err(error) => Err(refused(rt.alloc(), path, &error)),
     }

@@ -2,6 +2,7 @@
 #![tactic(auto)]
 
 mod commands;
+mod telling;
 
 use commands::run;
 use std::alloc::Global;

@@ -2,7 +2,7 @@
 
 use crate::guide::Fault;
 
-static ROUNDS: [Fault; 14] = [
+static ROUNDS: [Fault; 21] = [
     Fault {
         code: "N3",
         name: "BadLine",
@@ -166,10 +166,13 @@ static ROUNDS: [Fault; 14] = [
     dagrun: J5 OtherInputs
 ",
         advice: "    A round goes on only with the files that it began with: the DAG file, its
-    splices, the submit files and the rescue file that it read. Put back the one
-    that was changed. A round that has ended is no hindrance: `dagrun run`
-    begins a new one. To give up one that was cut short, remove x.dag.journal:
-    then nodes that were done in it run again.
+    splices, the submit files and the rescue file that it read. Which of them was
+    changed `sha256sum -c x.dag.inputs` says: put it back. Where it is a submit
+    file that is to stay as it is now, call `dagrun salvage x.dag`, which makes a
+    rescue file of what is done, and then `dagrun run x.dag`, which starts the
+    rest. A round that has ended is no hindrance: `dagrun run` begins a new one.
+    To give up one that was cut short, remove x.dag.journal: then nodes that were
+    done in it run again.
 ",
     },
     Fault {
@@ -212,6 +215,89 @@ static ROUNDS: [Fault; 14] = [
         example: "",
         advice: "    The journal's bytes were changed: put it back from a copy, or remove
     x.dag.journal to begin a new round.
+",
+    },
+    Fault {
+        code: "R1",
+        name: "NoJournal",
+        when: "`salvage`: no round was begun",
+        detail: "PATH",
+        example: "    $ cat x.dag
+    JOB A a.sub
+    $ dagrun salvage x.dag
+    dagrun: R1 NoJournal x.dag.journal
+",
+        advice: "    There is nothing to keep: `dagrun run` begins a round, by the rescue file of
+    the highest number. Was this the path that `run` was called with?
+",
+    },
+    Fault {
+        code: "R2",
+        name: "Ended",
+        when: "`salvage`: the round has ended",
+        detail: "PATH",
+        example: "    $ cat x.dag
+    JOB A a.sub
+    $ cat a.sub
+    executable = /bin/true
+    queue
+    $ dagrun run x.dag > report
+    $ dagrun salvage x.dag
+    dagrun: R2 Ended x.dag.journal
+",
+        advice: "    A round that has ended has written its rescue file, where it needed one:
+    call `dagrun run`, which begins the next one.
+",
+    },
+    Fault {
+        code: "R3",
+        name: "NoInputs",
+        when: "`salvage`: the file that says what the round was begun with is missing",
+        detail: "PATH",
+        example: "",
+        advice: "    It is written as a round begins, unless the system refuses it. Without it
+    nobody can say whether the DAG file is as it was: put back the files that were
+    changed and call `dagrun run`, or give the round up: remove x.dag.journal.
+",
+    },
+    Fault {
+        code: "R4",
+        name: "BadInputs",
+        when: "`salvage`: the file that says what the round was begun with is not as it was written",
+        detail: "PATH",
+        example: "",
+        advice: "    Its bytes were changed: put it back, or go on as behind R3.
+",
+    },
+    Fault {
+        code: "R5",
+        name: "OtherRound",
+        when: "`salvage`: that file says it of another round than the journal's",
+        detail: "PATH",
+        example: "",
+        advice: "    It was put there from elsewhere, or could not be written as the round began:
+    go on as behind R3.
+",
+    },
+    Fault {
+        code: "R6",
+        name: "Changed",
+        when: "`salvage`: the DAG file, a splice or the rescue file that was read is not as it was when the round began",
+        detail: "PATH",
+        example: "",
+        advice: "    What is done is known by the nodes of that file alone: put it back and call
+    `dagrun salvage` again. Once it has made the rescue file the DAG may be changed:
+    that file names the nodes that are done.
+",
+    },
+    Fault {
+        code: "R7",
+        name: "NotListed",
+        when: "`salvage`: the DAG file, a splice or a rescue file is none of those that the round was begun with",
+        detail: "PATH",
+        example: "",
+        advice: "    Call `dagrun salvage` in the folder in which `run` was called, and with the
+    same path; a rescue file that came by later is to be moved away.
 ",
     },
 ];

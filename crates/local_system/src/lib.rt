@@ -11,6 +11,7 @@ ghost use Rattle.job_starter.specs.Calls.{running, TellsNoMore};
 ghost use Rattle.job_starter.specs.Causes.{IsStartFault, IsAskFault};
 
 mod starting;
+mod telling;
 mod watching;
 
 use dag_reader::Text;
@@ -26,6 +27,7 @@ use std::process::{Child, ExitStatus, Processes};
 use std::rt::Files;
 use std::time::{Clock, Duration};
 use std::{io, thread};
+pub use telling::refused_part;
 pub use watching::{ChildWatcher, CommandPart, Unwatched};
 
 /// How a child did when it was looked at last.
@@ -396,6 +398,7 @@ impl<R: Processes + Files<File = File> + Clock + Drop, W: ChildWatcher + Drop> S
     }
 
     fn pause(&mut self) {
+        self.watcher.waits();
         thread::sleep(&self.rt, Duration::from_micros(self.pause));
         self.looked = false;
         let longest = longest_pause(self.children.len());

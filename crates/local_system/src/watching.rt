@@ -44,6 +44,9 @@ pub trait ChildWatcher {
 
     /// A child was killed, or let go where that was refused.
     fn killed(&mut self, key: &Key, answer: Killed);
+
+    /// No child has ended since they were looked at: it is waited a little.
+    fn waits(&mut self);
 }
 
 /// Nobody.
@@ -68,6 +71,8 @@ impl ChildWatcher for Unwatched {
     fn ended(&mut self, _key: &Key, _outcome: Outcome) {}
 
     fn killed(&mut self, _key: &Key, _answer: Killed) {}
+
+    fn waits(&mut self) {}
 }
 
 impl<W: ChildWatcher> ChildWatcher for &mut W {
@@ -99,5 +104,9 @@ impl<W: ChildWatcher> ChildWatcher for &mut W {
 
     fn killed(&mut self, key: &Key, answer: Killed) {
         (**self).killed(key, answer);
+    }
+
+    fn waits(&mut self) {
+        (**self).waits();
     }
 }

@@ -1,4 +1,5 @@
 pub mod Statused
+pub mod Reported
 pub mod Audited
 pub mod Drawn
 pub mod Asked

@@ -1,19 +1,22 @@
 //! What is told of a run by its journal, from the files that stand beside its DAG file.
 
-ghost use Rattle.std.specs.Prelude.{◌≡◌, ◌≤◌, None, IfOk, IfErr, option_map, string_bytes};
+ghost use Rattle.std.specs.Prelude.{◌≡◌, ◌≤◌, None, IfOk, IfErr, IfSome, option_map, string_bytes};
 ghost use Rattle.journal_disks.specs.Memory.{disk_bytes};
 ghost use Rattle.splices.specs.FileSet.{bytes_of, entries_of};
 ghost use Rattle.dag_texts.specs.declared.fault.RunFault.TheVariants.{Memory};
 ghost use Rattle.dag_files.specs.Beside.{IsRoundFault};
 ghost use Rattle.run_answers.specs.Asked.{IsTold, IsRefused, IsToldOfRun, IsToldFault};
+ghost use Rattle.run_answers.specs.Reported.{IsReportHere};
+ghost use Rattle.run_answers.specs.declared.by_journal.Question.TheVariants.{Status};
 
 use crate::audits::audit_of;
 use crate::graphs::graph_of;
+use crate::reports::report_of;
 use crate::statuses::status_of;
 use dag_files::{LAST_NUMBER, Place, bytes_of, files_in, journal_path, named, rescue_path};
 use dag_reader::Text;
 use dag_texts::{Answer, RunFault};
-use event_journal::{Journal, JournalFault};
+use event_journal::{Journal, JournalFault, Peek};
 use journal_disks::MemDisk;
 use splices::FileSet;
 use std::alloc::{AllocError, Global};
@@ -28,22 +31,42 @@ fn disk_of(alloc: Global, bytes: &[u8]) -> Result<MemDisk, AllocError>
     Ok(MemDisk::of(alloc, copy, bytes.len()))
 }
 
+/// What the header of a journal says, and whether it has ended: nothing where there is no journal, and where
+/// its bytes are none.
+fn peek_in(alloc: Global, journal: Option<&[u8]>) -> Result<Option<Peek>, RunFault>
+    ensures { IfErr result (λ fault. fault ≡ Memory) }
+{
+    let Some(bytes) = journal else {
+        return Ok(None);
+    };
+    let mut disk = disk_of(alloc, bytes)?;
+    match Journal::peek(alloc, &mut disk) {
+        Ok(peek) => Ok(peek),
+        // A disk in memory tells that it was refused memory as a failure.
+        Err(JournalFault::Memory) => Err(RunFault::Memory),
+        Err(JournalFault::Device) => Err(RunFault::Memory),
+        Err(_) => Ok(None),
+    }
+}
+
 /// The number of the rescue file that the run of a journal read: 0 for none, where there is no
 /// journal, and where its bytes are none.
 fn used_in(alloc: Global, journal: Option<&[u8]>) -> Result<u16, RunFault>
     ensures { IfErr result (λ fault. fault ≡ Memory) }
 {
-    let Some(bytes) = journal else {
-        return Ok(0);
-    };
-    let mut disk = disk_of(alloc, bytes)?;
-    match Journal::peek(alloc, &mut disk) {
-        Ok(Some(peek)) => Ok(peek.used),
-        Ok(None) => Ok(0),
-        // A disk in memory tells that it was refused memory as a failure.
-        Err(JournalFault::Memory) => Err(RunFault::Memory),
-        Err(JournalFault::Device) => Err(RunFault::Memory),
-        Err(_) => Ok(0),
+    match peek_in(alloc, journal)? {
+        Some(peek) => Ok(peek.used),
+        None => Ok(0),
+    }
+}
+
+/// Whether a journal is that of a run which has ended.
+fn has_ended(alloc: Global, journal: Option<&[u8]>) -> Result<bool, RunFault>
+    ensures { IfErr result (λ fault. fault ≡ Memory) }
+{
+    match peek_in(alloc, journal)? {
+        Some(peek) => Ok(peek.finished),
+        None => Ok(false),
     }
 }
 
@@ -60,13 +83,15 @@ fn used_path(alloc: Global, top: &str, used: u16) -> Result<Option<Text>, RunFau
     Ok(Some(rescue_path(alloc, top, used)?))
 }
 
-/// What stands beside a DAG file of its last round: the journal, and the path and the bytes of the
-/// rescue file that the journal names.
+/// What stands beside a DAG file of its last round.
 #[derive(Drop)]
-struct LastRound {
-    journal: Option<Vec<u8>>,
-    name: Option<Text>,
-    rescue: Option<Vec<u8>>,
+pub struct LastRound {
+    /// The bytes of the journal; none where there is no journal.
+    pub journal: Option<Vec<u8>>,
+    /// The path of the rescue file that the journal names; none where it names none.
+    pub name: Option<Text>,
+    /// The bytes of that file; none where it is missing.
+    pub rescue: Option<Vec<u8>>,
 }
 
 /// The last round of a DAG file.
@@ -75,7 +100,7 @@ struct LastRound {
 /// In this order: a journal that the system refuses to read, a number of a rescue file above 999 in
 /// its header, a rescue file that the system refuses to read. Where the header can't be read, no
 /// rescue file is.
-fn last_round<R: Files + AllocGlobal>(rt: &R, place: &Place<'_>) -> Result<LastRound, RunFault>
+pub fn last_round<R: Files + AllocGlobal>(rt: &R, place: &Place<'_>) -> Result<LastRound, RunFault>
     ensures { IfErr result (IsRoundFault None) }
 {
     let alloc = rt.alloc();
@@ -152,6 +177,35 @@ pub fn told_here<R: Files + AllocGlobal>(
     let rescue = bytes_of(&round.rescue);
     let journal = bytes_of(&round.journal);
     match asked(rt.alloc(), &files, top, rescue, journal, question) {
+        Ok(answer) => Ok(answer),
+        Err(fault) => Err(named(fault, round.name)),
+    }
+}
+
+/// What `run` printed at the end of the last round of the DAG file of this path, seen from this folder, and its
+/// exit status; none where there is no journal, where it is not that of a run which has ended, and where
+/// it can't be read.
+///
+/// # Errors
+/// Those of `told_here` for the status.
+pub fn report_here<R: Files + AllocGlobal>(
+    rt: &R,
+    folder: &str,
+    top: &str,
+) -> Result<Option<Answer>, RunFault>
+    ensures report { IfOk result (λ answer. IfSome answer (λ answer.
+        IsReportHere top.now (string_bytes answer.text) (string_bytes answer.warnings) answer.status)) }
+    ensures refused { IfErr result (IsToldFault Status top.now) }
+{
+    let round = last_round(rt, &Place { folder, top })?;
+    let Some(journal) = bytes_of(&round.journal) else {
+        return Ok(None);
+    };
+    if !has_ended(rt.alloc(), Some(journal))? {
+        return Ok(None);
+    }
+    let files = files_in(rt, folder, top)?;
+    match report_of(rt.alloc(), &files, top, bytes_of(&round.rescue), journal) {
         Ok(answer) => Ok(answer),
         Err(fault) => Err(named(fault, round.name)),
     }

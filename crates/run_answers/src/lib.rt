@@ -1,12 +1,15 @@
-//! What `status`, `audit` and `graph` answer: what is told of a run by its journal.
+//! What `status`, `audit` and `graph` answer, and `run --resume` of a run that has ended: what is told of a run by its
+//! journal.
 #![tactic(auto)]
 
 mod audits;
 mod by_journal;
 mod graphs;
+mod reports;
 mod statuses;
 
 pub use audits::audit_of;
-pub use by_journal::{Question, told_here};
+pub use by_journal::{LastRound, Question, last_round, report_here, told_here};
 pub use graphs::graph_of;
-pub use statuses::status_of;
+pub use reports::report_of;
+pub use statuses::{bytes_in, core_of, plan_by, records_of, status_of};

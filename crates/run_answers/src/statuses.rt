@@ -52,7 +52,7 @@ pub fn status_of(
 ///
 /// # Errors
 /// Those of `plan_with`.
-pub(crate) fn plan_by(
+pub fn plan_by(
     alloc: Global,
     files: &FileSet,
     path: &str,
@@ -69,7 +69,7 @@ pub(crate) fn plan_by(
 }
 
 /// The bytes of a journal; none where there is none.
-pub(crate) fn bytes_in<'a>(journal: Option<&'a [u8]>) -> &'a [u8]
+pub fn bytes_in<'a>(journal: Option<&'a [u8]>) -> &'a [u8]
     ensures { result.now ≡ journal_bytes (option_map (λ b. b.now) journal.entry) }
 {
     match journal {
@@ -118,8 +118,12 @@ fn in_journal(fault: JournalFault) -> RunFault
     }
 }
 
-/// The records of a journal of this plan, the oldest first.
-pub(crate) fn records_of(alloc: Global, plan: &Plan, bytes: &[u8]) -> Result<Vec<Record>, RunFault>
+/// The records of a journal of these bytes, which is that of a run of this plan, the oldest first; none
+/// where the bytes are empty.
+///
+/// # Errors
+/// The fault of the journal (`InManager`), or `Memory`.
+pub fn records_of(alloc: Global, plan: &Plan, bytes: &[u8]) -> Result<Vec<Record>, RunFault>
     ensures ok { IfOk result (λ records. records_at plan.now bytes.now ≡ Some records.items) }
     ensures refused { IfErr result (IsRecordsFault plan.now bytes.now) }
 {
@@ -130,8 +134,12 @@ pub(crate) fn records_of(alloc: Global, plan: &Plan, bytes: &[u8]) -> Result<Vec
     }
 }
 
-/// The core that has these records, which are those of a journal.
-pub(crate) fn core_of<'a>(
+/// The core that has these records, which are those of a journal of these bytes.
+///
+/// # Errors
+/// `InManager` with `Foreign` and the slot of the first record that may not follow those before it;
+/// `Memory`.
+pub fn core_of<'a>(
     alloc: Global,
     plan: &'a Plan,
     bytes: &[u8],

@@ -5,6 +5,7 @@ use crate::events::push_time;
 use crate::line_file::LineFile;
 use crate::processes::{Standing, all_numbers, boot_of, own_number, standing_of, words_of};
 use command_line::OrphanRule;
+use journal_disks::require_regular;
 use std::alloc::{AllocError, Global};
 use std::fs::{self, File};
 use std::io::{self, ErrorKind};
@@ -16,7 +17,7 @@ use std::time::{Clock, Duration};
 /// Why they could not be dealt with.
 #[derive(Clone, Copy, Debug, PartialEq, Eq)]
 pub enum OrphanFault {
-    /// The system refuses to read the file that names them.
+    /// The system refuses to read the file that names them, or it is no regular file.
     NotRead,
     /// One of them can't be ended.
     StillRuns,
@@ -265,9 +266,15 @@ fn deal_with<R: Processes + Files<File = File> + Clock + AllocGlobal>(
     Ok(String::new(rt.alloc()))
 }
 
+/// The text of a regular file.
+fn regular_text<R: Files + AllocGlobal>(rt: &R, path: &str) -> io::Result<String> {
+    require_regular(rt, path)?;
+    fs::read_to_string(rt, path)
+}
+
 /// The text of the file of this path; empty where it is missing.
 fn text_at<R: Files + AllocGlobal>(rt: &R, path: &str) -> Result<String, OrphanFault> {
-    match fs::read_to_string(rt, path) {
+    match regular_text(rt, path) {
         Ok(text) => Ok(text),
         Err(error) if error.kind() == ErrorKind::NotFound => Ok(String::new(rt.alloc())),
         Err(error) if error.kind() == ErrorKind::OutOfMemory => Err(OrphanFault::Memory),
@@ -280,7 +287,7 @@ fn text_at<R: Files + AllocGlobal>(rt: &R, path: &str) -> Result<String, OrphanF
 /// runs nothing is written.
 ///
 /// # Errors
-/// `NotRead` where the file is there and the system refuses to read it; `StillRuns` where one that was
+/// `NotRead` where the file is there and the system refuses to read it, or it is no regular one; `StillRuns` where one that was
 /// killed is not gone after ten seconds; `Memory`.
 pub fn settle<R: Processes + Files<File = File> + Clock + AllocGlobal + Clone + Drop>(
     rt: &R,

@@ -1,6 +1,6 @@
 //! What the system tells of its processes.
 
-use crate::quoting::push_word;
+use log_lines::push_word;
 use std::alloc::AllocError;
 use std::fs;
 use std::rt::Files;

@@ -8,6 +8,11 @@ returns-in_err-path-clause-refused g c =
     by-fault (IsRescueFault c.args.round.now) c.in_err-path.field-0.0 (rescue_not_read _ (subst IsFileFault (sym c.in_err-path.ensures.err) reading_had_no_memory))
     c.from_residual.result c.from_residual.ensures.1
 
+pub returns-in_err-trusts-clause-refused : goal.returns-in_err-trusts-clause-refused
+returns-in_err-trusts-clause-refused g c =
+    by-fault (IsRescueFault c.args.round.now) c.in_err-trusts.field-0.0 (rescue_not_read _ c.in_err-trusts.ensures)
+    c.from_residual-in_err-trusts.result c.from_residual-in_err-trusts.ensures.1
+
 pub returns-in_err-bytes-clause-refused : goal.returns-in_err-bytes-clause-refused
 returns-in_err-bytes-clause-refused g c =
     by-fault (IsRescueFault c.args.round.now) c.in_err-bytes.field-0.0 (rescue_not_read _ c.in_err-bytes.ensures)

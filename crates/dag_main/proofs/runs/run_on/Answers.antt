@@ -18,5 +18,10 @@ returns-in_err-put_away-clause-refused g c =
     handed-on IsStopFault c.from_residual-in_err-put_away.result c.from_residual-in_err-put_away.ensures.1
     (λ fault same. subst IsStopFault (sym same) (not_cleared c.in_err-put_away.field-0.0 c.in_err-put_away.ensures))
 
-pub returns-in_err-watcher-clause-refused : goal.returns-in_err-watcher-clause-refused
-returns-in_err-watcher-clause-refused g c = by-fault IsStopFault Memory leading_had_no_memory c.from_residual-in_err-watcher.result c.from_residual-in_err-watcher.ensures.1
+pub returns-in_err-make_journal-clause-refused : goal.returns-in_err-make_journal-clause-refused
+returns-in_err-make_journal-clause-refused g c =
+    handed-on IsStopFault c.from_residual-in_err-make_journal.result c.from_residual-in_err-make_journal.ensures.1
+    (λ fault same. subst IsStopFault (sym same) (not_cleared c.in_err-make_journal.field-0.0 c.in_err-make_journal.ensures))
+
+pub returns-in_err-log-clause-refused : goal.returns-in_err-log-clause-refused
+returns-in_err-log-clause-refused g c = by-fault IsStopFault Memory leading_had_no_memory c.from_residual-in_err-log.result c.from_residual-in_err-log.ensures.1

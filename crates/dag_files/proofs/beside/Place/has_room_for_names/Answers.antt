@@ -1,11 +1,13 @@
-use Rattle.dag_files.specs.Beside.{file_refused, reading_had_no_memory}
+use Rattle.std.proofs.Common.{rules}
+use Rattle.dag_files.specs.Beside.{too_long, naming_had_no_memory}
 use Rattle.dag_files.proofs.beside.Place.has_room_for_names.Goals as goal
 
-pub returns-in_default : goal.returns-in_default
-returns-in_default c = reading_had_no_memory
+pub returns-in_default-clause-refused : goal.returns-in_default-clause-refused
+returns-in_default-clause-refused c = naming_had_no_memory
 
-pub returns-in-Ok-from_str : goal.returns-in-Ok-from_str
-returns-in-Ok-from_str c = file_refused c.in-Ok-from_str.name
+pub returns-clause-refused : goal.returns-clause-refused
+returns-clause-refused c = naming_had_no_memory
 
-pub returns : goal.returns
-returns c = reading_had_no_memory
+pub returns-in-Ok-from_str-clause-refused : goal.returns-in-Ok-from_str-clause-refused
+returns-in-Ok-from_str-clause-refused c =
+    too_long c.in-Ok-from_str.name c.name_length.result (search rules) (search rules) (search rules)

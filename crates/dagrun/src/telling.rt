@@ -1,0 +1,89 @@
+//! What a person at a terminal is told behind the line of a refusal.
+
+use dag_files::{bytes_of, read_input};
+use dag_main::Screen;
+use log_lines::{read_line, unquoted, whole_lines};
+use refusal_hints::{Evidence, Refusal, hint_text};
+use std::alloc::AllocError;
+use std::rt::Files;
+
+/// The bytes of the file of whose place a refusal tells.
+fn source_of<R: Files + AllocGlobal>(rt: &R, refusal: &Refusal<'_>) -> Option<Vec<u8>> {
+    let place = refusal.place()?;
+    read_input(rt, place.path, false).ok()
+}
+
+/// What the system says to a look at a path that was refused.
+fn reason_of_path<R: Files + AllocGlobal>(
+    rt: &R,
+    path: &str,
+) -> Result<Option<String>, AllocError> {
+    let alloc = rt.alloc();
+    match read_input(rt, path, true) {
+        Ok(_) if path.ends_with(".lock") => Ok(Some(String::from_str(
+            alloc,
+            "another `dagrun run` works on this DAG",
+        )?)),
+        Ok(_) => Ok(None),
+        Err(error) => Ok(Some(format!(in alloc; "{path}: {error}")?)),
+    }
+}
+
+/// What the last line of the log of a DAG file says of a call that the system refused.
+fn reason_in_log<R: Files + AllocGlobal>(rt: &R, dag: &str) -> Result<Option<String>, AllocError> {
+    let alloc = rt.alloc();
+    let path = format!(in alloc; "{dag}.log")?;
+    let Ok(log) = read_input(rt, path.as_str(), false) else {
+        return Ok(None);
+    };
+    let Some(last) = whole_lines(&log).rsplit(|byte| *byte == b'\n').next() else {
+        return Ok(None);
+    };
+    match read_line(last) {
+        Some(line) if line.event == "stop" => match line.detail("reason") {
+            Some(reason) => Ok(Some(unquoted(alloc, reason)?)),
+            None => Ok(None),
+        },
+        _ => Ok(None),
+    }
+}
+
+/// What the system said, as far as that can still be told.
+fn reason_of<R: Files + AllocGlobal>(
+    rt: &R,
+    dag: Option<&str>,
+    refusal: &Refusal<'_>,
+) -> Result<Option<String>, AllocError> {
+    match (refusal.path(), dag) {
+        (Some(path), _) => reason_of_path(rt, path),
+        (None, Some(dag)) if refusal.code == "J1" => reason_in_log(rt, dag),
+        _ => Ok(None),
+    }
+}
+
+/// What is told behind the line of a refusal of a request for this DAG file.
+fn hint_of<R: Files + AllocGlobal>(
+    rt: &R,
+    dag: Option<&str>,
+    line: &str,
+) -> Result<String, AllocError> {
+    let refusal = Refusal::of(line);
+    let source = source_of(rt, &refusal);
+    let reason = reason_of(rt, dag, &refusal)?;
+    let evidence = Evidence {
+        source: bytes_of(&source),
+        reason: reason.as_ref().map(|reason| reason.as_str()),
+    };
+    hint_text(rt.alloc(), &refusal, &evidence)
+}
+
+/// Tells what may help behind the line of a refusal, where standard error is a terminal.
+pub(crate) fn tell_more<R: Files + Screen + AllocGlobal>(rt: &R, dag: Option<&str>, line: &str) {
+    if !rt.is_terminal() {
+        return;
+    }
+    if let Ok(text) = hint_of(rt, dag, line) {
+        let text = text.as_str();
+        let _ = eprint!(rt; "{text}");
+    }
+}

@@ -1,0 +1,127 @@
+//! Why nodes of the last round of a DAG file are in error, from the files that stand beside it.
+#![tactic(auto)]
+
+ghost use Rattle.std.specs.Prelude.{◌≡◌, length, IfOk, IfErr, option_map, string_bytes};
+ghost use Rattle.dag_texts.specs.declared.fault.RunFault.TheVariants.{Memory};
+ghost use Rattle.splices.specs.FileSet.{bytes_of, entries_of};
+ghost use Rattle.run_answers.specs.Asked.{IsToldFault};
+ghost use Rattle.run_answers.specs.Statused.{IsStatusFault};
+ghost use Rattle.run_answers.specs.declared.by_journal.Question.TheVariants.{Status};
+ghost use Rattle.failure_answers.specs.Answered.{IsAnswerOf, IsWhyFrom, IsWhyOf};
+
+use dag_files::{Place, bytes_of, files_in, named};
+use dag_reader::Text;
+use dag_texts::{Answer, RunFault, warning_text};
+use failure_report::{Surroundings, Why, why_text};
+use run_answers::{bytes_in, core_of, last_round, plan_by, records_of};
+use sched_core::Core;
+use splices::FileSet;
+use std::alloc::Global;
+use std::fs::{self, File};
+use std::io::ErrorKind;
+use std::rt::Files;
+
+/// The exit status where a name is none of a node.
+const REFUSED: u8 = 125;
+
+/// The bytes of the log of a DAG file; none where the system has none to give.
+fn log_of<R: Files + AllocGlobal>(rt: &R, place: &Place<'_>) -> Result<Vec<u8>, RunFault>
+    ensures { IfErr result (λ fault. fault ≡ Memory) }
+{
+    let alloc = rt.alloc();
+    let path = Text::joined(alloc, place.top, ".log")?;
+    let path = place.at(alloc, path.as_str())?;
+    match fs::read(rt, path.as_str()) {
+        Ok(bytes) => Ok(bytes),
+        Err(error) if error.kind() == ErrorKind::OutOfMemory => Err(RunFault::Memory),
+        Err(_) => Ok(Vec::new(alloc)),
+    }
+}
+
+/// What is answered of nodes of a run.
+fn answer_of<R: Files<File = File> + AllocGlobal>(
+    rt: &R,
+    place: &Place<'_>,
+    core: &Core<'_>,
+    names: &[&str],
+) -> Result<Answer, RunFault>
+    ensures answered { IfOk result (λ answer. IsAnswerOf core.now.plan core.now.past (length names.now)
+        (string_bytes answer.text) (string_bytes answer.warnings) answer.status) }
+    ensures refused { IfErr result (λ fault. fault ≡ Memory) }
+{
+    let alloc = rt.alloc();
+    let log = log_of(rt, place)?;
+    let surroundings = Surroundings {
+        top: place.top,
+        folder: place.folder,
+        log: &log,
+    };
+    match why_text(rt, core, &surroundings, names)? {
+        Why::Told(text) => Ok(Answer {
+            text,
+            warnings: warning_text(alloc, core.plan().graph().flat().warnings())?,
+            status: 0,
+        }),
+        Why::Unknown(warnings) => Ok(Answer {
+            text: String::new(alloc),
+            warnings,
+            status: REFUSED,
+        }),
+    }
+}
+
+/// What is answered by these files, bytes of a rescue file and bytes of a journal.
+fn why_of<R: Files<File = File> + AllocGlobal>(
+    rt: &R,
+    place: &Place<'_>,
+    files: &FileSet,
+    rescue: Option<&[u8]>,
+    journal: Option<&[u8]>,
+    names: &[&str],
+) -> Result<Answer, RunFault>
+    ensures answered { IfOk result (λ answer. IsWhyFrom files.now place.now.top.now
+        (option_map (λ b. b.now) rescue.entry) (option_map (λ b. b.now) journal.entry) (length names.now)
+        (string_bytes answer.text) (string_bytes answer.warnings) answer.status) }
+    ensures refused { IfErr result (IsStatusFault (bytes_of files.now) (entries_of files.now) place.now.top.now
+        (option_map (λ b. b.now) rescue.entry) (option_map (λ b. b.now) journal.entry)) }
+{
+    let alloc = rt.alloc();
+    let plan = plan_by(alloc, files, place.top, rescue, journal)?;
+    let bytes = bytes_in(journal);
+    let records = records_of(alloc, &plan, bytes)?;
+    let core = core_of(alloc, &plan, bytes, &records)?;
+    core.keeps_the_law();
+    answer_of(rt, place, &core, names)
+}
+
+/// Why nodes of the DAG file of this path, seen from this folder, are in error, and for whom others wait:
+/// by its journal, its log and the files of their jobs. Of the nodes of these names in their order; where
+/// there is no name, of all that are in error, those first for which most nodes wait, and of as many in
+/// plan order.
+///
+/// A name that is none of a node is told as a warning, with no text and with status 125.
+///
+/// # Errors
+/// As `told_here` for the status: in this order a journal that the system refuses to read, a number of a
+/// rescue file above 999 in its header, a rescue file that the system refuses to read; then those of
+/// `status_of`, a fault in a line of the rescue file with its path. Want of memory may stand before any.
+pub fn why_here<R: Files<File = File> + AllocGlobal>(
+    rt: &R,
+    folder: &str,
+    top: &str,
+    names: &[&str],
+) -> Result<Answer, RunFault>
+    ensures answered { IfOk result (λ answer.
+        IsWhyOf top.now (length names.now) (string_bytes answer.text) (string_bytes answer.warnings) answer.status) }
+    ensures refused { IfErr result (IsToldFault Status top.now) }
+{
+    let place = Place { folder, top };
+    let round = last_round(rt, &place)?;
+    let files = files_in(rt, folder, top)?;
+    let rescue = bytes_of(&round.rescue);
+    let journal = bytes_of(&round.journal);
+    match why_of(rt, &place, &files, rescue, journal, names) {
+        Ok(answer) => Ok(answer),
+        Err(fault) => Err(named(fault, round.name)),
+    }
+}

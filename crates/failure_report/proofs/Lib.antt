@@ -1,0 +1,5 @@
+pub mod Searching
+pub mod Holding
+pub mod Endings
+pub mod Listing
+pub mod Blocks

@@ -1,0 +1,28 @@
+use Rattle.std.proofs.Common.{◌≡◌, ℕ, suc, [], ◌∷◌, ◌++◌, map, ap, sym, ◌∙◌, arith}
+use Rattle.std.specs.Prelude.{Vec}
+use Rattle.std.specs.Global.{Global}
+use Rattle.std.specs.List.{range_with_len}
+use Rattle.std.proofs.lemmas.List.{map_push}
+use Rattle.std.proofs.lemmas.List.FromFn.{map-range_with_len_more}
+use Rattle.run_plan.specs.Plan.{count_of}
+use Rattle.failure_report.specs.Reaching.{nodes_in}
+use Rattle.failure_report.specs.Waiting.{held_by}
+use Rattle.failure_report.proofs.waiting.held_lists.Goals as goal
+
+pub loop-node-preserved : goal.loop-node-preserved
+loop-node-preserved c =
+    let held = held_by c.args.core.now.plan c.args.core.now.past in
+    let n = c.loop-node.node in
+    ap nodes_in c.in_ok-push.ensures.items
+    ∙ map_push (λ (v : Vec ℕ Global). v.items) c.loop-node.lists.items c.in_ok-held_by.field-0
+    ∙ (λ j. c.loop-node.invariant j ++ c.in_ok-held_by.ensures j ∷ [])
+    ∙ sym (map-range_with_len_more held 0 n n (omega arith))
+
+pub returns : goal.returns
+returns c =
+    let e = c.count-node-end.ensures.is in
+    let f = c.loop-node.auto.node-end in
+    let g = c.loop-node-test.false in
+    let same : count_of c.plan.result.now ≡ count_of c.args.core.now.plan = ap count_of c.plan.ensures in
+    let n : c.loop-node.node ≡ suc (count_of c.args.core.now.plan) = omega (arith, e, f, g, same) in
+    c.loop-node.invariant ∙ ap (λ (k : ℕ). map (held_by c.args.core.now.plan c.args.core.now.past) (range_with_len 0 k)) n

@@ -1,0 +1,5 @@
+pub mod Reaching
+pub mod Waiting
+pub mod Failures
+pub mod Heads
+pub mod Told

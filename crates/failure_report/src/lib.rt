@@ -1,0 +1,23 @@
+//! Why nodes of a run are in error, and for whom others wait: by its records, its log and the files of its
+//! jobs.
+//!
+//! Which nodes are in error, how each of them failed and how many wait for it are values (`failures`), the
+//! line of each is made of them, and behind it stands what is found by looking (`why_text`).
+#![tactic(auto)]
+
+mod details;
+mod failed;
+mod heads;
+mod launches;
+mod looking;
+mod notes;
+mod numbers;
+mod quotes;
+mod reaching;
+mod standing;
+mod told;
+mod waiting;
+mod why;
+
+pub use failed::{Failure, failures};
+pub use why::{Surroundings, Why, why_text};

@@ -1,0 +1,266 @@
+//! The text of nodes of a run.
+
+ghost use Rattle.std.specs.Prelude.{◌≡◌, ◌<◌, length, IfSome, IfOk, OnOk, string_bytes};
+ghost use Rattle.run_plan.specs.Plan.{count_of};
+ghost use Rattle.failure_report.specs.Told.{IsBlock, HasBlock, HasBlocks, AreAllFailed, IsWhyOfAll};
+
+use crate::failed::{Failure, failures, is_in_error, last_ends};
+use crate::launches::launch_facts;
+use crate::notes::LogNotes;
+use crate::numbers::{Named, numbers_of};
+use crate::standing::push_standing;
+use crate::told::{Run, failure_block};
+use crate::waiting::{held_lists, waiting_for};
+use log_lines::unquoted;
+use sched_core::Core;
+use std::alloc::{AllocError, Global};
+use std::fs::File;
+use std::rt::Files;
+
+/// Where a run stands on the disk.
+#[derive(Clone, Copy)]
+pub struct Surroundings<'a> {
+    /// The path of its DAG file.
+    pub top: &'a str,
+    /// The folder from which paths are taken, where the log doesn't say another one.
+    pub folder: &'a str,
+    /// The bytes of its log; none where there is no log.
+    pub log: &'a [u8],
+}
+
+/// What is told of nodes.
+#[derive(Drop)]
+pub enum Why {
+    /// This text.
+    Told(String),
+    /// A name is none of a node; this line says which.
+    Unknown(String),
+}
+
+/// A node of which is told.
+#[derive(Clone, Copy)]
+enum Told {
+    /// It is in error.
+    Failed(Failure),
+    /// It is not.
+    Standing(u32),
+}
+
+/// All nodes in error.
+fn all_failed(alloc: Global, core: &Core<'_>) -> Result<Vec<Told>, AllocError>
+    ensures { IfOk result (λ told. AreAllFailed core.now.plan core.now.past told.items) }
+{
+    let failed = failures(alloc, core)?;
+    let mut told = Vec::new(alloc);
+    for failure in &failed {
+        told.push(Told::Failed(*failure))?;
+    }
+    Ok(told)
+}
+
+/// These nodes, in their order.
+fn all_named(alloc: Global, core: &Core<'_>, nodes: &[u32]) -> Result<Vec<Told>, AllocError> {
+    let ends = last_ends(alloc, core)?;
+    let held = held_lists(alloc, core)?;
+    let mut told = Vec::new(alloc);
+    for node in nodes {
+        let node = *node;
+        if node > core.plan().count() || !is_in_error(core, node) {
+            told.push(Told::Standing(node))?;
+            continue;
+        }
+        told.push(Told::Failed(Failure {
+            node,
+            end: ends[node as usize],
+            waiting: waiting_for(alloc, core, &held, node)?,
+        }))?;
+    }
+    Ok(told)
+}
+
+/// Asks a log for the attempt of a node of which is told: its last one, or the one that runs.
+fn ask(core: &Core<'_>, notes: &mut LogNotes<'_>, told: &Told) -> Result<(), AllocError> {
+    match told {
+        Told::Failed(failure) => match failure.end {
+            Some(end) => notes.ask(failure.node, end.attempt),
+            None => Ok(()),
+        },
+        Told::Standing(node) if *node <= core.plan().count() => match core.next(*node) {
+            Some(key) => notes.ask(*node, key.attempt),
+            None => Ok(()),
+        },
+        Told::Standing(_) => Ok(()),
+    }
+}
+
+/// What a log says of the nodes of which is told.
+fn notes_for<'l>(
+    alloc: Global,
+    core: &Core<'_>,
+    told: &[Told],
+    log: &'l [u8],
+) -> Result<LogNotes<'l>, AllocError> {
+    let mut notes = LogNotes::new(alloc, core.plan().count() as usize + 1)?;
+    for one in told {
+        ask(core, &mut notes, one)?;
+    }
+    notes.read(core.plan(), log);
+    Ok(notes)
+}
+
+/// The node whose value aborted the round: the first in plan order that has its abort value.
+fn aborting(core: &Core<'_>) -> Option<u32>
+    ensures { IfSome result (λ node. node < count_of core.now.plan) }
+{
+    for node in 0..core.plan().count() {
+        let value = core.last_value(node);
+        if value.is_some() && value == core.plan().spec(node).course().abort_on {
+            return Some(node);
+        }
+    }
+    None
+}
+
+/// Adds what is told of the round as a whole: that none was begun, or that it was aborted.
+fn push_round(text: &mut String, core: &Core<'_>) -> Result<(), AllocError> {
+    if core.records().is_empty() {
+        return text.push_str("no round was begun\n");
+    }
+    if !core.aborted() {
+        return Ok(());
+    }
+    match aborting(core) {
+        Some(node) => {
+            let name = core.plan().spec(node).name();
+            writeln!(
+                text,
+                "the round was aborted by {name}, whose value is that of its ABORT-DAG-ON line"
+            )
+        }
+        None => text.push_str("the round was aborted\n"),
+    }
+}
+
+/// What stands between a text and the next node: an empty line, where something stands before it.
+fn gap_behind(text: &str) -> &'static str {
+    if text.is_empty() { "" } else { "\n" }
+}
+
+/// What is told of a node that is not in error.
+fn standing_block<R: Files<File = File> + AllocGlobal>(
+    rt: &R,
+    run: &Run<'_, '_, '_>,
+    node: u32,
+) -> Result<String, AllocError> {
+    let mut text = String::new(rt.alloc());
+    push_standing(rt, &mut text, run, node)?;
+    Ok(text)
+}
+
+/// What is told of a node.
+fn block_of<R: Files<File = File> + AllocGlobal>(
+    rt: &R,
+    run: &Run<'_, '_, '_>,
+    one: &Told,
+) -> Result<String, AllocError>
+    ensures { IfOk result (λ block. IsBlock run.now.core.now.plan one.now (string_bytes block)) }
+{
+    match one {
+        Told::Failed(failure) => failure_block(rt, run, failure),
+        Told::Standing(node) => standing_block(rt, run, *node),
+    }
+}
+
+/// Adds what is told of a node.
+fn push_block<R: Files<File = File> + AllocGlobal>(
+    rt: &R,
+    text: &mut String,
+    run: &Run<'_, '_, '_>,
+    one: &Told,
+) -> Result<(), AllocError>
+    ensures { OnOk result (HasBlock run.now.core.now.plan one.now (string_bytes text.old) (string_bytes text.new)) }
+{
+    let block = block_of(rt, run, one)?;
+    text.push_str(gap_behind(text.as_str()))?;
+    text.push_str(block.as_str())?;
+    Ok(())
+}
+
+/// What is told before all nodes.
+fn front_of(alloc: Global, core: &Core<'_>, told: &[Told]) -> Result<String, AllocError> {
+    let mut text = String::new(alloc);
+    push_round(&mut text, core)?;
+    if told.is_empty() {
+        text.push_str("no node is in error\n")?;
+    }
+    Ok(text)
+}
+
+/// The text of some nodes of a run.
+fn text_of<R: Files<File = File> + AllocGlobal>(
+    rt: &R,
+    run: &Run<'_, '_, '_>,
+    told: &[Told],
+) -> Result<String, AllocError>
+    ensures { IfOk result (λ text. HasBlocks run.now.core.now.plan told.now (string_bytes text)) }
+{
+    let mut text = front_of(rt.alloc(), run.core, told)?;
+    for one in told {
+        push_block(rt, &mut text, run, one)?;
+    }
+    Ok(text)
+}
+
+/// What is told of these nodes of a run.
+fn told_of<R: Files<File = File> + AllocGlobal>(
+    rt: &R,
+    core: &Core<'_>,
+    place: &Surroundings<'_>,
+    told: &[Told],
+) -> Result<String, AllocError>
+    ensures { IfOk result (λ text. HasBlocks core.now.plan told.now (string_bytes text)) }
+{
+    let alloc = rt.alloc();
+    let notes = notes_for(alloc, core, told, place.log)?;
+    let folder = match notes.folder {
+        Some(value) => unquoted(alloc, value)?,
+        None => String::from_str(alloc, place.folder)?,
+    };
+    let run = Run {
+        core,
+        ends: last_ends(alloc, core)?,
+        facts: launch_facts(alloc, core)?,
+        notes,
+        folder,
+    };
+    text_of(rt, &run, told)
+}
+
+/// What is told of the nodes of these names in their order; where there is no name, of all that are in
+/// error, those first for which most nodes wait, and of as many in plan order. What the log and the files
+/// of jobs say is told as far as they can be read.
+///
+/// # Errors
+/// Want of memory, and nothing else.
+pub fn why_text<R: Files<File = File> + AllocGlobal>(
+    rt: &R,
+    core: &Core<'_>,
+    place: &Surroundings<'_>,
+    names: &[&str],
+) -> Result<Why, AllocError>
+    // Where no node is named, it is the text of all nodes in error, each with its line.
+    ensures { length names.now ≡ 0 → IfOk result (IsWhyOfAll core.now.plan core.now.past) }
+{
+    let alloc = rt.alloc();
+    if names.is_empty() {
+        let told = all_failed(alloc, core)?;
+        return Ok(Why::Told(told_of(rt, core, place, &told)?));
+    }
+    match numbers_of(alloc, core.plan(), place.top, names)? {
+        Named::Nodes(nodes) => {
+            let told = all_named(alloc, core, &nodes)?;
+            Ok(Why::Told(told_of(rt, core, place, &told)?))
+        }
+        Named::Unknown(line) => Ok(Why::Unknown(line)),
+    }
+}

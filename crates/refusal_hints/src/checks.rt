@@ -1,0 +1,62 @@
+//! What no clause says.
+
+use crate::{Evidence, Refusal, hint_text};
+use std::alloc::{AllocError, Global};
+
+/// A line of a refusal, the file that it names, what the system said, and what is told.
+struct Row {
+    line: &'static str,
+    source: &'static [u8],
+    reason: Option<&'static str>,
+    told: &'static str,
+}
+
+const ROWS: [Row; 5] = [
+    Row {
+        line: "L2 UnknownCommand x.dag:2:1",
+        source: b"JOB A a.sub\nJOBS B b.sub\n",
+        reason: None,
+        told: "    2 | JOBS B b.sub\n        ^\n    is JOB meant?\n    dagrun explain L2 says more\n",
+    },
+    Row {
+        line: "S5 UnknownNode x.dag:2:16",
+        source: b"JOB Fetch a.sub\nPARENT A CHILD Fecth\n",
+        reason: None,
+        told: "    2 | PARENT A CHILD Fecth\n                       ^\n    is Fetch meant?\n    dagrun explain S5 says more\n",
+    },
+    Row {
+        line: "L6 BadName x:y.dag:1:5",
+        source: b"JOB\t\xc3\xa9 x\n",
+        reason: None,
+        told: "    1 | JOB \u{e9} x\n            ^\n    dagrun explain L6 says more\n",
+    },
+    Row {
+        line: "U3 NoQueue a.sub:9",
+        source: b"",
+        reason: None,
+        told: "    dagrun explain U3 says more\n",
+    },
+    Row {
+        line: "P1 MissingFile work/a.sub",
+        source: b"",
+        reason: Some("work/a.sub: No such file or directory"),
+        told: "    work/a.sub: No such file or directory\n    dagrun explain P1 says more\n",
+    },
+];
+
+fn told(alloc: Global, row: &Row) -> Result<bool, AllocError> {
+    let evidence = Evidence {
+        source: Some(row.source),
+        reason: row.reason,
+    };
+    let text = hint_text(alloc, &Refusal::of(row.line), &evidence)?;
+    Ok(text.as_str() == row.told)
+}
+
+#[test]
+fn what_is_told(rt: HostRuntime) -> Result<(), AllocError> {
+    for row in &ROWS {
+        assert!(rt; told(rt.alloc(), row)?, "{}", row.line);
+    }
+    Ok(())
+}

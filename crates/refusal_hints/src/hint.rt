@@ -1,0 +1,150 @@
+//! What is told behind a refusal.
+
+use crate::excerpt::push_excerpt;
+use crate::near::nearest;
+use crate::refusal::{Refusal, SourcePlace};
+use fault_guide::{fault_of, faults};
+use std::alloc::{AllocError, Global};
+use std::str;
+
+/// The first words of lines of a DAG file.
+const COMMANDS: [&str; 12] = [
+    "JOB",
+    "PARENT",
+    "SCRIPT",
+    "RETRY",
+    "PRE_SKIP",
+    "VARS",
+    "PRIORITY",
+    "CATEGORY",
+    "MAXJOBS",
+    "ABORT-DAG-ON",
+    "FINAL",
+    "SPLICE",
+];
+
+/// What is known beside the line of a refusal.
+#[derive(Clone, Copy)]
+pub struct Evidence<'a> {
+    /// The bytes of the file whose place it names, where it can be read.
+    pub source: Option<&'a [u8]>,
+    /// What the system said to a look at the path that it names, or to a call of the journal.
+    pub reason: Option<&'a str>,
+}
+
+/// The word of a line that begins at a place.
+fn word_at<'a>(source: &'a [u8], place: &SourcePlace<'_>) -> Option<&'a str> {
+    let line = source
+        .split(|byte| *byte == b'\n')
+        .nth(place.line.checked_sub(1)?)?;
+    let line = str::from_utf8(line).ok()?;
+    let front = line.get(place.column?.checked_sub(1)?..)?;
+    front.split_whitespace().next()
+}
+
+/// Whether a word begins a line that declares a node or a splice.
+fn declares(word: &str) -> bool {
+    ["JOB", "FINAL", "SPLICE"]
+        .iter()
+        .any(|command| command.eq_ignore_ascii_case(word))
+}
+
+/// The name that a line declares.
+fn declared(line: &str) -> Option<&str> {
+    let mut words = line.split_whitespace();
+    if declares(words.next()?) {
+        words.next()
+    } else {
+        None
+    }
+}
+
+/// The command that may have been meant by a first word.
+fn near_command(alloc: Global, word: &str) -> Result<Option<&'static str>, AllocError> {
+    let upper = word.to_ascii_uppercase(alloc)?;
+    nearest(alloc, upper.as_str(), &COMMANDS)
+}
+
+/// The name that a text declares and that may have been meant by a word.
+fn near_name<'a>(
+    alloc: Global,
+    word: &str,
+    source: &'a str,
+) -> Result<Option<&'a str>, AllocError> {
+    let mut names: Vec<&'a str> = Vec::new(alloc);
+    for line in source.lines() {
+        if let Some(name) = declared(line) {
+            names.push(name)?;
+        }
+    }
+    nearest(alloc, word, names.as_slice())
+}
+
+/// The word that may have been meant in place of the one that is refused.
+fn meant<'a>(
+    alloc: Global,
+    refusal: &Refusal<'_>,
+    word: &str,
+    source: &'a str,
+) -> Result<Option<&'a str>, AllocError> {
+    match refusal.code {
+        "L2" => near_command(alloc, word),
+        "S5" => near_name(alloc, word, source),
+        _ => Ok(None),
+    }
+}
+
+/// Adds what may have been meant at a place.
+fn push_meant(
+    alloc: Global,
+    text: &mut String,
+    refusal: &Refusal<'_>,
+    source: &[u8],
+    place: &SourcePlace<'_>,
+) -> Result<(), AllocError> {
+    let (Some(word), Ok(lines)) = (word_at(source, place), str::from_utf8(source)) else {
+        return Ok(());
+    };
+    if let Some(other) = meant(alloc, refusal, word, lines)? {
+        writeln!(text, "    is {other} meant?")?;
+    }
+    Ok(())
+}
+
+/// Whether what is to be written instead is told at once.
+fn tells_what_to_write(code: &str) -> bool {
+    matches!(code, "L3" | "U4" | "U5" | "V4" | "J5")
+}
+
+/// Adds what the guide says of a fault: all of it for those of which one wants to know what to write instead,
+/// else where it is to be found.
+fn push_guide(alloc: Global, text: &mut String, code: &str) -> Result<(), AllocError> {
+    let faults = faults(alloc)?;
+    match fault_of(&faults, code) {
+        Some(fault) if tells_what_to_write(code) => text.push_str(fault.advice),
+        Some(_) => writeln!(text, "    dagrun explain {code} says more"),
+        None => Ok(()),
+    }
+}
+
+/// What a person is told behind the line of a refusal, each line of it behind four blanks: the line of the file at
+/// the place that it names, what may have been meant there, what the system said, and what to do.
+///
+/// # Errors
+/// Want of memory.
+pub fn hint_text(
+    alloc: Global,
+    refusal: &Refusal<'_>,
+    evidence: &Evidence<'_>,
+) -> Result<String, AllocError> {
+    let mut text = String::new(alloc);
+    if let (Some(source), Some(place)) = (evidence.source, refusal.place()) {
+        push_excerpt(&mut text, source, &place)?;
+        push_meant(alloc, &mut text, refusal, source, &place)?;
+    }
+    if let Some(reason) = evidence.reason {
+        writeln!(text, "    {reason}")?;
+    }
+    push_guide(alloc, &mut text, refusal.code)?;
+    Ok(text)
+}

@@ -1,0 +1,76 @@
+-- The line that says how far a run is.
+use Rattle.std.specs.Prelude.{ℕ, zero, suc, ◌+◌, ◌-◌, ◌/◌, ◌%◌, nat_lt, nat_le, List, [], ◌∷◌, ◌++◌, length, take, flat_map, Option, Some, None, codes, chars, if◌then◌else◌}
+use Rattle.std.specs.Fmt.{decimal}
+use Rattle.std.specs.Char.{encode_utf8}
+use Rattle.run_progress.specs.declared.line.Counts.{Counts}
+use Rattle.run_progress.specs.Columns.{columns}
+
+-- a number below a hundred, with two digits
+abbrev pub two_digits : ℕ → List ℕ
+two_digits number = decimal (number / 10) ++ decimal (number % 10)
+
+-- a time in seconds: `m:ss`, and `h:mm:ss` from an hour on
+abbrev pub clock_of : ℕ → List ℕ
+clock_of seconds =
+    if nat_lt seconds 3600 then decimal (seconds / 60) ++ (codes ":" ++ two_digits (seconds % 60))
+    else decimal (seconds / 3600) ++ (codes ":" ++ (two_digits ((seconds / 60) % 60) ++ (codes ":" ++ two_digits (seconds % 60))))
+
+-- how long a node runs: `n s`, and as `clock_of` from a minute on
+abbrev pub span_of : ℕ → List ℕ
+span_of seconds = if nat_lt seconds 60 then decimal seconds ++ codes " s" else clock_of seconds
+
+-- what stands before the names: how many nodes are done, of how many, where that is known, and how many run
+abbrev pub front_of : Option Counts → ℕ → List ℕ
+front_of None running = decimal running ++ codes " running"
+front_of (Some counts) running =
+    decimal counts.done ++ (codes "/" ++ (decimal counts.total ++ (codes " done, " ++ (decimal running ++ codes " running"))))
+
+-- what stands behind them: how many nodes are ready and how many failed, where that is known, and the time
+abbrev pub back_of : Option Counts → ℕ → List ℕ
+back_of None seconds = codes "  " ++ clock_of seconds
+back_of (Some counts) seconds =
+    codes ", " ++ (decimal counts.ready ++ (codes " ready, " ++ (decimal counts.failed ++ (codes " failed  " ++ clock_of seconds))))
+
+-- a node that runs: its name and since when
+abbrev pub entry_of : List ℕ × ℕ → List ℕ
+entry_of (name, seconds) = name ++ (codes " " ++ span_of seconds)
+
+-- further nodes, each behind a comma
+abbrev pub further : List (List ℕ × ℕ) → List ℕ
+further nodes = flat_map (λ node. codes ", " ++ entry_of node) nodes
+
+-- the end of a list of so many nodes where so many run
+abbrev pub list_end : (shown running : ℕ) → List ℕ
+list_end shown running = if nat_lt shown running then codes ", ..)" else codes ")"
+
+-- the first `count` of some nodes between parentheses, with `..` where more run
+abbrev pub list_of : List (List ℕ × ℕ) → (count running : ℕ) → List ℕ
+list_of [] count running = []
+list_of (first ∷ others) count running =
+    codes " (" ++ (entry_of first ++ (further (take (count - 1) others) ++ list_end count running))
+
+-- the longest list of at most `count` nodes that takes no more columns than there is room; none where not even one node fits
+abbrev pub longest_list : List (List ℕ × ℕ) → (room running count : ℕ) → List ℕ
+longest_list nodes room running zero = []
+longest_list nodes room running (suc count) =
+    if nat_le (columns (chars (list_of nodes (suc count) running))) room then list_of nodes (suc count) running
+    else longest_list nodes room running count
+
+-- a text cut behind so many characters less two, with `..` for the rest
+abbrev pub cut_text : List ℕ → ℕ → List ℕ
+cut_text text width = flat_map encode_utf8 (take (width - 2) (chars text)) ++ codes ".."
+
+-- the first of these texts that takes no more columns than the width; none where none does
+abbrev pub first_fitting : ℕ → List (List ℕ) → List ℕ
+first_fitting width [] = []
+first_fitting width (text ∷ texts) =
+    if nat_le (columns (chars text)) width then text else first_fitting width texts
+
+-- The line: its front, the longest list of names that there is room for, and its back. Where even that without names is too wide, it
+-- is cut.
+abbrev pub line_of : Option Counts → List (List ℕ × ℕ) → (running seconds width : ℕ) → List ℕ
+line_of counts nodes running seconds width =
+    let front = front_of counts running in
+    let back = back_of counts seconds in
+    let names = longest_list nodes (width - (length front + length back)) running (length nodes) in
+    first_fitting width ((front ++ (names ++ back)) ∷ (front ++ back) ∷ cut_text (front ++ back) width ∷ [])

@@ -1,0 +1,532 @@
+//! Who shows how far a run is, while it is told what is done with its children.
+
+use crate::failures::{Failure, failure_line, last_lines, outcome_text};
+use crate::line::{Counts, ProgressLine, RunningNode, line_text};
+use crate::processors::processor_count;
+use crate::shown::{columns_of, push_shown, shown};
+use crate::tally::{Ending, Tally};
+use crate::terminal::{Screen, Way, Width};
+use job_starter::Killed;
+use local_system::{ChildWatcher, CommandPart, refused_part};
+use node_machine::{Key, Outcome, Record, value_of};
+use node_specs::ChildCommand;
+use run_plan::Plan;
+use std::alloc::AllocError;
+use std::fs::File;
+use std::process::Processes;
+use std::rt::Files;
+use std::time::{Clock, Duration};
+use std::{io, mem};
+use throttles::Limits;
+
+/// For how many milliseconds a line that is drawn anew stands at least.
+const REDRAWN_EACH: u64 = 100;
+
+/// How many milliseconds it is from one plain line to the next at least.
+const PLAIN_EACH: u64 = 10_000;
+
+/// So many children for each processor are told of where no limit holds them.
+const MANY: u64 = 4;
+
+/// A child that runs: since when, and the file that takes its errors.
+#[derive(Drop)]
+struct LiveChild {
+    key: Key,
+    since: Duration,
+    errors: Option<String>,
+}
+
+/// The run that is watched, and where.
+#[derive(Clone, Copy)]
+pub struct Watched<'a> {
+    /// The plan of the run.
+    pub plan: &'a Plan,
+    /// The folder from which its relative paths are taken.
+    pub folder: &'a str,
+    /// What may run at once.
+    pub limits: Limits,
+    /// How it is shown.
+    pub way: Way,
+}
+
+/// How far a run is, and what of it is shown.
+#[derive(Drop)]
+struct Progress<'a, R: Drop> {
+    rt: R,
+    run: Watched<'a>,
+    /// none where memory was refused, or what was told is not what was to come
+    tally: Option<Tally>,
+    /// those that run longest first
+    live: Vec<LiveChild>,
+    /// phases that failed, while their attempts go on
+    suffered: Vec<Failure>,
+    began: Duration,
+    drawn: Option<Duration>,
+    /// the line that stands there
+    line: String,
+    width: Width,
+    /// how many processors there are, where that was asked and is known
+    processors: Option<Option<u64>>,
+    told_many: bool,
+}
+
+/// It shows how far a run is, as it is told what is done with its children. Where memory or standard error is refused,
+/// less is shown, and nothing else.
+#[derive(Drop)]
+pub struct ProgressWatcher<'a, R: Drop> {
+    progress: Option<Progress<'a, R>>,
+}
+
+/// Whether no limit is set; that on all children together there always is.
+fn are_none(limits: &Limits) -> bool {
+    limits.jobs == 0 && limits.pre == 0 && limits.post == 0
+}
+
+/// The name of the node of this number; empty where there is none.
+fn name_in(plan: &Plan, node: u32) -> &str {
+    if node <= plan.count() {
+        plan.spec(node).name()
+    } else {
+        ""
+    }
+}
+
+/// The path of the file that takes the errors of a child; none where there is none, or no memory.
+fn errors_of<R: AllocGlobal>(rt: &R, command: &ChildCommand) -> Option<String> {
+    match &command.error {
+        Some(path) => String::from_str(rt.alloc(), path.as_str()).ok(),
+        None => None,
+    }
+}
+
+impl<'a, R: Screen + Processes + Files<File = File> + Clock + AllocGlobal + Copy + Drop> Progress<
+    'a,
+    R,
+> {
+    /// Nothing runs yet, behind these records of earlier managers.
+    fn new(rt: R, run: Watched<'a>, records: &[Record]) -> Progress<'a, R> {
+        let alloc = rt.alloc();
+        let began = rt.monotonic().unwrap_or(Duration::ZERO);
+        let width = match run.way {
+            Way::Redrawn => Width::ask(&rt, began),
+            Way::Plain => Width::usual(),
+        };
+        Progress {
+            rt,
+            run,
+            tally: Tally::new(alloc, run.plan, records).ok(),
+            live: Vec::new(alloc),
+            suffered: Vec::new(alloc),
+            began,
+            drawn: None,
+            line: String::new(alloc),
+            width,
+            processors: None,
+            told_many: false,
+        }
+    }
+
+    /// The time since an arbitrary start.
+    fn now(&self) -> Duration {
+        self.rt.monotonic().unwrap_or(Duration::ZERO)
+    }
+
+    /// How many nodes have come how far, where that is known.
+    fn counts(&self) -> Option<Counts> {
+        match &self.tally {
+            Some(tally) => Some(tally.counts()),
+            None => None,
+        }
+    }
+
+    /// The names of the nodes that run longest, as many as a line may have room for: beside each stand at least six
+    /// characters.
+    fn names(&self) -> Result<Vec<String>, AllocError> {
+        let alloc = self.rt.alloc();
+        let mut names = Vec::new(alloc);
+        let mut room = self.width.usable();
+        for child in &self.live {
+            let name = shown(alloc, name_in(self.run.plan, child.key.node))?;
+            let taken = columns_of(name.as_str()).saturating_add(6);
+            if room < taken {
+                break;
+            }
+            room -= taken;
+            names.push(name)?;
+        }
+        Ok(names)
+    }
+
+    /// The line that says how far the run is at this moment.
+    fn line_at(&self, now: Duration) -> Result<String, AllocError> {
+        let alloc = self.rt.alloc();
+        let names = self.names()?;
+        let mut longest = Vec::new(alloc);
+        for (name, child) in names.iter().zip(self.live.iter()) {
+            longest.push(RunningNode {
+                name: name.as_str(),
+                seconds: now.saturating_sub(child.since).as_secs(),
+            })?;
+        }
+        let line = ProgressLine {
+            counts: self.counts(),
+            running: self.live.len(),
+            longest: &longest,
+            seconds: now.saturating_sub(self.began).as_secs(),
+        };
+        line_text(alloc, &line, self.width.usable())
+    }
+
+    /// Writes a text to standard error, in one piece.
+    fn write(&self, text: &str) {
+        let _ = eprint!(&self.rt; "{text}");
+    }
+
+    /// Whether the line is to be shown anew. The first time that is at a pause, if there is one soon: what can be
+    /// started is started then.
+    fn is_due(&self, now: Duration, at_pause: bool) -> bool {
+        let least = match self.run.way {
+            Way::Redrawn => Duration::from_millis(REDRAWN_EACH),
+            Way::Plain => Duration::from_millis(PLAIN_EACH),
+        };
+        match self.drawn {
+            Some(drawn) => now.saturating_sub(drawn) >= least,
+            None => at_pause || now.saturating_sub(self.began) >= least,
+        }
+    }
+
+    /// Shows this line, behind lines that stay.
+    fn draw(&mut self, staying: &str, line: String) -> Result<(), AllocError> {
+        let alloc = self.rt.alloc();
+        let (shown, standing) = (line.as_str(), staying);
+        let text = match self.run.way {
+            Way::Redrawn if standing.is_empty() => format!(in alloc; "\r{shown}\x1b[K")?,
+            Way::Redrawn => format!(in alloc; "\r\x1b[K{standing}{shown}\x1b[K")?,
+            Way::Plain => format!(in alloc; "{shown}\n")?,
+        };
+        self.write(text.as_str());
+        self.line = line;
+        Ok(())
+    }
+
+    /// Shows how far the run is, where that is due and it is another line than the one that stands there.
+    fn redraw(&mut self, at_pause: bool) -> Result<(), AllocError> {
+        let now = self.now();
+        if !self.is_due(now, at_pause) {
+            return Ok(());
+        }
+        if self.run.way == Way::Redrawn {
+            let rt = self.rt;
+            self.width.renew(&rt, now);
+        }
+        self.drawn = Some(now);
+        let line = self.line_at(now)?;
+        if self.run.way == Way::Redrawn && line.as_str() == self.line.as_str() {
+            return Ok(());
+        }
+        self.draw("", line)
+    }
+
+    /// Shows lines that stay, each with its end, and on a terminal how far the run is below them.
+    fn tell(&mut self, lines: &str) -> Result<(), AllocError> {
+        match self.run.way {
+            Way::Plain => {
+                self.write(lines);
+                Ok(())
+            }
+            Way::Redrawn => {
+                let now = self.now();
+                self.drawn = Some(now);
+                let line = self.line_at(now)?;
+                self.draw(lines, line)
+            }
+        }
+    }
+
+    /// Takes the line away.
+    fn clear(&mut self) {
+        if self.run.way == Way::Redrawn && !self.line.is_empty() {
+            self.write("\r\x1b[K");
+            self.line = String::new(self.rt.alloc());
+        }
+    }
+
+    /// Tells of a phase that failed: in one line, and the last ones of its errors where no attempt follows.
+    fn tell_failure(&mut self, failure: &Failure, ending: Ending) -> Result<(), AllocError> {
+        let alloc = self.rt.alloc();
+        let name = name_in(self.run.plan, failure.key.node);
+        let mut lines = failure_line(alloc, name, failure, ending)?;
+        lines.push('\n')?;
+        if ending == Ending::Failed {
+            if let Some(errors) = &failure.errors {
+                let path = splices::path_in(alloc, self.run.folder, errors.as_str())?;
+                let width = self.width.usable();
+                let last = last_lines(alloc, &self.rt, path.as_str(), width)?;
+                lines.push_str(last.as_str())?;
+            }
+        }
+        self.tell(lines.as_str())
+    }
+
+    /// Takes the phases of a node that failed in an attempt which went on.
+    fn take_suffered(&mut self, node: u32) -> Result<Vec<Failure>, AllocError> {
+        let alloc = self.rt.alloc();
+        let (mut taken, mut kept) = (Vec::new(alloc), Vec::new(alloc));
+        for failure in mem::replace(&mut self.suffered, Vec::new(alloc)) {
+            if failure.key.node == node {
+                taken.push(failure)?;
+            } else {
+                kept.push(failure)?;
+            }
+        }
+        self.suffered = kept;
+        Ok(taken)
+    }
+
+    /// What is told of a phase that ended so.
+    fn tell_ending(&mut self, failure: Failure, ending: Ending) -> Result<(), AllocError> {
+        if ending == Ending::Suffered {
+            self.suffered.push(failure)?;
+            return Ok(());
+        }
+        let before = if self.suffered.is_empty() {
+            Vec::new(self.rt.alloc())
+        } else {
+            self.take_suffered(failure.key.node)?
+        };
+        if ending == Ending::Good {
+            return Ok(());
+        }
+        for earlier in &before {
+            self.tell_failure(earlier, ending)?;
+        }
+        self.tell_failure(&failure, ending)
+    }
+
+    /// The end of a phase, as the tally takes it.
+    fn ending(&mut self, key: &Key, outcome: Outcome) -> Ending {
+        let alloc = self.rt.alloc();
+        if let Some(tally) = &mut self.tally {
+            if let Ok(Some(ending)) = tally.ended(alloc, self.run.plan, key, outcome) {
+                return ending;
+            }
+        }
+        self.tally = None;
+        match value_of(outcome) {
+            0 => Ending::Good,
+            _ => Ending::Failed,
+        }
+    }
+
+    /// Takes a child away, and answers the file that took its errors.
+    fn take(&mut self, key: &Key) -> Option<String> {
+        let place = self.live.iter().position(|child| child.key == *key)?;
+        self.live.remove(place).errors
+    }
+
+    /// A phase is launched.
+    fn launch(&mut self, key: &Key) {
+        let lawful = match &mut self.tally {
+            Some(tally) => tally.launched(self.run.plan, key),
+            None => false,
+        };
+        if !lawful {
+            self.tally = None;
+        }
+    }
+
+    fn launched(&mut self, key: &Key, command: &ChildCommand) -> Result<(), AllocError> {
+        self.launch(key);
+        let child = LiveChild {
+            key: *key,
+            since: self.now(),
+            errors: errors_of(&self.rt, command),
+        };
+        self.live.push(child)?;
+        self.redraw(false)
+    }
+
+    fn not_started(
+        &mut self,
+        key: &Key,
+        command: &ChildCommand,
+        part: CommandPart,
+        error: &io::Error,
+    ) -> Result<(), AllocError> {
+        let alloc = self.rt.alloc();
+        self.launch(key);
+        let ending = self.ending(key, Outcome::NoStart);
+        let (_, path) = refused_part(alloc, &self.rt, self.run.folder, command, part)?;
+        let mut what = outcome_text(alloc, Outcome::NoStart)?;
+        let path = path.as_str();
+        write!(what, ": {path}: {error}")?;
+        let failure = Failure {
+            key: *key,
+            what,
+            errors: None,
+        };
+        self.tell_ending(failure, ending)
+    }
+
+    fn ended(&mut self, key: &Key, outcome: Outcome) -> Result<(), AllocError> {
+        let errors = self.take(key);
+        let ending = self.ending(key, outcome);
+        if ending != Ending::Good || !self.suffered.is_empty() {
+            let failure = Failure {
+                key: *key,
+                what: outcome_text(self.rt.alloc(), outcome)?,
+                errors,
+            };
+            self.tell_ending(failure, ending)?;
+        }
+        self.redraw(false)
+    }
+
+    fn killed(&mut self, key: &Key) {
+        let _ = self.take(key);
+        if let Some(tally) = &mut self.tally {
+            tally.forget_launch(self.run.plan, key);
+        }
+    }
+
+    /// How many processors there are, where the system says it.
+    fn processors(&mut self) -> Option<u64> {
+        match self.processors {
+            Some(count) => count,
+            None => {
+                let count = processor_count(&self.rt);
+                self.processors = Some(count);
+                count
+            }
+        }
+    }
+
+    /// Tells once where more children run than the processors can be meant for.
+    fn tell_many(&mut self) -> Result<(), AllocError> {
+        let running = self.live.len() as u64;
+        if self.told_many || running <= MANY || !are_none(&self.run.limits) {
+            return Ok(());
+        }
+        let Some(processors) = self.processors() else {
+            return Ok(());
+        };
+        if running <= processors.saturating_mul(MANY) {
+            return Ok(());
+        }
+        self.told_many = true;
+        let word = if processors == 1 {
+            "processor"
+        } else {
+            "processors"
+        };
+        let alloc = self.rt.alloc();
+        let line = format!(in alloc;
+            "{running} children run at once on {processors} {word}: --maxjobs limits them\n"
+        )?;
+        self.tell(line.as_str())
+    }
+
+    fn waits(&mut self) -> Result<(), AllocError> {
+        self.tell_many()?;
+        self.redraw(true)
+    }
+
+    /// Tells where all nodes are done from the start, by this file.
+    fn tell_done(&mut self, top: &str, rescue: Option<&str>) -> Result<(), AllocError> {
+        let all_done = match self.counts() {
+            Some(counts) => counts.total > 0 && counts.done == counts.total,
+            None => false,
+        };
+        if !all_done {
+            return Ok(());
+        }
+        let mut line = String::from_str(self.rt.alloc(), "all nodes are done: ")?;
+        push_shown(&mut line, rescue.unwrap_or(top))?;
+        line.push_str(" says so")?;
+        if rescue.is_some() {
+            line.push_str("; remove it, or call with --autorescue 0, to begin anew")?;
+        }
+        line.push('\n')?;
+        self.write(line.as_str());
+        Ok(())
+    }
+}
+
+impl<
+    'a,
+    R: Screen + Processes + Files<File = File> + Clock + AllocGlobal + Copy + Drop,
+> ProgressWatcher<'a, R> {
+    /// It shows nothing.
+    pub fn hidden() -> ProgressWatcher<'a, R> {
+        ProgressWatcher { progress: None }
+    }
+
+    /// It shows how far this run is, which goes on behind these records of earlier managers.
+    pub fn new(rt: R, run: Watched<'a>, records: &[Record]) -> ProgressWatcher<'a, R> {
+        ProgressWatcher {
+            progress: Some(Progress::new(rt, run, records)),
+        }
+    }
+
+    /// Tells where nothing is left to start in a round that begins, since all nodes are done by the rescue file of this
+    /// path, or else by the DAG file itself.
+    pub fn begins(&mut self, top: &str, rescue: Option<&str>) {
+        if let Some(progress) = &mut self.progress {
+            let _ = progress.tell_done(top, rescue);
+        }
+    }
+
+    /// Takes away what is shown and does not stay.
+    pub fn ends(&mut self) {
+        if let Some(progress) = &mut self.progress {
+            progress.clear();
+        }
+    }
+}
+
+impl<R: Screen + Processes + Files<File = File> + Clock + AllocGlobal + Copy + Drop> ChildWatcher
+    for ProgressWatcher<'_, R> {
+    fn launching(&mut self, _key: &Key, _command: &ChildCommand) {}
+
+    fn launched(&mut self, key: &Key, _process: u32, command: &ChildCommand) {
+        if let Some(progress) = &mut self.progress {
+            let _ = progress.launched(key, command);
+        }
+    }
+
+    fn held(&mut self, _key: &Key, _error: &io::Error) {
+        if let Some(progress) = &mut self.progress {
+            let _ = progress.redraw(true);
+        }
+    }
+
+    fn not_started(
+        &mut self,
+        key: &Key,
+        command: &ChildCommand,
+        part: CommandPart,
+        error: &io::Error,
+    ) {
+        if let Some(progress) = &mut self.progress {
+            let _ = progress.not_started(key, command, part, error);
+        }
+    }
+
+    fn ended(&mut self, key: &Key, outcome: Outcome) {
+        if let Some(progress) = &mut self.progress {
+            let _ = progress.ended(key, outcome);
+        }
+    }
+
+    fn killed(&mut self, key: &Key, _answer: Killed) {
+        if let Some(progress) = &mut self.progress {
+            progress.killed(key);
+        }
+    }
+
+    fn waits(&mut self) {
+        if let Some(progress) = &mut self.progress {
+            let _ = progress.waits();
+        }
+    }
+}

@@ -1,0 +1,49 @@
+use Rattle.std.proofs.Common.{◌∙◌, ap, sym, subst, refl}
+use Rattle.splices.specs.Dag.{Dag}
+use Rattle.dag_files.specs.Beside.{IsFileFault, reading_had_no_memory}
+use Rattle.dag_texts.specs.Warnings.{warning_lines}
+use Rattle.dag_texts.specs.declared.fault.RunFault.TheVariants.{Memory}
+use Rattle.dag_files.proofs.RunFaults.{by-fault}
+use Rattle.run_times.specs.Told.{IsTimesFault, no_graph, no_log}
+use Rattle.run_times.proofs.here.times_here.Goals as goal
+
+pub returns-in_err-files-clause-refused : goal.returns-in_err-files-clause-refused
+returns-in_err-files-clause-refused g c =
+    by-fault (IsTimesFault c.args.top.now) c.in_err-files.field-0.0 (no_log _ (subst IsFileFault (sym c.in_err-files.ensures) reading_had_no_memory))
+    c.from_residual.result c.from_residual.ensures.1
+
+pub returns-in_err-graph-clause-refused : goal.returns-in_err-graph-clause-refused
+returns-in_err-graph-clause-refused g c =
+    by-fault (IsTimesFault c.args.top.now) c.in_err-graph.field-0.0 (no_graph c.in_ok-files.files _ c.in_err-graph.ensures.refused)
+    c.from_residual-in_err-graph.result c.from_residual-in_err-graph.ensures.1
+
+pub returns-in_err-log-clause-refused : goal.returns-in_err-log-clause-refused
+returns-in_err-log-clause-refused g c =
+    by-fault (IsTimesFault c.args.top.now) c.in_err-log.field-0.0 (no_log _ c.in_err-log.ensures)
+    c.from_residual-in_err-log.result c.from_residual-in_err-log.ensures.1
+
+pub returns-in_err-runs-clause-refused : goal.returns-in_err-runs-clause-refused
+returns-in_err-runs-clause-refused g c =
+    by-fault (IsTimesFault c.args.top.now) Memory (no_log _ reading_had_no_memory) c.from_residual-in_err-runs.result c.from_residual-in_err-runs.ensures.1
+
+pub returns-in_err-marks-clause-refused : goal.returns-in_err-marks-clause-refused
+returns-in_err-marks-clause-refused g c =
+    by-fault (IsTimesFault c.args.top.now) Memory (no_log _ reading_had_no_memory) c.from_residual-in_err-marks.result c.from_residual-in_err-marks.ensures.1
+
+pub returns-in_err-text_of-clause-refused : goal.returns-in_err-text_of-clause-refused
+returns-in_err-text_of-clause-refused g c =
+    by-fault (IsTimesFault c.args.top.now) Memory (no_log _ reading_had_no_memory) c.from_residual-in_err-text_of.result c.from_residual-in_err-text_of.ensures.1
+
+pub returns-in_err-warning_text-clause-refused : goal.returns-in_err-warning_text-clause-refused
+returns-in_err-warning_text-clause-refused g c =
+    by-fault (IsTimesFault c.args.top.now) Memory (no_log _ reading_had_no_memory) c.from_residual-in_err-warning_text.result c.from_residual-in_err-warning_text.ensures.1
+
+pub returns-clause-told : goal.returns-clause-told
+returns-clause-told g c = record {
+  files = c.in_ok-files.files;
+  graph = c.in_ok-graph.graph;
+  is_graph = c.in_ok-graph.ensures.graph;
+  table = c.in_ok-text_of.ensures;
+  warnings_are = c.in_ok-warning_text.ensures ∙ ap warning_lines (c.warnings.ensures ∙ ap (λ (d : Dag). d.warnings) c.flat.ensures);
+  status_is = refl;
+}

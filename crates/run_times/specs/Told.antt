@@ -1,0 +1,31 @@
+-- What `times` prints.
+use Rattle.std.specs.Prelude.{◌≡◌, ℕ, Bool, false, List}
+use Rattle.splices.specs.FileSet.{bytes_of}
+use Rattle.splices.specs.declared.file_set.FileSet.{FileSet}
+use Rattle.dag_files.specs.Beside.{IsFileFault}
+use Rattle.dag_graph.specs.Graph.{Network}
+use Rattle.dag_texts.specs.Planned.{IsGraphOf, IsGraphFault}
+use Rattle.dag_texts.specs.Warnings.{warning_lines}
+use Rattle.dag_texts.specs.declared.fault.RunFault.{RunFault}
+use Rattle.run_times.specs.declared.runs.PhaseRun.{PhaseRun}
+use Rattle.run_times.specs.Table.{table_text_of}
+
+-- some phases, with marks of those that are on the critical path, which make this table
+pub record IsTable (text : List ℕ) : Type 0 where
+  pub runs : List PhaseRun
+  pub marks : List Bool
+  pub text_is : text ≡ table_text_of runs marks
+
+-- This is printed of the files of a path, which make a graph, and these are their warnings: a table, unless a picture is asked for.
+pub record IsTimesOf (path : List ℕ) (svg : Bool) (text warnings : List ℕ) (status : ℕ) : Type 0 where
+  pub files : FileSet
+  pub graph : Network
+  pub is_graph : IsGraphOf (bytes_of files) path graph
+  pub table : svg ≡ false → IsTable text
+  pub warnings_are : warnings ≡ warning_lines graph.dag.warnings
+  pub status_is : status ≡ 0
+
+-- Why nothing is printed: the files make no graph; or the log is missing or refused, or memory ran out
+pub data IsTimesFault (path : List ℕ) : RunFault → Type 0 where
+  no_graph : (files : FileSet) (fault : RunFault) → IsGraphFault (bytes_of files) path fault → IsTimesFault path fault
+  no_log : (fault : RunFault) → IsFileFault fault → IsTimesFault path fault

@@ -1,0 +1,27 @@
+-- Rounds that were cut short, by what a header says.
+use Rattle.std.proofs.Common.{◌≡◌, ◌≤◌, ◌<◌, ℕ, List, Bool, true, false, Option, Some, None, Ok, length, arith, sym, ap, ◌∙◌}
+use Rattle.std.specs.Prelude.{slice_range}
+use Rattle.event_journal.specs.declared.journal.Peek.{Peek}
+use Rattle.event_journal.specs.Image.{Header, Found, replay_of, IsRescueNumber}
+use Rattle.event_journal.specs.Peeks.{ReadsPeek}
+use Rattle.event_journal.proofs.Replays.{journals}
+use Rattle.salvage.specs.Round.{IsCutShort}
+
+pub cut-short : (journal digest : List ℕ) (peek : Peek) (used next : ℕ) → ReadsPeek (Some peek) (replay_of journal) → peek.finished ≡ false
+    → (40 ≤ length journal → digest ≡ slice_range journal 8 40) → used ≡ peek.used → next ≡ peek.next → used ≤ 999 → IsRescueNumber next
+    → IsCutShort journal digest used next peek.always_post
+cut-short journal digest peek used next (found, reads, used_is, next_is, flag_is, finished_is) unfinished by u n most may =
+    let j = journals journal found reads in
+    let over : 64 < length journal = j.headed.long in
+    let long : 40 ≤ length journal = omega arith in
+    record {
+      found = found;
+      reads = reads;
+      unfinished = finished_is ∙ unfinished;
+      digest_is = by long ∙ ap (λ (h : Header). h.digest) j.header;
+      used_is = u ∙ sym used_is;
+      next_is = n ∙ sym next_is;
+      flag_is = sym flag_is;
+      may_read = most;
+      may_write = may;
+    }

@@ -1,0 +1,4 @@
+pub mod Listings
+pub mod Records
+pub mod CutShort
+pub mod Changes

@@ -1,0 +1,14 @@
+use Rattle.std.proofs.Common.{◌<◌, [], length, arith, subst, sym, string_bytes}
+use Rattle.salvage.specs.Salvaged.{AreChanges, no_files}
+use Rattle.salvage.proofs.Changes.{more-changes}
+use Rattle.salvage.proofs.here.changes.Goals as goal
+
+pub loop-file-init : goal.loop-file-init
+loop-file-init g c = subst (AreChanges []) (sym c.new-text.ensures.bytes) no_files
+
+pub loop-file-preserved : goal.loop-file-preserved
+loop-file-preserved g c =
+    let less : c.loop-file.file-index < length c.deref-file-items.result.now = omega arith in
+    more-changes c.args.inputs.now.files.items c.deref-file-items.result.now c.deref-file-items.ensures.value c.loop-file.file-index
+    (string_bytes c.loop-file.text) (string_bytes c.push_change.new.text) c.as_str.result.now c.file-item.result c.in_ok-change.change
+    less c.file-item.is c.loop-file.invariant c.as_str.ensures c.in_ok-push_change.ensures

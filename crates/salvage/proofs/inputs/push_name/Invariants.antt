@@ -1,0 +1,6 @@
+use Rattle.std.proofs.Common.{◌≡◌, ◌++◌, take}
+use Rattle.salvage.specs.Inputs.{escaped}
+use Rattle.salvage.proofs.inputs.push_name.Given as goal
+
+abbrev pub invariant-loop-byte : goal.invariant-loop-byte
+invariant-loop-byte l = l.text.items ≡ l.initial.text.items ++ escaped (take l.byte-index l.name)

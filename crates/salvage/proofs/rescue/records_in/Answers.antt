@@ -1,0 +1,21 @@
+use Rattle.std.proofs.Common.{◌≡◌, ℕ, List, [], Option, Some, None, Vec, Global, ap, subst, sym}
+use Rattle.std.specs.Option.{option_map}
+use Rattle.node_machine.specs.declared.Record.{Record}
+use Rattle.event_journal.specs.Image.{replay_of}
+use Rattle.event_journal.specs.Reading.{ReadsRecords, replay_for}
+use Rattle.salvage.specs.Salvaged.{HasRecords}
+use Rattle.salvage.proofs.Records.{records-read}
+use Rattle.salvage.proofs.rescue.records_in.Goals as goal
+
+pub returns-in-Ok-Some : goal.returns-in-Ok-Some
+returns-in-Ok-Some c =
+    records-read _ _ c.args.journal.now (Some c.in-Ok-Some.records.items)
+    (subst (λ (o : Option (List Record)). ReadsRecords o (replay_for c.digest_in.result c.args.always_post c.args.journal.now))
+    (ap (option_map (λ v. v.items)) c.in-Ok-Some.field-0-is) c.in-Ok-Some.ensures.gives)
+
+pub returns-in-Ok-None : goal.returns-in-Ok-None
+returns-in-Ok-None c =
+    subst (HasRecords (replay_of c.args.journal.now)) (sym c.new.ensures.items)
+    (records-read _ _ c.args.journal.now None
+    (subst (λ (o : Option (List Record)). ReadsRecords o (replay_for c.digest_in.result c.args.always_post c.args.journal.now))
+    (ap (option_map (λ v. v.items)) c.in-Ok-None.field-0-is) c.in-Ok-None.ensures.gives))

@@ -1,0 +1,4 @@
+pub mod Inputs
+pub mod Round
+pub mod Salvaged
+pub mod Faults

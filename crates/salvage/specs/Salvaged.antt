@@ -1,0 +1,90 @@
+-- The rescue file of a round that was cut short.
+use Rattle.std.specs.Prelude.{◌≡◌, ℕ, List, [], ◌∷◌, ◌++◌, Bool, Option, Some, None, Result, Ok, Err, All, IsTrue, codes, decimal}
+use Rattle.std.specs.List.{count_by}
+use Rattle.splices.specs.Opening.{Files}
+use Rattle.splices.specs.FileSet.{bytes_of, entries_of}
+use Rattle.splices.specs.declared.file_set.FileSet.{FileSet}
+use Rattle.rescue_file.specs.Numbered.{rescue_name_of}
+use Rattle.dag_graph.specs.Graph.{Network}
+use Rattle.run_plan.specs.Digest.{digest_of}
+use Rattle.run_plan.specs.Plan.{Plan, count_of}
+use Rattle.run_plan.specs.Submitted.{plan_at}
+use Rattle.node_machine.specs.declared.Record.{Record}
+use Rattle.sched_core.specs.Run.{written, is_lawful}
+use Rattle.event_journal.specs.declared.fault.JournalFault.{JournalFault}
+use Rattle.event_journal.specs.Image.{Found, replay_of}
+use Rattle.run_manager.specs.Rescue.{marks_of, rescue_text_for}
+use Rattle.dag_texts.specs.Planned.{IsGraphOf}
+use Rattle.dag_texts.specs.Warnings.{warning_lines}
+use Rattle.salvage.specs.Round.{IsCutShort, IsSame, IsSameRescue}
+use Rattle.salvage.specs.declared.inputs.Listed.{Listed}
+use Rattle.salvage.specs.declared.here.Change.{Change}
+use Rattle.salvage.specs.declared.here.Change.TheVariants.{Other, Missing}
+
+-- the records that reading gives, the oldest first; none of a place where no journal was begun
+abbrev pub HasRecords : Result (Option Found) JournalFault → List Record → Type 0
+HasRecords (Ok None) records = records ≡ []
+HasRecords (Ok (Some found)) records = records ≡ found.records
+HasRecords (Err fault) records = ⊥
+
+-- The text of the rescue file of a plan's round whose journal has these bytes: it marks the nodes that are done by the records, which are
+-- those of a run of the plan, and so many are.
+pub record IsSalvaged (plan : Plan) (journal text : List ℕ) (done : ℕ) : Type 0 where
+  pub past : List Record
+  pub are_records : HasRecords (replay_of journal) (written past)
+  pub lawful : IsTrue (is_lawful plan past)
+  pub text_is : text ≡ rescue_text_for plan past
+  pub done_is : done ≡ count_by (λ mark. mark) (marks_of plan past)
+
+-- the plan of the files of a path and of a rescue file, with no submit file read; the flag says whether POST runs behind a failed PRE
+pub record IsBarePlan (always_post : Bool) (files : Files) (path : List ℕ) (rescue : Option (List ℕ)) (plan : Plan) : Type 0 where
+  pub graph : Network
+  pub is_graph : IsGraphOf files path graph
+  pub made : plan_at always_post graph None rescue (digest_of graph.dag.top [] rescue) ≡ Ok plan
+
+-- `changed since the round began: PATH`, or `missing`; no line where the file is as it was
+abbrev pub change_line : List ℕ → Option Change → List ℕ
+change_line path None = []
+change_line path (Some Other) = codes "changed since the round began: " ++ (path ++ codes "\n")
+change_line path (Some Missing) = codes "missing since the round began: " ++ (path ++ codes "\n")
+
+-- the lines of files, each of which is as it was, is changed or is missing
+pub data AreChanges : List Listed → List ℕ → Type 0 where
+  no_files : AreChanges [] []
+  one_more : (files : List Listed) (text : List ℕ) (file : Listed) (change : Option Change) → AreChanges files text →
+      AreChanges (files ++ file ∷ []) (text ++ change_line file.path change)
+
+-- `N of M nodes are done: NAME`
+abbrev pub report_line : ℕ → ℕ → List ℕ → List ℕ
+report_line done total name = decimal done ++ (codes " of " ++ (decimal total ++ (codes " nodes are done: " ++ (name ++ codes "\n"))))
+
+-- What is known of a round that is salvaged. Its journal is that of a round which was cut short. Files, and a rescue file or none, are as they
+-- were when the round began, by sums which these are; and this is the rescue file that marks what is done by the journal's records, in the plan
+-- of those files.
+pub record IsReadRound (path journal digest : List ℕ) (used next : ℕ) (always_post : Bool) (listed : List Listed) (plan : Plan) (rescue_text : List ℕ) (done : ℕ) : Type 0 where
+  pub cut_short : IsCutShort journal digest used next always_post
+  pub files : FileSet
+  pub are_same : All (IsSame listed) (entries_of files)
+  pub rescue : Option (List ℕ)
+  pub is_same : IsSameRescue listed path used rescue
+  pub planned : IsBarePlan always_post (bytes_of files) path rescue plan
+  pub salvaged : IsSalvaged plan journal rescue_text done
+
+-- What `salvage` answers of the DAG file of this path: how many nodes are done in a round that was cut short, the name of the rescue file that
+-- marks them, and what is changed.
+pub record IsSalvageOf (path text warnings : List ℕ) (status : ℕ) : Type 0 where
+  pub journal : List ℕ
+  pub digest : List ℕ
+  pub used : ℕ
+  pub next : ℕ
+  pub always_post : Bool
+  pub listed : List Listed
+  pub plan : Plan
+  pub rescue_text : List ℕ
+  pub done : ℕ
+  pub read : IsReadRound path journal digest used next always_post listed plan rescue_text done
+  pub changes : List ℕ
+  pub are_changes : AreChanges listed changes
+  pub text_is : text ≡ report_line done (count_of plan) (rescue_name_of path next) ++ changes
+  pub warnings_are : warnings ≡ warning_lines plan.graph.dag.warnings
+  pub status_is : status ≡ 0

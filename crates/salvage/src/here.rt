@@ -1,0 +1,270 @@
+//! A round that was cut short, made into a rescue file.
+
+ghost use Rattle.std.specs.Prelude.{◌≡◌, ◌++◌, ◌≤◌, IfOk, OnOk, string_bytes, option_map};
+ghost use Rattle.splices.specs.FileSet.{bytes_of};
+ghost use Rattle.rescue_file.specs.Numbered.{IsNumber, rescue_name_of};
+ghost use Rattle.run_plan.specs.Plan.{count_of};
+ghost use Rattle.dag_texts.specs.Warnings.{warning_lines};
+ghost use Rattle.salvage.specs.Salvaged.{IsBarePlan, IsReadRound, change_line, AreChanges, report_line, IsSalvageOf};
+
+use crate::fault::SalvageFault;
+use crate::inputs::{Inputs, Listed};
+use crate::rescue::{Salvaged, salvage_text};
+use crate::rounds::{CutShort, check_files, cut_short, inputs_with, rescue_in};
+use dag_files::{Place, bytes_of, dag_files_in, journal_path, named, rescue_disk, rescue_path};
+use dag_texts::{Answer, RunFault, graph_of, warning_text};
+use event_journal::put_bytes;
+use run_plan::Plan;
+use sha2::{Digest, Sha256};
+use splices::FileSet;
+use std::alloc::{AllocError, Global};
+use std::fs::{self, File};
+use std::rt::Files;
+use std::time::Clock;
+
+/// The plan of a round, with no submit file read.
+///
+/// # Errors
+/// Those of the DAG files (`InFiles`, `Cycle`) and of the rescue file (`InRescue`), and `Memory`.
+fn plan_of_round(
+    alloc: Global,
+    place: &Place<'_>,
+    files: &FileSet,
+    round: &CutShort,
+    rescue: Option<&[u8]>,
+) -> Result<Plan, RunFault>
+    requires { round.now.used ≤ 999 }
+    ensures { IfOk result (IsBarePlan round.now.always_post (bytes_of files.now) place.now.top.now
+        (option_map (λ b. b.now) rescue.entry)) }
+{
+    let graph = graph_of(alloc, files, place.top)?;
+    match Plan::build_bare(alloc, graph, rescue, round.always_post) {
+        Ok(plan) => Ok(plan),
+        Err((_graph, fault)) if fault.is_memory() => Err(RunFault::Memory),
+        Err((_graph, fault)) if round.used == 0 => Err(RunFault::InPlan(fault)),
+        Err((_graph, fault)) => {
+            let path = rescue_path(alloc, place.top, round.used)?;
+            Err(named(RunFault::InPlan(fault), Some(path)))
+        }
+    }
+}
+
+/// How a file differs from what the round was begun with, if it does.
+#[derive(Clone, Copy, PartialEq, Eq)]
+enum Change {
+    /// It has other bytes, or can't be read.
+    Other,
+    /// It is missing.
+    Missing,
+}
+
+/// Whether this is the sum of these bytes.
+fn is_sum(bytes: &[u8], sum: &[u8; 32]) -> bool {
+    let found = Sha256::digest(bytes);
+    found[..] == sum[..]
+}
+
+/// How a file is changed, if it is.
+fn change_of<R: Files + AllocGlobal>(
+    rt: &R,
+    place: &Place<'_>,
+    file: &Listed,
+) -> Result<Option<Change>, RunFault> {
+    let bytes = match place.read(rt, file.path.as_str()) {
+        Ok(bytes) => bytes,
+        Err(RunFault::FileRefused(_path)) => return Ok(Some(Change::Other)),
+        Err(fault) => return Err(fault),
+    };
+    let Some(bytes) = bytes else {
+        return Ok(Some(Change::Missing));
+    };
+    if is_sum(bytes.as_slice(), &file.sum) {
+        return Ok(None);
+    }
+    Ok(Some(Change::Other))
+}
+
+/// Adds the line of a file, if it is changed.
+fn push_change(text: &mut String, path: &str, change: Option<Change>) -> Result<(), AllocError>
+    ensures { OnOk result (string_bytes text.new ≡ string_bytes text.old ++ change_line path.now change) }
+{
+    match change {
+        Some(Change::Other) => writeln!(text, "changed since the round began: {path}"),
+        Some(Change::Missing) => writeln!(text, "missing since the round began: {path}"),
+        None => Ok(()),
+    }
+}
+
+/// The lines of the files that are no longer as they were when the round began.
+fn changes<R: Files + AllocGlobal>(
+    rt: &R,
+    place: &Place<'_>,
+    inputs: &Inputs,
+) -> Result<String, RunFault>
+    ensures { IfOk result (λ text. AreChanges inputs.now.files.items (string_bytes text)) }
+{
+    let mut text = String::new(rt.alloc());
+    for file in inputs.files.iter() {
+        let change = change_of(rt, place, file)?;
+        push_change(&mut text, file.path.as_str(), change)?;
+    }
+    Ok(text)
+}
+
+/// What is told of a round that is salvaged.
+fn report_of(
+    alloc: Global,
+    place: &Place<'_>,
+    plan: &Plan,
+    next: u16,
+    done: usize,
+    changes: &str,
+) -> Result<Answer, RunFault>
+    requires { IsNumber next }
+    ensures text { IfOk result (λ answer. string_bytes answer.text
+        ≡ report_line done (count_of plan.now) (rescue_name_of place.now.top.now next) ++ changes.now) }
+    ensures warnings { IfOk result (λ answer. string_bytes answer.warnings ≡ warning_lines plan.now.graph.dag.warnings) }
+    ensures status { IfOk result (λ answer. answer.status ≡ 0) }
+{
+    let path = rescue_path(alloc, place.top, next)?;
+    let name = path.as_str();
+    let total = plan.count();
+    let mut text = String::new(alloc);
+    writeln!(text, "{done} of {total} nodes are done: {name}")?;
+    text.push_str(changes)?;
+    Ok(Answer {
+        text,
+        warnings: warning_text(alloc, plan.graph().flat().warnings())?,
+        status: 0,
+    })
+}
+
+/// Writes the rescue file of this number, under another name; it is synced and renamed.
+///
+/// # Errors
+/// `FileRefused` with its path where the system refuses it, and `Memory`.
+fn write_rescue<R: Files<File = File> + AllocGlobal + Copy + Drop>(
+    rt: R,
+    place: &Place<'_>,
+    number: u16,
+    text: &str,
+) -> Result<(), RunFault>
+    requires { IsNumber number }
+{
+    let alloc = rt.alloc();
+    let mut disk = rescue_disk(rt, place, number)?;
+    match put_bytes(&mut disk, text.as_bytes()) {
+        Ok(()) => Ok(()),
+        Err(_) => {
+            let path = rescue_path(alloc, place.top, number)?;
+            Err(RunFault::FileRefused(String::from_str(alloc, path.as_str())?))
+        }
+    }
+}
+
+/// Whether the DAG file has a journal. Where the system doesn't tell, it is taken to have one: what is
+/// refused is told as it is read.
+fn has_journal<R: Files + AllocGlobal>(rt: &R, place: &Place<'_>) -> Result<bool, AllocError> {
+    let alloc = rt.alloc();
+    let path = journal_path(alloc, place.top)?;
+    let at = place.at(alloc, path.as_str())?;
+    Ok(fs::exists(rt, at.as_str()).unwrap_or(true))
+}
+
+/// A round that was cut short, once nothing of it is refused: what it is, what it was begun with, its plan
+/// and its rescue file.
+#[derive(Drop)]
+struct Found {
+    round: CutShort,
+    inputs: Inputs,
+    plan: Plan,
+    salvaged: Salvaged,
+}
+
+/// The round of a DAG file that was cut short, read under the lock.
+///
+/// # Errors
+/// As `salvage_here` has them from the journal on, before anything is changed.
+fn read_round<R: Files + AllocGlobal>(rt: &R, place: &Place<'_>) -> Result<Found, SalvageFault>
+    ensures { IfOk result (λ found. IsReadRound place.now.top.now found.round.journal.items found.round.digest
+        found.round.used found.round.next found.round.always_post found.inputs.files.items found.plan
+        (string_bytes found.salvaged.text) found.salvaged.done) }
+{
+    let alloc = rt.alloc();
+    let round = cut_short(rt, place)?;
+    let inputs = inputs_with(rt, place, &round.digest)?;
+    let files = dag_files_in(rt, place.folder, place.top)?;
+    check_files(alloc, &inputs, &files)?;
+    let rescue = rescue_in(rt, place, &inputs, round.used)?;
+    let plan = plan_of_round(alloc, place, &files, &round, bytes_of(&rescue))?;
+    let salvaged = salvage_text(alloc, &plan, round.journal.as_slice())?;
+    Ok(Found {
+        round,
+        inputs,
+        plan,
+        salvaged,
+    })
+}
+
+/// Makes a rescue file of the last round of a DAG file, under the lock.
+///
+/// # Errors
+/// As `salvage_here` has them from the journal on.
+fn salvage_locked<R: Files<File = File> + AllocGlobal + Copy + Drop>(
+    rt: R,
+    place: &Place<'_>,
+) -> Result<Answer, SalvageFault>
+    ensures { IfOk result (λ answer. IsSalvageOf place.now.top.now
+        (string_bytes answer.text) (string_bytes answer.warnings) answer.status) }
+{
+    let found = read_round(&rt, place)?;
+    let changes = changes(&rt, place, &found.inputs)?;
+    let (next, salvaged) = (found.round.next, &found.salvaged);
+    let answer = report_of(
+        rt.alloc(),
+        place,
+        &found.plan,
+        next,
+        salvaged.done,
+        changes.as_str(),
+    )?;
+    write_rescue(rt, place, next, salvaged.text.as_str())?;
+    place.put_journal_away(&rt)?;
+    Ok(answer)
+}
+
+/// Makes a rescue file of the last round of the DAG file of this path, which was cut short. Relative paths
+/// are taken from the folder, which is absolute; both are as they were for `run`.
+///
+/// The rescue file has the number that the journal's header names as the next, and marks the nodes that are
+/// done by the journal's records: it is the one that the round would have written had it stopped there. Once it
+/// is on the disk the journal is put away as `.journal.old`, so that `run` begins a round with this rescue
+/// file. The answer is how many nodes are done, and which files of the round are no longer as they were, with
+/// status 0.
+///
+/// # Errors
+/// In this order, each before anything is changed: no journal (`NoJournal`), another manager that runs the DAG
+/// (`FileRefused` with the file that it has locked), a journal that the system refuses or that can't be read,
+/// a round that has ended (`Ended`), a number in the header that no rescue file has (`NotThere`), what the round
+/// was begun with (`NoInputs`, `BadInputs`, `OtherRound`), the first DAG file in the order of paths that is not
+/// as it was (`NotListed`, `Changed`), then so the rescue file that the round read, a fault of the DAG files, as
+/// that the file of a splice is missing (`InFiles`), and a record that may not follow those before it
+/// (`InManager`). Then a rescue file or a journal that the system refuses (`FileRefused`); the same call goes on
+/// from there. Want of memory may stand before any.
+pub fn salvage_here<R: Files<File = File> + Clock + AllocGlobal + Copy + Drop>(
+    rt: R,
+    folder: &str,
+    top: &str,
+) -> Result<Answer, SalvageFault>
+    ensures { IfOk result (λ answer. IsSalvageOf top.now
+        (string_bytes answer.text) (string_bytes answer.warnings) answer.status) }
+{
+    let place = Place { folder, top };
+    if !has_journal(&rt, &place)? {
+        return Err(SalvageFault::NoJournal(journal_path(rt.alloc(), top)?));
+    }
+    let lock = place.lock(&rt)?;
+    let answer = salvage_locked(rt, &place);
+    place.unlock(&rt, lock);
+    answer
+}

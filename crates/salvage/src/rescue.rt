@@ -1,0 +1,108 @@
+//! The rescue file of a round that was cut short.
+
+ghost use Rattle.std.specs.Prelude.{◌≡◌, IfOk, IfErr, string_bytes};
+ghost use Rattle.std.specs.List.{count_by};
+ghost use Rattle.event_journal.specs.Image.{replay_of};
+ghost use Rattle.sched_core.specs.Run.{written};
+ghost use Rattle.run_manager.specs.Rescue.{marks_of, rescue_text_for};
+ghost use Rattle.dag_texts.specs.declared.fault.RunFault.TheVariants.{Memory};
+ghost use Rattle.salvage.specs.Salvaged.{HasRecords, IsSalvaged};
+
+use crate::rounds::digest_in;
+use dag_texts::RunFault;
+use event_journal::{JournalFault, read_journal, slot_of};
+use node_machine::Record;
+use recovery::replay;
+use rescue_file::rescue_text;
+use run_manager::ManagerFault;
+use run_plan::Plan;
+use sched_core::Core;
+use std::alloc::Global;
+
+/// The text of a rescue file, and how many nodes it marks.
+#[derive(Drop)]
+pub struct Salvaged {
+    pub text: String,
+    pub done: usize,
+}
+
+/// The records of a journal of these bytes, whatever it is a journal of, the oldest first; none where none
+/// was begun. The flag is that of its header.
+///
+/// # Errors
+/// `InManager` with the fault of the journal, and `Memory`.
+fn records_in(alloc: Global, journal: &[u8], always_post: bool) -> Result<Vec<Record>, RunFault>
+    ensures { IfOk result (λ records. HasRecords (replay_of journal.now) records.items) }
+{
+    match read_journal(alloc, journal, &digest_in(journal), always_post) {
+        Ok(Some(records)) => Ok(records),
+        Ok(None) => Ok(Vec::new(alloc)),
+        Err(JournalFault::Memory) => Err(RunFault::Memory),
+        Err(fault) => Err(RunFault::InManager(ManagerFault::Journal(fault))),
+    }
+}
+
+/// The core of a plan that has these records, which are those of a journal of these bytes.
+///
+/// # Errors
+/// `InManager` with `Foreign` and the slot of the first record that may not follow those before it;
+/// `Memory`.
+fn core_of<'a>(
+    alloc: Global,
+    plan: &'a Plan,
+    journal: &[u8],
+    records: &[Record],
+) -> Result<Core<'a>, RunFault>
+    ensures plan { IfOk result (λ core. core.plan ≡ plan.now) }
+    ensures records { IfOk result (λ core. records.now ≡ written core.past) }
+{
+    match replay(alloc, plan, records) {
+        Ok(core) => Ok(core),
+        Err(ManagerFault::Foreign(place)) => {
+            let slot = slot_of(journal, place as usize);
+            Err(RunFault::InManager(ManagerFault::Foreign(slot)))
+        }
+        Err(_) => Err(RunFault::Memory),
+    }
+}
+
+/// How many marks stand.
+fn count_marks(marks: &[bool]) -> usize
+    ensures { result ≡ count_by (λ mark. mark) marks.now }
+{
+    marks.iter().filter(|mark| **mark).count()
+}
+
+/// The rescue file of a run as it stands.
+fn text_of(alloc: Global, core: &Core<'_>) -> Result<Salvaged, RunFault>
+    ensures text { IfOk result (λ salvaged. string_bytes salvaged.text
+        ≡ rescue_text_for core.now.plan core.now.past) }
+    ensures done { IfOk result (λ salvaged. salvaged.done
+        ≡ count_by (λ mark. mark) (marks_of core.now.plan core.now.past)) }
+    ensures err { IfErr result (λ fault. fault ≡ Memory) }
+{
+    let Ok(marks) = core.marks(alloc) else {
+        return Err(RunFault::Memory);
+    };
+    let done = count_marks(&marks);
+    match rescue_text(alloc, core.plan().graph(), &marks) {
+        Ok(text) => Ok(Salvaged { text, done }),
+        Err(_) => Err(RunFault::Memory),
+    }
+}
+
+/// The text of the rescue file of a plan's round whose journal has these bytes, as the round would have
+/// written it had it stopped there: it marks the nodes that are done by the records. Whose journal it is
+/// isn't asked; whether POST scripts run behind failed PRE scripts is asked of the plan.
+///
+/// # Errors
+/// `InManager` with the fault of the journal, or with the slot of the first record that may not follow
+/// those before it; `Memory`.
+pub fn salvage_text(alloc: Global, plan: &Plan, journal: &[u8]) -> Result<Salvaged, RunFault>
+    ensures { IfOk result (λ salvaged. IsSalvaged plan.now journal.now (string_bytes salvaged.text) salvaged.done) }
+{
+    let records = records_in(alloc, journal, plan.always_post())?;
+    let core = core_of(alloc, plan, journal, &records)?;
+    core.keeps_the_law();
+    text_of(alloc, &core)
+}

@@ -1,0 +1,244 @@
+//! Rounds that were cut short, and what they were begun with.
+
+ghost use Rattle.std.specs.Prelude.{◌≡◌, ◌≤◌, All, IsTrue, IfOk, OnOk, is_some, length, slice_range, option_map};
+ghost use Rattle.splices.specs.FileSet.{entries_of};
+ghost use Rattle.journal_disks.specs.Memory.{disk_bytes};
+ghost use Rattle.event_journal.specs.Image.{replay_of, IsRescueNumber};
+ghost use Rattle.event_journal.specs.Peeks.{ReadsPeek};
+ghost use Rattle.salvage.specs.Round.{IsCutShort, sum_in, IsSame, IsSameRescue};
+
+use crate::fault::SalvageFault;
+use crate::inputs::Inputs;
+use crate::listing::inputs_path;
+use crate::reading::{BadInputs, inputs_in};
+use dag_files::{LAST_NUMBER, Place, journal_path, rescue_path};
+use dag_reader::Text;
+use dag_texts::RunFault;
+use event_journal::{Journal, JournalFault, Peek};
+use journal_disks::MemDisk;
+use run_manager::ManagerFault;
+use sha2::{Digest, Sha256};
+use splices::FileSet;
+use std::alloc::{AllocError, Global};
+use std::rt::Files;
+
+/// A round that was cut short, as its journal says.
+#[derive(Drop)]
+pub(crate) struct CutShort {
+    /// The bytes of the journal.
+    pub journal: Vec<u8>,
+    /// The digest of its plan.
+    pub digest: [u8; 32],
+    /// The number of the rescue file that it read, 0 for none.
+    pub used: u16,
+    /// The number of the rescue file that it would have written.
+    pub next: u16,
+    /// Whether POST scripts run behind PRE scripts that failed, too.
+    pub always_post: bool,
+}
+
+/// A disk in memory of these bytes.
+fn disk_of(alloc: Global, bytes: &[u8]) -> Result<MemDisk, AllocError>
+    ensures { IfOk result (λ disk. disk_bytes disk ≡ bytes.now) }
+{
+    let mut copy = Vec::new(alloc);
+    copy.extend_from_slice(bytes)?;
+    Ok(MemDisk::of(alloc, copy, bytes.len()))
+}
+
+/// What the header of a journal says that has these bytes; none where none was begun.
+///
+/// # Errors
+/// `InManager` with the fault of bytes that can't be read, and `Memory`.
+fn peek_in(alloc: Global, bytes: &[u8]) -> Result<Option<Peek>, RunFault>
+    ensures { IfOk result (λ peek. ReadsPeek peek (replay_of bytes.now)) }
+{
+    let mut disk = disk_of(alloc, bytes)?;
+    match Journal::peek(alloc, &mut disk) {
+        Ok(peek) => Ok(peek),
+        // A disk in memory tells that it was refused memory as a failure.
+        Err(JournalFault::Memory | JournalFault::Device) => Err(RunFault::Memory),
+        Err(fault) => Err(RunFault::InManager(ManagerFault::Journal(fault))),
+    }
+}
+
+/// The digest in the header of a journal; zeros where the bytes have no header.
+pub(crate) fn digest_in(journal: &[u8]) -> [u8; 32]
+    ensures { 40 ≤ length journal.now → result ≡ slice_range journal.now 8 40 }
+{
+    let mut digest = [0; 32];
+    if journal.len() < 40 {
+        return digest;
+    }
+    digest.copy_from_slice(&journal[8..40]);
+    digest
+}
+
+/// The numbers of the rescue files that a header has, that of the file which was read first.
+///
+/// # Errors
+/// `NotThere` with the first that no rescue file has.
+fn numbers_in(peek: &Peek) -> Result<(u16, u16), RunFault>
+    ensures { IfOk result (λ numbers. (numbers.0 ≤ 999) × IsRescueNumber numbers.1
+        × (numbers.0 ≡ peek.now.used) × (numbers.1 ≡ peek.now.next)) }
+{
+    if peek.used > LAST_NUMBER {
+        return Err(RunFault::NotThere(peek.used));
+    }
+    if peek.next < 1 || peek.next > LAST_NUMBER {
+        return Err(RunFault::NotThere(peek.next));
+    }
+    Ok((peek.used, peek.next))
+}
+
+/// The round of a journal of this path that has these bytes.
+///
+/// # Errors
+/// A journal that can't be read (`Refused`), one that was not begun (`NoJournal`), one of a round that has
+/// ended (`Ended`), and a number in its header that no rescue file has (`Refused`).
+fn round_in(alloc: Global, name: Text, journal: Vec<u8>) -> Result<CutShort, SalvageFault>
+    ensures { IfOk result (λ round. IsCutShort round.journal.items round.digest round.used round.next round.always_post) }
+{
+    let Some(peek) = peek_in(alloc, journal.as_slice())? else {
+        return Err(SalvageFault::NoJournal(name));
+    };
+    if peek.finished {
+        return Err(SalvageFault::Ended(name));
+    }
+    let (used, next) = numbers_in(&peek)?;
+    Ok(CutShort {
+        digest: digest_in(journal.as_slice()),
+        journal,
+        used,
+        next,
+        always_post: peek.always_post,
+    })
+}
+
+/// The last round of a DAG file, which was cut short.
+///
+/// # Errors
+/// `NoJournal`, a journal that the system refuses to read, and then as `round_in`.
+pub(crate) fn cut_short<R: Files + AllocGlobal>(
+    rt: &R,
+    place: &Place<'_>,
+) -> Result<CutShort, SalvageFault>
+    ensures { IfOk result (λ round. IsCutShort round.journal.items round.digest round.used round.next round.always_post) }
+{
+    let alloc = rt.alloc();
+    let name = journal_path(alloc, place.top)?;
+    match place.read(rt, name.as_str())? {
+        Some(journal) => round_in(alloc, name, journal),
+        None => Err(SalvageFault::NoJournal(name)),
+    }
+}
+
+/// Whether this is the digest of what a round was begun with.
+fn has_digest(inputs: &Inputs, digest: &[u8; 32]) -> bool
+    ensures { IsTrue result → inputs.now.digest ≡ digest.now }
+{
+    inputs.digest[..] == digest[..]
+}
+
+/// What a round was begun with that has this digest.
+///
+/// # Errors
+/// `NoInputs`, `BadInputs`, and `OtherRound` where another digest stands there; a file that the system
+/// refuses to read.
+pub(crate) fn inputs_with<R: Files + AllocGlobal>(
+    rt: &R,
+    place: &Place<'_>,
+    digest: &[u8; 32],
+) -> Result<Inputs, SalvageFault>
+    ensures { IfOk result (λ inputs. inputs.digest ≡ digest.now) }
+{
+    let alloc = rt.alloc();
+    let name = inputs_path(alloc, place.top)?;
+    let Some(bytes) = place.read(rt, name.as_str())? else {
+        return Err(SalvageFault::NoInputs(name));
+    };
+    let inputs = match inputs_in(alloc, bytes.as_slice()) {
+        Ok(inputs) => inputs,
+        Err(BadInputs::NotSpelled) => return Err(SalvageFault::BadInputs(name)),
+        Err(BadInputs::Memory) => return Err(SalvageFault::Refused(RunFault::Memory)),
+    };
+    if !has_digest(&inputs, digest) {
+        return Err(SalvageFault::OtherRound(name));
+    }
+    Ok(inputs)
+}
+
+/// Compares a file with what the round was begun with.
+///
+/// # Errors
+/// `NotListed` where it is none of the round's files, `Changed` where it has another sum; `Memory`.
+pub(crate) fn check_file(
+    alloc: Global,
+    inputs: &Inputs,
+    path: &str,
+    bytes: &[u8],
+) -> Result<(), SalvageFault>
+    ensures { OnOk result (IsSame inputs.now.files.items (path.now, bytes.now)) }
+{
+    match inputs.sum_of(path) {
+        None => Err(SalvageFault::NotListed(Text::new(alloc, path)?)),
+        Some(sum) if sum != Sha256::digest(bytes) => {
+            Err(SalvageFault::Changed(Text::new(alloc, path)?))
+        }
+        Some(_) => Ok(()),
+    }
+}
+
+/// Compares the files of a set, in the order of their paths.
+///
+/// # Errors
+/// As `check_file`, for the first of them.
+pub(crate) fn check_files(
+    alloc: Global,
+    inputs: &Inputs,
+    files: &FileSet,
+) -> Result<(), SalvageFault>
+    ensures { OnOk result (All (IsSame inputs.now.files.items) (entries_of files.now)) }
+{
+    for (path, bytes) in files.iter() {
+        check_file(alloc, inputs, path.as_str(), bytes.as_slice())?;
+    }
+    Ok(())
+}
+
+/// Whether the file of this path is one of those that the round was begun with.
+fn has_file(inputs: &Inputs, path: &Text) -> bool
+    ensures { result ≡ is_some (sum_in inputs.now.files.items path.now) }
+{
+    inputs.sum_of(path.as_str()).is_some()
+}
+
+/// The bytes of the rescue file that the round read: none where it read none.
+///
+/// # Errors
+/// As `check_file`; `Changed` where the file that it read is missing; a file that the system refuses to
+/// read.
+pub(crate) fn rescue_in<R: Files + AllocGlobal>(
+    rt: &R,
+    place: &Place<'_>,
+    inputs: &Inputs,
+    used: u16,
+) -> Result<Option<Vec<u8>>, SalvageFault>
+    requires { used ≤ 999 }
+    ensures { IfOk result (λ bytes. IsSameRescue inputs.now.files.items place.now.top.now used
+        (option_map (λ b. b.items) bytes)) }
+{
+    if used == 0 {
+        return Ok(None);
+    }
+    let alloc = rt.alloc();
+    let path = rescue_path(alloc, place.top, used)?;
+    match place.read(rt, path.as_str())? {
+        Some(bytes) => {
+            check_file(alloc, inputs, path.as_str(), bytes.as_slice())?;
+            Ok(Some(bytes))
+        }
+        None if has_file(inputs, &path) => Err(SalvageFault::Changed(path)),
+        None => Ok(None),
+    }
+}

@@ -1,0 +1,623 @@
+#!/usr/bin/env python3
+"""Runs workflows on a terminal of our own, and looks at what `dagrun run` shows there while it goes on, and once it has ended.
+
+    tests/terminal.py PROGRAM [WORD]     WORD: only the rows whose name holds it
+
+A small screen reads what comes: text, CR, LF and the erasing of the rest of a line; anything else is a fault. So a row says which lines a
+person sees, at 20, 80 and 200 columns and as the terminal is resized; that nothing stays but what is to stay; and that standard output
+and the exit status are what they are without. Values are worked out by hand from docs/MANUAL.md. The last line is 'N passed, M failed'."""
+import fcntl
+import os
+import pty
+import re
+import resource
+import select
+import signal
+import struct
+import subprocess
+import sys
+import tempfile
+import termios
+import time
+import unicodedata
+
+# A line that says how far a run is, with its counts.
+LINE = re.compile(r"^(\d+)/(\d+) done, (\d+) running( \(.*\))?, (\d+) ready, (\d+) failed  (\d+:\d\d)$")
+
+
+def width_of(character):
+    if unicodedata.combining(character):
+        return 0
+    return 2 if unicodedata.east_asian_width(character) in "WF" else 1
+
+
+class Screen:
+    """The lines of a terminal, of which none is lost, and the cursor."""
+
+    def __init__(self, columns):
+        self.columns = columns
+        self.lines = [[]]
+        self.column = 0
+        self.wrapped = 0
+        self.seen = []
+        self.rest = ""
+
+    def put(self, character):
+        width = width_of(character)
+        if width == 0:
+            if self.column:
+                self.lines[-1][self.column - 1] += character
+            return
+        if self.column + width > self.columns:
+            self.wrapped += 1
+            self.feed_line()
+        line = self.lines[-1]
+        line.extend(" " * (self.column + width - len(line)))
+        line[self.column] = character
+        if width == 2:
+            line[self.column + 1] = ""
+        self.column += width
+
+    def feed_line(self):
+        self.lines.append([])
+        self.column = 0
+
+    def erase(self):
+        # At the last column some terminals erase the character that stands there.
+        assert self.column < self.columns, f"erases at the last column: {self.text()[-1]!r}"
+        del self.lines[-1][self.column :]
+
+    def take(self, text):
+        """Reads text; a part of an escape waits for its rest."""
+        text = self.rest + text
+        self.rest = ""
+        at = 0
+        while at < len(text):
+            if text[at] == "\x1b":
+                if len(text) - at < 3:
+                    self.rest = text[at:]
+                    return
+                assert text[at : at + 3] == "\x1b[K", f"an escape that is none of ours: {text[at:at + 8]!r}"
+                self.erase()
+                self.seen.append(self.text()[-1])
+                at += 3
+                continue
+            if text[at] == "\r":
+                self.column = 0
+            elif text[at] == "\n":
+                self.feed_line()
+            else:
+                assert text[at] >= " " and not "\x7f" <= text[at] < "\xa0", f"a control character: {text[at]!r}"
+                self.put(text[at])
+            at += 1
+
+    def resize(self, columns):
+        """A narrower terminal begins new lines where the old ones were too long."""
+        self.columns = columns
+        whole = self.lines[-1]
+        while len(self.lines[-1]) > columns:
+            whole = self.lines[-1]
+            self.lines[-1] = whole[:columns]
+            self.lines.append(whole[columns:])
+        self.column = min(len(self.lines[-1]), columns - 1)
+
+    def text(self):
+        return ["".join(line).rstrip() for line in self.lines]
+
+    def told(self):
+        """The lines that stay."""
+        lines = self.text()
+        assert lines[-1] == "", f"a line is left: {lines[-1]!r}"
+        return lines[:-1]
+
+
+def steady(text):
+    """A text with 0 seconds in place of however many there were."""
+    return re.sub(r"\b\d+ s\b", "0 s", re.sub(r"failed  \d+:\d\d", "failed  0:00", text))
+
+
+class Told:
+    """What a run printed, what the terminal shows, and the exit status."""
+
+    def __init__(self, text, screen, raw, status, took):
+        self.text = text
+        self.screen = screen
+        self.raw = raw
+        self.status = status
+        self.took = took
+
+    def lines(self):
+        """The lines that were shown and did not stay, with 0 seconds in place of however many there were."""
+        return [steady(line) for line in self.screen.seen if line]
+
+    def has_shown(self, line):
+        holds(line in self.lines(), f"no {line!r} in {self.lines()}")
+
+    def progress(self):
+        """The lines that said how far the run was, as values, the first of them first."""
+        found = [LINE.match(line) for line in self.screen.seen if line]
+        return [match for match in found if match]
+
+
+class Folder:
+    """A folder with files, in which the program is called."""
+
+    def __init__(self, program, path):
+        self.program = program
+        self.path = path
+
+    def at(self, name):
+        return os.path.join(self.path, name)
+
+    def write(self, name, text):
+        with open(self.at(name), "wb") as file:
+            file.write(text if isinstance(text, bytes) else text.encode())
+
+    def read(self, name):
+        with open(self.at(name), "rb") as file:
+            return file.read()
+
+    def shell(self, name, script, error=True):
+        """A submit file whose job is a shell script."""
+        self.write(name + ".sh", script)
+        errors = f"error = {name}.err\n" if error else ""
+        self.write(name + ".sub", f"executable = /bin/sh\narguments = {name}.sh\n{errors}queue\n")
+
+    def call(self, *words, **how):
+        """What the program prints, what it tells where that is no terminal, and its exit status."""
+        environment = {**os.environ, "TERM": "xterm", **how}
+        done = subprocess.run([self.program, *words], cwd=self.path, capture_output=True, timeout=120, env=environment)
+        return done.stdout.decode(), done.stderr.decode(), done.returncode
+
+    def on_terminal(self, *words, columns=80, resized=(), term="xterm", limit=None, killed=None):
+        """Calls the program with standard error on a terminal. `resized`: seconds and columns; `limit`: bytes that a file may have;
+        `killed`: what is to be seen before the program is killed."""
+        ours, theirs = pty.openpty()
+        fcntl.ioctl(theirs, termios.TIOCSWINSZ, struct.pack("HHHH", 24, columns, 0, 0))
+        environment = {name: value for name, value in os.environ.items() if name not in ("TERM", "COLUMNS")}
+        if term is not None:
+            environment["TERM"] = term
+
+        def prepare():
+            os.setsid()
+            fcntl.ioctl(2, termios.TIOCSCTTY, 0)
+            signal.signal(signal.SIGINT, signal.SIG_DFL)
+            if limit:
+                signal.signal(signal.SIGXFSZ, signal.SIG_IGN)
+                resource.setrlimit(resource.RLIMIT_FSIZE, (limit, limit))
+
+        began = time.monotonic()
+        with tempfile.TemporaryFile() as output:
+            run = subprocess.Popen(
+                [self.program, *words], cwd=self.path, stdin=subprocess.DEVNULL, stdout=output, stderr=theirs, env=environment,
+                preexec_fn=prepare, restore_signals=False,
+            )
+            os.close(theirs)
+            screen, raw = Screen(columns), b""
+            waiting = list(resized)
+            pending = b""
+            while True:
+                now = time.monotonic() - began
+                assert now < 120, "the run does not end"
+                if waiting and now >= waiting[0][0]:
+                    columns = waiting.pop(0)[1]
+                    fcntl.ioctl(ours, termios.TIOCSWINSZ, struct.pack("HHHH", 24, columns, 0, 0))
+                    screen.resize(columns)
+                if not select.select([ours], [], [], 0.02)[0]:
+                    continue
+                try:
+                    bytes_read = os.read(ours, 65536)
+                except OSError:
+                    break
+                if not bytes_read:
+                    break
+                raw += bytes_read
+                pending += bytes_read
+                text = pending.decode(errors="ignore")
+                pending = pending[len(text.encode()) :]
+                screen.take(text)
+                if killed and any(killed in line for line in screen.seen):
+                    run.kill()
+                    killed = None
+            status = run.wait(timeout=60)
+            took = time.monotonic() - began
+            os.close(ours)
+            output.seek(0)
+            return Told(output.read().decode(), screen, raw, status, took)
+
+
+def same(found, wanted, what=""):
+    if found != wanted:
+        raise AssertionError(f"{what}found\n{found}\nwanted\n{wanted}")
+
+
+def holds(fact, what):
+    if not fact:
+        raise AssertionError(what)
+
+
+def four(folder, script="sleep 1\n"):
+    """Four nodes one behind another in pairs: A and B, then C and D."""
+    for name in "ABCD":
+        folder.shell(name, script)
+    folder.write("x.dag", "JOB A A.sub\nJOB B B.sub\nJOB C C.sub\nJOB D D.sub\nPARENT A B CHILD C D\n")
+
+
+ALL_DONE = "".join(f"{name} DONE attempts=1 value=0\n" for name in "ABCD") + "result 0\n"
+
+
+# ---- the line
+
+
+def goes_on(folder):
+    """At 80 columns the line has the names, from those that run longest on; nothing stays, and the report stands alone."""
+    four(folder)
+    told = folder.on_terminal("run", "x.dag")
+    same(told.text, ALL_DONE)
+    same(told.status, 0)
+    same(told.screen.told(), [])
+    told.has_shown("0/4 done, 2 running (A 0 s, B 0 s), 0 ready, 0 failed  0:00")
+    told.has_shown("2/4 done, 2 running (C 0 s, D 0 s), 0 ready, 0 failed  0:00")
+    holds(told.screen.wrapped == 0, "it is wider than the terminal")
+
+
+def counts_of_states(folder):
+    """Ready are those that wait for a limit; E and F wait for their parent; failed is a node in error."""
+    for name in "ABCDEF":
+        folder.shell(name, "exit 3\n" if name == "A" else "sleep 1.2\n")
+    folder.write("x.dag", "".join(f"JOB {name} {name}.sub\n" for name in "ABCDEF") + "PARENT A CHILD E\nPARENT B CHILD F\nPRIORITY A 9\n")
+    told = folder.on_terminal("run", "--maxjobs", "2", "x.dag")
+    numbers = [match.group(1, 2, 3, 5, 6) for match in told.progress()]
+    # A has failed, B and C run, D is ready, E and F wait for their parents.
+    holds(("0", "6", "2", "1", "1") in numbers, f"{numbers}")
+    # B and C are done: D and F run.
+    holds(("2", "6", "2", "0", "1") in numbers, f"{numbers}")
+    same(told.status, 1)
+
+
+def at_20_columns(folder):
+    """There is no room for names, nor for all numbers: the line is cut, and is never wider than the terminal."""
+    four(folder)
+    told = folder.on_terminal("run", "x.dag", columns=20)
+    same(told.text, ALL_DONE)
+    same(told.screen.told(), [])
+    same(told.screen.wrapped, 0)
+    # 19 columns, so that the last one stays free.
+    told.has_shown("0/4 done, 2 runni..")
+
+
+def at_200_columns(folder):
+    """Forty names of nodes are too many for 199 columns: as many stand there as have room, and `..`."""
+    names = [f"name_{number:02}" for number in range(40)]
+    folder.shell("j", "sleep 4\n")
+    folder.write("x.dag", "".join(f"JOB {name} j.sub\n" for name in names))
+    told = folder.on_terminal("run", "--maxjobs", "60", "x.dag", columns=200)
+    same(told.screen.told(), [])
+    same(told.screen.wrapped, 0)
+    # `0/40 done, 40 running` and `, 0 ready, 0 failed  0:00` take 21 and 25 columns, ` (` and `, ..)` seven: 146 of 199 are left, of which
+    # `name_00 0 s` takes 11 and each further one 13: eleven fit.
+    first = "0/40 done, 40 running (" + ", ".join(f"{name} 0 s" for name in names[:11]) + ", ..), 0 ready, 0 failed  0:00"
+    told.has_shown(first)
+
+
+def resized(folder):
+    """From 80 columns to 40 and to 120: within two seconds the line is as wide as there is room."""
+    for name in ("first_of_two", "second_of_two"):
+        folder.shell(name, "sleep 8\n")
+    folder.write("x.dag", "JOB first_of_two first_of_two.sub\nJOB second_of_two second_of_two.sub\n")
+    told = folder.on_terminal("run", "x.dag", resized=[(1.0, 40), (4.0, 120)])
+    told.has_shown("0/2 done, 2 running (first_of_two 0 s, ..), 0 ready, 0 failed  0:00")
+    # 39 columns have no room for the 44 of the numbers, nor 79 for the 84 of the whole.
+    told.has_shown("0/2 done, 2 running, 0 ready, 0 faile..")
+    told.has_shown("0/2 done, 2 running (first_of_two 0 s, second_of_two 0 s), 0 ready, 0 failed  0:00")
+    same(told.screen.text()[-1], "", "a line is left: ")
+
+
+def wide_names(folder):
+    """Characters of two columns are counted as such, and control characters in a name are shown as what they are."""
+    name = "工作流程节点"
+    folder.shell("j", "sleep 1\n")
+    folder.write("x.dag", f"JOB {name} j.sub\nJOB b\x85c j.sub\n")
+    told = folder.on_terminal("run", "x.dag", columns=90)
+    same(told.screen.wrapped, 0)
+    told.has_shown(f"0/2 done, 2 running ({name} 0 s, b\\x85c 0 s), 0 ready, 0 failed  0:00")
+    # 19 columns and 25 stand around ` (`, twelve of the name, ` 0 s` and `, ..)`: 67, and the last column stays free.
+    for columns, shown in ((68, f" ({name} 0 s, ..)"), (67, "")):
+        for file in ("x.dag.journal", "x.dag.log"):
+            os.remove(folder.at(file))
+        told = folder.on_terminal("run", "x.dag", columns=columns)
+        told.has_shown(f"0/2 done, 2 running{shown}, 0 ready, 0 failed  0:00")
+
+
+# ---- what failed
+
+
+def a_failure_in_between(folder):
+    """Each failed attempt has a line that stays; the last one has the last lines of its errors below it."""
+    folder.shell("A", "echo one >&2; echo two >&2; exit 3\n")
+    folder.shell("B", "sleep 1\n")
+    folder.write("x.dag", "JOB A A.sub\nJOB B B.sub\nRETRY A 1\n")
+    told = folder.on_terminal("run", "x.dag")
+    same(told.screen.told(), [
+        "A JOB, attempt 0: exit 3; errors in A.err; it is tried again",
+        "A JOB, attempt 1: exit 3; errors in A.err",
+        "  | one",
+        "  | two",
+    ])
+    same(told.text, "A ERROR attempts=2 value=3\nB DONE attempts=1 value=0\nresult 1\n")
+    same(told.status, 1)
+    numbers = [match.group(1, 2, 3, 5, 6) for match in told.progress()]
+    holds(("0", "2", "1", "0", "1") in numbers, f"{numbers}")
+
+
+def signals_and_scripts(folder):
+    """A signal by its name; a script that can't be started, with its path and why; a job whose POST script failed behind it."""
+    folder.shell("A", "kill -9 $$\n")
+    folder.shell("B", "true\n")
+    folder.shell("C", "echo lost >&2; exit 5\n")
+    folder.shell("D", "exit 5\n")
+    folder.write("x.dag", "JOB A A.sub\nJOB B B.sub\nSCRIPT PRE B missing.sh\nJOB C C.sub\nSCRIPT POST C /bin/false\nJOB D D.sub\nSCRIPT POST D /bin/true\n")
+    told = folder.on_terminal("run", "x.dag", "--maxjobs", "1", columns=200)
+    lines = told.screen.told()
+    holds("A JOB, attempt 0: signal 9 (SIGKILL); errors in A.err" in lines, f"{lines}")
+    missing = os.path.realpath(folder.at("missing.sh"))
+    holds(f"B PRE, attempt 0: could not be started: {missing}: No such file or directory (os error 2)" in lines, f"{lines}")
+    at = lines.index("C JOB, attempt 0: exit 5; errors in C.err")
+    same(lines[at + 1 : at + 3], ["  | lost", "C POST, attempt 0: exit 1"])
+    # What D's POST script made good is no failure.
+    holds(not any(line.startswith("D ") for line in lines), f"{lines}")
+
+
+def ends_of_files(folder):
+    """The last five lines: of a large file, of one with control characters, of bytes that are no text, of one line without an end."""
+    folder.shell("A", "seq 1 200000 >&2; exit 1\n")
+    folder.shell("B", "printf 'red \\033[31m\\ttab\\rback\\n\\n' >&2; exit 1\n")
+    folder.shell("C", "printf '\\377\\000\\200ok\\n' >&2; exit 1\n")
+    folder.shell("D", "head -c 30000 /dev/zero | tr '\\0' x >&2; exit 1\n")
+    folder.shell("E", "exit 1\n")
+    folder.shell("F", "exit 1\n", error=False)
+    names = "ABCDEF"
+    folder.write("x.dag", "".join(f"JOB {name} {name}.sub\n" for name in names))
+    told = folder.on_terminal("run", "--maxjobs", "1", "x.dag")
+    same(told.screen.told(), [
+        "A JOB, attempt 0: exit 1; errors in A.err",
+        *(f"  | {number}" for number in range(199996, 200001)),
+        "B JOB, attempt 0: exit 1; errors in B.err",
+        "  | red \\x1b[31m\\ttab\\x0dback",
+        "  |",
+        "C JOB, attempt 0: exit 1; errors in C.err",
+        "  | \\xff\\x00\\x80ok",
+        "D JOB, attempt 0: exit 1; errors in D.err",
+        "  | .." + "x" * 71 + "..",
+        "E JOB, attempt 0: exit 1; errors in E.err",
+        "F JOB, attempt 0: exit 1",
+    ])
+    same(told.screen.wrapped, 0)
+
+
+# ---- where nothing is redrawn
+
+
+def dumb_terminals(folder):
+    """TERM=dumb, and none: plain lines and no control character."""
+    four(folder)
+    for term in ("dumb", None):
+        told = folder.on_terminal("run", "x.dag", term=term)
+        same(steady(told.raw.decode()), "0/4 done, 2 running (A 0 s, B 0 s), 0 ready, 0 failed  0:00\r\n", f"{term}: ")
+        same(told.text, ALL_DONE)
+        os.remove(folder.at("x.dag.journal"))
+
+
+def never(folder):
+    """`--progress never` on a terminal writes nothing."""
+    four(folder, "exit 2\n")
+    told = folder.on_terminal("run", "--progress", "never", "x.dag")
+    same(told.raw, b"")
+    same(told.status, 1)
+
+
+def no_terminal(folder):
+    """Where standard error is no terminal nothing is written but by `always`: plain lines, the first at once, and one for each failure."""
+    four(folder)
+    folder.shell("D", "echo why >&2; exit 4\n")
+    wanted = ALL_DONE.replace("D DONE attempts=1 value=0\nresult 0", "D ERROR attempts=1 value=4\nresult 1")
+    same(folder.call("run", "x.dag"), (wanted, "", 1))
+    for name in os.listdir(folder.path):
+        if name.startswith("x.dag."):
+            os.remove(folder.at(name))
+    text, told, status = folder.call("run", "--progress", "always", "x.dag")
+    same((text, status), (wanted, 1))
+    same(steady(told), "0/4 done, 2 running (A 0 s, B 0 s), 0 ready, 0 failed  0:00\nD JOB, attempt 0: exit 4; errors in D.err\n  | why\n")
+
+
+def same_output(folder):
+    """What is printed is byte for byte what is printed without."""
+    four(folder, "sleep 0.1\n")
+    without = folder.call("run", "--progress", "never", "x.dag")
+    os.remove(folder.at("x.dag.journal"))
+    told = folder.on_terminal("run", "x.dag")
+    same((told.text, told.status), (without[0], without[2]))
+
+
+# ---- how a run ends
+
+
+def an_abort(folder):
+    """A node's abort ends the run: its line stays, the other one's is gone with the children that are killed."""
+    folder.shell("A", "sleep 0.5; exit 7\n")
+    folder.shell("B", "sleep 30\n")
+    folder.write("x.dag", "JOB A A.sub\nJOB B B.sub\nABORT-DAG-ON A 7 RETURN 9\n")
+    told = folder.on_terminal("run", "x.dag")
+    same(told.screen.told(), ["A JOB, attempt 0: exit 7; errors in A.err"])
+    same(told.status, 9)
+    holds(told.took < 20, "it waited for B")
+
+
+def a_refusal_in_the_middle(folder):
+    """The journal can't grow: the line is taken away, and the refusal stands behind it."""
+    for number in range(40):
+        folder.shell(f"j{number}", "sleep 0.05\n", error=False)
+    folder.write("x.dag", "".join(f"JOB j{number} j{number}.sub\n" for number in range(40)))
+    told = folder.on_terminal("run", "--maxjobs", "2", "x.dag", limit=1200)
+    same(told.status, 125)
+    same(told.text, "")
+    lines = told.screen.told()
+    # The log can't grow either, so nobody knows any more what the system said.
+    same(lines, ["dagrun: J1 Device", "    dagrun explain J1 says more"])
+    holds(len(told.progress()) > 1, "nothing was shown before")
+
+
+def hints(folder):
+    """Behind the line of a refusal stand the line of the file with a caret, what may be meant, what the system says, and what to write instead."""
+    folder.write("a.sub", "executable = /bin/true\nqueue\n")
+    folder.write("two.sub", "executable = /bin/true\nqueue 2\n")
+    folder.write("x.dag", "JOB Fetch a.sub\nPARENT Fetch CHILD Fecth\n")
+    folder.write("y.dag", "JOB A a.sub\n# the next\nJOBS B b.sub\n")
+    folder.write("z.dag", "JOB A away/a.sub\n")
+    folder.write("q.dag", "JOB A two.sub\n")
+    told = {
+        "x.dag": ["dagrun: S5 UnknownNode x.dag:2:20", "    2 | PARENT Fetch CHILD Fecth", "                           ^", "    is Fetch meant?", "    dagrun explain S5 says more"],
+        "y.dag": ["dagrun: L2 UnknownCommand y.dag:3:1", "    3 | JOBS B b.sub", "        ^", "    is JOB meant?", "    dagrun explain L2 says more"],
+        "z.dag": ["dagrun: P1 MissingFile away/a.sub", "    away/a.sub: No such file or directory (os error 2)", "    dagrun explain P1 says more"],
+        "q.dag": ["dagrun: U4 QueueCount two.sub:2", "    2 | queue 2", "    Write `queue` once, with no count, and a JOB line for each of the jobs, with", "    its number by VARS."],
+        "away.dag": ["dagrun: S1 MissingFile away.dag", "    away.dag: No such file or directory (os error 2)", "    dagrun explain S1 says more"],
+    }
+    for dag, lines in told.items():
+        answer = folder.on_terminal("check", dag)
+        same((answer.status, answer.text), (125, ""))
+        same(answer.screen.told(), lines)
+
+
+def goes_on_where_it_stood(folder):
+    """A round that goes on counts what was done before."""
+    for name in "ABC":
+        folder.shell(name, "sleep 0.3\n")
+    folder.shell("D", "sleep 3\n")
+    folder.write("x.dag", "JOB A A.sub\nJOB B B.sub\nJOB C C.sub\nJOB D D.sub\nPARENT A CHILD B\nPARENT B CHILD C\nPARENT C CHILD D\n")
+    told = folder.on_terminal("run", "x.dag", killed="3/4 done, 1 running (D ")
+    same(told.status, -signal.SIGKILL)
+    told = folder.on_terminal("run", "x.dag")
+    same(told.lines()[0], "3/4 done, 1 running (D 0 s), 0 ready, 0 failed  0:00")
+    same(told.text, ALL_DONE)
+
+
+def noops(folder):
+    """Nodes for which no child runs are counted as well."""
+    folder.shell("A", "sleep 1\n")
+    folder.shell("D", "sleep 1\n")
+    folder.write("x.dag", "JOB A A.sub\nJOB B A.sub NOOP\nJOB C A.sub NOOP\nJOB D D.sub\nPARENT A CHILD B\nPARENT B CHILD C\nPARENT C CHILD D\n")
+    told = folder.on_terminal("run", "x.dag")
+    same(told.text, ALL_DONE)
+    told.has_shown("3/4 done, 1 running (D 0 s), 0 ready, 0 failed  0:00")
+
+
+def a_final_node(folder):
+    """FINAL counts among the nodes, and is never ready before its turn."""
+    folder.shell("A", "sleep 1\n")
+    folder.shell("F", "sleep 1\n")
+    folder.write("x.dag", "JOB A A.sub\nFINAL F F.sub\n")
+    told = folder.on_terminal("run", "x.dag")
+    told.has_shown("0/2 done, 1 running (A 0 s), 0 ready, 0 failed  0:00")
+    told.has_shown("1/2 done, 1 running (F 0 s), 0 ready, 0 failed  0:00")
+
+
+# ---- what is said once
+
+
+def too_many(folder):
+    """More than four children a processor, and no limit: it is said once. With a limit it is not."""
+    processors = len(os.sched_getaffinity(0))
+    count = 4 * processors + 3
+    folder.shell("j", "sleep 3\n", error=False)
+    folder.write("x.dag", "".join(f"JOB j{number} j.sub\n" for number in range(count)))
+    told = folder.on_terminal("run", "x.dag")
+    word = "processor" if processors == 1 else "processors"
+    same(told.screen.told(), [f"{count} children run at once on {processors} {word}: --maxjobs limits them"])
+    os.remove(folder.at("x.dag.journal"))
+    told = folder.on_terminal("run", "--maxjobs", str(count), "x.dag")
+    same(told.screen.told(), [])
+
+
+def all_are_done(folder):
+    """Nothing is left to start: it is said by which file."""
+    folder.shell("A", "exit 1\n", error=False)
+    folder.write("x.dag", "JOB A A.sub\n")
+    folder.call("run", "x.dag")
+    folder.write("x.dag.rescue001", folder.read("x.dag.rescue001") + b"DONE A\n")
+    told = folder.on_terminal("run", "x.dag", columns=120)
+    same(told.screen.told(), ["all nodes are done: x.dag.rescue001 says so; remove it, or call with --autorescue 0, to begin anew"])
+    same(told.text, "A DONE attempts=0 value=-\nresult 0\n")
+    same(folder.call("run", "x.dag")[1], "")
+    os.remove(folder.at("x.dag.rescue001"))
+    folder.write("x.dag", "JOB A A.sub DONE\n")
+    told = folder.on_terminal("run", "x.dag")
+    same(told.screen.told(), ["all nodes are done: x.dag says so"])
+
+
+# ---- what it costs
+
+
+def two_thousand(folder):
+    """2,000 short jobs, sixteen at once: no more than ten redraws a second, and what that takes beside none."""
+    folder.write("j.sub", "executable = /bin/true\nqueue\n")
+    folder.write("x.dag", "".join(f"JOB n{number:04} j.sub\n" for number in range(2000)))
+    best = {}
+    for turn in range(3):
+        for rule in ("never", "auto"):
+            for name in os.listdir(folder.path):
+                if name.startswith("x.dag."):
+                    os.remove(folder.at(name))
+            told = folder.on_terminal("run", "--maxjobs", "16", "--progress", rule, "x.dag")
+            same(told.status, 0)
+            best[rule] = min(best.get(rule, 1000), told.took)
+            if rule == "auto":
+                redraws = told.raw.count(b"\x1b[K")
+                holds(redraws <= 10 * told.took + 2, f"{redraws} redraws in {told.took:.1f} seconds")
+                holds(told.progress()[-1].group(2) == "2000", "the total is wrong")
+    more = 100 * (best["auto"] - best["never"]) / best["never"]
+    print(f"2,000 short jobs: {best['never']:.2f} s without, {best['auto']:.2f} s with the line: {more:+.1f} %")
+
+
+ROWS = [
+    goes_on,
+    counts_of_states,
+    at_20_columns,
+    at_200_columns,
+    resized,
+    wide_names,
+    a_failure_in_between,
+    signals_and_scripts,
+    ends_of_files,
+    dumb_terminals,
+    never,
+    no_terminal,
+    same_output,
+    an_abort,
+    a_refusal_in_the_middle,
+    hints,
+    goes_on_where_it_stood,
+    noops,
+    a_final_node,
+    too_many,
+    all_are_done,
+    two_thousand,
+]
+
+
+def main():
+    program = os.path.realpath(sys.argv[1])
+    rows = [row for row in ROWS if len(sys.argv) < 3 or sys.argv[2] in row.__name__]
+    failed = 0
+    for row in rows:
+        with tempfile.TemporaryDirectory() as path:
+            try:
+                row(Folder(program, path))
+            except (AssertionError, OSError, subprocess.SubprocessError) as fault:
+                failed += 1
+                print(f"FAILED {row.__name__}: {fault}")
+    print(f"{len(rows) - failed} passed, {failed} failed")
+    sys.exit(1 if failed else 0)
+
+
+if __name__ == "__main__":
+    main()
