@@ -18,11 +18,11 @@ struct Waits<'a> {
     before: Vec<Option<usize>>,
 }
 
-/// The one of two phases that ended later.
+/// The one of two phases that ended later; of two that ended in the same moment the other, which began later.
 fn later_of(runs: &[PhaseRun<'_>], one: Option<usize>, other: Option<usize>) -> Option<usize> {
     match (one, other) {
         (Some(a), Some(b)) => match (runs.get(a), runs.get(b)) {
-            (Some(first), Some(second)) if first.end() < second.end() => other,
+            (Some(first), Some(second)) if first.end() <= second.end() => other,
             _ => one,
         },
         (Some(_), None) => one,
