@@ -1,7 +1,7 @@
 #!/usr/bin/env bash
 # Times runs beside `make -j` and `ninja -j` on the same graphs, in turn, so that all of them see the same machine: a chain of 200
 # /bin/true, 1,000 /bin/true side by side (4 at once), 1,000 `sleep 0.1` side by side (64 at once), 192 of them, and 4,000 /bin/true
-# (1,024 at once, which is as many as dagrun starts without a limit). First with the journal on a disk, then in memory (/dev/shm).
+# (1,024 at once; and with no limit, where dagrun starts 1,024, make all and ninja two more than there are processors). First with the journal on a disk, then in memory (/dev/shm).
 # Then it counts the syncs of a run, where strace is there. make and ninja keep no journal.
 #   bench/run.sh [TIMES]     how often each is timed (3); the least of the times is printed
 . "$(dirname -- "${BASH_SOURCE[0]}")/common.sh"
@@ -52,14 +52,20 @@ seconds() {
     awk -v n=$((ended - begun)) 'BEGIN { printf "%.3f\n", n / 1e9 }'
 }
 
-# row GRAPH AT_ONCE WORDS: the least time of each program on a graph
+# row GRAPH AT_ONCE WORDS: the least time of each program on a graph; none at once: with no limit
 row() {
     local name
     : >dagrun.times; : >make.times; : >ninja.times
     for _ in $(seq "$times"); do
-        seconds "$program" run --maxjobs "$2" "$1.dag" >>dagrun.times
-        if command -v make >/dev/null; then seconds make -s -j"$2" -f "$1.mk" all >>make.times; fi
-        if command -v ninja >/dev/null; then seconds ninja -j"$2" -f "$1.ninja" >>ninja.times; fi
+        if [ "$2" = none ]; then
+            seconds "$program" run "$1.dag" >>dagrun.times
+            if command -v make >/dev/null; then seconds make -s -j -f "$1.mk" all >>make.times; fi
+            if command -v ninja >/dev/null; then seconds ninja -f "$1.ninja" >>ninja.times; fi
+        else
+            seconds "$program" run --maxjobs "$2" "$1.dag" >>dagrun.times
+            if command -v make >/dev/null; then seconds make -s -j"$2" -f "$1.mk" all >>make.times; fi
+            if command -v ninja >/dev/null; then seconds ninja -j"$2" -f "$1.ninja" >>ninja.times; fi
+        fi
     done
     printf '%s:' "$3"
     for name in dagrun make ninja; do
@@ -77,6 +83,7 @@ for folder in "$disk" $memory; do
     row sleeps 64 '  1,000 sleep 0.1, 64 at once'
     row few 64 '  192 sleep 0.1, 64 at once'
     row many 1024 '  4,000 /bin/true, 1,024 at once'
+    row many none '  4,000 /bin/true, with no limit'
 done
 cd "$disk"
 if command -v strace >/dev/null; then

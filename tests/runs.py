@@ -1197,6 +1197,49 @@ def no_process_to_be_had(folder):
     same("hold" in {line[0] for line in fields_of(folder)}, True)
 
 
+def one_splice_in_two_folders(folder):
+    """A file that is spliced twice by one path, in two folders: the submit files of its nodes are those of each folder."""
+    for name in ("a", "b"):
+        os.mkdir(folder.at(name))
+        folder.write(f"{name}/j.sub", f"executable = /bin/echo\narguments = {name}\noutput = out\nqueue\n")
+    inner = os.path.realpath(folder.path) + "/inner.dag"
+    folder.write("inner.dag", "JOB N j.sub\n")
+    folder.write("x.dag", f"SPLICE X {inner} DIR a\nSPLICE Y {inner} DIR b\n")
+    same(folder.call("check", "x.dag"), ("ok nodes=2 edges=0 final=no\n", "", 0))
+    same(folder.call("run", "x.dag"), ("X+N DONE attempts=1 value=0\nY+N DONE attempts=1 value=0\nresult 0\n", "", 0))
+    same((folder.read("a/out"), folder.read("b/out")), (b"a\n", b"b\n"))
+    # A file that splices itself into one folder below another is refused as what it is.
+    folder.write("inner.dag", f"JOB N j.sub\nSPLICE X {inner} DIR a\n")
+    same(folder.call("check", "x.dag"), ("", f"dagrun: S3 Loop {inner}\n", 125))
+
+
+def few_descriptors(folder):
+    """However few files the manager may have open, a run says what is wanting, and 16 are enough for 40 children at once."""
+    names = [f"n{number}" for number in range(40)]
+    folder.write("x.dag", "".join(f"JOB {name} a.sub\n" for name in names))
+    folder.write("a.sub", "executable = /bin/sleep\narguments = 0.2\noutput = o.$(JOB)\nerror = e.$(JOB)\nqueue\n")
+    report = "".join(f"{name} DONE attempts=1 value=0\n" for name in names) + "result 0\n"
+    seen = set()
+    for limit in (5, 7, 9, 10, 11, 12, 16):
+        words = ["prlimit", f"--nofile={limit}", folder.program, "run", "x.dag"]
+        done = subprocess.run(words, cwd=folder.path, capture_output=True, timeout=120)
+        text, faults = done.stdout.decode(), done.stderr.decode()
+        if done.returncode == 125:
+            same((text, faults in ("dagrun: J1 Device\n", "dagrun: X2 FileRefused x.dag.lock\n")), ("", True))
+        elif done.returncode == 1:
+            # None could be started, not even alone: each says so.
+            same((text.count(" ERROR attempts=1 value=-1001\n"), faults), (40, ""))
+            head = why(folder, "n0").splitlines()[0]
+            same("/bin/sleep: Too many open files (os error 24)" in head, True)
+        else:
+            same((text, faults, done.returncode), (report, "", 0))
+        seen.add(done.returncode)
+        for name in os.listdir(folder.path):
+            if name.startswith("x.dag."):
+                os.remove(folder.at(name))
+    same((0 in seen, 125 in seen), (True, True))
+
+
 def why(folder, *names):
     """What `why` says of x.dag, which tells no warning."""
     text, told, status = folder.call("why", "x.dag", *names)
@@ -2657,6 +2700,8 @@ ROWS = [
     children_that_can_not_be_read,
     closed_streams,
     no_process_to_be_had,
+    few_descriptors,
+    one_splice_in_two_folders,
     no_permission,
     no_first_line,
     a_carriage_return,

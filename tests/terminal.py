@@ -554,6 +554,32 @@ def all_are_done(folder):
     same(told.screen.told(), ["all nodes are done: x.dag says so"])
 
 
+def a_status(folder):
+    """Behind a status stands how many nodes are in which state, and which process works on them, if one does."""
+    folder.shell("A", "exit 1\n")
+    folder.shell("B", ": >begun\nexec sleep 60\n")
+    folder.write("x.dag", "JOB A A.sub\nJOB B B.sub\nJOB C C.sub\nPARENT B CHILD C\n")
+    told = folder.on_terminal("status", "x.dag")
+    same((told.status, told.screen.told()), (0, ["2 READY, 1 NOT_READY; no manager works on them"]))
+    run = subprocess.Popen([folder.program, "run", "x.dag"], cwd=folder.path, stdout=subprocess.DEVNULL, stderr=subprocess.DEVNULL)
+    for _ in range(1000):
+        # The job that fails has ended, and the other one has begun.
+        if os.path.exists(folder.at("begun")) and folder.call("status", "x.dag")[0].startswith("A ERROR "):
+            break
+        time.sleep(0.02)
+    told = folder.on_terminal("status", "x.dag")
+    same(told.screen.told(), [f"1 ERROR, 1 SUBMITTED, 1 NOT_READY; process {run.pid} works on them"])
+    # What is printed stays the same, and so does what is no terminal.
+    same((told.text, "", 0), folder.call("status", "x.dag"))
+    run.kill()
+    run.wait(timeout=60)
+    told = folder.on_terminal("status", "x.dag")
+    same(told.screen.told(), ["1 ERROR, 1 SUBMITTED, 1 NOT_READY; no manager works on them"])
+    # What the manager left running is ended by the next one.
+    folder.write("B.sh", "exit 0\n")
+    same(folder.call("run", "x.dag")[2], 1)
+
+
 # ---- what it costs
 
 
@@ -600,6 +626,7 @@ ROWS = [
     a_final_node,
     too_many,
     all_are_done,
+    a_status,
     two_thousand,
 ]
 

@@ -1,2 +1,4 @@
 pub mod RunFaults
 pub mod Above
+pub mod Held
+pub mod Journals

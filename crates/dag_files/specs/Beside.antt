@@ -1,9 +1,11 @@
 -- What stands beside a DAG file, and what is told of it.
-use Rattle.std.specs.Prelude.{◌≡◌, ◌≢◌, ◌<◌, ◌≤◌, ◌+◌, ◌-◌, ℕ, Bool, true, false, nat_lt, List, ◌++◌, length, slice_index, Option, Some, None, is_some, codes, string_bytes, String, if◌then◌else◌}
+use Rattle.std.specs.Prelude.{◌≡◌, ◌≢◌, ◌<◌, ◌≤◌, ◌+◌, ◌-◌, ℕ, Bool, true, false, nat_lt, List, ◌++◌, length, slice_index, Option, Some, None, Result, Ok, Err, is_some, codes, string_bytes, String, if◌then◌else◌}
 use Rattle.std.specs.Global.{Global}
 use Rattle.rescue_file.specs.Numbered.{IsNumber}
 use Rattle.event_journal.specs.declared.fault.JournalFault.{JournalFault}
 use Rattle.event_journal.specs.Journal.{IsReadFault}
+use Rattle.event_journal.specs.Image.{Found}
+use Rattle.event_journal.specs.Peeks.{is_finished}
 use Rattle.run_manager.specs.declared.fault.ManagerFault.TheVariants as manager
 use Rattle.dag_files.specs.declared.rounds.Journaled.{Journaled}
 use Rattle.dag_files.specs.declared.rounds.Journaled.TheVariants as journals
@@ -84,6 +86,25 @@ pub data IsRoundBy (autorescue : Bool) (from : Option ℕ) (always_post : Bool) 
   goes_back : (number : ℕ) → from ≡ Some number → IsNumber number → BeginsAnew round.journal → round.used ≡ number →
       round.next ≡ number_behind number → round.goes_back ≡ true → round.always_post ≡ always_post → IsRoundBy autorescue from always_post round
   goes_on : from ≡ None → round.journal ≡ journals.Unfinished → round.goes_back ≡ false → IsRoundBy autorescue from always_post round
+
+-- A round goes on, with the numbers and the flag of a header.
+pub record GoesOnBy (used next : ℕ) (always_post : Bool) (round : Round) : Type 0 where
+  pub goes_on_is : round.journal ≡ journals.Unfinished
+  pub used_is : round.used ≡ used
+  pub next_is : round.next ≡ next
+  pub flag_is : round.always_post ≡ always_post
+
+-- what becomes of a journal with this header, by whether its last record is Finish
+abbrev pub HasFound : Bool → Found → Round → Type 0
+HasFound true found round = round.journal ≡ journals.Finished
+HasFound false found round = GoesOnBy found.header.used found.header.next found.header.always_post round
+
+-- A round is that of the journal which reading gives: it begins where there is none, or that of a run which has ended; it goes on by the header
+-- of one that has not.
+abbrev pub HasJournal : Result (Option Found) JournalFault → Round → Type 0
+HasJournal (Ok None) round = round.journal ≡ journals.Nothing
+HasJournal (Ok (Some found)) round = HasFound (is_finished found.records) found round
+HasJournal (Err fault) round = ⊥
 
 -- the bytes of the rescue file of a round: none where it reads none, and some where it goes back
 pub record IsRescueOf (round : Round) (rescue : Option (List ℕ)) : Type 0 where

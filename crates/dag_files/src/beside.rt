@@ -6,7 +6,7 @@ ghost use Rattle.splices.specs.Paths.{join};
 ghost use Rattle.dag_texts.specs.declared.fault.RunFault.TheVariants.{Memory};
 ghost use Rattle.dag_files.specs.Beside.{journal_name_of, IsFileFault, IsNameLength, HasRoomForNames, IsRoomFault};
 
-use crate::locking::{Lock, lock_in_time, lock_opened};
+use crate::locking::{Lock, is_locked, lock_in_time, lock_opened};
 use crate::owners::is_trusted;
 use crate::rescues::numbers_above;
 use dag_reader::Text;
@@ -168,12 +168,7 @@ impl<'a> Place<'a> {
     ) -> Result<Option<Vec<u8>>, RunFault>
         ensures { IfErr result IsFileFault }
     {
-        let place = self.at(rt.alloc(), path)?;
-        match read_regular(rt, place.as_str()) {
-            Ok(bytes) => Ok(Some(bytes)),
-            Err(error) if error.kind() == ErrorKind::NotFound => Ok(None),
-            Err(error) => Err(refused(rt.alloc(), path, &error)),
-        }
+        read_beside(rt.alloc(), rt, self.folder, path)
     }
 
     /// Locks the file beside the DAG file that is named for it, until the lock is given back or dropped or
@@ -206,6 +201,18 @@ impl<'a> Place<'a> {
                 self.unlock(rt, lock);
                 Err(fault)
             }
+        }
+    }
+
+    /// Whether a manager works on the DAG: another process has its lock. Where the system doesn't tell, none does.
+    pub fn is_at_work<R: Files<File = File> + AllocGlobal>(&self, rt: &R) -> bool {
+        let alloc = rt.alloc();
+        match lock_path(alloc, self.top) {
+            Ok(path) => match self.at(alloc, path.as_str()) {
+                Ok(place) => is_locked(rt, place.as_str()),
+                Err(_) => false,
+            },
+            Err(_) => false,
         }
     }
 
@@ -398,6 +405,26 @@ impl<'a> Place<'a> {
             self.put_rescue_away(rt, *number)?;
         }
         self.sync_names(rt, folder_of(self.top))
+    }
+}
+
+/// The bytes of a file of this path, as seen from a folder; none where it is missing.
+///
+/// # Errors
+/// Those of `Place::read`.
+pub(crate) fn read_beside<R: Files + AllocGlobal>(
+    alloc: Global,
+    rt: &R,
+    seat: &str,
+    path: &str,
+) -> Result<Option<Vec<u8>>, RunFault>
+    ensures { IfErr result IsFileFault }
+{
+    let place = path_in(alloc, seat, path)?;
+    match read_regular(rt, place.as_str()) {
+        Ok(bytes) => Ok(Some(bytes)),
+        Err(error) if error.kind() == ErrorKind::NotFound => Ok(None),
+        Err(error) => Err(refused(alloc, path, &error)),
     }
 }
 

@@ -1,5 +1,11 @@
 //! The bytes of inputs.
 
+ghost use Rattle.std.specs.Prelude.{◌≡◌, codes, IfErr};
+ghost use Rattle.dag_texts.specs.declared.fault.RunFault.TheVariants.{Memory};
+ghost use Rattle.dag_files.specs.Beside.{IsInputFault};
+
+use dag_texts::RunFault;
+use splices::path_in;
 use std::alloc::Global;
 use std::fs::{self, Metadata, OpenOptions};
 use std::io::{self, ErrorKind, Read};
@@ -44,11 +50,47 @@ pub fn read_input<R: Files + AllocGlobal>(rt: &R, path: &str, pipes: bool) -> io
 ///
 /// # Errors
 /// `OutOfMemory` for more than 256 MiB; else what the system says.
-pub(crate) fn read_at_most<T: Read + Drop>(alloc: Global, source: T) -> io::Result<Vec<u8>> {
+fn read_at_most<T: Read + Drop>(alloc: Global, source: T) -> io::Result<Vec<u8>> {
     let mut bytes = Vec::new(alloc);
     source.take(MOST_BYTES + 1).read_to_end(&mut bytes)?;
     if bytes.len() as u64 > MOST_BYTES {
         return Err(io::Error::from(ErrorKind::OutOfMemory));
     }
     Ok(bytes)
+}
+
+/// The bytes of a file as seen from a folder, unless it can't be read; where pipes are read, it may be
+/// one. More than 256 MiB are answered as if there were no memory for them.
+///
+/// # Errors
+/// `Memory` alone.
+pub(crate) fn read_named<R: Files + AllocGlobal>(
+    alloc: Global,
+    rt: &R,
+    seat: &str,
+    path: &str,
+    pipes: bool,
+) -> Result<Option<Vec<u8>>, RunFault>
+    ensures { IfErr result (λ fault. fault ≡ Memory) }
+{
+    let place = path_in(alloc, seat, path)?;
+    match read_input(rt, place.as_str(), pipes) {
+        Ok(bytes) => Ok(Some(bytes)),
+        Err(error) if error.kind() == ErrorKind::OutOfMemory => Err(RunFault::Memory),
+        Err(_) => Ok(None),
+    }
+}
+
+/// The bytes of standard input.
+///
+/// # Errors
+/// `FileRefused` with `-` where it can't be read; `Memory`, also for more than 256 MiB.
+pub(crate) fn read_standard_input<R: Input>(alloc: Global, rt: &R) -> Result<Vec<u8>, RunFault>
+    ensures { IfErr result (IsInputFault (codes "-")) }
+{
+    match read_at_most(alloc, rt.reader()) {
+        Ok(bytes) => Ok(bytes),
+        Err(error) if error.kind() == ErrorKind::OutOfMemory => Err(RunFault::Memory),
+        Err(_) => Err(RunFault::FileRefused(String::from_str(alloc, "-")?)),
+    }
 }

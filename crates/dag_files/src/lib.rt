@@ -3,6 +3,7 @@
 #![tactic(auto)]
 
 mod beside;
+mod folder;
 mod inputs;
 mod loading;
 mod locking;
@@ -11,10 +12,12 @@ mod rescues;
 mod rounds;
 
 pub use beside::{LAST_NUMBER, Place, journal_path, refused, rescue_path};
+pub use folder::{Folder, StreamOrFolder, SystemFolder};
 pub use inputs::{MOST_BYTES, read_input};
 pub use loading::{Reading, dag_files_in, files_in, files_of};
 pub use locking::Lock;
 pub use rescues::numbers_above;
 pub use rounds::{
-    Journaled, Round, bytes_of, journal_disk, named, rescue_disk, rescue_of, round_of,
+    Journaled, Round, bytes_of, journal_disk, named, next_round, rescue_disk, rescue_of, round_behind,
+    round_of,
 };

@@ -1,26 +1,41 @@
-//! The files of a DAG, read from the disk.
+//! The files of a DAG: those that its lines name.
 
-ghost use Rattle.std.specs.Prelude.{◌≡◌, codes, IfErr};
+ghost use Rattle.std.specs.Prelude.{◌≡◌, Some, IfOk, IfErr, OnOk};
+ghost use Rattle.std.specs.Option.{option_map};
+ghost use Rattle.splices.specs.FileSet.{bytes_of};
 ghost use Rattle.dag_texts.specs.declared.fault.RunFault.TheVariants.{Memory};
 ghost use Rattle.dag_files.specs.Beside.{IsInputFault};
+ghost use Rattle.dag_files.specs.Folder.{AreHeld, Keeps, IsReadFrom};
 
-use crate::inputs::{read_at_most, read_input};
+use crate::folder::{Folder, SystemFolder};
+use crate::inputs::read_named;
 use dag_reader::{Command, ReadFault, Text, Word, read_dag};
 use dag_texts::RunFault;
-use splices::{FileSet, path_in};
-use std::alloc::Global;
-use std::io::ErrorKind;
+use splices::{FileSet, NameTable, path_in};
+use std::alloc::{AllocError, Global};
 use std::rt::Files;
 
 /// How many lines that name a file are followed at most: far more than may be opened.
 const MOST_WANTED: usize = 1 << 20;
 
-/// A file that a line names: that of a splice, with the folder that its own lines are seen from, or
-/// a submit file.
+/// How many splices a DAG has at most; of one with more the first are read, which is enough to refuse it.
+const MOST_SPLICES: usize = 4_096;
+
+/// How deep a file may lie in others; one that lies deeper is refused unread.
+const MOST_DEPTH: u32 = 32;
+
+/// A file that a line names: that of a splice, with the folder that its own lines are seen from and how many
+/// files it lies in, or a submit file.
 #[derive(Drop)]
 enum Wanted {
-    Splice { folder: Text, path: Text },
-    Submit { path: Text },
+    Splice {
+        folder: Text,
+        path: Text,
+        depth: u32,
+    },
+    Submit {
+        path: Text,
+    },
 }
 
 /// Which files are read beside those of splices.
@@ -32,22 +47,33 @@ pub enum Reading {
     SubmitFilesToo,
 }
 
-/// The DAG file of this path, `-` for standard input, with the files of its splices and of theirs,
-/// and, if asked for, the submit files of all nodes but NOOPs, each read once. A file that can't be
-/// read stays missing, and so does what is no regular file, but for a DAG file that is a pipe.
+/// What is still to be read: the files that lines name, the first of them last; and the splices that were
+/// followed, by the folder and the path of each.
+#[derive(Drop)]
+struct ToRead {
+    reading: Reading,
+    wanted: Vec<Wanted>,
+    followed: NameTable,
+}
+
+/// The DAG file of this path with the files of its splices and of theirs, and, if asked for, the submit files
+/// of all nodes but NOOPs. A file that can't be read stays missing.
 ///
 /// # Errors
-/// `FileRefused` with `-` where standard input can't be read; `Memory`, also for a file of more than
-/// 256 MiB.
-pub fn files_of<R: Files + Input + AllocGlobal>(
-    rt: &R,
+/// `FileRefused` with `-` where standard input is asked for and can't be read; `Memory`, also for a file of
+/// more than 256 MiB.
+pub fn files_of<F: Folder>(
+    alloc: Global,
+    folder: &F,
     top: &str,
     reading: Reading,
 ) -> Result<FileSet, RunFault>
+    // Each is a file that the folder holds, and the DAG file is among them if it holds that.
+    ensures read { F.honest folder.now → IfOk result (IsReadFrom (F.holds folder.now) top.now) }
     ensures refused { IfErr result (IsInputFault top.now) }
 {
-    let bytes = read_top(rt, top)?;
-    files_from(rt, "", top, bytes, reading)
+    let bytes = folder.top(alloc, top)?;
+    files_from(alloc, folder, top, bytes, reading)
 }
 
 /// The files of a run: relative paths are taken from this folder, `-` is a path like others, and the
@@ -58,8 +84,10 @@ pub fn files_of<R: Files + Input + AllocGlobal>(
 pub fn files_in<R: Files + AllocGlobal>(rt: &R, seat: &str, top: &str) -> Result<FileSet, RunFault>
     ensures { IfErr result (λ fault. fault ≡ Memory) }
 {
-    let bytes = read_file(rt, seat, top, true)?;
-    files_from(rt, seat, top, bytes, Reading::SubmitFilesToo)
+    let alloc = rt.alloc();
+    let folder = SystemFolder { rt, seat };
+    let bytes = read_named(alloc, rt, seat, top, true)?;
+    files_from(alloc, &folder, top, bytes, Reading::SubmitFilesToo)
 }
 
 /// The DAG file of a run and the files of its splices, as `files_in` reads them, without submit files.
@@ -73,142 +101,190 @@ pub fn dag_files_in<R: Files + AllocGlobal>(
 ) -> Result<FileSet, RunFault>
     ensures { IfErr result (λ fault. fault ≡ Memory) }
 {
-    let bytes = read_file(rt, seat, top, true)?;
-    files_from(rt, seat, top, bytes, Reading::SplicesAlone)
+    let alloc = rt.alloc();
+    let folder = SystemFolder { rt, seat };
+    let bytes = read_named(alloc, rt, seat, top, true)?;
+    files_from(alloc, &folder, top, bytes, Reading::SplicesAlone)
 }
 
 /// The DAG file of these bytes, if it could be read, and the files that its lines name.
-fn files_from<R: Files + AllocGlobal>(
-    rt: &R,
-    seat: &str,
+fn files_from<F: Folder>(
+    alloc: Global,
+    folder: &F,
     top: &str,
     bytes: Option<Vec<u8>>,
     reading: Reading,
 ) -> Result<FileSet, RunFault>
-    ensures { IfErr result (λ fault. fault ≡ Memory) }
+    ensures read { F.honest folder.now → option_map (λ b. b.items) bytes ≡ F.holds folder.now top.now
+        → IfOk result (IsReadFrom (F.holds folder.now) top.now) }
+    ensures err { IfErr result (λ fault. fault ≡ Memory) }
 {
-    let alloc = rt.alloc();
     let mut files = FileSet::new(alloc);
-    let mut wanted = Vec::new(alloc);
-    if let Some(bytes) = bytes {
-        want_files(alloc, "", bytes.as_slice(), reading, &mut wanted)?;
-        files.add(alloc, top, bytes.as_slice())?;
-    }
-    for _ in 0..MOST_WANTED {
-        match wanted.pop() {
-            Some(next) => add_file(rt, seat, &mut files, &next, reading, &mut wanted)?,
-            None => break,
-        }
-    }
+    let Some(bytes) = bytes else {
+        return Ok(files);
+    };
+    files.add(alloc, top, bytes.as_slice())?;
+    let mut rest = ToRead {
+        reading,
+        wanted: Vec::new(alloc),
+        followed: NameTable::new(alloc),
+    };
+    rest.want_all(alloc, "", bytes.as_slice(), 0)?;
+    read_rest(alloc, folder, &mut files, &mut rest)?;
     Ok(files)
 }
 
-/// Reads a file that is not there, and wants those that its lines name.
-fn add_file<R: Files + AllocGlobal>(
-    rt: &R,
-    seat: &str,
+/// Reads the files that are wanted, and those that their lines name.
+fn read_rest<F: Folder>(
+    alloc: Global,
+    folder: &F,
+    files: &mut FileSet,
+    rest: &mut ToRead,
+) -> Result<(), RunFault>
+    ensures held { F.honest folder.now → AreHeld (F.holds folder.now) files.old → OnOk result (AreHeld (F.holds folder.now) files.new) }
+    ensures kept { OnOk result (Keeps files.old files.new) }
+    ensures err { IfErr result (λ fault. fault ≡ Memory) }
+{
+    for _ in 0..MOST_WANTED {
+        if rest.followed.len() > MOST_SPLICES {
+            break;
+        }
+        match rest.wanted.pop() {
+            Some(next) => read_next(alloc, folder, files, &next, rest)?,
+            None => break,
+        }
+    }
+    Ok(())
+}
+
+/// Reads a file that is not there, and wants those that its lines name where it is that of a splice.
+fn read_next<F: Folder>(
+    alloc: Global,
+    folder: &F,
     files: &mut FileSet,
     next: &Wanted,
-    reading: Reading,
-    wanted: &mut Vec<Wanted>,
+    rest: &mut ToRead,
 ) -> Result<(), RunFault>
-    ensures { IfErr result (λ fault. fault ≡ Memory) }
+    ensures held { F.honest folder.now → AreHeld (F.holds folder.now) files.old → OnOk result (AreHeld (F.holds folder.now) files.new) }
+    ensures kept { OnOk result (Keeps files.old files.new) }
+    ensures err { IfErr result (λ fault. fault ≡ Memory) }
 {
-    let path = match next {
-        Wanted::Splice { path, .. } => path.as_str(),
-        Wanted::Submit { path } => path.as_str(),
-    };
+    match next {
+        Wanted::Submit { path } => read_file(alloc, folder, files, path.as_str()),
+        Wanted::Splice {
+            folder: inner,
+            path,
+            depth,
+        } => {
+            read_file(alloc, folder, files, path.as_str())?;
+            match files.get(path.as_str()) {
+                Some(bytes) => rest.follow(alloc, inner.as_str(), path.as_str(), bytes, *depth),
+                None => Ok(()),
+            }
+        }
+    }
+}
+
+/// Reads the file of this path, unless that was done.
+fn read_file<F: Folder>(
+    alloc: Global,
+    folder: &F,
+    files: &mut FileSet,
+    path: &str,
+) -> Result<(), RunFault>
+    ensures held { F.honest folder.now → AreHeld (F.holds folder.now) files.old → OnOk result (AreHeld (F.holds folder.now) files.new) }
+    ensures kept { OnOk result (Keeps files.old files.new) }
+    ensures err { IfErr result (λ fault. fault ≡ Memory) }
+{
     if files.get(path).is_some() {
         return Ok(());
     }
-    let Some(bytes) = read_file(rt, seat, path, false)? else {
-        return Ok(());
-    };
-    if let Wanted::Splice { folder, .. } = next {
-        want_files(
-            rt.alloc(),
-            folder.as_str(),
-            bytes.as_slice(),
-            reading,
-            wanted,
-        )?;
-    }
-    files.add(rt.alloc(), path, bytes.as_slice())?;
-    Ok(())
-}
-
-/// Wants the files that the lines of a DAG file in this folder name.
-fn want_files(
-    alloc: Global,
-    folder: &str,
-    bytes: &[u8],
-    reading: Reading,
-    wanted: &mut Vec<Wanted>,
-) -> Result<(), RunFault>
-    ensures { IfErr result (λ fault. fault ≡ Memory) }
-{
-    let file = match read_dag(alloc, bytes) {
-        Ok(file) => file,
-        Err(ReadFault::Memory) => return Err(RunFault::Memory),
-        Err(_) => return Ok(()),
-    };
-    for command in file.commands.iter() {
-        want_file(alloc, folder, command, reading, wanted)?;
+    if let Some(bytes) = folder.input(alloc, path)? {
+        files.add(alloc, path, bytes.as_slice())?;
     }
     Ok(())
 }
 
-/// Wants the file that a line names.
-fn want_file(
-    alloc: Global,
-    folder: &str,
-    command: &Command,
-    reading: Reading,
-    wanted: &mut Vec<Wanted>,
-) -> Result<(), RunFault>
-    ensures { IfErr result (λ fault. fault ≡ Memory) }
-{
-    match command {
-        Command::Splice { file, dir, .. } => {
-            let folder = path_in(alloc, folder, dir_text(dir))?;
-            let path = path_in(alloc, folder.as_str(), file.text())?;
-            wanted.push(Wanted::Splice { folder, path })?;
+impl ToRead {
+    /// Wants the files that the lines of a splice's file name, seen from this folder, unless they are.
+    fn follow(
+        &mut self,
+        alloc: Global,
+        folder: &str,
+        path: &str,
+        bytes: &[u8],
+        depth: u32,
+    ) -> Result<(), RunFault>
+        ensures { IfErr result (λ fault. fault ≡ Memory) }
+    {
+        let from = Text::joined(alloc, folder, "\n")?;
+        let splice = Text::joined(alloc, from.as_str(), path)?;
+        if self.followed.has(splice.as_str()) {
+            return Ok(());
         }
-        Command::Job {
-            file,
-            dir,
-            noop,
-            ..
-        } if !*noop && reading == Reading::SubmitFilesToo => {
-            want_submit(alloc, folder, dir, file, wanted)?;
-        }
-        Command::Final {
-            file,
-            dir,
-            noop,
-            ..
-        } if !*noop && reading == Reading::SubmitFilesToo => {
-            want_submit(alloc, folder, dir, file, wanted)?;
-        }
-        _ => (),
+        self.followed.add(alloc, splice.as_str())?;
+        self.want_all(alloc, folder, bytes, depth)
     }
-    Ok(())
-}
 
-/// Wants a submit file.
-fn want_submit(
-    alloc: Global,
-    folder: &str,
-    dir: &Option<Word>,
-    file: &Word,
-    wanted: &mut Vec<Wanted>,
-) -> Result<(), RunFault>
-    ensures { IfErr result (λ fault. fault ≡ Memory) }
-{
-    let folder = path_in(alloc, folder, dir_text(dir))?;
-    let path = path_in(alloc, folder.as_str(), file.text())?;
-    wanted.push(Wanted::Submit { path })?;
-    Ok(())
+    /// Wants the files that the lines of a DAG file in this folder name, which lies in so many others.
+    fn want_all(
+        &mut self,
+        alloc: Global,
+        folder: &str,
+        bytes: &[u8],
+        depth: u32,
+    ) -> Result<(), RunFault>
+        ensures { IfErr result (λ fault. fault ≡ Memory) }
+    {
+        let file = match read_dag(alloc, bytes) {
+            Ok(file) => file,
+            Err(ReadFault::Memory) => return Err(RunFault::Memory),
+            Err(_) => return Ok(()),
+        };
+        for command in file.commands.iter().rev() {
+            self.want(alloc, folder, command, depth)?;
+        }
+        Ok(())
+    }
+
+    /// Wants the file that a line names.
+    fn want(
+        &mut self,
+        alloc: Global,
+        folder: &str,
+        command: &Command,
+        depth: u32,
+    ) -> Result<(), AllocError> {
+        match command {
+            Command::Splice { file, dir, .. } if depth < MOST_DEPTH => {
+                let folder = path_in(alloc, folder, dir_text(dir))?;
+                let path = path_in(alloc, folder.as_str(), file.text())?;
+                self.wanted.push(Wanted::Splice {
+                    folder,
+                    path,
+                    depth: depth + 1,
+                })?;
+            }
+            Command::Job {
+                file,
+                dir,
+                noop,
+                ..
+            }
+            | Command::Final {
+                file,
+                dir,
+                noop,
+                ..
+            } if !*noop && self.reading == Reading::SubmitFilesToo => {
+                let folder = path_in(alloc, folder, dir_text(dir))?;
+                let path = path_in(alloc, folder.as_str(), file.text())?;
+                self.wanted.push(Wanted::Submit { path })?;
+            }
+            _ => (),
+        }
+        Ok(())
+    }
 }
 
 /// The folder that DIR gives, which is empty where it is missing.
@@ -216,43 +292,5 @@ fn dir_text(dir: &Option<Word>) -> &str {
     match dir {
         Some(word) => word.text(),
         None => "",
-    }
-}
-
-/// The bytes of the DAG file, or of standard input where its path is `-`.
-fn read_top<R: Files + Input + AllocGlobal>(rt: &R, path: &str) -> Result<Option<Vec<u8>>, RunFault>
-    ensures { IfErr result (IsInputFault path.now) }
-{
-    if path == "-" {
-        return Ok(Some(read_standard_input(rt)?));
-    }
-    read_file(rt, "", path, true)
-}
-
-/// The bytes of a file as seen from a folder, unless it can't be read; where pipes are read, it may be
-/// one. More than 256 MiB are answered as if there were no memory for them.
-fn read_file<R: Files + AllocGlobal>(
-    rt: &R,
-    seat: &str,
-    path: &str,
-    pipes: bool,
-) -> Result<Option<Vec<u8>>, RunFault>
-    ensures { IfErr result (λ fault. fault ≡ Memory) }
-{
-    let place = path_in(rt.alloc(), seat, path)?;
-    match read_input(rt, place.as_str(), pipes) {
-        Ok(bytes) => Ok(Some(bytes)),
-        Err(error) if error.kind() == ErrorKind::OutOfMemory => Err(RunFault::Memory),
-        Err(_) => Ok(None),
-    }
-}
-
-fn read_standard_input<R: Input + AllocGlobal>(rt: &R) -> Result<Vec<u8>, RunFault>
-    ensures { IfErr result (IsInputFault (codes "-")) }
-{
-    match read_at_most(rt.alloc(), rt.reader()) {
-        Ok(bytes) => Ok(bytes),
-        Err(error) if error.kind() == ErrorKind::OutOfMemory => Err(RunFault::Memory),
-        Err(_) => Err(RunFault::FileRefused(String::from_str(rt.alloc(), "-")?)),
     }
 }

@@ -59,6 +59,14 @@ pub(crate) fn lock_opened<R: Clock>(rt: &R, file: &File) -> bool {
     file.try_lock().is_ok()
 }
 
+/// Whether the file of this path is there and another process has locked it.
+pub(crate) fn is_locked<R: Files<File = File>>(rt: &R, path: &str) -> bool {
+    match File::open(rt, path) {
+        Ok(file) => file.try_lock_shared().is_err(),
+        Err(_) => false,
+    }
+}
+
 /// Whether a path names this file.
 fn names<R: Files>(rt: &R, path: &str, file: &File) -> bool {
     match (fs::symlink_metadata(rt, path), file.metadata()) {

@@ -1,20 +1,22 @@
 //! Which round of a DAG a run is: what its journal and its rescue files say.
 
 ghost use Rattle.std.specs.Prelude.{◌≡◌, ◌≤◌, Bool, true, None, Some, IfOk, IfErr, option_map, if◌then◌else◌};
-ghost use Rattle.event_journal.specs.Image.{IsRescueNumber};
+ghost use Rattle.event_journal.specs.Image.{IsRescueNumber, replay_of};
+ghost use Rattle.event_journal.specs.Peeks.{ReadsPeek};
 ghost use Rattle.rescue_file.specs.Numbered.{IsNumber};
 ghost use Rattle.dag_texts.specs.Planned.{in_line, named_by};
 ghost use Rattle.dag_texts.specs.declared.fault.RunFault.TheVariants.{Memory};
-ghost use Rattle.dag_files.specs.Beside.{IsJournalFault, IsRoundFault, IsRoundBy, IsRescueOf, IsRescueFault, number_behind};
+ghost use Rattle.dag_files.specs.Beside.{IsJournalFault, IsRoundFault, IsRoundBy, HasJournal, GoesOnBy, IsRescueOf, IsRescueFault, number_behind};
 
 use crate::beside::{LAST_NUMBER, Place, journal_path, rescue_path};
 use dag_reader::Text;
 use dag_texts::RunFault;
-use event_journal::{Journal, JournalFault, Peek};
+use event_journal::{Disk, Journal, JournalFault, Peek};
 use journal_disks::FileDisk;
 use rescue_file::RescueFault;
 use run_manager::ManagerFault;
 use run_plan::PlanFault;
+use std::alloc::Global;
 use std::fs::File;
 use std::rt::Files;
 
@@ -119,20 +121,30 @@ pub fn rescue_disk<R: Files<File = File> + AllocGlobal + Copy + Drop>(
     Ok(FileDisk::drafted(rt, path, draft))
 }
 
-/// What the header of a journal says, where there is a journal.
-fn peek_of<R: Files<File = File> + AllocGlobal + Copy + Drop>(
-    rt: R,
-    place: &Place<'_>,
-) -> Result<Option<Peek>, RunFault>
-    ensures { IfErr result IsJournalFault }
+/// What the header of the journal on a disk says, where a journal was begun there.
+fn peek_on<D: Disk + Drop>(alloc: Global, disk: &mut D) -> Result<Option<Peek>, RunFault>
+    ensures gives { D.honest disk.old → IfOk result (λ peek. ReadsPeek peek (replay_of (D.seen disk.old))) }
+    ensures refused { IfErr result IsJournalFault }
 {
-    let alloc = rt.alloc();
-    let mut disk = disk_at(rt, place, journal_path(alloc, place.top)?.as_str())?;
-    match Journal::peek(alloc, &mut disk) {
+    match Journal::peek(alloc, disk) {
         Ok(peek) => Ok(peek),
         Err(JournalFault::Memory) => Err(RunFault::Memory),
         Err(fault) => Err(RunFault::InManager(ManagerFault::Journal(fault))),
     }
+}
+
+/// The disk of the journal, to be read. Nothing is opened yet.
+///
+/// # Errors
+/// `Memory` alone.
+fn journal_read<R: Files<File = File> + AllocGlobal + Copy + Drop>(
+    rt: R,
+    place: &Place<'_>,
+) -> Result<FileDisk<R>, RunFault>
+    ensures { IfErr result (λ fault. fault ≡ Memory) }
+{
+    let path = journal_path(rt.alloc(), place.top)?;
+    disk_at(rt, place, path.as_str())
 }
 
 /// The round that the journal and the rescue files that are there make of a run. Where a number is
@@ -157,29 +169,46 @@ pub fn round_of<R: Files<File = File> + AllocGlobal + Copy + Drop>(
     ensures refused { IfErr result (IsRoundFault from) }
 {
     match from {
-        Some(number) => round_behind(rt, place, number, always_post),
-        None => next_round(rt, place, autorescue, always_post),
+        Some(number) => {
+            if number == 0 || number > LAST_NUMBER {
+                return Err(RunFault::NotThere(number));
+            }
+            let mut disk = journal_read(rt, place)?;
+            round_behind(&rt, &mut disk, place, number, always_post)
+        }
+        None => {
+            let mut disk = journal_read(rt, place)?;
+            next_round(&rt, &mut disk, place, autorescue, always_post)
+        }
     }
 }
 
-/// The round that comes next.
-fn next_round<R: Files<File = File> + AllocGlobal + Copy + Drop>(
-    rt: R,
+/// The round that comes next, by the journal on a disk and the rescue files that are there.
+///
+/// # Errors
+/// In this order: a journal that can't be read; a number in the header of an unfinished one that no rescue file has,
+/// that of the file read first; a folder that can't be listed.
+pub fn next_round<D: Disk + Drop, R: Files + AllocGlobal + Clone + Drop>(
+    rt: &R,
+    disk: &mut D,
     place: &Place<'_>,
     autorescue: bool,
     always_post: bool,
 ) -> Result<Round, RunFault>
+    // It begins where the disk has no journal or that of a run which has ended; it goes on, by the header of the
+    // journal, where it has not.
+    ensures journal { D.honest disk.old → IfOk result (HasJournal (replay_of (D.seen disk.old))) }
     ensures numbers { IfOk result (λ round. IsRescueNumber round.next × (round.used ≤ 999)) }
     ensures back { IfOk result (λ round. round.goes_back ≡ true → IsNumber round.used) }
     ensures by { IfOk result (IsRoundBy autorescue None always_post) }
     ensures refused { IfErr result (IsRoundFault None) }
 {
-    let journal = match peek_of(rt, place)? {
+    let journal = match peek_on(rt.alloc(), disk)? {
         None => Journaled::Nothing,
         Some(peek) if peek.finished => Journaled::Finished,
         Some(peek) => return unfinished(&peek),
     };
-    let highest = place.highest(&rt)?;
+    let highest = place.highest(rt)?;
     Ok(Round {
         journal,
         used: number_read(autorescue, highest),
@@ -189,31 +218,36 @@ fn next_round<R: Files<File = File> + AllocGlobal + Copy + Drop>(
     })
 }
 
-/// The round that goes back to the rescue file of this number.
-fn round_behind<R: Files<File = File> + AllocGlobal + Copy + Drop>(
-    rt: R,
+/// The round that goes back to the rescue file of this number, which is from 1 to 999.
+///
+/// # Errors
+/// In this order: `NotThere` with the number, where its file is missing; a journal on the disk that can't be
+/// read; `Unfinished`, where its run has not ended; a folder that can't be listed.
+pub fn round_behind<D: Disk + Drop, R: Files + AllocGlobal + Clone + Drop>(
+    rt: &R,
+    disk: &mut D,
     place: &Place<'_>,
     number: u16,
     always_post: bool,
 ) -> Result<Round, RunFault>
+    requires { IsNumber number }
+    // The disk has no journal, or that of a run which has ended.
+    ensures journal { D.honest disk.old → IfOk result (HasJournal (replay_of (D.seen disk.old))) }
     ensures numbers { IfOk result (λ round. IsRescueNumber round.next × (round.used ≤ 999)) }
     ensures back { IfOk result (λ round. round.goes_back ≡ true → IsNumber round.used) }
     ensures by { (autorescue : Bool) → IfOk result (IsRoundBy autorescue (Some number) always_post) }
     ensures refused { IfErr result (IsRoundFault (Some number)) }
 {
-    if number == 0 || number > LAST_NUMBER {
+    if !place.has_rescue(rt, number)? {
         return Err(RunFault::NotThere(number));
     }
-    if !place.has_rescue(&rt, number)? {
-        return Err(RunFault::NotThere(number));
-    }
-    let journal = match peek_of(rt, place)? {
+    let journal = match peek_on(rt.alloc(), disk)? {
         None => Journaled::Nothing,
         Some(peek) if peek.finished => Journaled::Finished,
         Some(_) => return Err(RunFault::Unfinished),
     };
     // Before anything is changed: the folder is one that can be listed.
-    place.highest(&rt)?;
+    place.highest(rt)?;
     Ok(Round {
         journal,
         used: number,
@@ -228,6 +262,7 @@ fn unfinished(peek: &Peek) -> Result<Round, RunFault>
     ensures numbers { IfOk result (λ round. IsRescueNumber round.next × (round.used ≤ 999)) }
     ensures back { IfOk result (λ round. round.goes_back ≡ true → IsNumber round.used) }
     ensures by { (autorescue asked : Bool) → IfOk result (IsRoundBy autorescue None asked) }
+    ensures header { IfOk result (GoesOnBy peek.now.used peek.now.next peek.now.always_post) }
     ensures refused { IfErr result (IsRoundFault None) }
 {
     if peek.used > LAST_NUMBER {

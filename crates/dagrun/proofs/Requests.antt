@@ -7,7 +7,8 @@ use Rattle.run_answers.specs.declared.by_journal.Question.TheVariants.{Status, A
 use Rattle.run_answers.specs.Asked.{IsToldFault}
 use Rattle.dag_texts.specs.declared.fault.RunFault.{RunFault}
 use Rattle.dag_texts.specs.declared.warnings.Answer.{Answer}
-use Rattle.dagrun.specs.Answered.{asked_of, IsRefusal, no_status, not_audited, not_drawn, MayAsk, IsAnswerTo, IsStatusOf, printed, not_printed, IsExit, answered, refused}
+use Rattle.dagrun.specs.Answered.{asked_of, IsRefusal, no_status, not_audited, not_drawn, MayAsk, IsAnswerTo, IsExit, answered, refused}
+use Rattle.answer_console.specs.Telling.{IsStatusOf, printed, not_printed}
 
 pub no-answer : (question : Question) (path : List ℕ) (fault : RunFault) → IsToldFault question path fault → IsRefusal (asked_of question path) fault
 no-answer Status path fault why = no_status path fault why

@@ -1,14 +1,11 @@
 -- What the program answers to a request, and its exit status (docs/MANUAL.md, "The command line").
 use Rattle.std.specs.Prelude.{◌≡◌, ◌≤◌, ℕ, Bool, true, false, List, [], ◌++◌, length, Option, Some, None, Result, Ok, codes, is_some, IfSome}
-use Rattle.splices.specs.FileSet.{bytes_of}
-use Rattle.splices.specs.declared.file_set.FileSet.{FileSet}
 use Rattle.throttles.specs.declared.Limits.{Limits}
 use Rattle.command_line.specs.Requests.{Asked, checks, runs, tells_status, audits, rehearses, draws, asks_why, times, salvages, shows, no_limits, limits_in, AreLimits}
 use Rattle.command_line.specs.declared.request.RunOptions.{RunOptions}
-use Rattle.dag_files.specs.Beside.{IsFileFault, IsInputFault}
-use Rattle.dag_texts.specs.Checked.{IsCheckOf, IsCheckFault}
+use Rattle.dag_files.specs.Beside.{IsFileFault}
+use Rattle.folder_answers.specs.Answered.{IsCheckOfSome, IsCheckRefusal, IsRehearsalOfSome, IsRehearsalRefusal}
 use Rattle.dag_texts.specs.declared.fault.RunFault.{RunFault}
-use Rattle.dag_texts.specs.declared.warnings.Answer.{Answer}
 use Rattle.dag_main.specs.Runs.{IsRunOf, IsRunFault}
 use Rattle.run_answers.specs.Asked.{IsToldOfRun, IsToldFault}
 use Rattle.run_answers.specs.Reported.{IsReportHere}
@@ -17,11 +14,6 @@ use Rattle.run_answers.specs.declared.by_journal.Question.TheVariants.{Status, A
 use Rattle.run_answers.specs.declared.by_journal.Question.{Question}
 use Rattle.salvage.specs.Salvaged.{IsSalvageOf}
 use Rattle.failure_answers.specs.Answered.{IsWhyOf}
-use Rattle.rehearsal.specs.Rehearsed.{IsRehearsalOf, IsRehearsalFault}
-
--- What `check` answers, of some files of the path.
-abbrev pub IsCheck : (path text warnings : List ℕ) → (status : ℕ) → Type 0
-IsCheck path text warnings status = (files : FileSet) × IsCheckOf (bytes_of files) path text warnings status
 
 -- What `run` answers: what is printed of a round that was led to its end; or, where that is asked for, what was printed of the last round, which
 -- has ended.
@@ -31,10 +23,9 @@ pub data IsRun (path : List ℕ) (options : RunOptions) (text warnings : List �
 
 -- What `rehearse` answers, of some files of the path, and of the text of a table where one is named.
 pub record IsRehearsal (path : List ℕ) (outcomes : Option (List ℕ)) (limits : Limits) (always_post : Bool) (text warnings : List ℕ) (status : ℕ) : Type 0 where
-  pub files : FileSet
   pub table : Option (List ℕ)
   pub is_named : is_some table ≡ is_some outcomes
-  pub rehearsed : IsRehearsalOf always_post (bytes_of files) path table limits text warnings status
+  pub rehearsed : IsRehearsalOfSome always_post path table limits text warnings status
 
 -- What `salvage` answers: what it made of a round that was cut short; or the line of a cause that no other command has, as a warning, with
 -- nothing printed and exit status 125.
@@ -44,7 +35,7 @@ pub data IsSalvage (path : List ℕ) : (text warnings : List ℕ) → (status : 
 
 -- The answer to a request: the text that is printed, the warnings, and the exit status.
 abbrev pub IsAnswerTo : Asked → (text warnings : List ℕ) → (status : ℕ) → Type 0
-IsAnswerTo (checks path) text warnings status = IsCheck path text warnings status
+IsAnswerTo (checks path) text warnings status = IsCheckOfSome path text warnings status
 IsAnswerTo (runs path options) text warnings status = IsRun path options text warnings status
 IsAnswerTo (tells_status path) text warnings status = IsToldOfRun Status path text warnings status
 IsAnswerTo (audits path) text warnings status = IsToldOfRun Audit path text warnings status
@@ -62,25 +53,11 @@ asked_of Status path = tells_status path
 asked_of Audit path = audits path
 asked_of Graph path = draws path
 
--- the path of the DAG file; a page has none
-abbrev pub dag_of : Asked → List ℕ
-dag_of (checks path) = path
-dag_of (runs path options) = path
-dag_of (tells_status path) = path
-dag_of (audits path) = path
-dag_of (rehearses path outcomes limits always_post) = path
-dag_of (draws path) = path
-dag_of (asks_why path nodes) = path
-dag_of (times path svg) = path
-dag_of (salvages path) = path
-dag_of (shows page) = []
-
--- Why a request is refused: the system refuses standard input, where its path asks for that, or the folder or a file, or memory ran out; or
--- for a cause of the call that it is for. Of `salvage` no cause is said.
+-- Why a request is refused: the system refuses the folder or a file, or memory ran out; or for a cause of the call that it is for. Of
+-- `salvage` no cause is said.
 pub data IsRefusal : Asked → RunFault → Type 0 where
-  input_not_read : (asked : Asked) (fault : RunFault) → IsInputFault (dag_of asked) fault → IsRefusal asked fault
   not_read : (asked : Asked) (fault : RunFault) → IsFileFault fault → IsRefusal asked fault
-  not_checked : (path : List ℕ) (files : FileSet) (fault : RunFault) → IsCheckFault (bytes_of files) path fault → IsRefusal (checks path) fault
+  not_checked : (path : List ℕ) (fault : RunFault) → IsCheckRefusal path fault → IsRefusal (checks path) fault
   not_run : (path : List ℕ) (options : RunOptions) (fault : RunFault) → IsRunFault path options fault → IsRefusal (runs path options) fault
   not_told_again : (path : List ℕ) (options : RunOptions) (fault : RunFault) → options.resume ≡ true → IsToldFault Status path fault → IsRefusal (runs path options) fault
   no_status : (path : List ℕ) (fault : RunFault) → IsToldFault Status path fault → IsRefusal (tells_status path) fault
@@ -89,8 +66,8 @@ pub data IsRefusal : Asked → RunFault → Type 0 where
   not_drawn : (path : List ℕ) (fault : RunFault) → IsToldFault Graph path fault → IsRefusal (draws path) fault
   not_salvaged_as_run : (path : List ℕ) (fault : RunFault) → IsRefusal (salvages path) fault
   not_why : (path : List ℕ) (nodes : List (List ℕ)) (fault : RunFault) → IsToldFault Status path fault → IsRefusal (asks_why path nodes) fault
-  not_rehearsed : (path : List ℕ) (outcomes table : Option (List ℕ)) (limits : Limits) (always_post : Bool) (files : FileSet) (fault : RunFault) →
-      is_some table ≡ is_some outcomes → IsRehearsalFault (bytes_of files) path table fault → IsRefusal (rehearses path outcomes limits always_post) fault
+  not_rehearsed : (path : List ℕ) (outcomes table : Option (List ℕ)) (limits : Limits) (always_post : Bool) (fault : RunFault) →
+      is_some table ≡ is_some outcomes → IsRehearsalRefusal path table fault → IsRefusal (rehearses path outcomes limits always_post) fault
 
 -- What the words of a command line may ask for, where there are `count` of them, the program's name among them: without others
 -- it is `rehearse -`; and there is always a limit on all children.
@@ -102,8 +79,3 @@ pub record MayAsk (count : ℕ) (asked : Asked) : Type 0 where
 pub data IsExit (count : ℕ) : ℕ → Type 0 where
   answered : (asked : Asked) (text warnings : List ℕ) (status : ℕ) → MayAsk count asked → IsAnswerTo asked text warnings status → IsExit count status
   refused : IsExit count 125
-
--- The exit status with which the result of a request is told: that of its answer, once this is printed; else 125.
-pub data IsStatusOf (result : Result Answer RunFault) : ℕ → Type 0 where
-  printed : (answer : Answer) → result ≡ Ok answer → IsStatusOf result answer.status
-  not_printed : IsStatusOf result 125

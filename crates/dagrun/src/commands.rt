@@ -5,18 +5,21 @@ ghost use Rattle.std.specs.Option.{option_map};
 ghost use Rattle.command_line.specs.Requests.{asked_by, checks, runs, rehearses, times, salvages, asks_why, shows};
 ghost use Rattle.dag_files.specs.Beside.{IsFileFault};
 ghost use Rattle.run_answers.specs.Asked.{IsToldOfRun};
+ghost use Rattle.folder_answers.specs.Answered.{IsCheckOfSome};
 ghost use Rattle.dag_texts.specs.declared.fault.RunFault.TheVariants.{Memory};
 ghost use Rattle.salvage.specs.Faults.{fault_text};
 ghost use Rattle.run_times.specs.Told.{IsTimesOf};
-ghost use Rattle.dagrun.specs.Answered.{IsCheck, IsRun, IsRehearsal, IsSalvage, IsAnswerTo, IsRefusal, IsExit, IsStatusOf, asked_of};
+ghost use Rattle.dagrun.specs.Answered.{IsRun, IsRehearsal, IsSalvage, IsAnswerTo, IsRefusal, IsExit, asked_of};
+ghost use Rattle.answer_console.specs.Telling.{IsStatusOf};
 
-use crate::telling::tell_more;
+use crate::telling::{tell_more, tell_totals};
+use answer_console::{SystemConsole, tell_answer};
 use command_line::{Request, RunOptions, WordsFault, read_words};
-use dag_files::{Reading, bytes_of, files_of, read_input, refused};
+use dag_files::{StreamOrFolder, SystemFolder, bytes_of, read_input, refused};
 use dag_main::{Screen, run_dag};
-use dag_texts::{Answer, RunFault, check_text};
+use dag_texts::{Answer, RunFault};
 use failure_answers::why_here;
-use rehearsal::rehearse_text;
+use folder_answers::{check_here, rehearse_here};
 use run_answers::{Question, report_here, told_here};
 use run_times::times_here;
 use salvage::{SalvageFault, salvage_here};
@@ -46,10 +49,11 @@ pub fn run<
     match read_words(rt.alloc(), words) {
         Ok(request) => {
             let dag = dag_in(&request);
-            finish(rt, dag, answer(rt, request))
+            let asks_status = matches!(request, Request::Status { .. });
+            finish(rt, dag, asks_status, &answer(rt, request))
         }
         Err(WordsFault::Told(text)) => refuse_words(rt, text.as_str()),
-        Err(WordsFault::Memory) => refuse(rt, None, RunFault::Memory),
+        Err(WordsFault::Memory) => finish(rt, None, false, &Err(RunFault::Memory)),
     }
 }
 
@@ -120,40 +124,29 @@ fn dag_in<'a>(request: &Request<'a>) -> Option<&'a str> {
     }
 }
 
-/// Tells why a request is refused that is for this DAG file; at a terminal, also what may help.
-fn refuse<R: Files + Screen + AllocGlobal>(rt: &R, dag: Option<&str>, fault: RunFault) -> u8
-    ensures { result ≡ 125 }
-{
-    let _ = eprintln!(rt; "dagrun: {fault}");
-    if let Ok(line) = format!(in rt.alloc(); "{fault}") {
-        tell_more(rt, dag, line.as_str());
-    }
-    REFUSED
-}
-
-/// Prints the answer to a request for this DAG file, or why there is none, and gives the exit status.
-fn finish<R: Files + Print + Screen + AllocGlobal>(
+/// Tells the result of a request for this DAG file, and gives the exit status; at a terminal, also what may help
+/// where it is refused, and what a status comes to.
+fn finish<R: Files<File = File> + Print + Screen + AllocGlobal>(
     rt: &R,
     dag: Option<&str>,
-    answer: Result<Answer, RunFault>,
+    asks_status: bool,
+    answer: &Result<Answer, RunFault>,
 ) -> u8
-    ensures { IsStatusOf answer result }
+    ensures { IsStatusOf answer.now result }
 {
-    match answer {
-        Ok(answer) => {
-            let warnings = answer.warnings.as_str();
-            let _ = eprint!(rt; "{warnings}");
-            let text = answer.text.as_str();
-            match print!(rt; "{text}") {
-                Ok(()) => answer.status,
-                Err(error) => {
-                    let _ = eprintln!(rt; "dagrun: standard output: {error}");
-                    REFUSED
-                }
+    let status = tell_answer(rt.alloc(), &mut SystemConsole { rt }, answer);
+    match (answer, dag) {
+        (Ok(answer), Some(dag)) if asks_status && status == 0 => {
+            tell_totals(rt, dag, answer.text.as_str());
+        }
+        (Err(fault), _) => {
+            if let Ok(line) = format!(in rt.alloc(); "{fault}") {
+                tell_more(rt, dag, line.as_str());
             }
         }
-        Err(fault) => refuse(rt, dag, fault),
+        _ => {}
     }
+    status
 }
 
 /// The folder in which the program was called.
@@ -179,7 +172,11 @@ fn run_here<R: Files<File = File> + Processes + Clock + Screen + AllocGlobal + C
 {
     let folder = folder_now(rt)?;
     if options.resume {
-        if let Some(answer) = report_here(rt, folder.as_str(), dag)? {
+        let here = SystemFolder {
+            rt,
+            seat: folder.as_str(),
+        };
+        if let Some(answer) = report_here(rt.alloc(), &here, dag)? {
             return Ok(answer);
         }
     }
@@ -196,7 +193,11 @@ fn told<R: Files + Env + AllocGlobal>(
     ensures refused { IfErr result (IsRefusal (asked_of question dag.now)) }
 {
     let folder = folder_now(rt)?;
-    told_here(rt, folder.as_str(), dag, question)
+    let here = SystemFolder {
+        rt,
+        seat: folder.as_str(),
+    };
+    told_here(rt.alloc(), &here, dag, question)
 }
 
 fn why<R: Files<File = File> + Env + AllocGlobal>(
@@ -249,11 +250,10 @@ fn salvage<R: Files<File = File> + Clock + Env + AllocGlobal + Copy + Drop>(
 
 fn check<R: Files + Input + AllocGlobal>(rt: &R, dag: &str) -> Result<Answer, RunFault>
     ensures checked { IfOk result (λ answer.
-        IsCheck dag.now (string_bytes answer.text) (string_bytes answer.warnings) answer.status) }
+        IsCheckOfSome dag.now (string_bytes answer.text) (string_bytes answer.warnings) answer.status) }
     ensures refused { IfErr result (IsRefusal (checks dag.now)) }
 {
-    let files = files_of(rt, dag, Reading::SubmitFilesToo)?;
-    check_text(rt.alloc(), &files, dag)
+    check_here(rt.alloc(), &StreamOrFolder { rt }, dag)
 }
 
 fn rehearse<R: Files + Input + AllocGlobal>(
@@ -270,10 +270,9 @@ fn rehearse<R: Files + Input + AllocGlobal>(
         (IsRefusal (rehearses dag.now (option_map (λ t. t.now) outcomes.entry) limits always_post)) }
 {
     let table = outcomes_of(rt, outcomes)?;
-    let files = files_of(rt, dag, Reading::SplicesAlone)?;
-    rehearse_text(
+    rehearse_here(
         rt.alloc(),
-        &files,
+        &StreamOrFolder { rt },
         dag,
         bytes_of(&table),
         limits,

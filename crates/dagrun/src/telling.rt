@@ -1,11 +1,23 @@
-//! What a person at a terminal is told behind the line of a refusal.
+//! What a person at a terminal is told behind the line of a refusal, and behind a status.
 
-use dag_files::{bytes_of, read_input};
+use dag_files::{Place, bytes_of, read_input};
 use dag_main::Screen;
 use log_lines::{read_line, unquoted, whole_lines};
 use refusal_hints::{Evidence, Refusal, hint_text};
-use std::alloc::AllocError;
+use std::alloc::{AllocError, Global};
+use std::fs::File;
 use std::rt::Files;
+
+/// The states of nodes in a status, in the order in which they are counted.
+const STATES: [&str; 7] = [
+    "DONE",
+    "ERROR",
+    "PRERUN",
+    "SUBMITTED",
+    "POSTRUN",
+    "READY",
+    "NOT_READY",
+];
 
 /// The bytes of the file of whose place a refusal tells.
 fn source_of<R: Files + AllocGlobal>(rt: &R, refusal: &Refusal<'_>) -> Option<Vec<u8>> {
@@ -85,5 +97,72 @@ pub(crate) fn tell_more<R: Files + Screen + AllocGlobal>(rt: &R, dag: Option<&st
     if let Ok(text) = hint_of(rt, dag, line) {
         let text = text.as_str();
         let _ = eprint!(rt; "{text}");
+    }
+}
+
+/// How many lines of a status tell of a node in this state.
+fn count_of(status: &str, state: &str) -> usize {
+    status
+        .lines()
+        .filter(|line| line.split(' ').nth(1) == Some(state))
+        .count()
+}
+
+/// How many nodes stand in which state, by the lines of a status: `47 DONE, 1 ERROR, 112 READY`.
+fn totals_of(alloc: Global, status: &str) -> Result<String, AllocError> {
+    let mut text = String::new(alloc);
+    for state in &STATES {
+        let count = count_of(status, state);
+        if count > 0 {
+            let comma = if text.is_empty() { "" } else { ", " };
+            write!(text, "{comma}{count} {state}")?;
+        }
+    }
+    Ok(text)
+}
+
+/// The process of the last manager that began to work, by the log of a DAG file.
+fn manager_in_log<R: Files + AllocGlobal>(rt: &R, dag: &str) -> Option<u32> {
+    let path = format!(in rt.alloc(); "{dag}.log").ok()?;
+    let log = read_input(rt, path.as_str(), false).ok()?;
+    let lives = whole_lines(&log)
+        .rsplit(|byte| *byte == b'\n')
+        .filter_map(|line| read_line(line));
+    for line in lives {
+        if line.event == "life" {
+            return line.process;
+        }
+    }
+    None
+}
+
+/// Tells how many nodes stand in which state, and whether a manager works on them, behind the status of
+/// this DAG file, where standard error is a terminal.
+pub(crate) fn tell_totals<R: Files<File = File> + Screen + AllocGlobal>(
+    rt: &R,
+    dag: &str,
+    status: &str,
+) {
+    if !rt.is_terminal() {
+        return;
+    }
+    let Ok(totals) = totals_of(rt.alloc(), status) else {
+        return;
+    };
+    let here = Place {
+        folder: "",
+        top: dag,
+    };
+    if !here.is_at_work(rt) {
+        let _ = eprintln!(rt; "{totals}; no manager works on them");
+        return;
+    }
+    match manager_in_log(rt, dag) {
+        Some(process) => {
+            let _ = eprintln!(rt; "{totals}; process {process} works on them");
+        }
+        None => {
+            let _ = eprintln!(rt; "{totals}; a manager works on them");
+        }
     }
 }

@@ -9,7 +9,7 @@ ghost use Rattle.run_answers.specs.Statused.{IsStatusFault};
 ghost use Rattle.run_answers.specs.declared.by_journal.Question.TheVariants.{Status};
 ghost use Rattle.failure_answers.specs.Answered.{IsAnswerOf, IsWhyFrom, IsWhyOf};
 
-use dag_files::{Place, bytes_of, files_in, named};
+use dag_files::{Place, SystemFolder, bytes_of, files_in, named};
 use dag_reader::Text;
 use dag_texts::{Answer, RunFault, warning_text};
 use failure_report::{Surroundings, Why, why_text};
@@ -116,7 +116,8 @@ pub fn why_here<R: Files<File = File> + AllocGlobal>(
     ensures refused { IfErr result (IsToldFault Status top.now) }
 {
     let place = Place { folder, top };
-    let round = last_round(rt, &place)?;
+    let here = SystemFolder { rt, seat: folder };
+    let round = last_round(rt.alloc(), &here, top)?;
     let files = files_in(rt, folder, top)?;
     let rescue = bytes_of(&round.rescue);
     let journal = bytes_of(&round.journal);

@@ -9,6 +9,8 @@ use Rattle.run_answers.specs.Audited.{IsAuditedAs, IsAuditFault}
 use Rattle.run_answers.specs.Drawn.{IsDrawnOf, IsDrawnFault}
 use Rattle.dag_texts.specs.declared.fault.RunFault.{RunFault}
 use Rattle.dag_files.specs.Beside.{IsRoundFault}
+use Rattle.dag_files.specs.Folder.{IsReadFrom}
+use Rattle.run_answers.specs.LastRound.{IsLastRound}
 use Rattle.run_answers.specs.declared.by_journal.Question.{Question}
 use Rattle.run_answers.specs.declared.by_journal.Question.TheVariants.{Status, Audit, Graph}
 
@@ -29,6 +31,16 @@ pub record IsToldOfRun (question : Question) (path text warnings : List ℕ) (st
   pub files : FileSet
   pub rescue : Option (List ℕ)
   pub journal : Option (List ℕ)
+  pub told : IsTold question (bytes_of files) (entries_of files) path rescue journal text warnings status
+
+-- The same where these files are held: of the DAG file and those that were read with it, the journal, and the rescue file that the journal's
+-- header names.
+pub record IsToldFrom (holds : Files) (question : Question) (path text warnings : List ℕ) (status : ℕ) : Type 0 where
+  pub files : FileSet
+  pub rescue : Option (List ℕ)
+  pub journal : Option (List ℕ)
+  pub read : IsReadFrom holds path files
+  pub beside : IsLastRound holds path journal rescue
   pub told : IsTold question (bytes_of files) (entries_of files) path rescue journal text warnings status
 
 -- Why there is no answer: it is not told which round is the last one, or memory runs out as the files are read; or what they and the

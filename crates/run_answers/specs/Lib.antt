@@ -2,4 +2,5 @@ pub mod Statused
 pub mod Reported
 pub mod Audited
 pub mod Drawn
+pub mod LastRound
 pub mod Asked

@@ -5,9 +5,13 @@ use Rattle.run_plan.specs.Plan.{Plan}
 use Rattle.node_machine.specs.declared.Record.{Record}
 use Rattle.sched_core.specs.Run.{written, is_lawful, is_over, exit_status}
 use Rattle.status_report.specs.Text.{run_text}
+use Rattle.splices.specs.FileSet.{bytes_of, entries_of}
+use Rattle.splices.specs.declared.file_set.FileSet.{FileSet}
+use Rattle.dag_files.specs.Folder.{IsReadFrom}
 use Rattle.dag_texts.specs.Planned.{IsPlanWith}
 use Rattle.dag_texts.specs.Told.{IsToldOf}
 use Rattle.run_answers.specs.Statused.{flag_by, records_at}
+use Rattle.run_answers.specs.LastRound.{IsLastRound, has_ended_by}
 
 -- The records of a journal that has these bytes are those of a run, and Finish is the newest; and this is what is printed of them: the status
 -- text and the exit status.
@@ -44,3 +48,19 @@ pub record IsReportHere (path text warnings : List ℕ) (status : ℕ) : Type 0 
   pub rescue : Option (List ℕ)
   pub journal : List ℕ
   pub told : IsReportOf files entries path rescue journal text warnings status
+
+-- the same where these files are held
+pub record IsReportFrom (holds : Files) (path text warnings : List ℕ) (status : ℕ) : Type 0 where
+  pub files : FileSet
+  pub rescue : Option (List ℕ)
+  pub journal : List ℕ
+  pub read : IsReadFrom holds path files
+  pub beside : IsLastRound holds path (Some journal) rescue
+  pub told : IsReportOf (bytes_of files) (entries_of files) path rescue journal text warnings status
+
+-- Why there is none, where these files are held: the last record of the journal is not Finish, or there is none to be read; or the run of the
+-- plan has not ended by it.
+pub data IsNoReportFrom (holds : Files) (path : List ℕ) : Type 0 where
+  no_end : (journal rescue : Option (List ℕ)) → IsLastRound holds path journal rescue → has_ended_by journal ≡ false → IsNoReportFrom holds path
+  unended : (files : FileSet) (rescue : Option (List ℕ)) (journal : List ℕ) → IsReadFrom holds path files → IsLastRound holds path (Some journal) rescue →
+      IsUnendedRun (bytes_of files) (entries_of files) path rescue journal → IsNoReportFrom holds path

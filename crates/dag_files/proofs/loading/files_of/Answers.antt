@@ -2,5 +2,5 @@ use Rattle.dag_files.specs.Beside.{IsInputFault, input_had_no_memory}
 use Rattle.dag_files.proofs.RunFaults.{memory-alone}
 use Rattle.dag_files.proofs.loading.files_of.Goals as goal
 
-pub returns : goal.returns
-returns g c = record { refused = memory-alone (IsInputFault c.args.top.now) input_had_no_memory c.files_from.result c.files_from.ensures }
+pub returns-clause-refused : goal.returns-clause-refused
+returns-clause-refused g c = memory-alone (IsInputFault c.args.top.now) input_had_no_memory c.files_from.result c.files_from.ensures.err

@@ -1,12 +1,13 @@
 use Rattle.std.proofs.Common.{None, refl}
 use Rattle.dag_files.specs.Beside.{IsRoundFault, journal_not_read, folder_not_read, begins_anew}
 use Rattle.dag_files.proofs.RunFaults.{by-fault}
+use Rattle.dag_files.proofs.Journals.{of-none, of-finished, of-unfinished}
 use Rattle.dag_files.proofs.rounds.next_round.Goals.{in-None, in-Some}
 use Rattle.dag_files.proofs.rounds.next_round.Goals as goal
 
-pub returns-in_err-peek_of-clause-refused : goal.returns-in_err-peek_of-clause-refused
-returns-in_err-peek_of-clause-refused g c =
-    by-fault (IsRoundFault None) c.in_err-peek_of.field-0.0 (journal_not_read _ tt c.in_err-peek_of.ensures) c.from_residual.result c.from_residual.ensures.1
+pub returns-in_err-peek_on-clause-refused : goal.returns-in_err-peek_on-clause-refused
+returns-in_err-peek_on-clause-refused g c =
+    by-fault (IsRoundFault None) c.in_err-peek_on.field-0.0 (journal_not_read _ tt c.in_err-peek_on.ensures.refused) c.from_residual.result c.from_residual.ensures.1
 
 pub returns-in_err-highest-clause-refused : goal.returns-in_err-highest-clause-refused
 returns-in_err-highest-clause-refused g c =

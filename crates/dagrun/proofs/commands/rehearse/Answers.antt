@@ -2,27 +2,22 @@ use Rattle.std.proofs.Common.{ap, ◌∙◌, is_some}
 use Rattle.std.proofs.lemmas.Result.{IfOk-weaker}
 use Rattle.dag_texts.proofs.Refusals.{weaker}
 use Rattle.dag_files.proofs.RunFaults.{by-fault}
-use Rattle.dagrun.specs.Answered.{IsRefusal, input_not_read, not_read, not_rehearsed}
+use Rattle.dagrun.specs.Answered.{IsRefusal, not_read, not_rehearsed}
 use Rattle.dagrun.proofs.commands.rehearse.Goals as goal
 
 pub returns-in_err-table-clause-refused : goal.returns-in_err-table-clause-refused
 returns-in_err-table-clause-refused g c = by-fault (IsRefusal _) c.in_err-table.field-0.0
     (not_read _ _ c.in_err-table.ensures.refused) c.from_residual.result c.from_residual.ensures.1
 
-pub returns-in_err-files-clause-refused : goal.returns-in_err-files-clause-refused
-returns-in_err-files-clause-refused g c = by-fault (IsRefusal _) c.in_err-files.field-0.0
-    (input_not_read _ _ c.in_err-files.ensures.refused) c.from_residual-in_err-files.result c.from_residual-in_err-files.ensures.1
-
 pub returns-clause-report : goal.returns-clause-report
-returns-clause-report g c = IfOk-weaker c.rehearse_text.result _ _
+returns-clause-report g c = IfOk-weaker c.rehearse_here.result _ _
     (λ answer is. record {
-      files = c.in_ok-files.files;
       table = _;
       is_named = ap is_some c.bytes_of.ensures ∙ c.in_ok-table.ensures.named;
       rehearsed = is;
     })
-    c.rehearse_text.ensures.report
+    c.rehearse_here.ensures.report
 
 pub returns-clause-refused : goal.returns-clause-refused
-returns-clause-refused g c = weaker (IsRefusal _) c.rehearse_text.result c.rehearse_text.ensures.refused
-    (λ fault why. not_rehearsed _ _ _ _ _ c.in_ok-files.files fault (ap is_some c.bytes_of.ensures ∙ c.in_ok-table.ensures.named) why)
+returns-clause-refused g c = weaker (IsRefusal _) c.rehearse_here.result c.rehearse_here.ensures.refused
+    (λ fault why. not_rehearsed _ _ _ _ _ fault (ap is_some c.bytes_of.ensures ∙ c.in_ok-table.ensures.named) why)

@@ -2,7 +2,7 @@ use Rattle.std.proofs.Common.{refl, rules, codes}
 use Rattle.dag_files.specs.Beside.{IsInputFault, input_refused, input_had_no_memory}
 use Rattle.dag_texts.specs.declared.fault.RunFault.TheVariants.{Memory}
 use Rattle.dag_files.proofs.RunFaults.{by-fault}
-use Rattle.dag_files.proofs.loading.read_standard_input.Goals as goal
+use Rattle.dag_files.proofs.inputs.read_standard_input.Goals as goal
 
 pub returns-in-Err : goal.returns-in-Err
 returns-in-Err g c = input_had_no_memory

@@ -1,0 +1,8 @@
+//! How an answer is told: its text on standard output, its warnings and what is refused on standard error.
+#![tactic(auto)]
+
+mod console;
+mod telling;
+
+pub use console::{Console, MemConsole, SystemConsole};
+pub use telling::tell_answer;

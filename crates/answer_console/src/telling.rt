@@ -1,0 +1,67 @@
+//! How the result of a request is told.
+
+ghost use Rattle.std.specs.Prelude.{◌≡◌, ◌++◌, ℕ, List, Ok, codes, string_bytes};
+ghost use Rattle.answer_console.specs.Telling.{IsLine, IsTold, IsToldAs, IsStatusOf};
+
+use crate::console::Console;
+use dag_texts::{Answer, RunFault};
+use std::alloc::Global;
+
+/// The exit status of whatever is refused.
+const REFUSED: u8 = 125;
+
+/// What is told where there is no memory for more.
+const NO_MEMORY: &str = "dagrun: X1 Memory\n";
+
+/// Tells the result of a request, and gives the exit status: of an answer its warnings and then its text, with its
+/// status; of a refusal its line `dagrun: CODE Name detail`, with status 125 and nothing on standard output. Where standard
+/// output is refused, a line says why, and the status is 125.
+pub fn tell_answer<C: Console>(
+    alloc: Global,
+    console: &mut C,
+    reply: &Result<Answer, RunFault>,
+) -> u8
+    ensures status { IsStatusOf reply.now result }
+    ensures told { C.honest console.new → IsToldAs reply.now (C.printed console.old) (C.warned console.old)
+        (C.printed console.new) (C.warned console.new) result }
+    ensures back { C.honest console.new → C.honest console.old }
+{
+    match reply {
+        Ok(answer) => tell(alloc, console, answer),
+        Err(fault) => refuse(alloc, console, fault),
+    }
+}
+
+/// Tells an answer: its warnings, and then its text.
+fn tell<C: Console>(alloc: Global, console: &mut C, answer: &Answer) -> u8
+    ensures status { IsStatusOf (Ok answer.now) result }
+    ensures told { C.honest console.new → IsTold answer.now (C.printed console.old) (C.warned console.old)
+        (C.printed console.new) (C.warned console.new) result }
+    ensures back { C.honest console.new → C.honest console.old }
+{
+    console.warn(answer.warnings.as_str());
+    match console.print(answer.text.as_str()) {
+        Ok(()) => answer.status,
+        Err(error) => {
+            match format!(in alloc; "dagrun: standard output: {error}\n") {
+                Ok(line) => console.warn(line.as_str()),
+                Err(_) => console.warn(NO_MEMORY),
+            }
+            REFUSED
+        }
+    }
+}
+
+/// Tells why a request is refused.
+fn refuse<C: Console>(alloc: Global, console: &mut C, fault: &RunFault) -> u8
+    ensures status { result ≡ 125 }
+    ensures printed { C.honest console.new → C.printed console.new ≡ C.printed console.old }
+    ensures warned { C.honest console.new → IsLine (C.warned console.old) (C.warned console.new) }
+    ensures back { C.honest console.new → C.honest console.old }
+{
+    match format!(in alloc; "dagrun: {fault}\n") {
+        Ok(line) => console.warn(line.as_str()),
+        Err(_) => console.warn(NO_MEMORY),
+    }
+    REFUSED
+}

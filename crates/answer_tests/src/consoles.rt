@@ -1,0 +1,57 @@
+//! What stands on a console behind an answer and behind a refusal.
+
+use crate::same::same;
+use answer_console::{MemConsole, tell_answer};
+use dag_texts::{Answer, RunFault};
+use std::alloc::Global;
+use std::process::Abort;
+use std::test::Fail;
+
+/// An answer of this text and these warnings.
+fn answer(alloc: Global, text: &str, warnings: &str, status: u8) -> Result<Answer, Fail> {
+    Ok(Answer {
+        text: String::from_str(alloc, text)?,
+        warnings: String::from_str(alloc, warnings)?,
+        status,
+    })
+}
+
+/// Tells a result, and compares what stands on the console with this, and the exit status.
+fn told(
+    rt: &impl Abort,
+    alloc: Global,
+    reply: &Result<Answer, RunFault>,
+    printed: &str,
+    warned: &str,
+    status: u8,
+) {
+    let mut console = MemConsole::new(alloc);
+    same(rt, tell_answer(alloc, &mut console, reply), status);
+    same(rt, console.printed(), printed);
+    same(rt, console.warned(), warned);
+}
+
+#[test]
+fn answers(rt: HostRuntime) -> Result<(), Fail> {
+    let alloc = rt.alloc();
+    for (text, warnings, status) in [
+        ("ok nodes=1 edges=0 final=no\n", "", 0u8),
+        ("audit no F3 Unfinished\n", "warning: x.dag:2 ignored\n", 1),
+        ("", "dagrun: R2 Ended x.dag.journal\n", 125),
+    ] {
+        let reply = Ok(answer(alloc, text, warnings, status)?);
+        told(&rt, alloc, &reply, text, warnings, status);
+    }
+    Ok(())
+}
+
+#[test]
+fn refusals(rt: HostRuntime) -> Result<(), Fail> {
+    let alloc = rt.alloc();
+    told(&rt, alloc, &Err(RunFault::NotThere(7)), "", "dagrun: E4 NotThere 7\n", 125);
+    told(&rt, alloc, &Err(RunFault::Unfinished), "", "dagrun: E6 Unfinished\n", 125);
+    let path = String::from_str(alloc, "x.dag.lock")?;
+    let reply = Err(RunFault::FileRefused(path));
+    told(&rt, alloc, &reply, "", "dagrun: X2 FileRefused x.dag.lock\n", 125);
+    Ok(())
+}

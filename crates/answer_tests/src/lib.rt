@@ -1,0 +1,9 @@
+//! Tests of what is answered of folders and told on consoles, over ones in memory.
+#![tactic(auto)]
+
+#[cfg(test)]
+mod consoles;
+#[cfg(test)]
+mod folders;
+#[cfg(test)]
+mod same;

@@ -1,0 +1,28 @@
+-- A set of files to which one more is added that is held.
+use Rattle.std.proofs.Common.{◌≡◌, ◌≢◌, ℕ, List, Option, Some, None, sym, ap, ◌∙◌, ⊎_elim}
+use Rattle.std.proofs.lemmas.Bool.{cases_Bool, both_ways}
+use Rattle.std.proofs.lemmas.Slice.Eq.{bytes_eq-Decides}
+use Rattle.std.specs.Str.{bytes_eq}
+use Rattle.splices.specs.Opening.{Files}
+use Rattle.splices.specs.FileSet.{bytes_of}
+use Rattle.splices.specs.declared.file_set.FileSet.{FileSet}
+use Rattle.dag_files.specs.Folder.{AreHeld, Keeps}
+
+module _ (old new : FileSet) (name bytes : List ℕ) (added : bytes_of new name ≡ Some bytes)
+    (others : (other : List ℕ) → other ≢ name → bytes_of new other ≡ bytes_of old other) where
+  pub held-added : (holds : Files) → holds name ≡ Some bytes → AreHeld holds old → AreHeld holds new
+  held-added holds is before path found at = ⊎_elim
+      (λ same.
+      let here : path ≡ name = (bytes_eq-Decides path name).0 same in
+      ap holds here ∙ is ∙ sym added ∙ ap (bytes_of new) (sym here) ∙ at)
+      (λ differs. before path found (sym (others path (λ here. both_ways (bytes_eq path name) differs ((bytes_eq-Decides path name).1 here))) ∙ at))
+      (cases_Bool (bytes_eq path name))
+
+  pub kept-added : bytes_of old name ≡ None → Keeps old new
+  kept-added missing path found at = ⊎_elim
+      (λ same.
+      let here : path ≡ name = (bytes_eq-Decides path name).0 same in
+      let none : bytes_of old path ≡ None = ap (bytes_of old) here ∙ missing in
+      absurd cc)
+      (λ differs. others path (λ here. both_ways (bytes_eq path name) differs ((bytes_eq-Decides path name).1 here)) ∙ at)
+      (cases_Bool (bytes_eq path name))

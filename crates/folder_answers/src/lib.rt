@@ -1,0 +1,92 @@
+//! What `check` and `rehearse` answer of the files of a folder.
+#![tactic(auto)]
+
+ghost use Rattle.std.specs.Prelude.{◌≡◌, None, Some, IfOk, IfErr, string_bytes};
+ghost use Rattle.std.specs.Option.{option_map};
+ghost use Rattle.dag_texts.specs.Checked.{IsCheckOf};
+ghost use Rattle.folder_answers.specs.Answered.{missing_in, IsCheckOfSome, IsCheckRefusal, IsCheckRefusalFrom, IsConfirmed, IsRehearsalOfSome, IsRehearsalRefusal};
+ghost use Rattle.rehearsal.specs.Rehearsed.{IsRehearsalOf};
+
+use dag_files::{Folder, Reading, files_of};
+use dag_texts::{Answer, RunFault, check_text};
+use rehearsal::rehearse_text;
+use run_plan::PlanFault;
+use splices::DagFault;
+use std::alloc::Global;
+use throttles::Limits;
+
+/// What `check` answers of the DAG file of this path: `ok nodes=N edges=E final=yes` or `final=no`, with the
+/// warnings of its files.
+///
+/// # Errors
+/// Standard input that is asked for and can't be read (`FileRefused`); the first fault that opening the files meets
+/// (`InFiles`), a cycle (`Cycle`), the first fault of the submit files and the texts of jobs, in plan order (`InPlan`);
+/// `FileRefused` with the path of a file that was missing as the files were read, and is there now; want of memory.
+pub fn check_here<F: Folder>(alloc: Global, folder: &F, top: &str) -> Result<Answer, RunFault>
+    ensures checked { IfOk result (λ answer. IsCheckOfSome top.now
+        (string_bytes answer.text) (string_bytes answer.warnings) answer.status) }
+    ensures refused { IfErr result (IsCheckRefusal top.now) }
+    // It is the answer for what the folder holds, and the refusal too.
+    ensures held { F.honest folder.now → IfOk result (λ answer. IsCheckOf (F.holds folder.now) top.now
+        (string_bytes answer.text) (string_bytes answer.warnings) answer.status) }
+    ensures refused_held { F.honest folder.now → IfErr result (IsCheckRefusalFrom (F.holds folder.now) top.now) }
+{
+    let files = files_of(alloc, folder, top, Reading::SubmitFilesToo)?;
+    match check_text(alloc, &files, top) {
+        Ok(answer) => Ok(answer),
+        Err(fault) => Err(confirmed(alloc, folder, fault)),
+    }
+}
+
+/// A fault, where the file that it tells of as missing is missing still; else `FileRefused` with its path, or `Memory`.
+fn confirmed<F: Folder>(alloc: Global, folder: &F, fault: RunFault) -> RunFault
+    ensures said { IsConfirmed (λ _. None) fault result }
+    ensures held { F.honest folder.now → IsConfirmed (F.holds folder.now) fault result }
+{
+    let Some(path) = missing_in(&fault) else {
+        return fault;
+    };
+    match folder.input(alloc, path) {
+        Ok(None) => fault,
+        Ok(Some(_)) => match String::from_str(alloc, path) {
+            Ok(path) => RunFault::FileRefused(path),
+            Err(_) => RunFault::Memory,
+        },
+        Err(_) => RunFault::Memory,
+    }
+}
+
+/// The path of the file of which a fault tells that it is missing.
+fn missing_in(fault: &RunFault) -> Option<&str>
+    ensures { option_map (λ path. path.now) result ≡ missing_in fault.now }
+{
+    match fault {
+        RunFault::InFiles(DagFault::MissingFile(path)) => Some(path.as_str()),
+        RunFault::InPlan(PlanFault::MissingFile(path)) => Some(path.as_str()),
+        _ => None,
+    }
+}
+
+/// What `rehearse` answers of the DAG file of this path: the report of a run at the outcomes of a table, where
+/// there is one, under these limits. Submit files are not read.
+///
+/// # Errors
+/// Standard input that is asked for and can't be read (`FileRefused`); then those of `rehearse_text`.
+pub fn rehearse_here<F: Folder>(
+    alloc: Global,
+    folder: &F,
+    top: &str,
+    table: Option<&[u8]>,
+    limits: Limits,
+    always_post: bool,
+) -> Result<Answer, RunFault>
+    ensures report { IfOk result (λ answer. IsRehearsalOfSome always_post top.now (option_map (λ b. b.now) table.entry) limits
+        (string_bytes answer.text) (string_bytes answer.warnings) answer.status) }
+    ensures refused { IfErr result (IsRehearsalRefusal top.now (option_map (λ b. b.now) table.entry)) }
+    // It is that of what the folder holds.
+    ensures held { F.honest folder.now → IfOk result (λ answer. IsRehearsalOf always_post (F.holds folder.now) top.now
+        (option_map (λ b. b.now) table.entry) limits (string_bytes answer.text) (string_bytes answer.warnings) answer.status) }
+{
+    let files = files_of(alloc, folder, top, Reading::SplicesAlone)?;
+    rehearse_text(alloc, &files, top, table, limits, always_post)
+}
