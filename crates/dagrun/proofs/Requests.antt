@@ -1,5 +1,5 @@
 -- Requests, case by case.
-use Rattle.std.proofs.Common.{ℕ, List, Result, IfOk, string_bytes}
+use Rattle.std.proofs.Common.{ℕ, List, Result, Err, IfOk, string_bytes}
 use Rattle.std.proofs.lemmas.Result.{IfOk-at_ok}
 use Rattle.command_line.specs.Requests.{Asked}
 use Rattle.run_answers.specs.declared.by_journal.Question.{Question}
@@ -21,3 +21,8 @@ pub exits : (count : ℕ) (asked : Asked) → MayAsk count asked → (result : R
     → (status : ℕ) → IsStatusOf result status → IsExit count status
 exits count asked may result is status (printed answer same) = answered asked _ _ answer.status may (IfOk-at_ok _ same is)
 exits count asked may result is status not_printed = refused
+
+-- so is what is told of a fault
+pub exits-refused : (count : ℕ) (fault : RunFault) (status : ℕ) → IsStatusOf (Err fault) status → IsExit count status
+exits-refused count fault status (printed answer same) = absurd cc
+exits-refused count fault status not_printed = refused

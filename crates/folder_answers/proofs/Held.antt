@@ -1,5 +1,6 @@
 -- What is said of files that are read where they are held is said of those that are held.
-use Rattle.std.proofs.Common.{◌≡◌, ℕ, Bool, true, false, List, [], ◌∷◌, Option, Some, None, Result, Ok, Err, refl, sym, ap, ◌∙◌}
+use Rattle.std.proofs.Common.{◌≡◌, ℕ, Bool, true, false, List, [], ◌∷◌, Option, Some, None, Result, Ok, Err, refl, sym, ap, ◌∙◌, if◌then◌else◌}
+use Rattle.std.specs.Option.{option_map}
 use Rattle.splices.specs.Dag.{Dag}
 use Rattle.splices.specs.Opening.{Files}
 use Rattle.splices.specs.declared.flat.FlatNode.{FlatNode}
@@ -38,6 +39,7 @@ module _ (set holds : Files) (held : (path bytes : List ℕ) → set path ≡ So
   submit-same path (Some bytes) at none = ap (submit_at path) (held path bytes at)
 
   job-same : (node : FlatNode) (noop : Bool) → node.noop ≡ noop → SameJob (job_at (Some set) node) (job_at (Some holds) node)
+  unfolding job_at
   job-same node true is none = ap (λ b. if b then Ok (Program node.file) else described_by holds node) is ∙ sym (ap (λ b. if b then Ok (Program node.file) else described_by set node) is)
   job-same node false is none =
       ap (λ b. if b then Ok (Program node.file) else described_by holds node) is
@@ -102,3 +104,24 @@ pub by-held : (holds : Files) (top : List ℕ) (files : FileSet) (fault told : R
 by-held holds top files fault told read why (stays none) = held_not_checked fault (refused (bytes_of files) holds read.held top fault none why)
 by-held holds top files fault told read why (came_meanwhile file is) = held_file_came files fault file read why is
 by-held holds top files fault told read why asking_had_no_memory = held_not_checked Memory checking_had_no_memory
+
+abbrev some : {A : Type 0} → A → Option A
+some x = Some x
+
+some-is : {A : Type 0} (x y : A) → some x ≡ some y → x ≡ y
+some-is x y is = cc
+
+-- a fault that tells of no file as missing
+pub none-missing : {A : Type 0} (spelled : A → List ℕ) (found : Option A) (fault : RunFault) → option_map spelled found ≡ missing_in fault → found ≡ None → (holds : Files)
+    → (path : List ℕ) → missing_in fault ≡ Some path → holds path ≡ None
+none-missing spelled found fault is none holds path at =
+    let no : missing_in fault ≡ None = sym is ∙ ap (option_map spelled) none in
+    absurd cc
+
+-- the file that it tells of
+pub one-missing : {A : Type 0} (spelled : A → List ℕ) (found : Option A) (fault : RunFault) (one : A) → option_map spelled found ≡ missing_in fault → found ≡ Some one → missing_in fault ≡ Some (spelled one)
+one-missing spelled found fault one is at = sym is ∙ ap (option_map spelled) at
+
+-- that one is not held
+pub not-held : (holds : Files) (fault : RunFault) (one : List ℕ) → missing_in fault ≡ Some one → holds one ≡ None → (path : List ℕ) → missing_in fault ≡ Some path → holds path ≡ None
+not-held holds fault one is none path at = ap holds (some-is path one (sym at ∙ is)) ∙ none

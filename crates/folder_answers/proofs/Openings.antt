@@ -67,7 +67,9 @@ module _ (set holds : Files) (held : (path bytes : List ℕ) → set path ≡ So
       (spoken-same (open_file set left) (open_file holds left) (file-same left) used above folder path)
 
   pub opened-same : (top : List ℕ) → Same (opened_at set top) (opened_at holds top)
+  unfolding opened_at
   opened-same top = file-same 33 (record { nodes = 0; splices = 0 }) (top ∷ []) [] top
 
   pub dag-same : (top : List ℕ) → Same (dag_at set top) (dag_at holds top)
+  unfolding dag_at
   dag-same top = bind-same (opened_at set top) (opened_at holds top) _ _ (opened-same top) (λ tree misses. refl)

@@ -1,3 +1,5 @@
 mod StatusFaults
 mod AuditTexts
 mod Pictures
+pub mod Inputs
+pub mod Rounds

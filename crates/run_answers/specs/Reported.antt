@@ -1,5 +1,5 @@
 -- What `run` printed of a run that has ended, by its journal.
-use Rattle.std.specs.Prelude.{◌≡◌, ℕ, Bool, false, List, Option, Some, IsTrue}
+use Rattle.std.specs.Prelude.{◌≡◌, ℕ, Bool, false, List, Option, Some, None, IsTrue}
 use Rattle.splices.specs.Opening.{Files}
 use Rattle.run_plan.specs.Plan.{Plan}
 use Rattle.node_machine.specs.declared.Record.{Record}
@@ -58,9 +58,10 @@ pub record IsReportFrom (holds : Files) (path text warnings : List ℕ) (status 
   pub beside : IsLastRound holds path (Some journal) rescue
   pub told : IsReportOf (bytes_of files) (entries_of files) path rescue journal text warnings status
 
--- Why there is none, where these files are held: the last record of the journal is not Finish, or there is none to be read; or the run of the
--- plan has not ended by it.
+-- Why there is none, where these files are held: there is no journal; its last record is not Finish, or there is none to be read; or the run of
+-- the plan has not ended by it.
 pub data IsNoReportFrom (holds : Files) (path : List ℕ) : Type 0 where
+  no_journal : (rescue : Option (List ℕ)) → IsLastRound holds path None rescue → IsNoReportFrom holds path
   no_end : (journal rescue : Option (List ℕ)) → IsLastRound holds path journal rescue → has_ended_by journal ≡ false → IsNoReportFrom holds path
   unended : (files : FileSet) (rescue : Option (List ℕ)) (journal : List ℕ) → IsReadFrom holds path files → IsLastRound holds path (Some journal) rescue →
       IsUnendedRun (bytes_of files) (entries_of files) path rescue journal → IsNoReportFrom holds path

@@ -4,10 +4,10 @@ use Rattle.dag_files.specs.Beside.{IsFileFault, reading_had_no_memory, IsRoundFa
 use Rattle.dag_files.proofs.RunFaults.{by-fault}
 use Rattle.run_answers.proofs.by_journal.used_path.Goals as goal
 
-pub returns-then-used-gt-LAST_NUMBER : goal.returns-then-used-gt-LAST_NUMBER
-returns-then-used-gt-LAST_NUMBER c = no_such_number _ refl (first_of (search rules, grind (arith, common_steps)))
+pub returns-then-used-gt-LAST_NUMBER-clause-refused : goal.returns-then-used-gt-LAST_NUMBER-clause-refused
+returns-then-used-gt-LAST_NUMBER-clause-refused c = no_such_number _ refl (first_of (search rules, grind (arith, common_steps)))
 
-pub returns-in_err-rescue_path : goal.returns-in_err-rescue_path
-returns-in_err-rescue_path c =
+pub returns-in_err-rescue_path-clause-refused : goal.returns-in_err-rescue_path-clause-refused
+returns-in_err-rescue_path-clause-refused c =
     by-fault (IsRoundFault None) c.in_err-rescue_path.field-0.0 (folder_not_read _ tt (subst IsFileFault (sym c.in_err-rescue_path.ensures.err) reading_had_no_memory))
     c.from_residual.result c.from_residual.ensures.1

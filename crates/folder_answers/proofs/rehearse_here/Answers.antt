@@ -1,0 +1,23 @@
+use Rattle.std.proofs.lemmas.Result.{IfOk-weaker}
+use Rattle.dag_texts.proofs.Refusals.{weaker}
+use Rattle.dag_files.proofs.RunFaults.{by-fault}
+use Rattle.splices.specs.FileSet.{bytes_of}
+use Rattle.folder_answers.specs.Answered.{IsRehearsalRefusal, input_not_read, not_rehearsed}
+use Rattle.folder_answers.proofs.Held.{rehearsed}
+use Rattle.folder_answers.proofs.rehearse_here.Goals as goal
+
+pub returns-in_err-files-clause-refused : goal.returns-in_err-files-clause-refused
+returns-in_err-files-clause-refused g c = by-fault (IsRehearsalRefusal c.args.top.now _) c.in_err-files.field-0.0
+    (input_not_read _ c.in_err-files.ensures.refused) c.from_residual.result c.from_residual.ensures.1
+
+pub returns-clause-report : goal.returns-clause-report
+returns-clause-report g c = IfOk-weaker c.rehearse_text.result _ _ (λ answer is. (c.in_ok-files.files, is)) c.rehearse_text.ensures.report
+
+pub returns-clause-refused : goal.returns-clause-refused
+returns-clause-refused g c = weaker (IsRehearsalRefusal c.args.top.now _) c.rehearse_text.result c.rehearse_text.ensures.refused
+    (λ fault why. not_rehearsed c.in_ok-files.files fault why)
+
+pub returns-clause-held : goal.returns-clause-held
+returns-clause-held g c = λ honest. IfOk-weaker c.rehearse_text.result _ _
+    (λ answer is. rehearsed (bytes_of c.in_ok-files.files) (g.F.Folder.holds c.args.folder.now) (c.in_ok-files.ensures.read honest).held _ c.args.top.now _ _ _ _ _ is)
+    c.rehearse_text.ensures.report
