@@ -1,5 +1,5 @@
 -- What is told of the last round is told of the files that are held.
-use Rattle.std.proofs.Common.{◌≡◌, ℕ, Bool, true, false, not, List, Option, Some, None, IfSome, sym, subst}
+use Rattle.std.proofs.Common.{◌≡◌, ℕ, List, Option, Some, None, IfSome, sym, subst}
 use Rattle.std.specs.Prelude.{IfNone}
 use Rattle.splices.specs.Opening.{Files}
 use Rattle.splices.specs.FileSet.{bytes_of, entries_of}
@@ -8,7 +8,7 @@ use Rattle.dag_files.specs.Folder.{IsReadFrom}
 use Rattle.run_answers.specs.declared.by_journal.Question.{Question}
 use Rattle.run_answers.specs.LastRound.{IsLastRound}
 use Rattle.run_answers.specs.Asked.{IsTold, IsToldFrom}
-use Rattle.run_answers.specs.Reported.{IsReportOf, IsUnendedRun, IsReportFrom, IsNoReportFrom, unended}
+use Rattle.run_answers.specs.Reported.{IsReportOf, IsReportFrom}
 
 pub if-some : {A : Type 0} (P Q : A → Type 0) (o : Option A) → ((x : A) → P x → Q x) → IfSome o P → IfSome o Q
 if-some P Q None f h = tt
@@ -17,10 +17,6 @@ if-some P Q (Some x) f h = f x h
 pub if-none : {A : Type 0} (o : Option A) (P Q : Type 0) → (P → Q) → IfNone o P → IfNone o Q
 if-none None P Q f h = f h
 if-none (Some x) P Q f h = tt
-
-pub not-true : (b : Bool) → not b ≡ true → b ≡ false
-not-true true is = absurd cc
-not-true false is = cc
 
 -- the journal and the rescue file of a round, in other words
 pub same-round : (holds : Files) (path : List ℕ) (journal rescue j r : Option (List ℕ)) → IsLastRound holds path journal rescue → j ≡ journal → r ≡ rescue → IsLastRound holds path j r

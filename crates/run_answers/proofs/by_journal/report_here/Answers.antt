@@ -6,7 +6,7 @@ use Rattle.run_answers.specs.Reported.{no_journal, no_end, unended}
 use Rattle.run_answers.specs.declared.by_journal.Question.TheVariants.{Status}
 use Rattle.dag_files.proofs.RunFaults.{by-fault}
 use Rattle.run_answers.proofs.Inputs.{input-is-file}
-use Rattle.run_answers.proofs.Rounds.{if-some, if-none, not-true, same-round, reported}
+use Rattle.run_answers.proofs.Rounds.{if-some, if-none, same-round, reported}
 use Rattle.run_answers.proofs.by_journal.report_here.Goals as goal
 
 pub returns-in_err-round-clause-refused : goal.returns-in_err-round-clause-refused
@@ -39,7 +39,7 @@ pub returns-then-not-branch-clause-none : goal.returns-then-not-branch-clause-no
 returns-then-not-branch-clause-none g c = λ honest.
     no_end _ _
     (same-round _ _ _ _ _ _ (c.in_ok-round.ensures.round honest) (sym (ap (option_map (λ b. b.now)) c.in-Some.is) ∙ c.bytes_of.ensures) refl)
-    (sym c.in_ok-has_ended.ensures.ended ∙ not-true _ c.if-not-branch.true)
+    (sym c.in_ok-has_ended.ensures.ended ∙ c.if-not-branch.true)
 
 pub returns-in-Ok-clause-held : goal.returns-in-Ok-clause-held
 returns-in-Ok-clause-held g c = λ honest.
