@@ -56,6 +56,7 @@ fn comes_to(rt: &impl Abort, alloc: Global, answer: Result<Answer, RunFault>, wa
 }
 
 /// A folder in which other files stand once a file was asked for so often.
+#[derive(Drop)]
 struct Changing {
     first: FileSet,
     then: FileSet,
