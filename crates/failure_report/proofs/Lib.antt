@@ -3,3 +3,4 @@ pub mod Holding
 pub mod Endings
 pub mod Listing
 pub mod Blocks
+pub mod Naming

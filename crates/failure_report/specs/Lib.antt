@@ -3,3 +3,4 @@ pub mod Waiting
 pub mod Failures
 pub mod Heads
 pub mod Told
+pub mod Named

@@ -1,5 +1,8 @@
 //! The nodes that are named.
 
+ghost use Rattle.std.specs.Prelude.{◌≡◌, ◌++◌, map, IfOk, OnOk, option_map, string_bytes};
+ghost use Rattle.failure_report.specs.Named.{IsNamed, IsUnknownLine, nearest_words};
+
 use log_lines::push_word;
 use run_plan::Plan;
 use std::alloc::{AllocError, Global};
@@ -37,17 +40,29 @@ fn nearest<'a>(alloc: Global, plan: &'a Plan, name: &str) -> Result<Option<&'a s
     Ok(best)
 }
 
+/// Adds the name of a node that is near, where there is one.
+fn push_nearest(text: &mut String, near: Option<&str>) -> Result<(), AllocError>
+    ensures { OnOk result (string_bytes text.new ≡ string_bytes text.old ++ nearest_words (option_map (λ n. n.now) near.entry)) }
+{
+    if let Some(near) = near {
+        text.push_str("; the nearest name is ")?;
+        push_word(text, near)?;
+        return text.push_str("\n");
+    }
+    text.push_str("\n")
+}
+
 /// What is told of a name that is none of a node of this DAG file.
-fn unknown(alloc: Global, plan: &Plan, top: &str, name: &str) -> Result<String, AllocError> {
-    let mut text = String::from_str(alloc, "dagrun: ")?;
+fn unknown(alloc: Global, plan: &Plan, top: &str, name: &str) -> Result<String, AllocError>
+    ensures { IfOk result (λ line. IsUnknownLine top.now name.now (string_bytes line)) }
+{
+    let near = nearest(alloc, plan, name)?;
+    let mut text = String::new(alloc);
+    text.push_str("dagrun: ")?;
     push_word(&mut text, top)?;
     text.push_str(" has no node ")?;
     push_word(&mut text, name)?;
-    if let Some(near) = nearest(alloc, plan, name)? {
-        text.push_str("; the nearest name is ")?;
-        push_word(&mut text, near)?;
-    }
-    text.push('\n')?;
+    push_nearest(&mut text, near)?;
     Ok(text)
 }
 
@@ -60,7 +75,9 @@ pub(crate) fn numbers_of(
     plan: &Plan,
     top: &str,
     names: &[&str],
-) -> Result<Named, AllocError> {
+) -> Result<Named, AllocError>
+    ensures { IfOk result (IsNamed plan.now top.now (map (λ n. n.now) names.now)) }
+{
     let mut numbers = Vec::new(alloc);
     for name in names {
         match plan.graph().node_named(name) {

@@ -1,8 +1,12 @@
 //! The text of nodes of a run.
 
-ghost use Rattle.std.specs.Prelude.{◌≡◌, ◌<◌, length, IfSome, IfOk, OnOk, string_bytes};
+ghost use Rattle.std.specs.Prelude.{◌≡◌, ◌≢◌, ◌<◌, map, length, IfSome, IfOk, OnOk, string_bytes};
 ghost use Rattle.run_plan.specs.Plan.{count_of};
+ghost use Rattle.failure_report.specs.Reaching.{nodes_in};
+ghost use Rattle.failure_report.specs.Waiting.{AreHeld};
+ghost use Rattle.failure_report.specs.Failures.{AreLastEnds};
 ghost use Rattle.failure_report.specs.Told.{IsBlock, HasBlock, HasBlocks, AreAllFailed, IsWhyOfAll};
+ghost use Rattle.failure_report.specs.Named.{IsToldOfNode, AreTold, IsWhyOfNamed};
 
 use crate::failed::{Failure, failures, is_in_error, last_ends};
 use crate::launches::launch_facts;
@@ -12,6 +16,7 @@ use crate::standing::push_standing;
 use crate::told::{Run, failure_block};
 use crate::waiting::{held_lists, waiting_for};
 use log_lines::unquoted;
+use node_machine::Ended;
 use sched_core::Core;
 use std::alloc::{AllocError, Global};
 use std::fs::File;
@@ -58,22 +63,39 @@ fn all_failed(alloc: Global, core: &Core<'_>) -> Result<Vec<Told>, AllocError>
     Ok(told)
 }
 
+/// Whether a node is in error, and then how it failed and how many wait for it, where these are the newest
+/// endings of all nodes and the children of each that are not done.
+fn told_of_node(
+    alloc: Global,
+    core: &Core<'_>,
+    ends: &[Option<Ended>],
+    held: &[Vec<u32>],
+    node: u32,
+) -> Result<Told, AllocError>
+    requires ends { AreLastEnds core.now.plan core.now.past ends.now }
+    requires held { AreHeld core.now.plan core.now.past (nodes_in held.now) }
+    ensures { IfOk result (IsToldOfNode core.now.plan core.now.past node) }
+{
+    if node > core.plan().count() {
+        return Ok(Told::Standing(node));
+    }
+    if !is_in_error(core, node) {
+        return Ok(Told::Standing(node));
+    }
+    let waiting = waiting_for(alloc, core, held, node)?;
+    let end = ends[node as usize];
+    Ok(Told::Failed(Failure { node, end, waiting }))
+}
+
 /// These nodes, in their order.
-fn all_named(alloc: Global, core: &Core<'_>, nodes: &[u32]) -> Result<Vec<Told>, AllocError> {
+fn all_named(alloc: Global, core: &Core<'_>, nodes: &[u32]) -> Result<Vec<Told>, AllocError>
+    ensures { IfOk result (λ told. AreTold core.now.plan core.now.past nodes.now told.items) }
+{
     let ends = last_ends(alloc, core)?;
     let held = held_lists(alloc, core)?;
     let mut told = Vec::new(alloc);
     for node in nodes {
-        let node = *node;
-        if node > core.plan().count() || !is_in_error(core, node) {
-            told.push(Told::Standing(node))?;
-            continue;
-        }
-        told.push(Told::Failed(Failure {
-            node,
-            end: ends[node as usize],
-            waiting: waiting_for(alloc, core, &held, node)?,
-        }))?;
+        told.push(told_of_node(alloc, core, &ends, &held, *node)?)?;
     }
     Ok(told)
 }
@@ -249,7 +271,9 @@ pub fn why_text<R: Files<File = File> + AllocGlobal>(
     names: &[&str],
 ) -> Result<Why, AllocError>
     // Where no node is named, it is the text of all nodes in error, each with its line.
-    ensures { length names.now ≡ 0 → IfOk result (IsWhyOfAll core.now.plan core.now.past) }
+    ensures all { length names.now ≡ 0 → IfOk result (IsWhyOfAll core.now.plan core.now.past) }
+    ensures named { length names.now ≢ 0 →
+        IfOk result (IsWhyOfNamed core.now.plan core.now.past place.now.top.now (map (λ n. n.now) names.now)) }
 {
     let alloc = rt.alloc();
     if names.is_empty() {

@@ -1,9 +1,13 @@
 //! What is told behind a refusal.
 
+ghost use Rattle.std.specs.Prelude.{◌≡◌, ◌++◌, [], List, false, find, is_some, option_map, IfOk, OnOk, string_bytes};
+ghost use Rattle.fault_guide.specs.Guide.{has_code};
+ghost use Rattle.refusal_hints.specs.Told.{reason_line, tells_what_to_write, guide_text, IsGuideText, IsHint};
+
 use crate::excerpt::push_excerpt;
 use crate::near::nearest;
 use crate::refusal::{Refusal, SourcePlace};
-use fault_guide::{fault_of, faults};
+use fault_guide::{Fault, fault_of, faults};
 use std::alloc::{AllocError, Global};
 use std::str;
 
@@ -111,20 +115,60 @@ fn push_meant(
     Ok(())
 }
 
+/// What stands about the place that a refusal names: the line of the file, and what may have been meant there.
+fn about_place(
+    alloc: Global,
+    refusal: &Refusal<'_>,
+    evidence: &Evidence<'_>,
+) -> Result<String, AllocError>
+    ensures { is_some evidence.now.source ≡ false → IfOk result (λ text. string_bytes text ≡ []) }
+{
+    let mut text = String::new(alloc);
+    let Some(source) = evidence.source else {
+        return Ok(text);
+    };
+    if let Some(place) = refusal.place() {
+        push_excerpt(&mut text, source, &place)?;
+        push_meant(alloc, &mut text, refusal, source, &place)?;
+    }
+    Ok(text)
+}
+
+/// Adds what the system said.
+fn push_reason(text: &mut String, reason: Option<&str>) -> Result<(), AllocError>
+    ensures { OnOk result (string_bytes text.new ≡ string_bytes text.old ++ reason_line (option_map (λ r. r.now) reason.entry)) }
+{
+    match reason {
+        Some(reason) => writeln!(text, "    {reason}"),
+        None => Ok(()),
+    }
+}
+
 /// Whether what is to be written instead is told at once.
-fn tells_what_to_write(code: &str) -> bool {
+fn tells_what_to_write(code: &str) -> bool
+    ensures { result ≡ tells_what_to_write code.now }
+{
     matches!(code, "L3" | "U4" | "U5" | "V4" | "J5")
 }
 
-/// Adds what the guide says of a fault: all of it for those of which one wants to know what to write instead,
-/// else where it is to be found.
-fn push_guide(alloc: Global, text: &mut String, code: &str) -> Result<(), AllocError> {
-    let faults = faults(alloc)?;
-    match fault_of(&faults, code) {
+/// Adds what the guide says of a fault of this code, if there is one: all of it for those of which one wants to
+/// know what to write instead, else where it is to be found.
+fn push_fault(text: &mut String, code: &str, fault: Option<&Fault>) -> Result<(), AllocError>
+    ensures { OnOk result (string_bytes text.new ≡ string_bytes text.old ++ guide_text code.now (option_map (λ f. f.now) fault.entry)) }
+{
+    match fault {
         Some(fault) if tells_what_to_write(code) => text.push_str(fault.advice),
         Some(_) => writeln!(text, "    dagrun explain {code} says more"),
         None => Ok(()),
     }
+}
+
+/// Adds what the guide says of the fault of this code, if it has one.
+fn push_guide(alloc: Global, text: &mut String, code: &str) -> Result<(), AllocError>
+    ensures { OnOk result (IsGuideText code.now (string_bytes text.old) (string_bytes text.new)) }
+{
+    let faults = faults(alloc)?;
+    push_fault(text, code, fault_of(&faults, code))
 }
 
 /// What a person is told behind the line of a refusal, each line of it behind four blanks: the line of the file at
@@ -136,15 +180,12 @@ pub fn hint_text(
     alloc: Global,
     refusal: &Refusal<'_>,
     evidence: &Evidence<'_>,
-) -> Result<String, AllocError> {
-    let mut text = String::new(alloc);
-    if let (Some(source), Some(place)) = (evidence.source, refusal.place()) {
-        push_excerpt(&mut text, source, &place)?;
-        push_meant(alloc, &mut text, refusal, source, &place)?;
-    }
-    if let Some(reason) = evidence.reason {
-        writeln!(text, "    {reason}")?;
-    }
+) -> Result<String, AllocError>
+    ensures { IfOk result (λ text. IsHint refusal.now.code.now (option_map (λ r. r.now) evidence.now.reason) (is_some evidence.now.source)
+        (string_bytes text)) }
+{
+    let mut text = about_place(alloc, refusal, evidence)?;
+    push_reason(&mut text, evidence.reason)?;
     push_guide(alloc, &mut text, refusal.code)?;
     Ok(text)
 }

@@ -2,3 +2,4 @@ pub mod Listings
 pub mod Records
 pub mod CutShort
 pub mod Changes
+pub mod Refusals

@@ -13,7 +13,7 @@ abbrev pub lent_file : Bor (String Global) × Bor (Vec ℕ Global) → List ℕ 
 lent_file file = (string_bytes file.0.now, file.1.now.items)
 
 -- one map behind another
-maps : {A B C : Type 0} (g : B → C) (f : A → B) (xs : List A) → map g (map f xs) ≡ map (λ x. g (f x)) xs
+pub maps : {A B C : Type 0} (g : B → C) (f : A → B) (xs : List A) → map g (map f xs) ≡ map (λ x. g (f x)) xs
 maps g f [] = refl
 maps g f (x ∷ xs) = ap (λ t. g (f x) ∷ t) (maps g f xs)
 

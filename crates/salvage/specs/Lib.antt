@@ -2,3 +2,4 @@ pub mod Inputs
 pub mod Round
 pub mod Salvaged
 pub mod Faults
+pub mod Refused

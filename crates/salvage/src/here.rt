@@ -1,11 +1,14 @@
 //! A round that was cut short, made into a rescue file.
 
-ghost use Rattle.std.specs.Prelude.{◌≡◌, ◌++◌, ◌≤◌, IfOk, OnOk, string_bytes, option_map};
+ghost use Rattle.std.specs.Prelude.{◌≡◌, ◌++◌, ◌≤◌, IfOk, IfErr, OnOk, string_bytes, option_map};
 ghost use Rattle.splices.specs.FileSet.{bytes_of};
 ghost use Rattle.rescue_file.specs.Numbered.{IsNumber, rescue_name_of};
 ghost use Rattle.run_plan.specs.Plan.{count_of};
+ghost use Rattle.dag_texts.specs.declared.fault.RunFault.TheVariants.{Memory};
 ghost use Rattle.dag_texts.specs.Warnings.{warning_lines};
+ghost use Rattle.dag_files.specs.Beside.{IsFileFault};
 ghost use Rattle.salvage.specs.Salvaged.{IsBarePlan, IsReadRound, change_line, AreChanges, report_line, IsSalvageOf};
+ghost use Rattle.salvage.specs.Refused.{IsBarePlanFault, IsSalvageFault};
 
 use crate::fault::SalvageFault;
 use crate::inputs::{Inputs, Listed};
@@ -34,7 +37,9 @@ fn plan_of_round(
     rescue: Option<&[u8]>,
 ) -> Result<Plan, RunFault>
     requires { round.now.used ≤ 999 }
-    ensures { IfOk result (IsBarePlan round.now.always_post (bytes_of files.now) place.now.top.now
+    ensures plan { IfOk result (IsBarePlan round.now.always_post (bytes_of files.now) place.now.top.now
+        (option_map (λ b. b.now) rescue.entry)) }
+    ensures refused { IfErr result (IsBarePlanFault round.now.always_post (bytes_of files.now) place.now.top.now round.now.used
         (option_map (λ b. b.now) rescue.entry)) }
 {
     let graph = graph_of(alloc, files, place.top)?;
@@ -69,7 +74,9 @@ fn change_of<R: Files + AllocGlobal>(
     rt: &R,
     place: &Place<'_>,
     file: &Listed,
-) -> Result<Option<Change>, RunFault> {
+) -> Result<Option<Change>, RunFault>
+    ensures { IfErr result IsFileFault }
+{
     let bytes = match place.read(rt, file.path.as_str()) {
         Ok(bytes) => bytes,
         Err(RunFault::FileRefused(_path)) => return Ok(Some(Change::Other)),
@@ -101,7 +108,8 @@ fn changes<R: Files + AllocGlobal>(
     place: &Place<'_>,
     inputs: &Inputs,
 ) -> Result<String, RunFault>
-    ensures { IfOk result (λ text. AreChanges inputs.now.files.items (string_bytes text)) }
+    ensures changes { IfOk result (λ text. AreChanges inputs.now.files.items (string_bytes text)) }
+    ensures refused { IfErr result IsFileFault }
 {
     let mut text = String::new(rt.alloc());
     for file in inputs.files.iter() {
@@ -125,6 +133,7 @@ fn report_of(
         ≡ report_line done (count_of plan.now) (rescue_name_of place.now.top.now next) ++ changes.now) }
     ensures warnings { IfOk result (λ answer. string_bytes answer.warnings ≡ warning_lines plan.now.graph.dag.warnings) }
     ensures status { IfOk result (λ answer. answer.status ≡ 0) }
+    ensures err { IfErr result (λ fault. fault ≡ Memory) }
 {
     let path = rescue_path(alloc, place.top, next)?;
     let name = path.as_str();
@@ -150,6 +159,7 @@ fn write_rescue<R: Files<File = File> + AllocGlobal + Copy + Drop>(
     text: &str,
 ) -> Result<(), RunFault>
     requires { IsNumber number }
+    ensures { IfErr result IsFileFault }
 {
     let alloc = rt.alloc();
     let mut disk = rescue_disk(rt, place, number)?;
@@ -186,9 +196,10 @@ struct Found {
 /// # Errors
 /// As `salvage_here` has them from the journal on, before anything is changed.
 fn read_round<R: Files + AllocGlobal>(rt: &R, place: &Place<'_>) -> Result<Found, SalvageFault>
-    ensures { IfOk result (λ found. IsReadRound place.now.top.now found.round.journal.items found.round.digest
+    ensures read { IfOk result (λ found. IsReadRound place.now.top.now found.round.journal.items found.round.digest
         found.round.used found.round.next found.round.always_post found.inputs.files.items found.plan
         (string_bytes found.salvaged.text) found.salvaged.done) }
+    ensures refused { IfErr result (IsSalvageFault place.now.top.now) }
 {
     let alloc = rt.alloc();
     let round = cut_short(rt, place)?;
@@ -214,8 +225,9 @@ fn salvage_locked<R: Files<File = File> + AllocGlobal + Copy + Drop>(
     rt: R,
     place: &Place<'_>,
 ) -> Result<Answer, SalvageFault>
-    ensures { IfOk result (λ answer. IsSalvageOf place.now.top.now
+    ensures salvaged { IfOk result (λ answer. IsSalvageOf place.now.top.now
         (string_bytes answer.text) (string_bytes answer.warnings) answer.status) }
+    ensures refused { IfErr result (IsSalvageFault place.now.top.now) }
 {
     let found = read_round(&rt, place)?;
     let changes = changes(&rt, place, &found.inputs)?;
@@ -256,8 +268,9 @@ pub fn salvage_here<R: Files<File = File> + Clock + AllocGlobal + Copy + Drop>(
     folder: &str,
     top: &str,
 ) -> Result<Answer, SalvageFault>
-    ensures { IfOk result (λ answer. IsSalvageOf top.now
+    ensures salvaged { IfOk result (λ answer. IsSalvageOf top.now
         (string_bytes answer.text) (string_bytes answer.warnings) answer.status) }
+    ensures refused { IfErr result (IsSalvageFault top.now) }
 {
     let place = Place { folder, top };
     if !has_journal(&rt, &place)? {

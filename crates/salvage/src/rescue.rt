@@ -7,10 +7,11 @@ ghost use Rattle.sched_core.specs.Run.{written};
 ghost use Rattle.run_manager.specs.Rescue.{marks_of, rescue_text_for};
 ghost use Rattle.dag_texts.specs.declared.fault.RunFault.TheVariants.{Memory};
 ghost use Rattle.salvage.specs.Salvaged.{HasRecords, IsSalvaged};
+ghost use Rattle.salvage.specs.Refused.{IsUnsalvaged};
 
-use crate::rounds::digest_in;
+use crate::rounds::{digest_in, read_fault};
 use dag_texts::RunFault;
-use event_journal::{JournalFault, read_journal, slot_of};
+use event_journal::{read_journal, slot_of};
 use node_machine::Record;
 use recovery::replay;
 use rescue_file::rescue_text;
@@ -27,18 +28,18 @@ pub struct Salvaged {
 }
 
 /// The records of a journal of these bytes, whatever it is a journal of, the oldest first; none where none
-/// was begun. The flag is that of its header.
+/// was begun. Whether POST scripts run behind failed PRE scripts is asked of the plan.
 ///
 /// # Errors
 /// `InManager` with the fault of the journal, and `Memory`.
-fn records_in(alloc: Global, journal: &[u8], always_post: bool) -> Result<Vec<Record>, RunFault>
-    ensures { IfOk result (λ records. HasRecords (replay_of journal.now) records.items) }
+fn records_in(alloc: Global, plan: &Plan, journal: &[u8]) -> Result<Vec<Record>, RunFault>
+    ensures records { IfOk result (λ records. HasRecords (replay_of journal.now) records.items) }
+    ensures refused { IfErr result (IsUnsalvaged plan.now journal.now) }
 {
-    match read_journal(alloc, journal, &digest_in(journal), always_post) {
+    match read_journal(alloc, journal, &digest_in(journal), plan.always_post()) {
         Ok(Some(records)) => Ok(records),
         Ok(None) => Ok(Vec::new(alloc)),
-        Err(JournalFault::Memory) => Err(RunFault::Memory),
-        Err(fault) => Err(RunFault::InManager(ManagerFault::Journal(fault))),
+        Err(fault) => Err(read_fault(fault)),
     }
 }
 
@@ -53,8 +54,10 @@ fn core_of<'a>(
     journal: &[u8],
     records: &[Record],
 ) -> Result<Core<'a>, RunFault>
+    requires { HasRecords (replay_of journal.now) records.now }
     ensures plan { IfOk result (λ core. core.plan ≡ plan.now) }
     ensures records { IfOk result (λ core. records.now ≡ written core.past) }
+    ensures refused { IfErr result (IsUnsalvaged plan.now journal.now) }
 {
     match replay(alloc, plan, records) {
         Ok(core) => Ok(core),
@@ -99,9 +102,10 @@ fn text_of(alloc: Global, core: &Core<'_>) -> Result<Salvaged, RunFault>
 /// `InManager` with the fault of the journal, or with the slot of the first record that may not follow
 /// those before it; `Memory`.
 pub fn salvage_text(alloc: Global, plan: &Plan, journal: &[u8]) -> Result<Salvaged, RunFault>
-    ensures { IfOk result (λ salvaged. IsSalvaged plan.now journal.now (string_bytes salvaged.text) salvaged.done) }
+    ensures salvaged { IfOk result (λ salvaged. IsSalvaged plan.now journal.now (string_bytes salvaged.text) salvaged.done) }
+    ensures refused { IfErr result (IsUnsalvaged plan.now journal.now) }
 {
-    let records = records_in(alloc, journal, plan.always_post())?;
+    let records = records_in(alloc, plan, journal)?;
     let core = core_of(alloc, plan, journal, &records)?;
     core.keeps_the_law();
     text_of(alloc, &core)

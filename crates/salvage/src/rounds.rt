@@ -1,11 +1,12 @@
 //! Rounds that were cut short, and what they were begun with.
 
-ghost use Rattle.std.specs.Prelude.{◌≡◌, ◌≤◌, All, IsTrue, IfOk, OnOk, is_some, length, slice_range, option_map};
+ghost use Rattle.std.specs.Prelude.{◌≡◌, ◌≤◌, ◌↔◌, All, IsTrue, IfOk, IfErr, OnOk, is_some, length, slice_range, option_map};
 ghost use Rattle.splices.specs.FileSet.{entries_of};
 ghost use Rattle.journal_disks.specs.Memory.{disk_bytes};
 ghost use Rattle.event_journal.specs.Image.{replay_of, IsRescueNumber};
 ghost use Rattle.event_journal.specs.Peeks.{ReadsPeek};
 ghost use Rattle.salvage.specs.Round.{IsCutShort, sum_in, IsSame, IsSameRescue};
+ghost use Rattle.salvage.specs.Refused.{read_fault, IsUnread, IsNoNumber, IsNotCutShort, IsNoRound, IsNoInputs, IsOtherFile, IsFirstOther, IsOtherRescue};
 
 use crate::fault::SalvageFault;
 use crate::inputs::Inputs;
@@ -46,19 +47,29 @@ fn disk_of(alloc: Global, bytes: &[u8]) -> Result<MemDisk, AllocError>
     Ok(MemDisk::of(alloc, copy, bytes.len()))
 }
 
+/// What is told of the fault of a journal's bytes.
+pub(crate) fn read_fault(fault: JournalFault) -> RunFault
+    ensures { result ≡ read_fault fault }
+{
+    match fault {
+        // A disk in memory tells that it was refused memory as a failure.
+        JournalFault::Memory | JournalFault::Device => RunFault::Memory,
+        fault => RunFault::InManager(ManagerFault::Journal(fault)),
+    }
+}
+
 /// What the header of a journal says that has these bytes; none where none was begun.
 ///
 /// # Errors
 /// `InManager` with the fault of bytes that can't be read, and `Memory`.
 fn peek_in(alloc: Global, bytes: &[u8]) -> Result<Option<Peek>, RunFault>
-    ensures { IfOk result (λ peek. ReadsPeek peek (replay_of bytes.now)) }
+    ensures peek { IfOk result (λ peek. ReadsPeek peek (replay_of bytes.now)) }
+    ensures refused { IfErr result (IsUnread bytes.now) }
 {
     let mut disk = disk_of(alloc, bytes)?;
     match Journal::peek(alloc, &mut disk) {
         Ok(peek) => Ok(peek),
-        // A disk in memory tells that it was refused memory as a failure.
-        Err(JournalFault::Memory | JournalFault::Device) => Err(RunFault::Memory),
-        Err(fault) => Err(RunFault::InManager(ManagerFault::Journal(fault))),
+        Err(fault) => Err(read_fault(fault)),
     }
 }
 
@@ -79,8 +90,9 @@ pub(crate) fn digest_in(journal: &[u8]) -> [u8; 32]
 /// # Errors
 /// `NotThere` with the first that no rescue file has.
 fn numbers_in(peek: &Peek) -> Result<(u16, u16), RunFault>
-    ensures { IfOk result (λ numbers. (numbers.0 ≤ 999) × IsRescueNumber numbers.1
+    ensures numbers { IfOk result (λ numbers. (numbers.0 ≤ 999) × IsRescueNumber numbers.1
         × (numbers.0 ≡ peek.now.used) × (numbers.1 ≡ peek.now.next)) }
+    ensures refused { IfErr result (IsNoNumber peek.now.used peek.now.next) }
 {
     if peek.used > LAST_NUMBER {
         return Err(RunFault::NotThere(peek.used));
@@ -97,7 +109,8 @@ fn numbers_in(peek: &Peek) -> Result<(u16, u16), RunFault>
 /// A journal that can't be read (`Refused`), one that was not begun (`NoJournal`), one of a round that has
 /// ended (`Ended`), and a number in its header that no rescue file has (`Refused`).
 fn round_in(alloc: Global, name: Text, journal: Vec<u8>) -> Result<CutShort, SalvageFault>
-    ensures { IfOk result (λ round. IsCutShort round.journal.items round.digest round.used round.next round.always_post) }
+    ensures cut_short { IfOk result (λ round. IsCutShort round.journal.items round.digest round.used round.next round.always_post) }
+    ensures refused { IfErr result (IsNotCutShort name journal.items) }
 {
     let Some(peek) = peek_in(alloc, journal.as_slice())? else {
         return Err(SalvageFault::NoJournal(name));
@@ -123,7 +136,8 @@ pub(crate) fn cut_short<R: Files + AllocGlobal>(
     rt: &R,
     place: &Place<'_>,
 ) -> Result<CutShort, SalvageFault>
-    ensures { IfOk result (λ round. IsCutShort round.journal.items round.digest round.used round.next round.always_post) }
+    ensures cut_short { IfOk result (λ round. IsCutShort round.journal.items round.digest round.used round.next round.always_post) }
+    ensures refused { IfErr result (IsNoRound place.now.top.now) }
 {
     let alloc = rt.alloc();
     let name = journal_path(alloc, place.top)?;
@@ -135,7 +149,7 @@ pub(crate) fn cut_short<R: Files + AllocGlobal>(
 
 /// Whether this is the digest of what a round was begun with.
 fn has_digest(inputs: &Inputs, digest: &[u8; 32]) -> bool
-    ensures { IsTrue result → inputs.now.digest ≡ digest.now }
+    ensures { IsTrue result ↔ (inputs.now.digest ≡ digest.now) }
 {
     inputs.digest[..] == digest[..]
 }
@@ -150,7 +164,8 @@ pub(crate) fn inputs_with<R: Files + AllocGlobal>(
     place: &Place<'_>,
     digest: &[u8; 32],
 ) -> Result<Inputs, SalvageFault>
-    ensures { IfOk result (λ inputs. inputs.digest ≡ digest.now) }
+    ensures inputs { IfOk result (λ inputs. inputs.digest ≡ digest.now) }
+    ensures refused { IfErr result (IsNoInputs place.now.top.now digest.now) }
 {
     let alloc = rt.alloc();
     let name = inputs_path(alloc, place.top)?;
@@ -178,7 +193,8 @@ pub(crate) fn check_file(
     path: &str,
     bytes: &[u8],
 ) -> Result<(), SalvageFault>
-    ensures { OnOk result (IsSame inputs.now.files.items (path.now, bytes.now)) }
+    ensures same { OnOk result (IsSame inputs.now.files.items (path.now, bytes.now)) }
+    ensures refused { IfErr result (IsOtherFile inputs.now.files.items (path.now, bytes.now)) }
 {
     match inputs.sum_of(path) {
         None => Err(SalvageFault::NotListed(Text::new(alloc, path)?)),
@@ -198,7 +214,8 @@ pub(crate) fn check_files(
     inputs: &Inputs,
     files: &FileSet,
 ) -> Result<(), SalvageFault>
-    ensures { OnOk result (All (IsSame inputs.now.files.items) (entries_of files.now)) }
+    ensures same { OnOk result (All (IsSame inputs.now.files.items) (entries_of files.now)) }
+    ensures refused { IfErr result (IsFirstOther inputs.now.files.items (entries_of files.now)) }
 {
     for (path, bytes) in files.iter() {
         check_file(alloc, inputs, path.as_str(), bytes.as_slice())?;
@@ -225,8 +242,9 @@ pub(crate) fn rescue_in<R: Files + AllocGlobal>(
     used: u16,
 ) -> Result<Option<Vec<u8>>, SalvageFault>
     requires { used ≤ 999 }
-    ensures { IfOk result (λ bytes. IsSameRescue inputs.now.files.items place.now.top.now used
+    ensures same { IfOk result (λ bytes. IsSameRescue inputs.now.files.items place.now.top.now used
         (option_map (λ b. b.items) bytes)) }
+    ensures refused { IfErr result (IsOtherRescue inputs.now.files.items place.now.top.now used) }
 {
     if used == 0 {
         return Ok(None);

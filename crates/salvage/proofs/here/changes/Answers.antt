@@ -1,4 +1,7 @@
 use Rattle.std.proofs.Common.{◌<◌, [], length, arith, subst, sym, string_bytes}
+use Rattle.dag_texts.specs.declared.fault.RunFault.TheVariants.{Memory}
+use Rattle.dag_files.specs.Beside.{IsFileFault, reading_had_no_memory}
+use Rattle.dag_files.proofs.RunFaults.{by-fault}
 use Rattle.salvage.specs.Salvaged.{AreChanges, no_files}
 use Rattle.salvage.proofs.Changes.{more-changes}
 use Rattle.salvage.proofs.here.changes.Goals as goal
@@ -12,3 +15,9 @@ loop-file-preserved g c =
     more-changes c.args.inputs.now.files.items c.deref-file-items.result.now c.deref-file-items.ensures.value c.loop-file.file-index
     (string_bytes c.loop-file.text) (string_bytes c.push_change.new.text) c.as_str.result.now c.file-item.result c.in_ok-change.change
     less c.file-item.is c.loop-file.invariant c.as_str.ensures c.in_ok-push_change.ensures
+
+pub returns-in_err-change-clause-refused : goal.returns-in_err-change-clause-refused
+returns-in_err-change-clause-refused g c = by-fault IsFileFault c.in_err-change.field-0.0 c.in_err-change.ensures c.from_residual.result c.from_residual.ensures.1
+
+pub returns-in_err-push_change-clause-refused : goal.returns-in_err-push_change-clause-refused
+returns-in_err-push_change-clause-refused g c = by-fault IsFileFault Memory reading_had_no_memory c.from_residual-in_err-push_change.result c.from_residual-in_err-push_change.ensures.1

@@ -1,11 +1,15 @@
-use Rattle.std.proofs.Common.{◌∙◌, ◌++◌, ℕ, List, ap, string_bytes}
+use Rattle.std.proofs.Common.{◌∙◌, ◌++◌, ℕ, List, ap, sym, subst, string_bytes}
+use Rattle.dag_files.specs.Beside.{IsFileFault, reading_had_no_memory}
 use Rattle.run_plan.specs.Plan.{count_of}
 use Rattle.rescue_file.specs.Numbered.{rescue_name_of}
 use Rattle.salvage.specs.Salvaged.{report_line}
+use Rattle.salvage.specs.declared.fault.SalvageFault.TheVariants.{Refused}
+use Rattle.salvage.specs.Refused.{IsSalvageFault, system_refuses}
+use Rattle.salvage.proofs.Refusals.{told-as}
 use Rattle.salvage.proofs.here.salvage_locked.Goals as goal
 
-pub returns : goal.returns
-returns g c =
+pub returns-clause-salvaged : goal.returns-clause-salvaged
+returns-clause-salvaged g c =
     let found = c.in_ok-found.found in
     record {
       journal = found.round.journal.items;
@@ -17,11 +21,35 @@ returns g c =
       plan = found.plan;
       rescue_text = string_bytes found.salvaged.text;
       done = found.salvaged.done;
-      read = c.in_ok-found.ensures;
+      read = c.in_ok-found.ensures.read;
       changes = string_bytes c.in_ok-changes.changes;
-      are_changes = c.in_ok-changes.ensures;
+      are_changes = c.in_ok-changes.ensures.changes;
       text_is = c.in_ok-answer.ensures.text
           ∙ ap (λ (t : List ℕ). report_line found.salvaged.done (count_of found.plan) (rescue_name_of c.args.place.now.top.now found.round.next) ++ t) c.as_str.ensures.value;
       warnings_are = c.in_ok-answer.ensures.warnings;
       status_is = c.in_ok-answer.ensures.status;
     }
+
+pub returns-in_err-found-clause-refused : goal.returns-in_err-found-clause-refused
+returns-in_err-found-clause-refused g c =
+    told-as (IsSalvageFault c.args.place.now.top.now) c.in_err-found.field-0.0 c.in_err-found.ensures.refused c.from_residual.result c.from_residual.ensures.1
+
+pub returns-in_err-changes-clause-refused : goal.returns-in_err-changes-clause-refused
+returns-in_err-changes-clause-refused g c =
+    told-as (IsSalvageFault c.args.place.now.top.now) (Refused c.in_err-changes.field-0.0) (system_refuses _ c.in_err-changes.ensures.refused)
+    c.from_residual-in_err-changes.result c.from_residual-in_err-changes.ensures.1
+
+pub returns-in_err-answer-clause-refused : goal.returns-in_err-answer-clause-refused
+returns-in_err-answer-clause-refused g c =
+    told-as (IsSalvageFault c.args.place.now.top.now) (Refused c.in_err-answer.field-0.0) (system_refuses _ (subst IsFileFault (sym c.in_err-answer.ensures.err) reading_had_no_memory))
+    c.from_residual-in_err-answer.result c.from_residual-in_err-answer.ensures.1
+
+pub returns-in_err-write_rescue-clause-refused : goal.returns-in_err-write_rescue-clause-refused
+returns-in_err-write_rescue-clause-refused g c =
+    told-as (IsSalvageFault c.args.place.now.top.now) (Refused c.in_err-write_rescue.field-0.0) (system_refuses _ c.in_err-write_rescue.ensures)
+    c.from_residual-in_err-write_rescue.result c.from_residual-in_err-write_rescue.ensures.1
+
+pub returns-in_err-put_journal_away-clause-refused : goal.returns-in_err-put_journal_away-clause-refused
+returns-in_err-put_journal_away-clause-refused g c =
+    told-as (IsSalvageFault c.args.place.now.top.now) (Refused c.in_err-put_journal_away.field-0.0) (system_refuses _ c.in_err-put_journal_away.ensures)
+    c.from_residual-in_err-put_journal_away.result c.from_residual-in_err-put_journal_away.ensures.1

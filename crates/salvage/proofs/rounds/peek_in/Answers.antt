@@ -1,7 +1,20 @@
-use Rattle.std.proofs.Common.{List, ℕ, subst}
+use Rattle.std.proofs.Common.{List, ℕ, sym, subst}
 use Rattle.event_journal.specs.Image.{replay_of}
 use Rattle.event_journal.specs.Peeks.{ReadsPeek}
+use Rattle.event_journal.specs.Reading.{RefusedAs}
+use Rattle.dag_texts.specs.declared.fault.RunFault.TheVariants.{Memory}
+use Rattle.dag_files.proofs.RunFaults.{by-fault}
+use Rattle.salvage.specs.Refused.{IsUnread, reading_had_no_memory}
+use Rattle.salvage.proofs.Refusals.{unread}
 use Rattle.salvage.proofs.rounds.peek_in.Goals as goal
 
-pub returns-in-Ok : goal.returns-in-Ok
-returns-in-Ok c = subst (λ (b : List ℕ). ReadsPeek c.in-Ok.peek (replay_of b)) c.in_ok-disk.ensures (c.in-Ok.ensures.gives tt)
+pub returns-in_err-disk-clause-refused : goal.returns-in_err-disk-clause-refused
+returns-in_err-disk-clause-refused c = by-fault (IsUnread c.args.bytes.now) Memory reading_had_no_memory c.from_residual.result c.from_residual.ensures.1
+
+pub returns-in-Ok-clause-peek : goal.returns-in-Ok-clause-peek
+returns-in-Ok-clause-peek c = subst (λ (b : List ℕ). ReadsPeek c.in-Ok.peek (replay_of b)) c.in_ok-disk.ensures (c.in-Ok.ensures.gives tt)
+
+pub returns-clause-refused : goal.returns-clause-refused
+returns-clause-refused c =
+    subst (IsUnread c.args.bytes.now) (sym c.read_fault.ensures)
+    (unread c.args.bytes.now c.in-Err.fault (subst (λ (b : List ℕ). RefusedAs c.in-Err.fault (replay_of b)) c.in_ok-disk.ensures (c.in-Err.ensures.refused tt)))

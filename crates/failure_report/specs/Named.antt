@@ -1,0 +1,79 @@
+-- What is told of nodes that are named.
+use Rattle.std.specs.Prelude.{◌≡◌, ◌≤◌, ℕ, Bool, true, false, List, [], ◌∷◌, ◌++◌, map, position, Option, Some, None, codes, string_bytes}
+use Rattle.std.specs.Str.{bytes_eq}
+use Rattle.dag_graph.specs.Graph.{names_of}
+use Rattle.node_machine.specs.declared.Record.{Record}
+use Rattle.run_plan.specs.Plan.{Plan, count_of}
+use Rattle.sched_core.specs.Run.{is_in_error}
+use Rattle.log_lines.specs.Words.{word_text}
+use Rattle.failure_report.specs.declared.failed.Failure.{Failure}
+use Rattle.failure_report.specs.declared.numbers.Named.{Named}
+use Rattle.failure_report.specs.declared.numbers.Named.TheVariants.{Nodes, Unknown}
+use Rattle.failure_report.specs.declared.why.Told.{Told}
+use Rattle.failure_report.specs.declared.why.Told.TheVariants.{Failed, Standing}
+use Rattle.failure_report.specs.declared.why.Why.{Why}
+use Rattle.failure_report.specs.declared.why.Why.TheVariants as why
+use Rattle.failure_report.specs.Failures.{IsFailure}
+use Rattle.failure_report.specs.Told.{HasBlocks}
+
+-- the number of the node of this full name
+abbrev pub number_of : Plan → List ℕ → Option ℕ
+number_of plan name = position (bytes_eq name) (names_of plan.graph.dag)
+
+-- these are the numbers of nodes of these names, in their order
+abbrev pub AreNumbers : Plan → (names : List (List ℕ)) → (numbers : List ℕ) → Type 0
+AreNumbers plan names numbers = map (number_of plan) names ≡ map Some numbers
+
+-- a node is in error, with how it failed and how many wait for it; or it is not
+pub data IsToldOfNode (plan : Plan) (past : List Record) (node : ℕ) : Told → Type 0 where
+  is_failed : (failure : Failure) → failure.node ≡ node → node ≤ count_of plan → is_in_error plan past node ≡ true → IsFailure plan past failure →
+      IsToldOfNode plan past node (Failed failure)
+  is_standing : (node ≤ count_of plan → is_in_error plan past node ≡ false) → IsToldOfNode plan past node (Standing node)
+
+-- so it is of each of these nodes, in their order
+pub data AreTold (plan : Plan) (past : List Record) : (nodes : List ℕ) → List Told → Type 0 where
+  none_told : AreTold plan past [] []
+  one_more_told : (nodes : List ℕ) (told : List Told) (node : ℕ) (one : Told) → AreTold plan past nodes told → IsToldOfNode plan past node one →
+      AreTold plan past (nodes ++ node ∷ []) (told ++ one ∷ [])
+
+-- the text has what is told of the nodes of these names, one behind another
+pub record HasNamed (plan : Plan) (past : List Record) (names : List (List ℕ)) (text : List ℕ) : Type 0 where
+  pub numbers : List ℕ
+  pub are_numbers : AreNumbers plan names numbers
+  pub told : List Told
+  pub each : AreTold plan past numbers told
+  pub blocks : HasBlocks plan told text
+
+-- the name of a node that is near, where there is one
+abbrev pub nearest_words : Option (List ℕ) → List ℕ
+nearest_words None = codes "\n"
+nearest_words (Some name) = codes "; the nearest name is " ++ (word_text name ++ codes "\n")
+
+-- `dagrun: x.dag has no node NAME`, and perhaps a near one: what is told of a name that is none of a node of the DAG file of this path
+abbrev pub unknown_line : (path name : List ℕ) → (near : Option (List ℕ)) → List ℕ
+unknown_line path name near = codes "dagrun: " ++ (word_text path ++ (codes " has no node " ++ (word_text name ++ nearest_words near)))
+
+pub record IsUnknownLine (path name line : List ℕ) : Type 0 where
+  pub near : Option (List ℕ)
+  pub line_is : line ≡ unknown_line path name near
+
+-- that is told of the first of these names that is none of a node
+pub record IsUnknownName (plan : Plan) (path : List ℕ) (names : List (List ℕ)) (line : List ℕ) : Type 0 where
+  pub before : List (List ℕ)
+  pub name : List ℕ
+  pub behind : List (List ℕ)
+  pub stand : names ≡ before ++ name ∷ behind
+  pub numbers : List ℕ
+  pub known : AreNumbers plan before numbers
+  pub unknown : number_of plan name ≡ None
+  pub told : IsUnknownLine path name line
+
+-- the numbers of the nodes of these names; or what is told of the first that is none
+abbrev pub IsNamed : Plan → (path : List ℕ) → (names : List (List ℕ)) → Named → Type 0
+IsNamed plan path names (Nodes numbers) = AreNumbers plan names numbers.items
+IsNamed plan path names (Unknown line) = IsUnknownName plan path names (string_bytes line)
+
+-- what is told of the nodes of these names
+abbrev pub IsWhyOfNamed : Plan → List Record → (path : List ℕ) → (names : List (List ℕ)) → Why → Type 0
+IsWhyOfNamed plan past path names (why.Told text) = HasNamed plan past names (string_bytes text)
+IsWhyOfNamed plan past path names (why.Unknown line) = IsUnknownName plan path names (string_bytes line)

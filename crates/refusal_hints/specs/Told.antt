@@ -1,0 +1,34 @@
+-- What is told behind the line of a refusal.
+use Rattle.std.specs.Prelude.{◌≡◌, ◌||◌, ℕ, Bool, false, List, [], ◌++◌, Option, Some, None, find, codes, option_map, if◌then◌else◌}
+use Rattle.std.specs.Str.{bytes_eq}
+use Rattle.fault_guide.specs.Guide.{has_code}
+use Rattle.fault_guide.specs.declared.guide.Fault.{Fault}
+use Rattle.std.specs.Borrow.{Bor}
+
+-- what the system said, behind four blanks; nothing where it said nothing
+abbrev pub reason_line : Option (List ℕ) → List ℕ
+reason_line None = []
+reason_line (Some reason) = codes "    " ++ (reason ++ codes "\n")
+
+-- a fault of which one wants to know at once what to write instead
+abbrev pub tells_what_to_write : List ℕ → Bool
+tells_what_to_write code =
+    bytes_eq code (codes "L3") || bytes_eq code (codes "U4") || bytes_eq code (codes "U5") || bytes_eq code (codes "V4") || bytes_eq code (codes "J5")
+
+-- what the guide says of the fault of a code: all of what to do, or where that is to be found; nothing of a fault that it doesn't have
+abbrev pub guide_text : List ℕ → Option Fault → List ℕ
+guide_text code None = []
+guide_text code (Some fault) =
+    if tells_what_to_write code then fault.advice.now else codes "    dagrun explain " ++ (code ++ codes " says more\n")
+
+-- what some guide says of the fault of this code stands behind a text
+pub record IsGuideText (code before now : List ℕ) : Type 0 where
+  pub guide : List (Bor Fault)
+  pub added : now ≡ before ++ guide_text code (option_map (λ f. f.now) (find (λ f. has_code code f.now) guide))
+
+-- What is told of a refusal of this code, where the system said this or nothing: what stands about the place that it names, which is nothing where
+-- the file of it isn't known; what the system said; and what the guide says.
+pub record IsHint (code : List ℕ) (reason : Option (List ℕ)) (has_source : Bool) (text : List ℕ) : Type 0 where
+  pub about : List ℕ
+  pub nothing_about : has_source ≡ false → about ≡ []
+  pub text_is : IsGuideText code (about ++ reason_line reason) text

@@ -1,0 +1,167 @@
+-- Why a round is not salvaged.
+use Rattle.std.proofs.Common.{◌≡◌, ◌≤◌, ◌<◌, ◌&&◌, ◌⊎◌, inl, inr, not, cond, ℕ, Bool, true, false, List, [], ◌∷◌, ◌++◌, Bor, String, Vec, Global, Option, Some, None, Result, Ok, Err, IfErr, map, length, arith, refl, sym, ap, subst, ◌∙◌}
+use Rattle.std.specs.Prelude.{IsErrAnd, slice_get, slice_range, string_bytes, All}
+use Rattle.std.specs.Str.{bytes_eq}
+use Rattle.std.specs.Map.Iter.{deref_pair}
+use Rattle.std.proofs.lemmas.Bool.{and_parts, ltb-true, not-true, false≢true}
+use Rattle.std.proofs.lemmas.List.{map-append}
+use Rattle.std.proofs.lemmas.List.Elements.{All-map}
+use Rattle.std.proofs.lemmas.Slice.Eq.{bytes_eq-Decides}
+use Rattle.node_machine.specs.declared.Record.{Record}
+use Rattle.run_plan.specs.Plan.{Plan}
+use Rattle.run_plan.specs.PlanAnswers.{Fails, is_memory}
+use Rattle.run_plan.specs.declared.fault.PlanFault.{PlanFault}
+use Rattle.run_plan.specs.declared.fault.PlanFault.TheVariants as plans
+use Rattle.event_journal.specs.declared.fault.JournalFault.{JournalFault}
+use Rattle.event_journal.specs.declared.fault.JournalFault.TheVariants as journals
+use Rattle.event_journal.specs.declared.journal.Peek.{Peek}
+use Rattle.event_journal.specs.Groups.{IsSlotAt}
+use Rattle.event_journal.specs.Image.{Found, replay_of, groups_in, header_in, is_headed}
+use Rattle.event_journal.specs.Peeks.{ReadsPeek}
+use Rattle.event_journal.specs.Reading.{RefusedAs, FailsAs, has_other, has_other_flag, is_known, replay_for}
+use Rattle.recovery.specs.Replay.{IsFirstForeign, IsReplayFault}
+use Rattle.recovery.proofs.Slots.{first_at, foreign_slot, groups_read}
+use Rattle.run_manager.specs.declared.fault.ManagerFault.TheVariants as manager
+use Rattle.dag_texts.specs.declared.fault.RunFault.{RunFault}
+use Rattle.dag_texts.specs.declared.fault.RunFault.TheVariants.{InManager, Memory}
+use Rattle.splices.specs.FileSet.{entries_of}
+use Rattle.splices.specs.declared.file_set.FileSet.{FileSet}
+use Rattle.salvage.specs.Round.{IsSame}
+use Rattle.salvage.specs.Salvaged.{HasRecords}
+use Rattle.salvage.specs.Refused.{read_fault, IsUnread, bad_journal, reading_had_no_memory, IsNoNumber, IsNotCutShort, has_ended, no_such_number, IsOtherFile, IsFirstOther, IsUnsalvaged, no_records, of_other_flag, foreign_record, salvaging_had_no_memory}
+use Rattle.salvage.specs.declared.inputs.Listed.{Listed}
+use Rattle.salvage.specs.declared.fault.SalvageFault.{SalvageFault}
+use Rattle.salvage.specs.declared.fault.SalvageFault.TheVariants.{Refused, Ended}
+use Rattle.salvage.proofs.Listings.{lent_file, maps}
+
+-- a name and a file, as a set's iterator lends them
+abbrev pub Lent : Type 0
+Lent = Bor (String Global) × Bor (Vec ℕ Global)
+
+-- a cause that is handed on
+pub told-as : {A : Type 0} (P : SalvageFault → Type 0) (given : SalvageFault) → P given → (r : Result A SalvageFault) → IsErrAnd r (λ fault. fault ≡ given) → IfErr r P
+told-as P given is (Ok x) same = absurd same
+told-as P given is (Err fault) same = subst P (sym same) is
+
+pub weaker-as : {A : Type 0} {Q : SalvageFault → Type 0} (P : SalvageFault → Type 0) (r : Result A SalvageFault) → IfErr r Q → ((fault : SalvageFault) → Q fault → P fault) → IfErr r P
+weaker-as P (Ok x) h more = tt
+weaker-as P (Err fault) h more = more fault h
+
+-- a sum that is another one
+pub differ : (sum digest hash : List ℕ) (other : Bool) → other ≡ not (bytes_eq sum digest) → other ≡ true → digest ≡ hash → sum ≡ hash → ⊥
+differ sum digest hash other is holds d same =
+    false≢true (sym (not-true (bytes_eq sum digest) (sym is ∙ holds)) ∙ (bytes_eq-Decides sum digest).1 (same ∙ sym d))
+
+-- a journal that can't be read
+pub unread : (journal : List ℕ) (fault : JournalFault) → RefusedAs fault (replay_of journal) → IsUnread journal (read_fault fault)
+unread journal journals.Memory is = reading_had_no_memory
+unread journal journals.Device is = reading_had_no_memory
+unread journal journals.DiskFull is = absurd is
+unread journal journals.NotAJournal is = bad_journal journals.NotAJournal is
+unread journal (journals.Version v) is = bad_journal (journals.Version v) is
+unread journal journals.OtherInputs is = bad_journal journals.OtherInputs is
+unread journal journals.OtherFlag is = bad_journal journals.OtherFlag is
+unread journal journals.SlotsFull is = absurd is
+unread journal journals.Broken is = absurd is
+unread journal (journals.BadSlot slot) is = bad_journal (journals.BadSlot slot) is
+
+pub over : (path journal : List ℕ) (peek : Peek) → ReadsPeek (Some peek) (replay_of journal) → peek.finished ≡ true → IsNotCutShort path journal (Ended path)
+over path journal peek (found, reads, used_is, next_is, flag_is, finished_is) ended = has_ended found reads (finished_is ∙ ended)
+
+pub bad-number : (path journal : List ℕ) (peek : Peek) (fault : RunFault) → ReadsPeek (Some peek) (replay_of journal) → peek.finished ≡ false
+    → IsNoNumber peek.used peek.next fault → IsNotCutShort path journal (Refused fault)
+bad-number path journal peek fault (found, reads, used_is, next_is, flag_is, finished_is) unfinished is =
+    no_such_number found fault reads (finished_is ∙ unfinished)
+    (subst (λ (u : ℕ). IsNoNumber u found.header.next fault) (sym used_is) (subst (λ (n : ℕ). IsNoNumber peek.used n fault) (sym next_is) is))
+
+-- the digest that stands in the header is that of the header
+known-or : (digest journal : List ℕ) (known : Bool) → is_known journal ≡ known → (40 ≤ length journal → digest ≡ slice_range journal 8 40) → has_other digest journal ≡ false
+known-or digest journal false known by = ap (λ (k : Bool). k && not (bytes_eq (header_in journal).digest digest)) known
+known-or digest journal true known by =
+    let headed : is_headed journal ≡ true = (and_parts _ _ known).0 in
+    let over : 64 < length journal = ltb-true 64 (length journal) (and_parts _ _ (and_parts _ _ (and_parts _ _ (and_parts _ _ headed).0).0).0).1 in
+    let long : 40 ≤ length journal = omega arith in
+    ap (λ (k : Bool). k && not (bytes_eq (header_in journal).digest digest)) known
+    ∙ ap (λ (d : List ℕ). not (bytes_eq (header_in journal).digest d)) (by long)
+    ∙ ap not ((bytes_eq-Decides (slice_range journal 8 40) (slice_range journal 8 40)).1 refl)
+
+pub of-this : (digest journal : List ℕ) → (40 ≤ length journal → digest ≡ slice_range journal 8 40) → has_other digest journal ≡ false
+of-this digest journal by = known-or digest journal (is_known journal) refl by
+
+-- what reading for that digest and a flag refuses
+reads-as : (other flag : Bool) (read : Result (Option Found) JournalFault) (fault : JournalFault) → other ≡ false
+    → cond other (Err journals.OtherInputs) (cond flag (Err journals.OtherFlag) read) ≡ Err fault → ((flag ≡ true) × (journals.OtherFlag ≡ fault)) ⊎ (read ≡ Err fault)
+reads-as true flag read fault this is = absurd (false≢true (sym this))
+reads-as false true read fault this is = inl (refl, cc)
+reads-as false false read fault this is = inr is
+
+module _ (plan : Plan) (journal digest : List ℕ) (always_post : Bool) (flag : always_post ≡ plan.always_post) (this : has_other digest journal ≡ false) where
+  refused-as : (fault : JournalFault) → ((has_other_flag always_post journal ≡ true) × (journals.OtherFlag ≡ fault)) ⊎ (replay_of journal ≡ Err fault)
+      → IsUnsalvaged plan journal (InManager (manager.Journal fault))
+  refused-as fault (inl (other, same)) =
+      subst (λ (f : JournalFault). IsUnsalvaged plan journal (InManager (manager.Journal f))) same
+      (of_other_flag (subst (λ (a : Bool). has_other_flag a journal ≡ true) flag other))
+  refused-as fault (inr is) = no_records fault is
+
+  failed-as : (fault : JournalFault) → replay_for digest always_post journal ≡ Err fault → IsUnsalvaged plan journal (InManager (manager.Journal fault))
+  failed-as fault is = refused-as fault (reads-as (has_other digest journal) (has_other_flag always_post journal) (replay_of journal) fault this is)
+
+  pub no-records : (fault : JournalFault) → FailsAs fault (replay_for digest always_post journal) → IsUnsalvaged plan journal (read_fault fault)
+  no-records journals.Memory is = salvaging_had_no_memory
+  no-records journals.Device is = salvaging_had_no_memory
+  no-records journals.DiskFull is = absurd is
+  no-records journals.NotAJournal is = failed-as journals.NotAJournal is
+  no-records (journals.Version v) is = failed-as (journals.Version v) is
+  no-records journals.OtherInputs is = failed-as journals.OtherInputs is
+  no-records journals.OtherFlag is = failed-as journals.OtherFlag is
+  no-records journals.SlotsFull is = absurd is
+  no-records journals.Broken is = absurd is
+  no-records (journals.BadSlot slot) is = failed-as (journals.BadSlot slot) is
+
+-- the slot of the first record that may not follow
+none-at : (place : ℕ) (entry : Record) → slice_get [] place ≡ Some entry → ⊥
+none-at place entry at = absurd cc
+
+found-at : (read : Result (Option Found) JournalFault) (records : List Record) (place : ℕ) (entry : Record) → HasRecords read records → slice_get records place ≡ Some entry
+    → (found : Found) × (read ≡ Ok (Some found)) × (records ≡ found.records)
+found-at (Ok None) records place entry are at = absurd (none-at place entry (subst (λ (rs : List Record). slice_get rs place ≡ Some entry) are at))
+found-at (Ok (Some found)) records place entry are at = (found, refl, are)
+found-at (Err fault) records place entry are at = absurd are
+
+pub foreign-at : (plan : Plan) (journal : List ℕ) (records : List Record) (place slot : ℕ) → HasRecords (replay_of journal) records
+    → IsReplayFault plan records (manager.Foreign place) → IsSlotAt (groups_in journal) place slot → IsUnsalvaged plan journal (InManager (manager.Foreign slot))
+foreign-at plan journal records place slot are why at =
+    let first = first_at plan records place why in
+    let f = found-at (replay_of journal) records place first.entry are first.is in
+    foreign_record slot
+    (foreign_slot plan (replay_of journal) (groups_in journal) f.0 f.1 (groups_read journal f.0 f.1) place slot
+    (subst (λ (l : List Record). IsFirstForeign plan l place) f.2 first) at)
+
+-- a plan's fault, but for want of memory
+pub plan-fault : (fault : PlanFault) (made : Result Plan PlanFault) → is_memory fault ≡ false → Fails fault made → made ≡ Err fault
+plan-fault plans.Memory made other fails = absurd cc
+plan-fault (plans.MissingFile path) made other fails = fails
+plan-fault (plans.InSubmit path fault) made other fails = fails
+plan-fault (plans.InMacro node fault) made other fails = fails
+plan-fault (plans.NoExecutable node) made other fails = fails
+plan-fault (plans.BadUniverse node) made other fails = fails
+plan-fault (plans.InRescue fault) made other fails = fails
+
+-- the first file that is not as it was, as a set's iterator lends it
+abbrev entry_of : String Global × Vec ℕ Global → List ℕ × List ℕ
+entry_of file = (string_bytes file.0, file.1.items)
+
+pub first-other : (listed : List Listed) (set : FileSet) (yielded : List Lent) (t u : List (String Global × Vec ℕ Global)) (file : Lent) (fault : SalvageFault)
+    → set.files.entries ≡ map deref_pair yielded ++ t → t ≡ deref_pair file ∷ u → All (λ f. IsSame listed (lent_file f)) yielded
+    → IsOtherFile listed (lent_file file) fault → IsFirstOther listed (entries_of set) fault
+first-other listed set yielded t u file fault all next same other = record {
+  before = map lent_file yielded;
+  file = lent_file file;
+  behind = map entry_of u;
+  stand =
+      ap (map entry_of) (all ∙ ap (λ (l : List (String Global × Vec ℕ Global)). map deref_pair yielded ++ l) next)
+      ∙ map-append entry_of (map deref_pair yielded) (deref_pair file ∷ u)
+      ∙ ap (λ (l : List (List ℕ × List ℕ)). l ++ lent_file file ∷ map entry_of u) (maps entry_of deref_pair yielded);
+  same = All-map (IsSame listed) lent_file yielded same;
+  other = other;
+}

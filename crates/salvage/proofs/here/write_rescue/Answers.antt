@@ -1,0 +1,19 @@
+use Rattle.std.proofs.Common.{sym, subst}
+use Rattle.dag_texts.specs.declared.fault.RunFault.TheVariants.{Memory}
+use Rattle.dag_files.specs.Beside.{IsFileFault, file_refused, reading_had_no_memory}
+use Rattle.dag_files.proofs.RunFaults.{by-fault}
+use Rattle.salvage.proofs.here.write_rescue.Goals as goal
+
+pub returns-in_err-disk : goal.returns-in_err-disk
+returns-in_err-disk g c = by-fault IsFileFault c.in_err-disk.field-0.0 (subst IsFileFault (sym c.in_err-disk.ensures) reading_had_no_memory)
+    c.from_residual.result c.from_residual.ensures.1
+
+pub returns-in_err-path-in-Err : goal.returns-in_err-path-in-Err
+returns-in_err-path-in-Err g c = by-fault IsFileFault c.in_err-path-in-Err.field-0.0 (subst IsFileFault (sym c.in_err-path-in-Err.ensures.err) reading_had_no_memory)
+    c.from_residual-in_err-path-in-Err.result c.from_residual-in_err-path-in-Err.ensures.1
+
+pub returns-in_err-from_str-in-Err : goal.returns-in_err-from_str-in-Err
+returns-in_err-from_str-in-Err g c = by-fault IsFileFault Memory reading_had_no_memory c.from_residual-in_err-from_str-in-Err.result c.from_residual-in_err-from_str-in-Err.ensures.1
+
+pub returns : goal.returns
+returns g c = file_refused c.in_ok-from_str-in-Err.field-0

@@ -1,0 +1,145 @@
+-- Why a round is not salvaged.
+use Rattle.std.specs.Prelude.{◌≡◌, ◌≢◌, ◌<◌, ◌≤◌, ℕ, Bool, true, false, List, [], ◌∷◌, ◌++◌, Option, Some, None, Ok, Err, All, codes}
+use Rattle.sha2.specs.Sha256.{sha256}
+use Rattle.splices.specs.Opening.{Files}
+use Rattle.splices.specs.FileSet.{bytes_of, entries_of}
+use Rattle.splices.specs.declared.file_set.FileSet.{FileSet}
+use Rattle.rescue_file.specs.Numbered.{rescue_name_of}
+use Rattle.dag_graph.specs.Graph.{Network}
+use Rattle.run_plan.specs.Digest.{digest_of}
+use Rattle.run_plan.specs.Plan.{Plan}
+use Rattle.run_plan.specs.Submitted.{plan_at}
+use Rattle.run_plan.specs.declared.fault.PlanFault.{PlanFault}
+use Rattle.event_journal.specs.declared.fault.JournalFault.{JournalFault}
+use Rattle.event_journal.specs.declared.fault.JournalFault.TheVariants as journals
+use Rattle.event_journal.specs.Image.{Found, replay_of, groups_in, IsRescueNumber}
+use Rattle.event_journal.specs.Peeks.{is_finished}
+use Rattle.event_journal.specs.Reading.{has_other_flag}
+use Rattle.recovery.specs.Replay.{IsForeignSlot}
+use Rattle.run_manager.specs.declared.fault.ManagerFault.TheVariants as manager
+use Rattle.dag_texts.specs.declared.fault.RunFault.{RunFault}
+use Rattle.dag_texts.specs.declared.fault.RunFault.TheVariants.{InPlan, NotThere, InManager, Memory}
+use Rattle.dag_texts.specs.Planned.{IsGraphOf, IsGraphFault, rescue_line, named_by}
+use Rattle.dag_files.specs.Beside.{journal_name_of, IsFileFault}
+use Rattle.salvage.specs.Inputs.{inputs_text_of}
+use Rattle.salvage.specs.Round.{IsCutShort, sum_in, IsSame, IsSameRescue}
+use Rattle.salvage.specs.Salvaged.{IsBarePlan}
+use Rattle.salvage.specs.declared.inputs.Listed.{Listed}
+use Rattle.salvage.specs.declared.fault.SalvageFault.{SalvageFault}
+use Rattle.salvage.specs.declared.fault.SalvageFault.TheVariants.{Refused, NoJournal, Ended, NoInputs, BadInputs, OtherRound, Changed, NotListed}
+
+-- `top.inputs`
+abbrev pub inputs_name_of : List ℕ → List ℕ
+inputs_name_of top = top ++ codes ".inputs"
+
+-- what is told of the fault of a journal's bytes; they are read in memory, so that their disk fails for want of memory alone
+abbrev pub read_fault : JournalFault → RunFault
+read_fault journals.Memory = Memory
+read_fault journals.Device = Memory
+read_fault journals.DiskFull = InManager (manager.Journal journals.DiskFull)
+read_fault journals.NotAJournal = InManager (manager.Journal journals.NotAJournal)
+read_fault (journals.Version v) = InManager (manager.Journal (journals.Version v))
+read_fault journals.OtherInputs = InManager (manager.Journal journals.OtherInputs)
+read_fault journals.OtherFlag = InManager (manager.Journal journals.OtherFlag)
+read_fault journals.SlotsFull = InManager (manager.Journal journals.SlotsFull)
+read_fault journals.Broken = InManager (manager.Journal journals.Broken)
+read_fault (journals.BadSlot slot) = InManager (manager.Journal (journals.BadSlot slot))
+
+-- a journal of these bytes can't be read, or memory ran out
+pub data IsUnread (journal : List ℕ) : RunFault → Type 0 where
+  bad_journal : (fault : JournalFault) → replay_of journal ≡ Err fault → IsUnread journal (InManager (manager.Journal fault))
+  reading_had_no_memory : IsUnread journal Memory
+
+-- no rescue file has one of two numbers: that of the file which a round read, 0 for none, or else that of the one which it would write
+pub data IsNoNumber (used next : ℕ) : RunFault → Type 0 where
+  none_was_read : 999 < used → IsNoNumber used next (NotThere used)
+  none_is_written : used ≤ 999 → ¬ (IsRescueNumber next) → IsNoNumber used next (NotThere next)
+
+-- The bytes of the journal of this path are not those of a round that was cut short: none was begun; its last record is that of its end; they
+-- can't be read; or their header has a number that no rescue file has.
+pub data IsNotCutShort (path journal : List ℕ) : SalvageFault → Type 0 where
+  not_begun : replay_of journal ≡ Ok None → IsNotCutShort path journal (NoJournal path)
+  has_ended : (found : Found) → replay_of journal ≡ Ok (Some found) → is_finished found.records ≡ true → IsNotCutShort path journal (Ended path)
+  not_read : (fault : RunFault) → IsUnread journal fault → IsNotCutShort path journal (Refused fault)
+  no_such_number : (found : Found) (fault : RunFault) → replay_of journal ≡ Ok (Some found) → is_finished found.records ≡ false →
+      IsNoNumber found.header.used found.header.next fault → IsNotCutShort path journal (Refused fault)
+
+-- Why no round of the DAG file of this path was cut short: it has no journal; the system refuses it; or its bytes tell of none.
+pub data IsNoRound (top : List ℕ) : SalvageFault → Type 0 where
+  has_no_journal : IsNoRound top (NoJournal (journal_name_of top))
+  journal_refused : (fault : RunFault) → IsFileFault fault → IsNoRound top (Refused fault)
+  not_cut_short : (journal : List ℕ) (fault : SalvageFault) → IsNotCutShort (journal_name_of top) journal fault → IsNoRound top fault
+
+-- Why it is not known what the round of this digest was begun with: the file is missing that says it, or the system refuses it; it is not spelled
+-- as that file is; or it says it of another digest.
+pub data IsNoInputs (top digest : List ℕ) : SalvageFault → Type 0 where
+  has_no_inputs : IsNoInputs top digest (NoInputs (inputs_name_of top))
+  inputs_refused : (fault : RunFault) → IsFileFault fault → IsNoInputs top digest (Refused fault)
+  not_spelled : IsNoInputs top digest (BadInputs (inputs_name_of top))
+  of_another_round : (other : List ℕ) (listed : List Listed) (bytes : List ℕ) → inputs_text_of other listed ≡ bytes → other ≢ digest →
+      IsNoInputs top digest (OtherRound (inputs_name_of top))
+
+-- A file of this path and these bytes is not one that the round was begun with: it is not in its list; its list has another sum for the path
+-- than that of the bytes. Or memory ran out.
+pub data IsOtherFile (listed : List Listed) (file : List ℕ × List ℕ) : SalvageFault → Type 0 where
+  not_listed : sum_in listed file.0 ≡ None → IsOtherFile listed file (NotListed file.0)
+  changed : (sum : List ℕ) → sum_in listed file.0 ≡ Some sum → sum ≢ sha256 file.1 → IsOtherFile listed file (Changed file.0)
+  comparing_had_no_memory : IsOtherFile listed file (Refused Memory)
+
+-- it is so of the first of some files that is not as it was when the round began
+pub record IsFirstOther (listed : List Listed) (files : List (List ℕ × List ℕ)) (fault : SalvageFault) : Type 0 where
+  pub before : List (List ℕ × List ℕ)
+  pub file : List ℕ × List ℕ
+  pub behind : List (List ℕ × List ℕ)
+  pub stand : files ≡ before ++ file ∷ behind
+  pub same : All (IsSame listed) before
+  pub other : IsOtherFile listed file fault
+
+-- Why the rescue file of this number, which the round read, is not the one that it was: it is missing, and is in the list; it is another one; or
+-- the system refuses it.
+pub data IsOtherRescue (listed : List Listed) (top : List ℕ) (used : ℕ) : SalvageFault → Type 0 where
+  rescue_missing : (sum : List ℕ) → used ≢ 0 → sum_in listed (rescue_name_of top used) ≡ Some sum → IsOtherRescue listed top used (Changed (rescue_name_of top used))
+  rescue_changed : (bytes : List ℕ) (fault : SalvageFault) → used ≢ 0 → IsOtherFile listed (rescue_name_of top used, bytes) fault → IsOtherRescue listed top used fault
+  rescue_refused : (fault : RunFault) → IsFileFault fault → IsOtherRescue listed top used (Refused fault)
+
+-- Why there is no plan of the files of a path and of a rescue file of this number, 0 for none: the files make no graph; or the rescue file can't
+-- be read, which is told with its path.
+pub data IsBarePlanFault (always_post : Bool) (files : Files) (path : List ℕ) (used : ℕ) (rescue : Option (List ℕ)) : RunFault → Type 0 where
+  has_no_graph : (fault : RunFault) → IsGraphFault files path fault → IsBarePlanFault always_post files path used rescue fault
+  not_planned : (graph : Network) (fault : PlanFault) → used ≡ 0 → IsGraphOf files path graph →
+      plan_at always_post graph None rescue (digest_of graph.dag.top [] rescue) ≡ Err fault → IsBarePlanFault always_post files path used rescue (InPlan fault)
+  not_marked : (graph : Network) (fault : PlanFault) → used ≢ 0 → IsGraphOf files path graph →
+      plan_at always_post graph None rescue (digest_of graph.dag.top [] rescue) ≡ Err fault →
+      IsBarePlanFault always_post files path used rescue (named_by (rescue_line fault) (Some (rescue_name_of path used)) (InPlan fault))
+  planning_had_no_memory : IsBarePlanFault always_post files path used rescue Memory
+
+-- Why the bytes of a journal have no records of a run of the plan: they can't be read; they are of a run with the other flag; a record may not
+-- follow those before it, and its slot is told. Or memory ran out.
+pub data IsUnsalvaged (plan : Plan) (journal : List ℕ) : RunFault → Type 0 where
+  no_records : (fault : JournalFault) → replay_of journal ≡ Err fault → IsUnsalvaged plan journal (InManager (manager.Journal fault))
+  of_other_flag : has_other_flag plan.always_post journal ≡ true → IsUnsalvaged plan journal (InManager (manager.Journal journals.OtherFlag))
+  foreign_record : (slot : ℕ) → IsForeignSlot plan (replay_of journal) (groups_in journal) slot → IsUnsalvaged plan journal (InManager (manager.Foreign slot))
+  salvaging_had_no_memory : IsUnsalvaged plan journal Memory
+
+-- Why a round that was cut short, with this journal, is not salvaged, the first cause first: it is not known what it was begun with; a DAG file is
+-- not as it was, or else the rescue file that it read; these have no plan; the journal has no records of a run of the plan.
+pub data IsCutShortFault (top journal digest : List ℕ) (used : ℕ) (always_post : Bool) : SalvageFault → Type 0 where
+  no_inputs : (fault : SalvageFault) → IsNoInputs top digest fault → IsCutShortFault top journal digest used always_post fault
+  other_files : (listed : List Listed) (files : FileSet) (fault : SalvageFault) → IsFirstOther listed (entries_of files) fault →
+      IsCutShortFault top journal digest used always_post fault
+  other_rescue : (listed : List Listed) (files : FileSet) (fault : SalvageFault) → All (IsSame listed) (entries_of files) →
+      IsOtherRescue listed top used fault → IsCutShortFault top journal digest used always_post fault
+  no_plan : (listed : List Listed) (files : FileSet) (rescue : Option (List ℕ)) (fault : RunFault) → All (IsSame listed) (entries_of files) →
+      IsSameRescue listed top used rescue → IsBarePlanFault always_post (bytes_of files) top used rescue fault →
+      IsCutShortFault top journal digest used always_post (Refused fault)
+  not_of_plan : (listed : List Listed) (files : FileSet) (rescue : Option (List ℕ)) (plan : Plan) (fault : RunFault) → All (IsSame listed) (entries_of files) →
+      IsSameRescue listed top used rescue → IsBarePlan always_post (bytes_of files) top rescue plan → IsUnsalvaged plan journal fault →
+      IsCutShortFault top journal digest used always_post (Refused fault)
+
+-- Why no round of the DAG file of this path is salvaged: none was cut short, by its journal; or one was, and what stands beside it says why; or the
+-- system refuses a file, as the lock that another manager has, or memory ran out.
+pub data IsSalvageFault (top : List ℕ) : SalvageFault → Type 0 where
+  no_round : (fault : SalvageFault) → IsNoRound top fault → IsSalvageFault top fault
+  round_refused : (journal digest : List ℕ) (used next : ℕ) (always_post : Bool) (fault : SalvageFault) → IsCutShort journal digest used next always_post →
+      IsCutShortFault top journal digest used always_post fault → IsSalvageFault top fault
+  system_refuses : (fault : RunFault) → IsFileFault fault → IsSalvageFault top (Refused fault)
