@@ -1,5 +1,5 @@
 -- The pages of faults.
-use Rattle.std.proofs.Common.{◌≡◌, ℕ, List, Option, Some, None, Bor, map, find, option_map, sym, subst, ◌∙◌}
+use Rattle.std.proofs.Common.{◌≡◌, ℕ, List, Option, Some, None, Bor, map, find, option_map, sym, subst}
 use Rattle.fault_guide.specs.declared.guide.Fault.{Fault}
 use Rattle.fault_guide.specs.Guide.{has_code, page_text, list_text}
 use Rattle.command_line.specs.Pages.{IsExplained, all, one}

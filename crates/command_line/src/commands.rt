@@ -22,6 +22,8 @@ enum Kind {
     Flag,
     /// The same, which can't stand beside this other option.
     FlagWithout(&'static str),
+    /// An option with words of its own, in one.
+    Words,
     /// An option with one of these words.
     Choice(&'static [&'static str]),
 }
@@ -143,6 +145,18 @@ const SVG: ArgumentRow = ArgumentRow {
     help: "A picture of the run over time, in place of a table",
 };
 
+const LAUNCHER: ArgumentRow = ArgumentRow {
+    name: "launcher",
+    kind: Kind::Words,
+    help: "What stands before the program of each job, as \"srun -n1\"; it is split as arguments are",
+};
+
+const LAUNCHER_FINAL: ArgumentRow = ArgumentRow {
+    name: "launcher-final",
+    kind: Kind::Flag,
+    help: "It stands before the program of FINAL's job, too",
+};
+
 const ORPHANS: ArgumentRow = ArgumentRow {
     name: "orphans",
     kind: Kind::Choice(&["kill", "wait", "leave"]),
@@ -162,6 +176,8 @@ static COMMANDS: [CommandRow; 12] = [
             DORESCUEFROM,
             ALWAYS_POST,
             SYNC_OUTPUT,
+            LAUNCHER,
+            LAUNCHER_FINAL,
             ORPHANS,
             PROGRESS,
             RESUME,
@@ -171,6 +187,7 @@ static COMMANDS: [CommandRow; 12] = [
   dagrun run --maxjobs 4 x.dag        with 4 jobs at once at most
   dagrun run --dorescuefrom 1 x.dag   goes back to x.dag.rescue001
   dagrun run --resume x.dag           begins no round behind one that has ended
+  dagrun run --launcher \"srun -n1\" x.dag   with each job on a Slurm cluster
 ",
     },
     CommandRow {
@@ -284,6 +301,7 @@ fn argument_of<'a>(alloc: Global, row: &ArgumentRow) -> Result<Arg<'a>, AllocErr
             .long(row.name)
             .action(ArgAction::SetTrue)
             .conflicts_with(other)?,
+        Kind::Words => argument.long(row.name).value_name("WORDS"),
         Kind::Choice(words) => argument.long(row.name).value_parser(words),
     })
 }

@@ -2,6 +2,7 @@
 #![tactic(auto)]
 
 mod commands;
+mod launchers;
 mod pages;
 mod request;
 

@@ -4,9 +4,11 @@ ghost use Rattle.std.specs.Prelude.{◌≡◌, ◌<◌, ◌≤◌, false, None, 
 ghost use Rattle.command_line.specs.Requests.{rehearses, shows, asked_by, no_limits, limits_in, AreLimits};
 
 use crate::commands::{dagrun_command, help_text};
+use crate::launchers::launcher_in;
 use crate::pages::explained;
 use clap::error::ErrorKind;
 use clap::{ArgMatches, Error};
+use dag_reader::Texts;
 use std::alloc::{AllocError, Global};
 use throttles::Limits;
 
@@ -44,7 +46,7 @@ pub enum ProgressRule {
 }
 
 /// How a run is to be done.
-#[derive(Clone, Copy, Debug, PartialEq, Eq)]
+#[derive(Debug)]
 pub struct RunOptions {
     /// What may run at once.
     pub limits: Limits,
@@ -60,12 +62,35 @@ pub struct RunOptions {
     /// Whether the files that take the output and the errors of a job are brought to the disk before its
     /// ending is recorded.
     pub sync_output: bool,
+    /// The program that starts jobs, and the words before theirs; none where they are started by themselves.
+    pub launcher: Texts,
+    /// Whether it starts FINAL's job, too.
+    pub launcher_final: bool,
     /// Whether standard error shows how far the run is.
     pub progress: ProgressRule,
     /// Whether no round begins where the last one has ended: its report is printed again.
     pub resume: bool,
     /// Whether root goes by files of others that stand beside the DAG file, and others by those of root.
     pub trust_owner: bool,
+}
+
+// Each function that lets a value go calls this; a derived drop stands in each, part by part.
+impl Drop for RunOptions {
+    fn drop(self) {
+        let RunOptions {
+            limits: _,
+            autorescue: _,
+            dorescuefrom: _,
+            orphans: _,
+            always_post: _,
+            sync_output: _,
+            launcher: _,
+            launcher_final: _,
+            progress: _,
+            resume: _,
+            trust_owner: _,
+        } = self;
+    }
 }
 
 /// What the words of a command line ask for.
@@ -198,20 +223,25 @@ fn progress_of(found: &ArgMatches<'_>) -> ProgressRule {
 }
 
 /// The options of a run.
-fn options_of(found: &ArgMatches<'_>) -> RunOptions
-    ensures { AreLimits result.limits }
+///
+/// # Errors
+/// `Told` where the launcher is no words; `Memory`.
+fn options_of(alloc: Global, found: &ArgMatches<'_>) -> Result<RunOptions, WordsFault>
+    ensures { IfOk result (λ options. AreLimits options.limits) }
 {
-    RunOptions {
+    Ok(RunOptions {
         limits: limits_of(found),
         autorescue: found.get_one::<u8>("autorescue") != Some(0),
         dorescuefrom: found.get_one::<u16>("dorescuefrom"),
         orphans: orphan_rule_of(found),
         always_post: found.get_flag("always-run-post"),
         sync_output: found.get_one::<u8>("sync-output") != Some(0),
+        launcher: launcher_in(alloc, found.get_str("launcher"))?,
+        launcher_final: found.get_flag("launcher-final"),
         progress: progress_of(found),
         resume: found.get_flag("resume"),
         trust_owner: found.get_flag("trust-owner"),
-    }
+    })
 }
 
 /// The path of the DAG file, which each command has.
@@ -269,7 +299,7 @@ fn request_of<'a>(alloc: Global, matches: &ArgMatches<'a>) -> Result<Request<'a>
     match matches.subcommand() {
         Some(("run", found)) => Ok(Request::Run {
             dag: dag_of(found),
-            options: options_of(found),
+            options: options_of(alloc, found)?,
         }),
         Some(("status", found)) => Ok(Request::Status { dag: dag_of(found) }),
         Some(("audit", found)) => Ok(Request::Audit { dag: dag_of(found) }),
@@ -300,7 +330,8 @@ fn request_of<'a>(alloc: Global, matches: &ArgMatches<'a>) -> Result<Request<'a>
 ///
 /// # Errors
 /// `Told` with clap's text, where the words are no command as clap reads them, or call for help by an
-/// option, and where a page is asked for that there is not; `Memory` where it was refused.
+/// option, where a page is asked for that there is not, and where a launcher can't be split into words;
+/// `Memory` where it was refused.
 pub fn read_words<'a>(alloc: Global, words: &'a [&'a str]) -> Result<Request<'a>, WordsFault>
     // No words ask for `rehearse -`, with no table, with no limits but that on all children, and with
     // no POST script behind a PRE script that failed.

@@ -10,12 +10,14 @@ ghost use Rattle.sched_core.specs.Run.{is_same, is_among, without};
 ghost use Rattle.job_starter.specs.Calls.{running, TellsNoMore};
 ghost use Rattle.job_starter.specs.Causes.{IsStartFault, IsAskFault};
 
+mod launching;
 mod starting;
 mod telling;
 mod watching;
 
 use dag_reader::Text;
 use job_starter::{Call, Killed, StartFault, Started, System, are_same};
+pub use launching::Launcher;
 use node_machine::{Key, Outcome};
 use node_specs::ChildCommand;
 use scripted_starter::{CallLog, no_answer, no_memory};
@@ -86,10 +88,15 @@ fn longest_pause(children: usize) -> u64 {
 ///
 /// All children are looked at together, once between two pauses, and each question is answered by
 /// what was seen then.
-pub struct LocalSystem<R: Processes + Files<File = File> + Clock + Drop, W: ChildWatcher + Drop> {
+pub struct LocalSystem<
+    'a,
+    R: Processes + Files<File = File> + Clock + Drop,
+    W: ChildWatcher + Drop,
+> {
     alloc: Global,
     rt: R,
     folder: Text,
+    launcher: &'a Launcher,
     watcher: W,
     log: CallLog,
     children: Vec<RunningChild<R>>,
@@ -105,12 +112,13 @@ pub struct LocalSystem<R: Processes + Files<File = File> + Clock + Drop, W: Chil
 
 // Each function that lets a value go calls this; a derived drop stands in each, part by part.
 impl<R: Processes + Files<File = File> + Clock + Drop, W: ChildWatcher + Drop> Drop
-    for LocalSystem<R, W> {
+    for LocalSystem<'_, R, W> {
     fn drop(self) {
         let LocalSystem {
             alloc: _,
             rt: _,
             folder: _,
+            launcher: _,
             watcher: _,
             log: _,
             children: _,
@@ -296,15 +304,27 @@ fn start_in_time<R: Processes + Files<File = File> + Clock, W: ChildWatcher>(
     start_child(alloc, rt, folder, command)
 }
 
-impl<R: Processes + Files<File = File> + Clock + Drop, W: ChildWatcher + Drop> LocalSystem<R, W> {
-    /// A system of no children. The folder is an absolute path; the watcher is told what is done.
-    pub fn new(alloc: Global, rt: R, folder: &str, watcher: W) -> Result<Self, AllocError>
+impl<'a, R: Processes + Files<File = File> + Clock + Drop, W: ChildWatcher + Drop> LocalSystem<
+    'a,
+    R,
+    W,
+> {
+    /// A system of no children. The folder is an absolute path; jobs are started by the launcher; the watcher is
+    /// told what is done.
+    pub fn new(
+        alloc: Global,
+        rt: R,
+        folder: &str,
+        launcher: &'a Launcher,
+        watcher: W,
+    ) -> Result<Self, AllocError>
         ensures { IfOk result (λ system. system.log.calls ≡ []) }
     {
         Ok(LocalSystem {
             alloc,
             rt,
             folder: Text::new(alloc, folder)?,
+            launcher,
             watcher,
             log: CallLog::new(alloc),
             children: Vec::new(alloc),
@@ -332,7 +352,7 @@ impl<R: Processes + Files<File = File> + Clock + Drop, W: ChildWatcher + Drop> L
 }
 
 impl<R: Processes + Files<File = File> + Clock + Drop, W: ChildWatcher + Drop> System
-    for LocalSystem<R, W> {
+    for LocalSystem<'_, R, W> {
     ghost told = { λ s. s.log.calls };
 
     // A child of the operating system may end in any way.
@@ -344,11 +364,15 @@ impl<R: Processes + Files<File = File> + Clock + Drop, W: ChildWatcher + Drop> S
         if self.log.make_room().is_err() || self.children.reserve(1).is_err() {
             return Err(no_memory(&mut self.faults));
         }
-        self.watcher.launching(&key, command);
         let folder = self.folder.as_str();
+        let Ok(launched) = self.launcher.started_by(self.alloc, folder, &key, command) else {
+            return Err(no_memory(&mut self.faults));
+        };
+        let started = launched.as_ref().unwrap_or(command);
+        self.watcher.launching(&key, command);
         let (watcher, children) = (&mut self.watcher, &mut self.children);
         match start_in_time(
-            self.alloc, &self.rt, folder, watcher, children, &key, command,
+            self.alloc, &self.rt, folder, watcher, children, &key, started,
         ) {
             Ok(child) => {
                 let process = child.id();
@@ -356,14 +380,14 @@ impl<R: Processes + Files<File = File> + Clock + Drop, W: ChildWatcher + Drop> S
                 let _ = self.children.push(RunningChild { key, child, seen });
                 self.log.started(key, command, Started::Running);
                 self.pause = FIRST_PAUSE;
-                self.watcher.launched(&key, process, command);
+                self.watcher.launched(&key, process, started);
                 Ok(Started::Running)
             }
             Err(refusal) if refusal.is_memory() => Err(no_memory(&mut self.faults)),
             Err(refusal) => {
                 self.log.started(key, command, Started::NotStarted);
                 self.watcher
-                    .not_started(&key, command, refusal.part, &refusal.error);
+                    .not_started(&key, started, refusal.part, &refusal.error);
                 Ok(Started::NotStarted)
             }
         }

@@ -21,16 +21,16 @@ pub enum CommandPart {
 /// Whom a system tells what it does with its children. Nothing is promised of it, and nothing that a
 /// system promises rests on it.
 pub trait ChildWatcher {
-    /// A child is about to be started.
+    /// A child is about to be started that has this command of its own.
     fn launching(&mut self, key: &Key, command: &ChildCommand);
 
-    /// A child runs, as the process of this number.
+    /// A child runs, as the process of this number, started by this command.
     fn launched(&mut self, key: &Key, process: u32, command: &ChildCommand);
 
     /// The system has no process or no descriptor to give for the moment: it is asked again.
     fn held(&mut self, key: &Key, error: &io::Error);
 
-    /// A child could not be started, since the system refused this part of its command.
+    /// A child could not be started by this command, since the system refused this part of it.
     fn not_started(
         &mut self,
         key: &Key,

@@ -2,7 +2,7 @@
 use crate::same::same;
 use dag_reader::{Text, Texts};
 use job_starter::{Killed, Started, System};
-use local_system::{LocalSystem, Unwatched};
+use local_system::{Launcher, LocalSystem, Unwatched};
 use node_machine::{Key, Outcome, Phase};
 use node_specs::ChildCommand;
 use std::alloc::{AllocError, Global};
@@ -33,7 +33,8 @@ pub fn shell(alloc: Global, line: &str) -> Result<ChildCommand, AllocError> {
 #[test]
 fn local_wait_succeeds(rt: HostRuntime) -> Result<(), Fail> {
     let alloc = rt.alloc();
-    let mut system = LocalSystem::new(alloc, rt, "/", Unwatched)?;
+    let launcher = Launcher::none(alloc);
+    let mut system = LocalSystem::new(alloc, rt, "/", &launcher, Unwatched)?;
     let Started::Running = system.spawn(A, &shell(alloc, "exit 3")?)? else {
         panic!(rt; "not started");
     };
@@ -45,12 +46,50 @@ fn local_wait_succeeds(rt: HostRuntime) -> Result<(), Fail> {
 #[test]
 fn local_kill_ends(rt: HostRuntime) -> Result<(), Fail> {
     let alloc = rt.alloc();
-    let mut system = LocalSystem::new(alloc, rt, "/", Unwatched)?;
+    let launcher = Launcher::none(alloc);
+    let mut system = LocalSystem::new(alloc, rt, "/", &launcher, Unwatched)?;
     let Started::Running = system.spawn(A, &shell(alloc, "exec sleep 60")?)? else {
         panic!(rt; "not started");
     };
     same(&rt, system.kill(A), Killed::Ended);
     assert!(rt; system.running().is_empty());
     same(&rt, system.faults(), 0);
+    Ok(())
+}
+
+/// A launcher that ends with 4 and passes over what stands behind it; node 1 is spared.
+fn four(alloc: Global) -> Result<Launcher, AllocError> {
+    let command = shell(alloc, "exit 4")?;
+    Ok(Launcher {
+        program: Some(Text::new(alloc, command.program.as_str())?),
+        words: command.words.from_place(alloc, 0)?,
+        spared: Some(1),
+    })
+}
+
+/// A child, and how it ends whose own command ends with 3.
+const LAUNCHED: [(u32, Phase, u8); 4] = [
+    (0, Phase::Job, 4),
+    (0, Phase::Pre, 3),
+    (0, Phase::Post, 3),
+    (1, Phase::Job, 3),
+];
+
+#[test]
+fn launcher_starts_jobs(rt: HostRuntime) -> Result<(), Fail> {
+    let alloc = rt.alloc();
+    let launcher = four(alloc)?;
+    let mut system = LocalSystem::new(alloc, rt, "/", &launcher, Unwatched)?;
+    for (node, phase, code) in LAUNCHED {
+        let key = Key {
+            node,
+            attempt: 0,
+            phase,
+        };
+        let Started::Running = system.spawn(key, &shell(alloc, "exit 3")?)? else {
+            panic!(rt; "not started");
+        };
+        same(&rt, system.wait(key), Ok(Outcome::Exit(code)));
+    }
     Ok(())
 }

@@ -3,7 +3,7 @@ use crate::plans::{File, NO_LIMITS, plan_of};
 use crate::same::same;
 use job_starter::{Call, Starter};
 use journal_disks::FileDisk;
-use local_system::{LocalSystem, Unwatched};
+use local_system::{Launcher, LocalSystem, Unwatched};
 use node_machine::{Key, Outcome, Phase};
 use process_starter::ProcessStarter;
 use run_leader::{Start, open_round, run_round};
@@ -60,7 +60,10 @@ fn goes_on(rt: &impl Abort, host: HostRuntime, plan: &Plan, name: &str) -> Resul
     let alloc = host.alloc();
     let disk = FileDisk::at(host, String::from_str(alloc, name)?);
     let rescue = FileDisk::at(host, String::from_str(alloc, "no_rescue_file.test")?);
-    let mut starter = ProcessStarter::new(LocalSystem::new(alloc, host, "/", Unwatched)?);
+    let launcher = Launcher::none(alloc);
+    let mut starter = ProcessStarter::new(LocalSystem::new(
+        alloc, host, "/", &launcher, Unwatched,
+    )?);
     let ended = run_round(
         alloc,
         disk,
