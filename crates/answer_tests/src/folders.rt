@@ -1,5 +1,7 @@
 //! What is answered of the files of a folder, also of one that changes.
 
+ghost use Rattle.std.specs.Prelude.{None};
+
 use crate::same::same;
 use dag_files::Folder;
 use dag_texts::{Answer, RunFault};
@@ -68,7 +70,7 @@ impl Changing {
     /// The files that stand there now.
     fn now(&self) -> &FileSet {
         let asked = self.asked.get();
-        self.asked.set(asked + 1);
+        self.asked.set(asked.saturating_add(1));
         if asked < self.after { &self.first } else { &self.then }
     }
 }
