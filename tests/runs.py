@@ -848,6 +848,10 @@ def words_that_are_no_request(folder):
         ("rehearse", "x.dag", "--dorescuefrom", "1"),
         ("run", "x.dag", "--orphans"),
         ("run", "x.dag", "--orphans", "end"),
+        ("run", "x.dag", "--launcher"),
+        ("run", "x.dag", "--launcher=env", "--launcher=env"),
+        ("run", "x.dag", "--launcher-final=1"),
+        ("rehearse", "x.dag", "--launcher", "env"),
         ("rehearse", "x.dag", "--orphans", "kill"),
         ("status",),
         ("graph",),
@@ -1081,13 +1085,13 @@ def an_orphan_with_an_odd_name(folder):
     same(fields_of(folder)[1][4]["command"], "'" + here + r"/odd) Z 1 1 1 (it'\''s' " + r"$'tab\there' '' 'back\slash'")
 
 
-def a_child_that_was_being_started(folder):
+def a_child_that_was_being_started(folder, *options):
     """A manager is killed once its child runs, and before its process is noted: the child is found by its words."""
     folder.write("x.dag", "JOB A a.sub\n")
     folder.shell("a", "if [ -e again ]; then exit 0; fi\nmkfifo never\necho $$ > process\nmv process begun\nread word < never\n")
     # The lines of the manager, of what comes next, and of the process.
     words = ["strace", "-qqq", "-e", "trace=write", "-P", folder.at("x.dag.children"), "-e", "inject=write:signal=SIGKILL:when=3"]
-    done = subprocess.run([*words, "-o", "/dev/null", folder.program, "run", "x.dag"], cwd=folder.path, capture_output=True, timeout=60)
+    done = subprocess.run([*words, "-o", "/dev/null", folder.program, "run", *options, "x.dag"], cwd=folder.path, capture_output=True, timeout=60)
     same(done.returncode != 0, True)
     folder.wait_for("begun")
     process = int(folder.read("begun"))
@@ -1102,6 +1106,11 @@ def a_child_that_was_being_started(folder):
         for other in others:
             other.kill()
             other.wait()
+
+
+def a_launched_child_that_was_being_started(folder):
+    """A launcher that becomes its job has the job's words alone then."""
+    a_child_that_was_being_started(folder, "--launcher", "env X=1")
 
 
 def an_orphan_is_left(folder):
@@ -2625,6 +2634,172 @@ def times_without_a_log(folder):
     refused(folder, ("times", "x.dag"), "S1 MissingFile x.dag")
 
 
+def run_with(folder, own, *words):
+    """A call of `run` of x.dag with these settings in its environment."""
+    done = subprocess.run([folder.program, "run", *words, "x.dag"], cwd=folder.path, capture_output=True, timeout=60, env={**os.environ, **own})
+    return done.stdout.decode(), done.stderr.decode(), done.returncode
+
+
+def see(folder):
+    """A program that writes its words and what X is."""
+    folder.write("see.sh", '#!/bin/sh\necho "$* ${X-none}" >> seen\n')
+    os.chmod(folder.at("see.sh"), 0o755)
+
+
+def seen(folder):
+    text = folder.read("seen").decode()
+    os.remove(folder.at("seen"))
+    return text.splitlines()
+
+
+def a_launcher(folder):
+    """--launcher stands before the programs of jobs, with --launcher-final before FINAL's too, and before no script."""
+    folder.write(
+        "x.dag",
+        "JOB A a.sub\nJOB N a.sub NOOP\nPARENT A CHILD N\nFINAL F f.sub\n"
+        + "".join(f"SCRIPT {kind} {name} see.sh {kind} {name}\n" for name in "ANF" for kind in ("PRE", "POST")),
+    )
+    see(folder)
+    for name in "af":
+        folder.write(f"{name}.sub", f"executable = see.sh\narguments = job {name}\nqueue\n")
+    report = "A DONE attempts=1 value=0\nN DONE attempts=1 value=0\nF DONE attempts=1 value=0\nresult 0\n"
+    launcher = ("--launcher", "env X=1")
+    for words, job, final in (((), "none", "none"), (launcher, "1", "none"), ((*launcher, "--launcher-final"), "1", "1"), (("--launcher-final",), "none", "none")):
+        same(folder.call("run", *words, "x.dag"), (report, "", 0))
+        same(seen(folder), ["PRE A none", f"job a {job}", "POST A none", "PRE N none", "POST N none", "PRE F none", f"job f {final}", "POST F none"])
+    # The log has it, and the program's path behind it.
+    here, env = os.path.realpath(folder.path), shutil.which("env")
+    same(folder.call("run", *launcher, "--launcher-final", "x.dag"), (report, "", 0))
+    same(
+        [(line[1], line[2], line[4]["command"]) for line in fields_of(folder) if line[0] == "start" and line[2] != "POST"],
+        [("A", "PRE", f"{here}/see.sh PRE A"), ("A", "JOB", f"{env} X=1 {here}/see.sh job a"), ("N", "PRE", f"{here}/see.sh PRE N"),
+         ("F", "PRE", f"{here}/see.sh PRE F"), ("F", "JOB", f"{env} X=1 {here}/see.sh job f")],
+    )
+
+
+def a_nice_launcher(folder):
+    folder.write("x.dag", "JOB A a.sub\nSCRIPT PRE A nice.sh pre\n")
+    folder.write("nice.sh", "#!/bin/sh\nnice > $1.nice\n")
+    os.chmod(folder.at("nice.sh"), 0o755)
+    folder.write("a.sub", "executable = nice.sh\narguments = job\nqueue\n")
+    same(folder.call("run", "--launcher", "nice -n 5", "x.dag"), (ONE_DONE, "", 0))
+    own = os.getpriority(os.PRIO_PROCESS, 0)
+    same([int(folder.read(f"{name}.nice")) for name in ("pre", "job")], [own, min(own + 5, 19)])
+
+
+def words_of_a_launcher(folder):
+    """They are split as arguments are. Behind them comes the path of the program, wherever the job runs, and its words."""
+    os.mkdir(folder.at("sub"))
+    folder.write("x.dag", "JOB A a.sub\n")
+    folder.write("a.sub", "executable = see.sh\narguments = \"'two words' ''\"\ninitialdir = sub\noutput = out\nqueue\n")
+    see(folder)
+    folder.write("with blank.sh", '#!/bin/sh\npwd\nfor word; do echo "[$word]"; done\n')
+    os.chmod(folder.at("with blank.sh"), 0o755)
+    here = os.path.realpath(folder.path)
+    shutil.copy(folder.at("with blank.sh"), folder.at("l.sh"))
+    own = [f"[{here}/see.sh]", "[two words]", "[]"]
+    for launcher, words in (
+        ("./l.sh", []),
+        ("  ./l.sh\t-x  ", ["[-x]"]),
+        ('./l.sh \\"q\\" it\'s \'a b\'', ['["q"]', "[it's]", "['a]", "[b']"]),
+        ("\"'./with blank.sh' 'a b' '' it''s\"", ["[a b]", "[]", "[its]"]),
+        (f"{here}/l.sh --", ["[--]"]),
+    ):
+        same(folder.call("run", f"--launcher={launcher}", "x.dag"), (ONE_DONE, "", 0))
+        same(folder.read("sub/out").decode().splitlines(), [f"{here}/sub", *words, *own])
+    for launcher, cause in (('"a b', "a quote stands alone"), ('"', "a quote stands alone"), ("\"'a\"", "a quote stands alone"), ("\"'' a\"", "its program has no name")):
+        line = f"error: invalid value '{launcher}' for '--launcher <WORDS>': {cause}\n\nFor more information, try '--help'.\n"
+        same(folder.call("run", "--launcher", launcher, "x.dag"), ("", line, 125))
+        same(run_with(folder, {"DAGRUN_LAUNCHER": launcher}), ("", line, 125))
+
+
+def a_launcher_of_the_environment(folder):
+    """DAGRUN_LAUNCHER stands for the option where it isn't given; one without words is none."""
+    folder.write("x.dag", "JOB A a.sub\n")
+    folder.write("a.sub", "executable = see.sh\narguments = job\nqueue\n")
+    see(folder)
+    for own, words, wanted in (
+        ({"DAGRUN_LAUNCHER": "env X=2"}, (), "2"),
+        ({"DAGRUN_LAUNCHER": "env X=2"}, ("--launcher", "env X=3"), "3"),
+        ({"DAGRUN_LAUNCHER": "env X=2"}, ("--launcher=",), "none"),
+        ({"DAGRUN_LAUNCHER": "env X=2"}, ("--launcher", " \t"), "none"),
+        ({"DAGRUN_LAUNCHER": ""}, (), "none"),
+        ({"DAGRUN_LAUNCHER": '""'}, (), "none"),
+    ):
+        same(run_with(folder, own, *words), (ONE_DONE, "", 0))
+        same(seen(folder), [f"job {wanted}"])
+    done = subprocess.run([folder.program, "check", "x.dag"], cwd=folder.path, capture_output=True, timeout=60, env={**os.environ, "DAGRUN_LAUNCHER": '"'})
+    same((done.stdout, done.returncode), (b"ok nodes=1 edges=0 final=no\n", 0))
+
+
+def no_launcher(folder):
+    """A launcher that isn't there, or that nobody may run, is refused before anything is started or made."""
+    folder.write("x.dag", "JOB A a.sub\n")
+    folder.write("a.sub", "executable = see.sh\narguments = job\nqueue\n")
+    see(folder)
+    folder.write("plain", "#!/bin/sh\n")
+    os.makedirs(folder.at("bin/env"))
+    before = sorted(os.listdir(folder.path))
+    for launcher, name in (("no-such-program -x", "no-such-program"), ("./no.sh", "./no.sh"), ("/no/such -x", "/no/such"), ("./plain", "./plain"), ("./bin", "./bin"), ("plain", "plain")):
+        same(run_with(folder, {"PATH": f"{os.environ['PATH']}:{folder.path}"}, "--launcher", launcher), ("", f"dagrun: X2 FileRefused {name}\n", 125))
+        same(sorted(os.listdir(folder.path)), before)
+    # It is told behind what is wrong with the files.
+    folder.write("y.dag", "JOB A no.sub\n")
+    refused(folder, ("run", "--launcher", "/no/such", "y.dag"), "P1 MissingFile no.sub")
+    # Along PATH what is no program is passed over; a relative folder, and an empty one, is seen from that of the call.
+    folder.write("bin/plain", "#!/bin/sh\nX=bin exec \"$@\"\n")
+    os.chmod(folder.at("bin/plain"), 0o755)
+    for path, launcher, wanted in ((f"{folder.path}/bin:{os.environ['PATH']}", "env X=4", "4"), (f":bin:{os.environ['PATH']}", "plain", "bin"), (f"/no:{os.environ['PATH']}:bin", "plain", "bin")):
+        same(run_with(folder, {"PATH": path}, "--launcher", launcher), (ONE_DONE, "", 0))
+        same(seen(folder), [f"job {wanted}"])
+    # Without PATH it is looked for where the system's programs are.
+    own = {name: value for name, value in os.environ.items() if name != "PATH"}
+    done = subprocess.run([folder.program, "run", "--launcher", "env X=5", "x.dag"], cwd=folder.path, capture_output=True, timeout=60, env=own)
+    same((done.stdout.decode(), done.stderr, seen(folder)), (ONE_DONE, b"", ["job 5"]))
+
+
+def endings_by_a_launcher(folder):
+    """How the launcher ends is how the job ends; where it is gone meanwhile, the job can't be started."""
+    folder.write("x.dag", "JOB A a.sub\nJOB B b.sub\nJOB C c.sub\nJOB D a.sub\nPARENT C CHILD D\nSCRIPT POST D post.sh $RETURN\n")
+    folder.write("a.sub", "executable = /no/such\nqueue\n")
+    folder.shell("b", "kill -9 $$\n")
+    folder.shell("c", "while [ ! -e x.dag.log ] || ! grep -q 'end\t[AB]' x.dag.log; do sleep 0.02; done\nsleep 0.2; rm l.sh\n")
+    folder.write("post.sh", "#!/bin/sh\necho $1 > return\n")
+    folder.write("l.sh", '#!/bin/sh\nexec env "$@"\n')
+    for name in ("post.sh", "l.sh"):
+        os.chmod(folder.at(name), 0o755)
+    text, told, status = folder.call("run", "--launcher", "./l.sh", "x.dag")
+    same((text, told, status), ("A ERROR attempts=1 value=127\nB ERROR attempts=1 value=-9\nC DONE attempts=1 value=0\nD DONE attempts=1 value=0\nresult 1\n", "", 1))
+    same(folder.read("return"), b"-1001\n")
+    here = os.path.realpath(folder.path)
+    failed = [line[4] for line in fields_of(folder) if line[0] == "notstarted"]
+    same([(line["what"], line["path"], line["command"]) for line in failed], [("program", f"{here}/./l.sh", f"{here}/./l.sh /no/such")])
+
+
+def another_launcher(folder):
+    """A round goes on under another launcher, or none: it is no part of what a round was begun with."""
+    folder.write("x.dag", "JOB A a.sub\nJOB B b.sub\nJOB C c.sub\nPARENT A CHILD B\nPARENT B CHILD C\n")
+    see(folder)
+    for name in "abc":
+        folder.write(f"{name}.sub", f"executable = see.sh\narguments = {name}\nqueue\n")
+    report = "".join(f"{name} DONE attempts=1 value=0\n" for name in "ABC") + "result 0\n"
+    same(folder.call("run", "--launcher", "env X=1", "x.dag"), (report, "", 0))
+    same(seen(folder), ["a 1", "b 1", "c 1"])
+    # Life, the launch of A and its end; then Life, the launch of B and its end.
+    folder.cut_journal(3)
+    same(folder.call("run", "--launcher", "env X=2", "x.dag"), (report, "", 0))
+    same(seen(folder), ["b 2", "c 2"])
+    folder.cut_journal(6)
+    same(folder.call("run", "x.dag"), (report, "", 0))
+    same(seen(folder), ["c none"])
+    same(folder.call("audit", "x.dag")[2], 0)
+    here, env = os.path.realpath(folder.path), shutil.which("env")
+    same(
+        [line[4]["command"] for line in fields_of(folder) if line[0] == "start"],
+        [*(f"{env} X=1 {here}/see.sh {name}" for name in "abc"), *(f"{env} X=2 {here}/see.sh {name}" for name in "bc"), f"{here}/see.sh c"],
+    )
+
+
 ROWS = [
     diamond,
     status_without_a_journal,
@@ -2683,6 +2858,13 @@ ROWS = [
     an_orphan_holds_no_lock,
     limits_of_a_call,
     limits_of_the_environment,
+    a_launcher,
+    a_nice_launcher,
+    words_of_a_launcher,
+    a_launcher_of_the_environment,
+    no_launcher,
+    endings_by_a_launcher,
+    another_launcher,
     words_that_are_no_request,
     help_and_version,
     a_picture_of_a_run,
@@ -2737,7 +2919,7 @@ def main():
     program = os.path.realpath(sys.argv[1])
     rows = list(ROWS)
     if shutil.which("strace"):
-        rows += [the_order_of_the_disk, outputs_are_synced, cut_short_while_going_back, a_child_that_was_being_started, what_the_system_said, the_end_of_a_journal, cut_short_while_salvaging]
+        rows += [the_order_of_the_disk, outputs_are_synced, cut_short_while_going_back, a_child_that_was_being_started, a_launched_child_that_was_being_started, what_the_system_said, the_end_of_a_journal, cut_short_while_salvaging]
     else:
         print("strace is not installed: the order in which the disk is written is not looked at, and no call of going back is cut short, and no child while it is started")
     if os.getuid() == 0:

@@ -15,7 +15,7 @@ _dagrun() {
         --orphans) values='kill wait leave' ;;
         --progress) values='auto always never' ;;
         --sync-output) values='0 1' ;;
-        --dorescuefrom|--maxjobs|--maxpost|--maxpre) return ;;
+        --dorescuefrom|--launcher|--maxjobs|--maxpost|--maxpre) return ;;
     esac
     if [ -n "$values" ]; then
         COMPREPLY=($(compgen -W "$values" -- "$word"))
@@ -23,7 +23,7 @@ _dagrun() {
     fi
     case $command in
         '') options='run status why times salvage audit check rehearse graph explain help version --help' ;;
-        run) options='--maxjobs --maxpre --maxpost --autorescue --dorescuefrom --always-run-post --sync-output --orphans --progress --resume --trust-owner --help' ;;
+        run) options='--maxjobs --maxpre --maxpost --autorescue --dorescuefrom --always-run-post --sync-output --launcher --launcher-final --orphans --progress --resume --trust-owner --help' ;;
         status) options='--help' ;;
         why) options='--help' ;;
         times) options='--svg --help' ;;

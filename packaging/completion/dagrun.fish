@@ -19,6 +19,8 @@ complete -c dagrun -n '__fish_seen_subcommand_from run' -l autorescue -x -a '0 1
 complete -c dagrun -n '__fish_seen_subcommand_from run' -l dorescuefrom -x -d 'Begins a new round by the rescue file of this number; those of higher numbers are renamed to .old'
 complete -c dagrun -n '__fish_seen_subcommand_from run' -l always-run-post -d 'POST scripts run behind PRE scripts that failed, too, and decide'
 complete -c dagrun -n '__fish_seen_subcommand_from run' -l sync-output -x -a '0 1' -d '0: the files of output and error are not brought to the disk before an ending is recorded'
+complete -c dagrun -n '__fish_seen_subcommand_from run' -l launcher -x -d 'What stands before the program of each job, as "srun -n1"; it is split as arguments are'
+complete -c dagrun -n '__fish_seen_subcommand_from run' -l launcher-final -d 'It stands before the program of FINAL\'s job, too'
 complete -c dagrun -n '__fish_seen_subcommand_from run' -l orphans -x -a 'kill wait leave' -d 'What is done with processes that a manager which was killed left running; kill where it is not given [possible values: kill, wait, leave]'
 complete -c dagrun -n '__fish_seen_subcommand_from run' -l progress -x -a 'auto always never' -d 'Whether standard error shows how far the run is; auto where it is not given: on a terminal [possible values: auto, always, never]'
 complete -c dagrun -n '__fish_seen_subcommand_from run' -l resume -d 'Where the last round has ended, prints its report again and starts nothing'

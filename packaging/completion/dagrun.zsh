@@ -33,6 +33,8 @@ _dagrun() {
                 '--dorescuefrom=[Begins a new round by the rescue file of this number; those of higher numbers are renamed to .old]:N:' \
                 '--always-run-post[POST scripts run behind PRE scripts that failed, too, and decide]' \
                 '--sync-output=[0\: the files of output and error are not brought to the disk before an ending is recorded]:0 or 1:(0 1)' \
+                '--launcher=[What stands before the program of each job, as "srun -n1"; it is split as arguments are]:WORDS:' \
+                '--launcher-final[It stands before the program of FINAL'\''s job, too]' \
                 '--orphans=[What is done with processes that a manager which was killed left running; kill where it is not given \[possible values\: kill, wait, leave\]]:kill or wait or leave:(kill wait leave)' \
                 '--progress=[Whether standard error shows how far the run is; auto where it is not given\: on a terminal \[possible values\: auto, always, never\]]:auto or always or never:(auto always never)' \
                 '--resume[Where the last round has ended, prints its report again and starts nothing]' \

@@ -12,6 +12,7 @@ use Rattle.node_machine.specs.declared.Key.{Key}
 use Rattle.node_machine.specs.declared.Outcome.{Outcome}
 use Rattle.throttles.specs.declared.Limits.{Limits}
 use Rattle.command_line.specs.declared.request.RunOptions.{RunOptions}
+use Rattle.dag_main.specs.Launching.{IsLauncherFault}
 use Rattle.job_starter.specs.declared.Call.{Call}
 use Rattle.job_starter.specs.Handed.{HandsAll}
 use Rattle.run_leader.specs.declared.rounds.Start.{Start}
@@ -124,12 +125,13 @@ pub record IsPlannedFor (path : List ℕ) (options : RunOptions) : Type 0 where
   pub planned : IsPlannedRun files graph round plan
 
 -- Why `run` is refused, the first cause first. Each is met where those before it are not: the files make no graph; it is not
--- told which round this is, or what its rescue file says; the round has no plan; a name beside the DAG file would be too long; another
+-- told which round this is, or what its rescue file says; the round has no plan; there is no launcher as it is asked for; a name beside the DAG file would be too long; another
 -- manager is at work, or the lock is refused; under the lock the round is another one, or is not led to its end.
 pub data IsRunFault (path : List ℕ) (options : RunOptions) : RunFault → Type 0 where
   no_graph : (files : FileSet) (fault : RunFault) → IsGraphFault (bytes_of files) path fault → IsRunFault path options fault
   not_found : (files : FileSet) (graph : Network) (fault : RunFault) → IsGraphOf (bytes_of files) path graph → IsFirstFault path options fault → IsRunFault path options fault
   no_plan : (files : FileSet) (graph : Network) (fault : RunFault) → IsGraphOf (bytes_of files) path graph → IsRoundPlanFault files path graph fault → IsRunFault path options fault
+  no_launcher : (fault : RunFault) → IsPlannedFor path options → IsLauncherFault options.launcher fault → IsRunFault path options fault
   no_room : (fault : RunFault) → IsPlannedFor path options → IsRoomFault path fault → IsRunFault path options fault
   not_alone : (fault : RunFault) → IsPlannedFor path options → IsFileFault fault → IsRunFault path options fault
   not_held : (fault : RunFault) → IsPlannedFor path options → IsHeldFault options fault → IsRunFault path options fault

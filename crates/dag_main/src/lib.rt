@@ -3,6 +3,7 @@
 #![tactic(auto)]
 
 mod beginning;
+mod launching;
 mod progress;
 mod runs;
 

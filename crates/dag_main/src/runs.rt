@@ -14,6 +14,7 @@ use crate::beginning::{
     forget_children, has_own_files, ignores_endings, keep_inputs, life_of, make_journal, settled,
     watcher_of,
 };
+use crate::launching::launcher_of;
 use crate::progress::{RoundWatcher, progress_of};
 use command_line::RunOptions;
 use dag_files::{
@@ -24,7 +25,7 @@ use dag_graph::Graph;
 use dag_texts::{Answer, RunFault, graph_of, plan_by, warning_text};
 use job_starter::DriveFault;
 use journal_disks::FileDisk;
-use local_system::{ChildWatcher, LocalSystem};
+use local_system::{ChildWatcher, Launcher, LocalSystem};
 use node_machine::Verdict;
 use process_starter::ProcessStarter;
 use run_leader::{Start, run_round};
@@ -136,6 +137,7 @@ fn led_by<
     plan: &Plan,
     start: Start,
     limits: Limits,
+    launcher: &Launcher,
     disks: (FileDisk<R>, FileDisk<R>),
     watcher: W,
 ) -> Result<Report, Stop>
@@ -146,7 +148,7 @@ fn led_by<
 {
     let alloc = rt.alloc();
     let (journal, rescue) = disks;
-    let Ok(system) = LocalSystem::new(alloc, rt, folder, watcher) else {
+    let Ok(system) = LocalSystem::new(alloc, rt, folder, launcher, watcher) else {
         return Err(Stop {
             fault: RunFault::Memory,
             reason: None,
@@ -220,6 +222,7 @@ fn run_on<R: Processes + Files<File = File> + Clock + Screen + AllocGlobal + Cop
     plan: &Plan,
     round: &Round,
     options: &RunOptions,
+    launcher: &Launcher,
     disks: (FileDisk<R>, FileDisk<R>),
     lock: &mut Lock,
 ) -> Result<Report, RunFault>
@@ -245,6 +248,7 @@ fn run_on<R: Processes + Files<File = File> + Clock + Screen + AllocGlobal + Cop
         plan,
         start,
         options.limits,
+        launcher,
         disks,
         &mut watcher,
     );
@@ -263,6 +267,7 @@ fn run_planned<R: Processes + Files<File = File> + Clock + Screen + AllocGlobal 
     plan: &Plan,
     round: &Round,
     options: &RunOptions,
+    launcher: &Launcher,
     lock: &mut Lock,
 ) -> Result<Report, RunFault>
     requires next { IsRescueNumber round.now.next }
@@ -272,7 +277,16 @@ fn run_planned<R: Processes + Files<File = File> + Clock + Screen + AllocGlobal 
 {
     let rescue = rescue_disk(rt, place, round.next)?;
     let journal = journal_disk(rt, place)?;
-    run_on(rt, place, plan, round, options, (journal, rescue), lock)
+    run_on(
+        rt,
+        place,
+        plan,
+        round,
+        options,
+        launcher,
+        (journal, rescue),
+        lock,
+    )
 }
 
 /// The round that this run of a DAG is, and the bytes of the rescue file that it reads.
@@ -364,6 +378,7 @@ fn run_locked<R: Processes + Files<File = File> + Clock + Screen + AllocGlobal +
     plan: &Plan,
     found: &(Round, Option<Vec<u8>>),
     options: &RunOptions,
+    launcher: &Launcher,
     lock: &mut Lock,
 ) -> Result<Answer, RunFault>
     requires next { IsRescueNumber found.now.0.next }
@@ -380,7 +395,7 @@ fn run_locked<R: Processes + Files<File = File> + Clock + Screen + AllocGlobal +
     }
     let warnings = warning_text(alloc, plan.graph().flat().warnings())?;
     keep_inputs(rt, place, plan, round, files, bytes_of(rescue))?;
-    let report = run_planned(rt, place, plan, round, options, lock)?;
+    let report = run_planned(rt, place, plan, round, options, launcher, lock)?;
     Ok(Answer {
         text: report.text,
         warnings,
@@ -407,7 +422,8 @@ fn run_locked<R: Processes + Files<File = File> + Clock + Screen + AllocGlobal +
 /// read (`InManager`), an unfinished run where a rescue file is asked for (`Unfinished`), else a number
 /// in its header that no rescue file has (`NotThere`), a folder or a rescue file that the system
 /// refuses to read or that may be another user's (`FileRefused`), the first fault of the submit files and the texts of jobs
-/// (`InPlan`) and then of the rescue file (`InRescue`), another manager that runs the DAG
+/// (`InPlan`) and then of the rescue file (`InRescue`), a launcher whose program isn't found (`FileRefused`
+/// with its name), another manager that runs the DAG
 /// (`FileRefused` with the file that it has locked; behind a journal that can't be read too), behind a name
 /// beside the DAG file that would be too long (`FileRefused` with it). Then a process to which the system
 /// doesn't tell how children end (`WaitFault`), a process of an earlier manager that can't be
@@ -434,9 +450,12 @@ pub fn run_dag<R: Processes + Files<File = File> + Clock + Screen + AllocGlobal 
     let graph = graph_of(alloc, &files, top)?;
     let found = first_look(rt, &place, options)?;
     let plan = plan_of_round(alloc, &place, &files, graph, &found.0, bytes_of(&found.1))?;
+    let launcher = launcher_of(&rt, folder, &plan, options)?;
     place.has_room_for_names(alloc)?;
     let mut lock = place.lock(&rt)?;
-    let answer = run_locked(rt, &place, &files, &plan, &found, options, &mut lock);
+    let answer = run_locked(
+        rt, &place, &files, &plan, &found, options, &launcher, &mut lock,
+    );
     place.unlock(&rt, lock);
     answer
 }

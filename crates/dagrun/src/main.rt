@@ -45,10 +45,11 @@ fn open_streams(rt: &HostRuntime) {
 }
 
 /// The variables of the environment that stand for options of `run` which are not given, and these options.
-const STANDING: [(&str, &str); 3] = [
+const STANDING: [(&str, &str); 4] = [
     ("DAGRUN_MAXJOBS", "--maxjobs"),
     ("DAGRUN_MAXPRE", "--maxpre"),
     ("DAGRUN_MAXPOST", "--maxpost"),
+    ("DAGRUN_LAUNCHER", "--launcher"),
 ];
 
 /// Whether an option is among some words, with its value behind it or in the next word.

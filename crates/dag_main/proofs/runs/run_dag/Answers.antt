@@ -1,5 +1,5 @@
 use Rattle.std.proofs.Common.{sym, subst}
-use Rattle.dag_main.specs.Runs.{IsRunFault, no_graph, not_found, no_plan, no_room, not_alone, not_held, no_memory}
+use Rattle.dag_main.specs.Runs.{IsRunFault, no_graph, not_found, no_plan, no_launcher, no_room, not_alone, not_held, no_memory}
 use Rattle.dag_texts.proofs.Refusals.{handed-on, weaker}
 use Rattle.dag_main.proofs.RunPlans.{answer-of, planned-for}
 use Rattle.dag_main.proofs.runs.run_dag.Goals as goal
@@ -23,6 +23,11 @@ pub returns-in_err-plan-clause-refused : goal.returns-in_err-plan-clause-refused
 returns-in_err-plan-clause-refused g c =
     handed-on (IsRunFault c.args.top.now c.args.options.now) c.from_residual-in_err-plan.result c.from_residual-in_err-plan.ensures.1
     (λ fault same. subst (IsRunFault c.args.top.now c.args.options.now) (sym same) (no_plan c.in_ok-files.files c.in_ok-graph.graph c.in_err-plan.field-0.0 c.in_ok-graph.ensures.graph c.in_err-plan.ensures.refused))
+
+pub returns-in_err-launcher-clause-refused : goal.returns-in_err-launcher-clause-refused
+returns-in_err-launcher-clause-refused g c =
+    handed-on (IsRunFault c.args.top.now c.args.options.now) c.from_residual-in_err-launcher.result c.from_residual-in_err-launcher.ensures.1
+    (λ fault same. subst (IsRunFault c.args.top.now c.args.options.now) (sym same) (no_launcher c.in_err-launcher.field-0.0 (planned-for c.args.top.now c.args.options.now c.in_ok-files.files c.in_ok-graph.graph c.in_ok-found.found.0 c.in_ok-plan.plan c.in_ok-graph.ensures.graph c.in_ok-found.ensures.by c.in_ok-plan.ensures.plan) c.in_err-launcher.ensures.refused))
 
 pub returns-in_err-has_room_for_names-clause-refused : goal.returns-in_err-has_room_for_names-clause-refused
 returns-in_err-has_room_for_names-clause-refused g c =
