@@ -51,7 +51,7 @@ IsAnswerTo (audits path) text warnings status = IsToldOfRun Audit path text warn
 IsAnswerTo (rehearses path outcomes limits always_post) text warnings status =
     IsRehearsal path outcomes limits always_post text warnings status
 IsAnswerTo (draws path) text warnings status = IsToldOfRun Graph path text warnings status
-IsAnswerTo (asks_why path nodes) text warnings status = IsWhyOf path (length nodes) text warnings status
+IsAnswerTo (asks_why path nodes) text warnings status = IsWhyOf path nodes text warnings status
 IsAnswerTo (times path svg) text warnings status = IsTimesOf path svg text warnings status
 IsAnswerTo (salvages path) text warnings status = IsSalvage path text warnings status
 IsAnswerTo (shows page) text warnings status = (text ≡ page) × (warnings ≡ []) × (status ≡ 0)
