@@ -1,5 +1,5 @@
 -- What the program answers to a request, and its exit status (docs/MANUAL.md, "The command line").
-use Rattle.std.specs.Prelude.{◌≡◌, ◌≤◌, ℕ, Bool, true, false, List, [], ◌++◌, length, Option, Some, None, Result, Ok, codes, is_some, IfSome}
+use Rattle.std.specs.Prelude.{◌≡◌, ◌≤◌, ℕ, Bool, true, false, List, [], ◌++◌, Option, Some, None, Result, Ok, codes, is_some, IfSome}
 use Rattle.throttles.specs.declared.Limits.{Limits}
 use Rattle.command_line.specs.Requests.{Asked, checks, runs, tells_status, audits, rehearses, draws, asks_why, times, salvages, shows, no_limits, limits_in, AreLimits}
 use Rattle.command_line.specs.declared.request.RunOptions.{RunOptions}
@@ -13,6 +13,8 @@ use Rattle.run_times.specs.Told.{IsTimesOf, IsTimesFault}
 use Rattle.run_answers.specs.declared.by_journal.Question.TheVariants.{Status, Audit, Graph}
 use Rattle.run_answers.specs.declared.by_journal.Question.{Question}
 use Rattle.salvage.specs.Salvaged.{IsSalvageOf}
+use Rattle.salvage.specs.Refused.{IsSalvageFault}
+use Rattle.salvage.specs.declared.fault.SalvageFault.TheVariants.{Refused}
 use Rattle.failure_answers.specs.Answered.{IsWhyOf}
 
 -- What `run` answers: what is printed of a round that was led to its end; or, where that is asked for, what was printed of the last round, which
@@ -42,7 +44,7 @@ IsAnswerTo (audits path) text warnings status = IsToldOfRun Audit path text warn
 IsAnswerTo (rehearses path outcomes limits always_post) text warnings status =
     IsRehearsal path outcomes limits always_post text warnings status
 IsAnswerTo (draws path) text warnings status = IsToldOfRun Graph path text warnings status
-IsAnswerTo (asks_why path nodes) text warnings status = IsWhyOf path (length nodes) text warnings status
+IsAnswerTo (asks_why path nodes) text warnings status = IsWhyOf path nodes text warnings status
 IsAnswerTo (times path svg) text warnings status = IsTimesOf path svg text warnings status
 IsAnswerTo (salvages path) text warnings status = IsSalvage path text warnings status
 IsAnswerTo (shows page) text warnings status = (text ≡ page) × (warnings ≡ []) × (status ≡ 0)
@@ -53,8 +55,7 @@ asked_of Status path = tells_status path
 asked_of Audit path = audits path
 asked_of Graph path = draws path
 
--- Why a request is refused: the system refuses the folder or a file, or memory ran out; or for a cause of the call that it is for. Of
--- `salvage` no cause is said.
+-- Why a request is refused: the system refuses the folder or a file, or memory ran out; or for a cause of the call that it is for.
 pub data IsRefusal : Asked → RunFault → Type 0 where
   not_read : (asked : Asked) (fault : RunFault) → IsFileFault fault → IsRefusal asked fault
   not_checked : (path : List ℕ) (fault : RunFault) → IsCheckRefusal path fault → IsRefusal (checks path) fault
@@ -64,7 +65,7 @@ pub data IsRefusal : Asked → RunFault → Type 0 where
   not_audited : (path : List ℕ) (fault : RunFault) → IsToldFault Audit path fault → IsRefusal (audits path) fault
   not_timed : (path : List ℕ) (svg : Bool) (fault : RunFault) → IsTimesFault path fault → IsRefusal (times path svg) fault
   not_drawn : (path : List ℕ) (fault : RunFault) → IsToldFault Graph path fault → IsRefusal (draws path) fault
-  not_salvaged_as_run : (path : List ℕ) (fault : RunFault) → IsRefusal (salvages path) fault
+  not_salvaged_as_run : (path : List ℕ) (fault : RunFault) → IsSalvageFault path (Refused fault) → IsRefusal (salvages path) fault
   not_why : (path : List ℕ) (nodes : List (List ℕ)) (fault : RunFault) → IsToldFault Status path fault → IsRefusal (asks_why path nodes) fault
   not_rehearsed : (path : List ℕ) (outcomes table : Option (List ℕ)) (limits : Limits) (always_post : Bool) (fault : RunFault) →
       is_some table ≡ is_some outcomes → IsRehearsalRefusal path table fault → IsRefusal (rehearses path outcomes limits always_post) fault

@@ -1,5 +1,5 @@
 -- What `why` answers.
-use Rattle.std.specs.Prelude.{◌≡◌, ℕ, List, [], Option, Some, IsTrue}
+use Rattle.std.specs.Prelude.{◌≡◌, ◌≢◌, ℕ, List, [], length, Option, Some, IsTrue}
 use Rattle.splices.specs.FileSet.{bytes_of, entries_of}
 use Rattle.splices.specs.declared.file_set.FileSet.{FileSet}
 use Rattle.node_machine.specs.declared.Record.{Record}
@@ -9,24 +9,27 @@ use Rattle.dag_texts.specs.Planned.{IsPlanWith}
 use Rattle.dag_texts.specs.Warnings.{warning_lines}
 use Rattle.run_answers.specs.Statused.{journal_bytes, flag_by, records_at}
 use Rattle.failure_report.specs.Told.{HasAllFailed}
+use Rattle.failure_report.specs.Named.{HasNamed, IsUnknownName}
 
--- The answer of a run to so many names: a text, which has what is told of all nodes in error where there is no name, the warnings of the
--- files, and status 0; or, where a name is none of a node, no text, some line as a warning, and status 125.
-pub data IsAnswerOf (plan : Plan) (past : List Record) (names : ℕ) : (text warnings : List ℕ) → (status : ℕ) → Type 0 where
-  told_text : (text : List ℕ) → (names ≡ 0 → HasAllFailed plan past text) → IsAnswerOf plan past names text (warning_lines plan.graph.dag.warnings) 0
-  unknown_name : (warnings : List ℕ) → (names ≡ 0 → ⊥) → IsAnswerOf plan past names [] warnings 125
+-- The answer of a run of the DAG file of a path to names: a text, the warnings of the files, and status 0, where the text has what is told of all
+-- nodes in error where there is no name, and else of those that are named, in their order; or, where a name is none of a node, no text, the line
+-- that says so as a warning, and status 125.
+pub data IsAnswerOf (plan : Plan) (past : List Record) (path : List ℕ) (names : List (List ℕ)) : (text warnings : List ℕ) → (status : ℕ) → Type 0 where
+  told_of_all : (text : List ℕ) → length names ≡ 0 → HasAllFailed plan past text → IsAnswerOf plan past path names text (warning_lines plan.graph.dag.warnings) 0
+  told_of_named : (text : List ℕ) → length names ≢ 0 → HasNamed plan past names text → IsAnswerOf plan past path names text (warning_lines plan.graph.dag.warnings) 0
+  unknown_name : (line : List ℕ) → length names ≢ 0 → IsUnknownName plan path names line → IsAnswerOf plan past path names [] line 125
 
 -- That is the answer of the plan of these files, with a rescue file or none, where the records of a journal or none are lawful.
-pub record IsWhyFrom (files : FileSet) (path : List ℕ) (rescue journal : Option (List ℕ)) (names : ℕ) (text warnings : List ℕ) (status : ℕ) : Type 0 where
+pub record IsWhyFrom (files : FileSet) (path : List ℕ) (rescue journal : Option (List ℕ)) (names : List (List ℕ)) (text warnings : List ℕ) (status : ℕ) : Type 0 where
   pub plan : Plan
   pub planned : IsPlanWith (flag_by journal) (bytes_of files) (entries_of files) path rescue plan
   pub past : List Record
   pub are_records : records_at plan (journal_bytes journal) ≡ Some (written past)
   pub lawful : IsTrue (is_lawful plan past)
-  pub answer : IsAnswerOf plan past names text warnings status
+  pub answer : IsAnswerOf plan past path names text warnings status
 
 -- That is the answer for the DAG file of a path: of some files, with a rescue file or none and a journal or none.
-pub record IsWhyOf (path : List ℕ) (names : ℕ) (text warnings : List ℕ) (status : ℕ) : Type 0 where
+pub record IsWhyOf (path : List ℕ) (names : List (List ℕ)) (text warnings : List ℕ) (status : ℕ) : Type 0 where
   pub files : FileSet
   pub rescue : Option (List ℕ)
   pub journal : Option (List ℕ)

@@ -1,7 +1,7 @@
 //! Why nodes of the last round of a DAG file are in error, from the files that stand beside it.
 #![tactic(auto)]
 
-ghost use Rattle.std.specs.Prelude.{◌≡◌, length, IfOk, IfErr, option_map, string_bytes};
+ghost use Rattle.std.specs.Prelude.{◌≡◌, map, IfOk, IfErr, option_map, string_bytes};
 ghost use Rattle.dag_texts.specs.declared.fault.RunFault.TheVariants.{Memory};
 ghost use Rattle.splices.specs.FileSet.{bytes_of, entries_of};
 ghost use Rattle.run_answers.specs.Asked.{IsToldFault};
@@ -45,7 +45,7 @@ fn answer_of<R: Files<File = File> + AllocGlobal>(
     core: &Core<'_>,
     names: &[&str],
 ) -> Result<Answer, RunFault>
-    ensures answered { IfOk result (λ answer. IsAnswerOf core.now.plan core.now.past (length names.now)
+    ensures answered { IfOk result (λ answer. IsAnswerOf core.now.plan core.now.past place.now.top.now (map (λ n. n.now) names.now)
         (string_bytes answer.text) (string_bytes answer.warnings) answer.status) }
     ensures refused { IfErr result (λ fault. fault ≡ Memory) }
 {
@@ -80,7 +80,7 @@ fn why_of<R: Files<File = File> + AllocGlobal>(
     names: &[&str],
 ) -> Result<Answer, RunFault>
     ensures answered { IfOk result (λ answer. IsWhyFrom files.now place.now.top.now
-        (option_map (λ b. b.now) rescue.entry) (option_map (λ b. b.now) journal.entry) (length names.now)
+        (option_map (λ b. b.now) rescue.entry) (option_map (λ b. b.now) journal.entry) (map (λ n. n.now) names.now)
         (string_bytes answer.text) (string_bytes answer.warnings) answer.status) }
     ensures refused { IfErr result (IsStatusFault (bytes_of files.now) (entries_of files.now) place.now.top.now
         (option_map (λ b. b.now) rescue.entry) (option_map (λ b. b.now) journal.entry)) }
@@ -112,7 +112,7 @@ pub fn why_here<R: Files<File = File> + AllocGlobal>(
     names: &[&str],
 ) -> Result<Answer, RunFault>
     ensures answered { IfOk result (λ answer.
-        IsWhyOf top.now (length names.now) (string_bytes answer.text) (string_bytes answer.warnings) answer.status) }
+        IsWhyOf top.now (map (λ n. n.now) names.now) (string_bytes answer.text) (string_bytes answer.warnings) answer.status) }
     ensures refused { IfErr result (IsToldFault Status top.now) }
 {
     let place = Place { folder, top };

@@ -1,22 +1,26 @@
-use Rattle.std.proofs.Common.{List, ℕ, ◌∙◌, ap, sym, subst, length, string_bytes}
+use Rattle.std.proofs.Common.{◌≡◌, ◌≢◌, ◌⊎◌, List, ℕ, ◌∙◌, ap, sym, subst, map, length, string_bytes}
 use Rattle.splices.specs.Dag.{Dag}
 use Rattle.dag_graph.specs.Graph.{Network}
 use Rattle.dag_texts.specs.Warnings.{warning_lines}
 use Rattle.failure_report.specs.Told.{IsWhyOfAll}
-use Rattle.failure_answers.specs.Answered.{IsAnswerOf, told_text, unknown_name}
+use Rattle.failure_report.specs.Named.{IsWhyOfNamed}
+use Rattle.failure_answers.specs.Answered.{IsAnswerOf}
+use Rattle.failure_answers.proofs.Naming.{told-so, unknown-so}
 use Rattle.failure_answers.proofs.answer_of.Goals as goal
 
 pub returns-in-Told-clause-answered : goal.returns-in-Told-clause-answered
 returns-in-Told-clause-answered g c =
     let plan = c.args.core.now.plan in
     let past = c.args.core.now.past in
-    subst (λ (w : List ℕ). IsAnswerOf plan past (length c.args.names.now) (string_bytes c.in-Told.text) w 0)
+    subst (λ (w : List ℕ). IsAnswerOf plan past c.args.place.now.top.now (map (λ n. n.now) c.args.names.now) (string_bytes c.in-Told.text) w 0)
     (sym (c.in_ok-warning_text-in-Told.ensures ∙ ap warning_lines (c.warnings.ensures ∙ ap (λ (d : Dag). d.warnings) (c.flat.ensures ∙ ap (λ (n : Network). n.dag) (c.graph.ensures.is ∙ ap (λ p. p.graph) c.plan.ensures)))))
-    (told_text (string_bytes c.in-Told.text) (λ none. subst (IsWhyOfAll plan past) c.in-Told.is (c.in_ok-text.ensures none)))
+    (told-so plan past c.args.place.now.top.now c.args.names.now c.in-Told.text (λ none. subst (IsWhyOfAll plan past) c.in-Told.is (c.in_ok-text.ensures.all none))
+    (λ some. subst (IsWhyOfNamed plan past c.args.place.now.top.now (map (λ n. n.now) c.args.names.now)) c.in-Told.is (c.in_ok-text.ensures.named some)))
 
 pub returns-clause-answered : goal.returns-clause-answered
 returns-clause-answered g c =
     let plan = c.args.core.now.plan in
     let past = c.args.core.now.past in
-    subst (λ (t : List ℕ). IsAnswerOf plan past (length c.args.names.now) t (string_bytes c.in-Unknown.warnings) 125) (sym c.new.ensures.bytes)
-    (unknown_name _ (λ none. subst (IsWhyOfAll plan past) c.in-Unknown.is (c.in_ok-text.ensures none)))
+    subst (λ (t : List ℕ). IsAnswerOf plan past c.args.place.now.top.now (map (λ n. n.now) c.args.names.now) t (string_bytes c.in-Unknown.warnings) 125) (sym c.new.ensures.bytes)
+    (unknown-so plan past c.args.place.now.top.now c.args.names.now c.in-Unknown.warnings (λ none. subst (IsWhyOfAll plan past) c.in-Unknown.is (c.in_ok-text.ensures.all none))
+    (λ some. subst (IsWhyOfNamed plan past c.args.place.now.top.now (map (λ n. n.now) c.args.names.now)) c.in-Unknown.is (c.in_ok-text.ensures.named some)))

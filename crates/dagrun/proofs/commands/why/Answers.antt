@@ -1,11 +1,8 @@
-use Rattle.std.proofs.Common.{map, length, string_bytes, sym, subst, ℕ}
-use Rattle.std.proofs.lemmas.List.{length-map}
-use Rattle.std.proofs.lemmas.Result.{IfOk-weaker}
+use Rattle.std.proofs.Common.{map}
 use Rattle.command_line.specs.Requests.{asks_why}
 use Rattle.dag_texts.proofs.Refusals.{weaker}
 use Rattle.dag_files.proofs.RunFaults.{by-fault}
 use Rattle.dagrun.specs.Answered.{IsRefusal, not_read, not_why}
-use Rattle.failure_answers.specs.Answered.{IsWhyOf}
 use Rattle.dagrun.proofs.commands.why.Goals as goal
 
 pub returns-in_err-folder-clause-refused : goal.returns-in_err-folder-clause-refused
@@ -15,8 +12,3 @@ returns-in_err-folder-clause-refused g c = by-fault (IsRefusal (asks_why c.args.
 pub returns-clause-refused : goal.returns-clause-refused
 returns-clause-refused g c = weaker (IsRefusal (asks_why c.args.dag.now (map (λ n. n.now) c.args.nodes.now))) c.why_here.result c.why_here.ensures.refused
     (λ fault why. not_why c.args.dag.now (map (λ n. n.now) c.args.nodes.now) fault why)
-
-pub returns-clause-told : goal.returns-clause-told
-returns-clause-told g c = IfOk-weaker c.why_here.result _ _
-    (λ answer is. subst (λ (n : ℕ). IsWhyOf c.args.dag.now n (string_bytes answer.text) (string_bytes answer.warnings) answer.status) (sym (length-map c.args.nodes.now (λ n. n.now))) is)
-    c.why_here.ensures.answered
