@@ -48,10 +48,31 @@ fn answers(rt: HostRuntime) -> Result<(), Fail> {
 #[test]
 fn refusals(rt: HostRuntime) -> Result<(), Fail> {
     let alloc = rt.alloc();
-    told(&rt, alloc, &Err(RunFault::NotThere(7)), "", "dagrun: E4 NotThere 7\n", 125);
-    told(&rt, alloc, &Err(RunFault::Unfinished), "", "dagrun: E6 Unfinished\n", 125);
+    told(
+        &rt,
+        alloc,
+        &Err(RunFault::NotThere(7)),
+        "",
+        "dagrun: E4 NotThere 7\n",
+        125,
+    );
+    told(
+        &rt,
+        alloc,
+        &Err(RunFault::Unfinished),
+        "",
+        "dagrun: E6 Unfinished\n",
+        125,
+    );
     let path = String::from_str(alloc, "x.dag.lock")?;
     let reply = Err(RunFault::FileRefused(path));
-    told(&rt, alloc, &reply, "", "dagrun: X2 FileRefused x.dag.lock\n", 125);
+    told(
+        &rt,
+        alloc,
+        &reply,
+        "",
+        "dagrun: X2 FileRefused x.dag.lock\n",
+        125,
+    );
     Ok(())
 }

@@ -22,14 +22,18 @@ static NO_LIMITS: Limits = Limits {
 };
 
 static DAG: (&str, &str) = ("x.dag", "SPLICE S s.dag\nJOB A a.sub\nPARENT A CHILD S\n");
+
 static SPLICE: (&str, &str) = ("s.dag", "JOB B b.sub\n");
+
 static SUBMITS: [(&str, &str); 2] = [
     ("a.sub", "executable = /bin/true\nqueue\n"),
     ("b.sub", "executable = /bin/true\nqueue\n"),
 ];
 
 static CHECKED: &str = "ok nodes=2 edges=1 final=no\n";
+
 static REHEARSED: &str = "A DONE attempts=1 value=0\nS+B DONE attempts=1 value=0\nresult 0\n";
+
 static FRESH: &str = "A READY attempts=0 value=-\nS+B NOT_READY attempts=0 value=-\n";
 
 /// A folder with these files.
@@ -71,7 +75,11 @@ impl Changing {
     fn now(&self) -> &FileSet {
         let asked = self.asked.get();
         self.asked.set(asked.saturating_add(1));
-        if asked < self.after { &self.first } else { &self.then }
+        if asked < self.after {
+            &self.first
+        } else {
+            &self.then
+        }
     }
 }
 
@@ -96,13 +104,23 @@ impl Folder for Changing {
 #[test]
 fn checked(rt: HostRuntime) -> Result<(), Fail> {
     let alloc = rt.alloc();
-    comes_to(&rt, alloc, check_here(alloc, &whole(alloc)?, "x.dag"), CHECKED);
+    comes_to(
+        &rt,
+        alloc,
+        check_here(alloc, &whole(alloc)?, "x.dag"),
+        CHECKED,
+    );
     for (texts, line) in [
         ([DAG, SPLICE, SUBMITS[0]], "P1 MissingFile b.sub"),
         ([DAG, SUBMITS[0], SUBMITS[1]], "S1 MissingFile s.dag"),
         ([SPLICE, SUBMITS[0], SUBMITS[1]], "S1 MissingFile x.dag"),
     ] {
-        comes_to(&rt, alloc, check_here(alloc, &folder(alloc, &texts)?, "x.dag"), line);
+        comes_to(
+            &rt,
+            alloc,
+            check_here(alloc, &folder(alloc, &texts)?, "x.dag"),
+            line,
+        );
     }
     Ok(())
 }

@@ -18,6 +18,6 @@ pub use loading::{Reading, dag_files_in, files_in, files_of};
 pub use locking::Lock;
 pub use rescues::numbers_above;
 pub use rounds::{
-    Journaled, Round, bytes_of, journal_disk, named, next_round, rescue_disk, rescue_of, round_behind,
-    round_of,
+    Journaled, Round, bytes_of, journal_disk, named, next_round, rescue_disk, rescue_of,
+    round_behind, round_of,
 };

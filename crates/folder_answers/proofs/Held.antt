@@ -44,7 +44,7 @@ module _ (set holds : Files) (held : (path bytes : List ℕ) → set path ≡ So
   job-same node false is none =
       ap (λ b. if b then Ok (Program node.file) else described_by holds node) is
       ∙ bind-job (submit_at node.file (set node.file)) (submit_at node.file (holds node.file)) _ _ (submit-same node.file (set node.file) refl) (λ submitted misses. refl)
-        (λ path at. none path (ap (λ b. if b then Ok (Program node.file) else described_by set node) is ∙ at))
+      (λ path at. none path (ap (λ b. if b then Ok (Program node.file) else described_by set node) is ∙ at))
       ∙ sym (ap (λ b. if b then Ok (Program node.file) else described_by set node) is)
 
   pub faults-same : (nodes : List FlatNode) → SameJob (first_fault (Some set) nodes) (first_fault (Some holds) nodes)

@@ -50,15 +50,15 @@ module _ (set holds : Files) (held : (path bytes : List ℕ) → set path ≡ So
     lines-same (c ∷ cs) used above folder =
         bind-same (open_line opener used above folder c) (open_line other used above folder c) _ _ (line-same used above folder c)
         (λ first. bind-same (open_lines opener (with_forest used first) above folder cs) (open_lines other (with_forest used first) above folder cs) _ _
-            (lines-same cs (with_forest used first) above folder)
-            (λ others misses. refl))
+        (lines-same cs (with_forest used first) above folder)
+        (λ others misses. refl))
 
     spoken-same : (used : Used) (above : List (List ℕ)) (folder path : List ℕ) (contents : List Command) → Same (open_said opener used above folder path contents) (open_said other used above folder path contents)
     spoken-same used above folder path contents =
         bind-same (check_file used above path contents) (check_file used above path contents) _ _ (λ misses. refl)
         (λ checked. bind-same (open_lines opener (with_file used contents) above folder contents) (open_lines other (with_file used contents) above folder contents) _ _
-            (lines-same contents (with_file used contents) above folder)
-            (λ inner misses. refl))
+        (lines-same contents (with_file used contents) above folder)
+        (λ inner misses. refl))
 
   file-same : (left : ℕ) (used : Used) (above : List (List ℕ)) (folder path : List ℕ) → Same (open_file set left used above folder path) (open_file holds left used above folder path)
   file-same zero used above folder path = λ misses. refl

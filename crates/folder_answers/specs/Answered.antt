@@ -64,4 +64,3 @@ IsRehearsalOfSome always_post path table limits text warnings status =
 pub data IsRehearsalRefusal (path : List ℕ) (table : Option (List ℕ)) : RunFault → Type 0 where
   input_not_read : (fault : RunFault) → IsInputFault path fault → IsRehearsalRefusal path table fault
   not_rehearsed : (files : FileSet) (fault : RunFault) → IsRehearsalFault (bytes_of files) path table fault → IsRehearsalRefusal path table fault
-

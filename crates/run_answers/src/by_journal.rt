@@ -16,7 +16,9 @@ use crate::audits::audit_of;
 use crate::graphs::graph_of;
 use crate::reports::report_of;
 use crate::statuses::{bytes_in, status_of};
-use dag_files::{Folder, LAST_NUMBER, Reading, bytes_of, files_of, journal_path, named, rescue_path};
+use dag_files::{
+    Folder, LAST_NUMBER, Reading, bytes_of, files_of, journal_path, named, rescue_path,
+};
 use dag_reader::Text;
 use dag_texts::{Answer, RunFault};
 use event_journal::{Journal, JournalFault, Peek};
@@ -97,11 +99,7 @@ const MOST_LOOKS: usize = 100;
 /// # Errors
 /// `FileRefused` with the path of a journal that the system refuses to read, or that is no regular file;
 /// `Memory`.
-fn journal_of<F: Folder>(
-    alloc: Global,
-    folder: &F,
-    top: &str,
-) -> Result<Option<Vec<u8>>, RunFault>
+fn journal_of<F: Folder>(alloc: Global, folder: &F, top: &str) -> Result<Option<Vec<u8>>, RunFault>
     ensures journal { F.honest folder.now
         → IfOk result (λ bytes. option_map (λ b. b.items) bytes ≡ F.holds folder.now (journal_name_of top.now)) }
     ensures refused { IfErr result (IsRoundFault None) }

@@ -20,8 +20,8 @@ pub returns-in-Ok-format-clause-told : goal.returns-in-Ok-format-clause-told
 returns-in-Ok-format-clause-told g c = λ honest.
     let after = c.warn-in-Ok-format.ensures.back honest in
     output_refused (line-behind (g.C.Console.warned c.args.console.now) _ _ (string_bytes c.args.answer.now.warnings) _
-        (behind _ _ _ _ (c.print.ensures.warned after ∙ c.warn.ensures.warned (c.print.ensures.back after)) c.as_str.ensures.value)
-        (c.warn-in-Ok-format.ensures.warned honest))
+    (behind _ _ _ _ (c.print.ensures.warned after ∙ c.warn.ensures.warned (c.print.ensures.back after)) c.as_str.ensures.value)
+    (c.warn-in-Ok-format.ensures.warned honest))
 
 pub returns-in-Err-format-clause-status : goal.returns-in-Err-format-clause-status
 returns-in-Err-format-clause-status g c = not_printed
@@ -30,5 +30,5 @@ pub returns-in-Err-format-clause-told : goal.returns-in-Err-format-clause-told
 returns-in-Err-format-clause-told g c = λ honest.
     let after = c.warn-in-Err-format.ensures.back honest in
     output_refused (line-behind (g.C.Console.warned c.args.console.now) _ _ (string_bytes c.args.answer.now.warnings) _
-        (behind _ _ _ _ (c.print.ensures.warned after ∙ c.warn.ensures.warned (c.print.ensures.back after)) c.as_str.ensures.value)
-        (c.warn-in-Err-format.ensures.warned honest))
+    (behind _ _ _ _ (c.print.ensures.warned after ∙ c.warn.ensures.warned (c.print.ensures.back after)) c.as_str.ensures.value)
+    (c.warn-in-Err-format.ensures.warned honest))

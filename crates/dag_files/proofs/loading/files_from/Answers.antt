@@ -7,7 +7,7 @@ use Rattle.dag_files.proofs.loading.files_from.Goals as goal
 pub returns-clause-read : goal.returns-clause-read
 returns-clause-read g c = λ honest there.
     let is : g.F.Folder.holds c.args.folder.now c.args.top.now ≡ Some c.as_slice.result.now =
-        sym there ∙ ap (option_map (λ b. b.items)) c.in-Some.is ∙ ap Some (sym c.as_slice.ensures.value) in
+    sym there ∙ ap (option_map (λ b. b.items)) c.in-Some.is ∙ ap Some (sym c.as_slice.ensures.value) in
     record {
       held = c.in_ok-read_rest.ensures.held honest
           (held-added c.new-files.result c.add.new.self c.args.top.now c.as_slice.result.now c.in_ok-add.ensures.added c.in_ok-add.ensures.others

@@ -45,14 +45,14 @@ pub returns-in-Ok-clause-held : goal.returns-in-Ok-clause-held
 returns-in-Ok-clause-held g c = λ honest.
     if-some _ _ c.in-Ok.answer
     (λ answer is. reported (g.F.Folder.holds c.args.folder.now) c.args.top.now c.in-Some.journal.now _
-        (same-round _ _ _ _ _ _ (c.in_ok-round.ensures.round honest) (sym (ap (option_map (λ b. b.now)) c.in-Some.is) ∙ c.bytes_of.ensures) c.bytes_of-2.ensures)
-        c.in_ok-files.files _ _ _ (c.in_ok-files.ensures.read honest) is)
+    (same-round _ _ _ _ _ _ (c.in_ok-round.ensures.round honest) (sym (ap (option_map (λ b. b.now)) c.in-Some.is) ∙ c.bytes_of.ensures) c.bytes_of-2.ensures)
+    c.in_ok-files.files _ _ _ (c.in_ok-files.ensures.read honest) is)
     c.in-Ok.ensures.report
 
 pub returns-in-Ok-clause-none : goal.returns-in-Ok-clause-none
 returns-in-Ok-clause-none g c = λ honest.
     if-none c.in-Ok.answer _ _
     (λ is. unended c.in_ok-files.files _ c.in-Some.journal.now (c.in_ok-files.ensures.read honest)
-        (same-round _ _ _ _ _ _ (c.in_ok-round.ensures.round honest) (sym (ap (option_map (λ b. b.now)) c.in-Some.is) ∙ c.bytes_of.ensures) c.bytes_of-2.ensures)
-        is)
+    (same-round _ _ _ _ _ _ (c.in_ok-round.ensures.round honest) (sym (ap (option_map (λ b. b.now)) c.in-Some.is) ∙ c.bytes_of.ensures) c.bytes_of-2.ensures)
+    is)
     c.in-Ok.ensures.none
