@@ -10,7 +10,7 @@ returns-in-Ok-clause-answered g c = record { files = c.in_ok-files.files; rescue
 
 pub returns-in_err-round-clause-refused : goal.returns-in_err-round-clause-refused
 returns-in_err-round-clause-refused g c =
-    by-fault (IsToldFault Status c.args.top.now) c.in_err-round.field-0.0 (no_last_round _ c.in_err-round.ensures)
+    by-fault (IsToldFault Status c.args.top.now) c.in_err-round.field-0.0 (no_last_round _ c.in_err-round.ensures.refused)
     c.from_residual.result c.from_residual.ensures.1
 
 pub returns-in_err-files-clause-refused : goal.returns-in_err-files-clause-refused
