@@ -156,8 +156,8 @@ fn came_meanwhile(rt: HostRuntime) -> Result<(), Fail> {
 #[test]
 fn journals_that_grow(rt: HostRuntime) -> Result<(), Fail> {
     let alloc = rt.alloc();
-    let torn = ("x.dag.journal", "no journal yet");
-    for (then, wanted) in [("", FRESH), ("nor here", "J3 NotAJournal")] {
+    let torn = ("x.dag.journal", "Journal?");
+    for (then, wanted) in [("", FRESH), ("Jammed", "J3 NotAJournal")] {
         let changing = Changing {
             first: folder(alloc, &[torn])?,
             then: folder(
@@ -173,11 +173,11 @@ fn journals_that_grow(rt: HostRuntime) -> Result<(), Fail> {
     Ok(())
 }
 
-// Of a round that was not begun, and of a journal that can't be read, there is no report.
+// Of a round that was not begun there is no report, and neither of a journal that can't be read: its first byte opens a header.
 #[test]
 fn no_report(rt: HostRuntime) -> Result<(), Fail> {
     let alloc = rt.alloc();
-    for journal in ["", "no journal"] {
+    for journal in ["", "no journal", "Jammed"] {
         let mut files = whole(alloc)?;
         files.add(alloc, "x.dag.journal", journal.as_bytes())?;
         match report_here(alloc, &files, "x.dag") {
