@@ -79,8 +79,8 @@ const LAUNCHED: [(u32, Phase, u8); 4] = [
 fn launcher_starts_jobs(rt: HostRuntime) -> Result<(), Fail> {
     let alloc = rt.alloc();
     let launcher = four(alloc)?;
-    let mut system = LocalSystem::new(alloc, rt, "/", &launcher, Unwatched)?;
     for (node, phase, code) in LAUNCHED {
+        let mut system = LocalSystem::new(alloc, rt, "/", &launcher, Unwatched)?;
         let key = Key {
             node,
             attempt: 0,
