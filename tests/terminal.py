@@ -558,6 +558,7 @@ def a_status(folder):
     """Behind a status stands how many nodes are in which state, and which process works on them, if one does."""
     folder.shell("A", "exit 1\n")
     folder.shell("B", ": >begun\nexec sleep 60\n")
+    folder.shell("C", "exit 0\n")
     folder.write("x.dag", "JOB A A.sub\nJOB B B.sub\nJOB C C.sub\nPARENT B CHILD C\n")
     told = folder.on_terminal("status", "x.dag")
     same((told.status, told.screen.told()), (0, ["2 READY, 1 NOT_READY; no manager works on them"]))
