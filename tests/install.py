@@ -345,6 +345,8 @@ def submitted_in_the_background(folder):
     same(os.path.exists(f"{folder}/x.dag.lock"), True)
     write(f"{folder}/go", "")
     wait_for(lambda: not os.path.exists(f"{folder}/x.dag.lock"))
+    # The lock goes with the manager; the last line is written behind it.
+    wait_for(lambda: "EXITING WITH STATUS" in open(f"{folder}/x.dag.dagman.out").read())
     lines = open(f"{folder}/x.dag.dagman.out").read().splitlines()
     same(lines[1:3], ["A DONE attempts=1 value=0", "result 0"])
     same(re.fullmatch(r"[0-9/]+ [0-9:]+ \*\*\*\* dagrun \(condor_DAGMAN\) pid [0-9]+ EXITING WITH STATUS 0", lines[3]) is not None, True)
