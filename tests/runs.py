@@ -1222,6 +1222,27 @@ def one_splice_in_two_folders(folder):
     same(folder.call("check", "x.dag"), ("", f"dagrun: S3 Loop {inner}\n", 125))
 
 
+def a_look_beside_a_manager(folder):
+    """Whoever looks at a journal while a manager writes it, with time between the size and the bytes, finds no fault in it."""
+    names = [f"n{number}" for number in range(40)]
+    folder.write("x.dag", "".join(f"JOB {name} a.sub\nRETRY {name} 1000\n" for name in names))
+    folder.write("a.sub", "executable = /bin/false\nqueue\n")
+    manager = folder.start("run", "--maxjobs", "4", "x.dag")
+    try:
+        folder.wait_for("x.dag.log")
+        slow = ["strace", "-qqq", "-o", "calls", "-e", "trace=pread64,read", "-e", "signal=none", "-e", "inject=pread64,read:delay_enter=2000"]
+        for _ in range(10):
+            same(manager.poll(), None)
+            done = subprocess.run([*slow, folder.program, "run", "x.dag"], cwd=folder.path, capture_output=True, timeout=60)
+            same((done.stdout, done.stderr, done.returncode), (b"", b"dagrun: X2 FileRefused x.dag.lock\n", 125))
+            for command, status in (("status", 0), ("audit", 1)):
+                done = subprocess.run([*slow, folder.program, command, "x.dag"], cwd=folder.path, capture_output=True, timeout=60)
+                same((done.stderr, done.returncode), (b"", status))
+    finally:
+        manager.kill()
+        manager.wait(timeout=30)
+
+
 def few_descriptors(folder):
     """However few files the manager may have open, a run says what is wanting, and 16 are enough for 40 children at once."""
     names = [f"n{number}" for number in range(40)]
@@ -2919,7 +2940,7 @@ def main():
     program = os.path.realpath(sys.argv[1])
     rows = list(ROWS)
     if shutil.which("strace"):
-        rows += [the_order_of_the_disk, outputs_are_synced, cut_short_while_going_back, a_child_that_was_being_started, a_launched_child_that_was_being_started, what_the_system_said, the_end_of_a_journal, cut_short_while_salvaging]
+        rows += [a_look_beside_a_manager, the_order_of_the_disk, outputs_are_synced, cut_short_while_going_back, a_child_that_was_being_started, a_launched_child_that_was_being_started, what_the_system_said, the_end_of_a_journal, cut_short_while_salvaging]
     else:
         print("strace is not installed: the order in which the disk is written is not looked at, and no call of going back is cut short, and no child while it is started")
     if os.getuid() == 0:
