@@ -6,6 +6,9 @@ A definition stands behind a call where a clause of it names the definition, or 
 view of a public type count as clauses. Left out are laws (laws.rt), which promise more and change nothing that a call answers, and
 for the calls of EXACT the clauses beside the exact one, which follow from it. The rest of specs/ is of private functions.
 With --all laws and second tellings count too. With --list the definitions behind the calls are named.
+
+With --from CRATE::CALL .. it counts, over all crates, what stands behind the clauses of these calls or laws alone, in lines and words;
+--headline is --from recovery::lives recovery::two_runs, the laws of the headline, and --program is --from dag_main::run_dag.
 """
 import pathlib
 import re
@@ -39,6 +42,7 @@ class Definition:
     def __init__(self, crate, module, lines):
         self.crate, self.module, self.lines = crate, module, len(lines)
         self.words = words_of('\n'.join(lines))
+        self.length = len(' '.join(lines).split())
         indent = 2 if 'mutual' in lines[0] or lines[0][0] == ' ' else 0
         heads = [line[indent:] for line in lines if line[:indent].isspace() or not indent]
         heads = [re.match(r'(?:(?:abbrev|unfoldable|pub|data|record)\s+)*([^\s:({]+)', line) for line in heads
@@ -108,16 +112,23 @@ class Specs:
 
     def behind(self, crates):
         """The definitions that stand behind the public calls of these crates."""
-        found, open_ones = set(), []
+        open_ones = []
         for crate in crates:
             source = TOP / 'crates' / crate / 'src'
-            exported = set(re.findall(r'\w+', ' '.join(re.findall(r'pub use [^;]*;', (source / 'lib.rt').read_text()))))
+            library = (source / 'lib.rt').read_text()
+            exported = set(re.findall(r'\w+', ' '.join(re.findall(r'pub use [^;]*;', library))))
+            exported |= set(re.findall(r'^pub (?:struct|enum|trait|fn) (\w+)', library, re.M))
             for path in source.rglob('*.rt'):
                 text = path.read_text()
                 if path.stem != 'laws':
                     open_ones += self.named(clauses(path, exported), imports_of(text))
                 elif ALL:
                     open_ones += self.named(words_of(text), imports_of(text))
+        return self.closure(open_ones)
+
+    def closure(self, open_ones):
+        """These definitions, and those that stand behind them."""
+        found, open_ones = set(), list(open_ones)
         while open_ones:
             one = open_ones.pop()
             if one not in found:
@@ -126,7 +137,39 @@ class Specs:
         return found
 
 
+def contract(crate, call):
+    """The words of the clauses of a call, or of a law, with what their file imports."""
+    for path in sorted((TOP / 'crates' / crate / 'src').rglob('*.rt')):
+        text = path.read_text()
+        if found := re.search(r'^( *)pub fn ' + call + r'\b.*?^\1\{', text, re.M | re.S):
+            return words_of(re.sub(r'//[^\n]*', '', found.group(0))), imports_of(text)
+    sys.exit(f'{crate} has no call {call}')
+
+
+def from_calls(calls):
+    """Prints what stands behind the clauses of these calls: its lines and its words, crate by crate."""
+    crates = [line.split(':')[0].strip() for line in (TOP / 'crates.txt').read_text().split('\n') if ':' in line and line[0] != '#']
+    crates = [crate for crate in crates if (TOP / 'crates' / crate / 'specs').is_dir()]
+    specs = Specs(crates)
+    roots = [one for call in calls for one in specs.named(*contract(*call.split('::')))]
+    behind = specs.closure(roots)
+    for one in specs.all:
+        if one in behind and '--list' in sys.argv:
+            print(f'{one.crate} {one.module} {one.names[0]} {one.lines}')
+    for crate in crates:
+        own = [one for one in behind if one.crate == crate]
+        if own:
+            print(f'{crate}: {sum(one.lines for one in own)} lines, {sum(one.length for one in own)} words')
+    print(f'{sum(one.lines for one in behind)} lines, {sum(one.length for one in behind)} words behind {" ".join(calls)}')
+
+
 def main():
+    if '--headline' in sys.argv:
+        return from_calls(['recovery::lives', 'recovery::two_runs'])
+    if '--program' in sys.argv:
+        return from_calls(['dag_main::run_dag'])
+    if '--from' in sys.argv:
+        return from_calls([word for word in sys.argv[1:] if not word.startswith('--')])
     crates = [word for word in sys.argv[1:] if not word.startswith('--')] or LOWEST
     specs = Specs(crates)
     behind = specs.behind(crates)

@@ -1,12 +1,13 @@
 #!/usr/bin/env python3
 """Refuses each allocation of a command in turn, the first, the second, .. until none is refused.
 
-    tests/refused_memory.sh PROGRAM WRITER [STEP]    STEP: every so manieth place alone (1)
+    tests/refused_memory.sh PROGRAM WRITER CALLS [STEP]    STEP: every so manieth place alone (1)
 
-The commands run on tests/every, files with a line of each kind. Each time the command gives its answer, or prints nothing but
-one line that says that memory is out (X1, A1 for a child) and ends with 125; then the same command gives the whole answer, and
-of a journal no acknowledged record is lost. Then the same of a writer of a journal (crates/journal_writer), which ends with
-another status than 0."""
+The commands run on tests/every, files with a line of each kind, and on the files of FOLDERS. Each time the command gives its
+answer, or prints nothing but one line that says that memory is out (X1, A1 for a child) and ends with 125; then the same command
+gives the whole answer, and of a journal no acknowledged record is lost. Then the same of a writer of a journal
+(crates/journal_writer), which ends with another status than 0; and of CALLS (crates/memory_rows), which makes calls of the
+libraries: each refused call says so by its own fault, and made once more gives what it gives else."""
 import os
 import re
 import shutil
@@ -17,13 +18,13 @@ import tempfile
 from journals import HEADER, SLOT, check_records, is_finished, records_in, slots_in
 
 HERE = os.path.dirname(os.path.abspath(__file__))
-# So many places in a row that refuse nothing are the end.
-CALM = 20
+# So many places in a row that no call came to are the end.
+CALM = 5
 
 
 def call(folder, library, place, *words):
     """What the program prints, what it tells and its exit status, with the allocation of this place refused; 0 is none."""
-    environment = {**os.environ, "LD_PRELOAD": library, "REFUSE_AT": str(place)} if place else None
+    environment = {**os.environ, "LD_PRELOAD": library, "REFUSE_AT": str(place), "REFUSE_TOLD": library + ".told"} if place else None
     done = subprocess.run(words, cwd=folder, capture_output=True, text=True, timeout=60, env=environment)
     return done.stdout, done.stderr, done.returncode
 
@@ -160,40 +161,223 @@ class Writing:
         return status != 0
 
 
+SUBMIT = "executable = x\nqueue\n"
+DIAMOND = "JOB A a.sub\nJOB B b.sub\nJOB C c.sub\nJOB D d.sub\nPARENT A CHILD B C\nPARENT B C CHILD D\n"
+INNER = "JOB A a.sub\nJOB B b.sub\nSPLICE X leaf.dag\nPARENT A CHILD B X\n"
+NESTED = {
+    "x.dag": "JOB S s.sub\nSPLICE Y in.dag\nSPLICE Z in.dag DIR z\nJOB E e.sub\nPARENT S CHILD Y\nPARENT Y CHILD Z\nPARENT Z CHILD E\n",
+    **{f"{folder}{name}": text for folder in ("", "z/") for name, text in (("in.dag", INNER), ("leaf.dag", "JOB L l.sub\n"))},
+    **{name: SUBMIT for name in ("s.sub", "e.sub", "a.sub", "b.sub", "l.sub", "z/a.sub", "z/b.sub", "z/l.sub")},
+}
+GATE = ': > "$1"; i=0; while [ ! -e "$2" ]; do i=$((i+1)); if [ $i -gt 200 ]; then rm -f "$1"; exit 9; fi; sleep 0.05; done; exit 0\n'
+
+
+def done(names, state="DONE attempts=1 value=0"):
+    return "".join(f"{name} {state}\n" for name in names)
+
+
+def refused(line):
+    return "", f"dagrun: {line}\n", 125
+
+
+# What a folder holds, the words of a command that changes nothing there, and its answer.
+READINGS = {
+    "splices in splices": (NESTED, ("check", "x.dag"), ("ok nodes=8 edges=9 final=no\n", "", 0)),
+    "a splice without nodes": (
+        {**NESTED, "in.dag": INNER + "PARENT X CHILD B\n", "leaf.dag": ""}, ("check", "x.dag"), refused("S10 EmptySpliceEdge in.dag:4:18"),
+    ),
+    "a cycle": (
+        {"x.dag": "JOB A a.sub\nSPLICE Y y.dag\nPARENT A CHILD Y\nPARENT Y CHILD A\n", "y.dag": "JOB B b.sub\n"},
+        ("check", "x.dag"), refused("G1 Cycle A Y+B"),
+    ),
+    "macros": (
+        {
+            "x.dag": 'JOB A a.sub\nVARS A msg="say \\"hi\\"" who="$(JOB)-$(RETRY)"\n',
+            "a.sub": "executable = /bin/echo\narguments = \"one 'it''s ok' \"\"x\"\" $(who) $(none:d)\"\nqueue\n",
+        },
+        ("check", "x.dag"), ("ok nodes=1 edges=0 final=no\n", "", 0),
+    ),
+    "a loop of macros": (
+        {"x.dag": 'JOB A a.sub\nVARS A a="$(b)" b="$(a)"\n', "a.sub": "executable = x\narguments = $(a)\nqueue\n"},
+        ("check", "x.dag"), refused("V2 Loop A"),
+    ),
+    "a diamond": ({"x.dag": DIAMOND, "table": ""}, ("rehearse", "x.dag", "table"), (done("ABCD") + "result 0\n", "", 0)),
+    "a job that fails": (
+        {"x.dag": DIAMOND, "table": "C 0 JOB 3\n"}, ("rehearse", "x.dag", "table"),
+        (done("AB") + done("C", "ERROR attempts=1 value=3") + done("D", "NOT_READY attempts=0 value=-") + "result 1\n"
+         "# Rescue DAG file\n# Total number of Nodes: 4\n# Nodes premarked DONE: 2\n\nDONE A\nDONE B\n", "", 1),
+    ),
+}
+# What a folder holds, and what `run` answers there.
+RUNS = {
+    "a program that is not there": (
+        {"x.dag": "JOB A a.sub\nRETRY A 1\nJOB B b.sub\n", "a.sub": "executable = /no/such\nqueue\n", "b.sub": "executable = /bin/echo\nqueue\n"},
+        (done("A", "ERROR attempts=2 value=-1001") + done("B") + "result 1\n", "", 1),
+    ),
+    "two that wait for each other": (
+        {
+            "x.dag": "JOB A a.sub\nJOB B b.sub\n", "gate.sh": GATE,
+            "a.sub": "executable = /bin/sh\narguments = gate.sh a b\nqueue\n", "b.sub": "executable = /bin/sh\narguments = gate.sh b a\nqueue\n",
+        },
+        (done("AB") + "result 0\n", "", 0),
+    ),
+}
+
+
+def made(path, files):
+    """A folder with these files."""
+    for name, text in files.items():
+        os.makedirs(os.path.dirname(os.path.join(path, name)), exist_ok=True)
+        with open(os.path.join(path, name), "w") as file:
+            file.write(text)
+    return path
+
+
+# By row and call: what it says where it is refused memory. A disk in memory says that it failed.
+FAULTS = {
+    "texts": {
+        "read_dag": "L10 Memory", "read_table": "N4 Memory", "read_submit": "U6 Memory", "expand": "V6 Memory",
+        "split_arguments": "V6 Memory", "script_words": "V6 Memory", "rescue_name": "E5 Memory",
+    },
+    "graphs": {
+        "add": "Memory", "open_dag": "S12 Memory", "build": "G2 Memory", "is_ancestor": "G2 Memory", "read_rescue": "E5 Memory",
+        "rescue_text": "E5 Memory",
+    },
+    "plans": {"build": "P7 Memory", "command": "P7 Memory"},
+    "queues": {"reserve": "Q3 Memory", "reserve_more": "Q3 Memory", "new": "H3 Memory"},
+    "cores": {
+        "new": "C3 Memory", "reserve": "C3 Memory", "history": "C3 Memory", "marks": "C3 Memory", "plan_round": "C3 Memory",
+        "status_text": "Memory", "replay": "M4 Memory", "audit": "F4 Memory", "predict": "Memory",
+    },
+    "disks": {
+        "peek": "J8 Memory", "open": "J8 Memory", "records": "J8 Memory", "write_at": "J1 Device", "cut": "J1 Device", "sync": "J1 Device",
+    },
+    # As endings are recorded, the core still has room of its launches.
+    "lives": {
+        "life": "M4 Memory|J1 Device", "plan_round": "C3 Memory", "launch": "M4 Memory|J1 Device", "launch_batch": "M4 Memory|J1 Device",
+        "record_end": "J1 Device", "record_batch": "J1 Device", "write_rescue": "M4 Memory|J1 Device",
+        "finish": "M4 Memory|J1 Device",
+    },
+    "drives": {
+        "life": "M4 Memory|J1 Device", "launch_round": "A1 StartMemory|A5 Memory|M4 Memory|J1 Device",
+        "drive": "A1 StartMemory|A5 Memory|M4 Memory|J1 Device",
+    },
+}
+
+
+def ends_in(text):
+    """What the nodes came to and the rescue files, as far as a row runs to an end."""
+    return re.findall(r"^(?:end|rescue)\n(?:.*\n)*?\n(?=life|end|\Z)", text, re.M)
+
+
+class Calling:
+    """A row of calls of the libraries."""
+
+    def __init__(self, folder, library, calls, row):
+        self.folder, self.library, self.words, self.row = folder, library, (calls, row), row
+        self.wanted, told, status = call(folder, library, 0, *self.words)
+        # The faults that are to be seen, each once at least.
+        self.due = {(name, fault) for name, faults in FAULTS[row].items() for fault in faults.split("|")}
+        if (told, status) != ("", 0) or not self.wanted:
+            sys.exit(f"{row}: {self.wanted}{told}, status {status}")
+
+    def refuses(self, place):
+        text, told, status = call(self.folder, self.library, place, *self.words)
+        if (text, status) == (self.wanted, 0):
+            return False
+        # What a call is made on could not be made, or a line not be printed.
+        if status != 0 and self.wanted.startswith(text) and re.fullmatch(r"Error: (?:out of memory|memory allocation failed|.*Memory|J1 Device)\n", told):
+            return True
+        if status != 0 or not self.is_met(text):
+            sys.exit(f"{self.row}: allocation {place} was refused, and it printed\n{text}{told}status {status}")
+        return True
+
+    def is_met(self, text):
+        """Whether a call says that it was refused, and goes on as if it had not been, or comes to the same end."""
+        lines, wanted = text.splitlines(), self.wanted.splitlines()
+        at = next(at for at, line in enumerate(lines) if line != wanted[at])
+        name, _, fault = lines[at].partition(" ")
+        # Memory for a line that tells of a call.
+        if lines[at] == "Memory":
+            return lines[:at] + lines[at + 1 :] == wanted
+        if fault not in FAULTS[self.row].get(name, "").split("|"):
+            return False
+        self.due.discard((name, fault))
+        if self.row == "drives" or self.row == "lives" and fault == "J1 Device":
+            return ends_in(text) == ends_in(self.wanted)
+        return lines[:at] + lines[at + 1 :] == wanted
+
+    def none_is_due(self):
+        if self.due:
+            sys.exit(f"{self.row}: never seen {sorted(self.due)}")
+
+
 def each(name, step, tried):
-    count, calm, place = 0, 0, 1
+    count, calm, place, told = 0, 0, 1, tried.library + ".told"
     while calm < CALM:
-        if tried.refuses(place):
-            count, calm = count + 1, 0
-        else:
-            calm += 1
+        if os.path.exists(told):
+            os.remove(told)
+        count += tried.refuses(place)
+        # A program that did not come to its end counted nothing.
+        if not os.path.exists(told):
+            sys.exit(f"{name}: allocation {place} was refused, and it came to no end")
+        with open(told) as file:
+            calm = 0 if int(file.read()) >= place else calm + 1
         place += step
     print(f"{name}: {count} allocations were refused one by one", flush=True)
     if count == 0:
         sys.exit(f"{name}: no allocation was refused")
 
 
+def is_due(name, found, wanted):
+    if found != wanted:
+        sys.exit(f"{name}: {found}, wanted {wanted}")
+
+
+def commands(library, work, program, step):
+    """The commands on tests/every."""
+    fresh, second = os.path.join(work, "fresh"), os.path.join(work, "second")
+    shutil.copytree(os.path.join(HERE, "every"), fresh)
+    for words in (("check", "x.dag"), ("rehearse", "x.dag", "x.outcomes"), ("graph", "x.dag"), ("explain", "L2"), ("help", "run")):
+        each(words[0], step, Reading(fresh, library, program, *words))
+    each("run", step, Running(fresh, library, work, program))
+    shutil.copytree(fresh, second)
+    call(second, library, 0, program, "run", "x.dag")
+    each("run of a second round", step, Running(second, library, work, program))
+    call(second, library, 0, program, "run", "x.dag")
+    for name in ("status", "audit", "graph"):
+        each(name, step, Reading(second, library, program, name, "x.dag"))
+    cut_journal(second, 3)
+    each("salvage", step, Salvaging(second, library, work, program))
+
+
+def rows(library, work, program, step):
+    """The commands on files of a row each."""
+    for number, (name, (files, words, answer)) in enumerate(READINGS.items()):
+        tried = Reading(made(os.path.join(work, f"reading{number}"), files), library, program, *words)
+        is_due(name, tried.wanted, answer)
+        each(f"{words[0]}: {name}", step, tried)
+    for number, (name, (files, answer)) in enumerate(RUNS.items()):
+        tried = Running(made(os.path.join(work, f"run{number}"), files), library, work, program)
+        is_due(name, tried.wanted, answer)
+        each(f"run: {name}", step, tried)
+
+
 def main():
-    program, writer = (os.path.realpath(path) for path in sys.argv[1:3])
-    step = int(sys.argv[3]) if len(sys.argv) > 3 else 1
+    program, writer, calls = (os.path.realpath(path) for path in sys.argv[1:4])
+    step = int(sys.argv[4]) if len(sys.argv) > 4 else 1
     memory = "/dev/shm" if os.access("/dev/shm", os.W_OK) else None
     with tempfile.TemporaryDirectory(dir=memory) as work:
         library = os.path.join(work, "refuse.so")
         subprocess.run(["cc", "-shared", "-fPIC", "-O1", "-o", library, os.path.join(HERE, "refuse_memory.c"), "-ldl"], check=True)
-        fresh, second = os.path.join(work, "fresh"), os.path.join(work, "second")
-        shutil.copytree(os.path.join(HERE, "every"), fresh)
-        for words in (("check", "x.dag"), ("rehearse", "x.dag", "x.outcomes"), ("graph", "x.dag"), ("explain", "L2"), ("help", "run")):
-            each(words[0], step, Reading(fresh, library, program, *words))
-        each("run", step, Running(fresh, library, work, program))
-        shutil.copytree(fresh, second)
-        call(second, library, 0, program, "run", "x.dag")
-        each("run of a second round", step, Running(second, library, work, program))
-        call(second, library, 0, program, "run", "x.dag")
-        for name in ("status", "audit", "graph"):
-            each(name, step, Reading(second, library, program, name, "x.dag"))
-        cut_journal(second, 3)
-        each("salvage", step, Salvaging(second, library, work, program))
+        commands(library, work, program, step)
+        rows(library, work, program, step)
         each("writer", step, Writing(work, library, writer))
+        for row in FAULTS:
+            tried = Calling(work, library, calls, row)
+            each(f"calls: {row}", step, tried)
+            if step == 1:
+                tried.none_is_due()
 
 
 if __name__ == "__main__":

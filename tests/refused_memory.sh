@@ -1,7 +1,8 @@
 #!/usr/bin/env bash
-# Refuses each allocation of each command in turn, and of a writer of a journal (crates/journal_writer).
+# Refuses each allocation of each command in turn, of a writer of a journal (crates/journal_writer), and of calls of the libraries
+# (crates/memory_rows).
 #
-#   tests/refused_memory.sh PROGRAM WRITER [STEP]     STEP: every so manieth allocation alone (1)
+#   tests/refused_memory.sh PROGRAM WRITER CALLS [STEP]     STEP: every so manieth allocation alone (1)
 set -euo pipefail
 here=$(cd -- "$(dirname -- "${BASH_SOURCE[0]}")" && pwd)
 exec python3 "$here/refused_memory.py" "$@"

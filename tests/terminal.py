@@ -572,10 +572,16 @@ def a_status(folder):
     same(told.screen.told(), [f"1 ERROR, 1 SUBMITTED, 1 NOT_READY; process {run.pid} works on them"])
     # What is printed stays the same, and so does what is no terminal.
     same((told.text, "", 0), folder.call("status", "x.dag"))
+    # So it stands behind `why`.
+    told = folder.on_terminal("why", "x.dag")
+    same((told.status, told.screen.told()[-1:]), (0, [f"process {run.pid} works on x.dag"]))
+    same((told.text, "", 0), folder.call("why", "x.dag"))
     run.kill()
     run.wait(timeout=60)
     told = folder.on_terminal("status", "x.dag")
     same(told.screen.told(), ["1 ERROR, 1 SUBMITTED, 1 NOT_READY; no manager works on them"])
+    told = folder.on_terminal("why", "x.dag")
+    same(told.screen.told()[-1:], ["no manager works on x.dag"])
     # What the manager left running is ended by the next one.
     folder.write("B.sh", "exit 0\n")
     same(folder.call("run", "x.dag")[2], 1)

@@ -18,7 +18,8 @@ TOP = os.path.realpath(os.path.join(os.path.dirname(__file__), ".."))
 PAGES = {
     "docs/FROM_DAGMAN.md": None,
     "docs/FROM_MAKE.md": None,
-    "docs/MANUAL.md": ["Why a node failed", "A picture of the graph", "A round whose submit files were changed", "What a fault says"],
+    "docs/MANUAL.md": ["Why a node failed", "A picture of the graph", "A round whose submit files were changed", "What a fault says", "What is odd in files"],
+    "docs/TO_HTCONDOR.md": ["What check --condor tells"],
 }
 
 

@@ -29,7 +29,7 @@ _dagrun() {
         times) options='--svg --help' ;;
         salvage) options='--help' ;;
         audit) options='--help' ;;
-        check) options='--help' ;;
+        check) options='--hints --condor --help' ;;
         rehearse) options='--maxjobs --maxpre --maxpost --always-run-post --help' ;;
         graph) options='--help' ;;
         explain) options='--help' ;;

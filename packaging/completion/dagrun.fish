@@ -26,6 +26,8 @@ complete -c dagrun -n '__fish_seen_subcommand_from run' -l progress -x -a 'auto 
 complete -c dagrun -n '__fish_seen_subcommand_from run' -l resume -d 'Where the last round has ended, prints its report again and starts nothing'
 complete -c dagrun -n '__fish_seen_subcommand_from run' -l trust-owner -d 'Root goes by the journal, the rescue files and the lock of another user, and others by those of root'
 complete -c dagrun -n '__fish_seen_subcommand_from times' -l svg -d 'A picture of the run over time, in place of a table'
+complete -c dagrun -n '__fish_seen_subcommand_from check' -l hints -d 'Says on standard error, with places, what is odd in the files, and what to write instead'
+complete -c dagrun -n '__fish_seen_subcommand_from check' -l condor -d 'Says there, with places, what would be otherwise under condor_submit_dag'
 complete -c dagrun -n '__fish_seen_subcommand_from rehearse' -l maxjobs -x -d 'How many jobs may run at once; 0 is no limit'
 complete -c dagrun -n '__fish_seen_subcommand_from rehearse' -l maxpre -x -d 'How many PRE scripts may run at once'
 complete -c dagrun -n '__fish_seen_subcommand_from rehearse' -l maxpost -x -d 'How many POST scripts may run at once'

@@ -71,6 +71,8 @@ _dagrun() {
         check)
             _arguments \
                 '(-h --help)'{-h,--help}'[Print help]' \
+                '--hints[Says on standard error, with places, what is odd in the files, and what to write instead]' \
+                '--condor[Says there, with places, what would be otherwise under condor_submit_dag]' \
                 '1:DAG:_files -g "*.dag"'
             ;;
         rehearse)

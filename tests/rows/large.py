@@ -111,6 +111,15 @@ def tables():
     yield {"x.dag": (dag + "RETRY ALL_NODES 9\n").encode(), "table": table.encode()}, words, report + "result 1\\n.."
 
 
+def many_records():
+    """A rehearsal of 1,200,008 records, more than 2 to the power of 20: Life, six of each attempt, and Finish."""
+    last = 200_000
+    dag = f"JOB A a\nSCRIPT PRE A p\nSCRIPT POST A q\nRETRY A {last}\n"
+    table = "".join(f"A {attempt} POST 1\n" for attempt in range(last + 1))
+    answer = f"A ERROR attempts={last + 1} value=1\\nresult 1\\n.."
+    yield {"x.dag": dag.encode(), "table": table.encode()}, ["rehearse", "x.dag", "table"], answer
+
+
 def rows():
-    for group in [control_characters, lengths, numbers_of_nodes, depths, order_of_commands, longest_expansions, tables]:
+    for group in [control_characters, lengths, numbers_of_nodes, depths, order_of_commands, longest_expansions, tables, many_records]:
         yield from group()

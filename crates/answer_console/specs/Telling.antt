@@ -1,7 +1,8 @@
 -- How the result of a request is told on standard output and standard error (docs/MANUAL.md, "The command line").
-use Rattle.std.specs.Prelude.{◌≡◌, ℕ, List, ◌++◌, Result, Ok, Err, codes, string_bytes}
+use Rattle.std.specs.Prelude.{◌≡◌, ◌⊎◌, ℕ, Bool, List, ◌++◌, Result, Ok, Err, IsTrue, codes, string_bytes}
 use Rattle.dag_texts.specs.declared.fault.RunFault.{RunFault}
 use Rattle.dag_texts.specs.declared.warnings.Answer.{Answer}
+use Rattle.dag_texts.specs.Displayed.{run_fault_text}
 
 -- the exit status with which the result of a request is told: that of its answer, once this is printed; else 125
 pub data IsStatusOf (result : Result Answer RunFault) : ℕ → Type 0 where
@@ -12,15 +13,27 @@ pub data IsStatusOf (result : Result Answer RunFault) : ℕ → Type 0 where
 abbrev pub IsLine : List ℕ → List ℕ → Type 0
 IsLine before after = (line : List ℕ) × (after ≡ before ++ line)
 
--- An answer is told: its warnings on standard error and its text on standard output, with its status; or standard output is refused, which is told
--- behind its warnings, with status 125.
-pub data IsTold (answer : Answer) (printed warned printed' warned' : List ℕ) : ℕ → Type 0 where
-  whole : printed' ≡ printed ++ string_bytes answer.text → warned' ≡ warned ++ string_bytes answer.warnings →
-      IsTold answer printed warned printed' warned' answer.status
-  output_refused : IsLine (warned ++ string_bytes answer.warnings) warned' → IsTold answer printed warned printed' warned' 125
+-- what is told where there is no memory for more
+abbrev pub no_memory_line : List ℕ
+no_memory_line = codes "dagrun: X1 Memory\n"
 
--- The result of a request is told: an answer so; a refusal by a line on standard error, with nothing on standard output, and with status 125.
-pub data IsToldAs (result : Result Answer RunFault) (printed warned printed' warned' : List ℕ) : ℕ → Type 0 where
-  answered : (answer : Answer) (status : ℕ) → result ≡ Ok answer → IsTold answer printed warned printed' warned' status →
-      IsToldAs result printed warned printed' warned' status
-  refused : (fault : RunFault) → result ≡ Err fault → printed' ≡ printed → IsLine warned warned' → IsToldAs result printed warned printed' warned' 125
+-- the line of a refusal: `dagrun: CODE Name detail`
+abbrev pub refusal_line : RunFault → List ℕ
+refusal_line fault = codes "dagrun: " ++ run_fault_text fault ++ codes "\n"
+
+-- An answer is told: its warnings on standard error and its text on standard output, with its status; or standard output refuses a text, which is
+-- told behind its warnings, with status 125. Whether it has refused one is said before and behind that.
+pub data IsTold (answer : Answer) (printed warned : List ℕ) (refuses : Bool) (printed' warned' : List ℕ) (refuses' : Bool) : ℕ → Type 0 where
+  whole : printed' ≡ printed ++ string_bytes answer.text → warned' ≡ warned ++ string_bytes answer.warnings → refuses' ≡ refuses →
+      IsTold answer printed warned refuses printed' warned' refuses' answer.status
+  output_refused : IsTrue refuses' → IsLine (warned ++ string_bytes answer.warnings) warned' →
+      IsTold answer printed warned refuses printed' warned' refuses' 125
+
+-- The result of a request is told: an answer so; a refusal by its line on standard error, or by that of refused memory, with nothing on
+-- standard output, and with status 125.
+pub data IsToldAs (result : Result Answer RunFault) (printed warned : List ℕ) (refuses : Bool) (printed' warned' : List ℕ) (refuses' : Bool) : ℕ → Type 0 where
+  answered : (answer : Answer) (status : ℕ) → result ≡ Ok answer → IsTold answer printed warned refuses printed' warned' refuses' status →
+      IsToldAs result printed warned refuses printed' warned' refuses' status
+  refused : (fault : RunFault) → result ≡ Err fault → printed' ≡ printed → refuses' ≡ refuses →
+      (warned' ≡ warned ++ refusal_line fault) ⊎ (warned' ≡ warned ++ no_memory_line) →
+      IsToldAs result printed warned refuses printed' warned' refuses' 125

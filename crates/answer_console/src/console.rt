@@ -1,6 +1,6 @@
 //! Where an answer is told.
 
-ghost use Rattle.std.specs.Prelude.{◌≡◌, ℕ, List, [], ◌++◌, false, OnOk, string_bytes};
+ghost use Rattle.std.specs.Prelude.{◌≡◌, ℕ, Bool, List, [], ◌++◌, false, IsTrue, OnOk, OnErr, string_bytes};
 
 use std::alloc::Global;
 use std::io::{self, ErrorKind};
@@ -15,6 +15,9 @@ pub trait Console {
     /// The bytes that stand on standard error.
     ghost warned: { Self → List ℕ };
 
+    /// Whether standard output refused a text.
+    ghost refuses: { Self → Bool };
+
     /// The premise under which they do: so far it was honest.
     ghost honest: { Self → Type 0 };
 
@@ -25,12 +28,15 @@ pub trait Console {
     fn print(&mut self, text: &str) -> io::Result<()>
         ensures printed { honest self.new → OnOk result (printed self.new ≡ printed self.old ++ text.now) }
         ensures warned { honest self.new → warned self.new ≡ warned self.old }
+        ensures taken { honest self.new → OnOk result (refuses self.new ≡ refuses self.old) }
+        ensures refused { honest self.new → OnErr result (IsTrue (refuses self.new)) }
         ensures back { honest self.new → honest self.old };
 
     /// Writes a text to standard error; where that is refused, there is nowhere left to say so.
     fn warn(&mut self, text: &str)
         ensures warned { honest self.new → warned self.new ≡ warned self.old ++ text.now }
         ensures printed { honest self.new → printed self.new ≡ printed self.old }
+        ensures refuses { honest self.new → refuses self.new ≡ refuses self.old }
         ensures back { honest self.new → honest self.old };
 }
 
@@ -45,6 +51,8 @@ impl<'a, R: Print + Eprint> Console for SystemConsole<'a, R> {
     ghost printed = { λ _. [] };
 
     ghost warned = { λ _. [] };
+
+    ghost refuses = { λ _. false };
 
     ghost honest = { λ _. ⊥ };
 
@@ -62,15 +70,22 @@ impl<'a, R: Print + Eprint> Console for SystemConsole<'a, R> {
 pub struct MemConsole {
     printed: String,
     warned: String,
+    refuses: bool,
     lost: bool,
 }
 
 impl MemConsole {
     /// An empty one.
-    pub fn new(alloc: Global) -> MemConsole {
+    pub fn new(alloc: Global) -> MemConsole
+        ensures printed { string_bytes result.printed ≡ [] }
+        ensures warned { string_bytes result.warned ≡ [] }
+        ensures takes { result.refuses ≡ false }
+        ensures honest { result.lost ≡ false }
+    {
         MemConsole {
             printed: String::new(alloc),
             warned: String::new(alloc),
+            refuses: false,
             lost: false,
         }
     }
@@ -95,12 +110,17 @@ impl Console for MemConsole {
 
     ghost warned = { λ c. string_bytes c.warned };
 
+    ghost refuses = { λ c. c.refuses };
+
     ghost honest = { λ c. c.lost ≡ false };
 
     fn print(&mut self, text: &str) -> io::Result<()> {
         match self.printed.push_str(text) {
             Ok(()) => Ok(()),
-            Err(_) => Err(io::Error::from(ErrorKind::OutOfMemory)),
+            Err(_) => {
+                self.refuses = true;
+                Err(io::Error::from(ErrorKind::OutOfMemory))
+            }
         }
     }
 

@@ -1,7 +1,7 @@
 //! How the result of a request is told.
 
-ghost use Rattle.std.specs.Prelude.{◌≡◌, ◌++◌, ℕ, List, Ok, codes, string_bytes};
-ghost use Rattle.answer_console.specs.Telling.{IsLine, IsTold, IsToldAs, IsStatusOf};
+ghost use Rattle.std.specs.Prelude.{◌≡◌, ◌⊎◌, ◌++◌, Ok};
+ghost use Rattle.answer_console.specs.Telling.{IsTold, IsToldAs, IsStatusOf, refusal_line, no_memory_line};
 
 use crate::console::Console;
 use dag_texts::{Answer, RunFault};
@@ -22,8 +22,9 @@ pub fn tell_answer<C: Console>(
     reply: &Result<Answer, RunFault>,
 ) -> u8
     ensures status { IsStatusOf reply.now result }
-    ensures told { C.honest console.new → IsToldAs reply.now (C.printed console.old) (C.warned console.old)
-        (C.printed console.new) (C.warned console.new) result }
+    ensures told { C.honest console.new → IsToldAs reply.now
+        (C.printed console.old) (C.warned console.old) (C.refuses console.old)
+        (C.printed console.new) (C.warned console.new) (C.refuses console.new) result }
     ensures back { C.honest console.new → C.honest console.old }
 {
     match reply {
@@ -35,8 +36,9 @@ pub fn tell_answer<C: Console>(
 /// Tells an answer: its warnings, and then its text.
 fn tell<C: Console>(alloc: Global, console: &mut C, answer: &Answer) -> u8
     ensures status { IsStatusOf (Ok answer.now) result }
-    ensures told { C.honest console.new → IsTold answer.now (C.printed console.old) (C.warned console.old)
-        (C.printed console.new) (C.warned console.new) result }
+    ensures told { C.honest console.new → IsTold answer.now
+        (C.printed console.old) (C.warned console.old) (C.refuses console.old)
+        (C.printed console.new) (C.warned console.new) (C.refuses console.new) result }
     ensures back { C.honest console.new → C.honest console.old }
 {
     console.warn(answer.warnings.as_str());
@@ -56,7 +58,9 @@ fn tell<C: Console>(alloc: Global, console: &mut C, answer: &Answer) -> u8
 fn refuse<C: Console>(alloc: Global, console: &mut C, fault: &RunFault) -> u8
     ensures status { result ≡ 125 }
     ensures printed { C.honest console.new → C.printed console.new ≡ C.printed console.old }
-    ensures warned { C.honest console.new → IsLine (C.warned console.old) (C.warned console.new) }
+    ensures refuses { C.honest console.new → C.refuses console.new ≡ C.refuses console.old }
+    ensures warned { C.honest console.new → (C.warned console.new ≡ C.warned console.old ++ refusal_line fault.now)
+        ⊎ (C.warned console.new ≡ C.warned console.old ++ no_memory_line) }
     ensures back { C.honest console.new → C.honest console.old }
 {
     match format!(in alloc; "dagrun: {fault}\n") {

@@ -1,14 +1,14 @@
 -- What the words of a command line ask for.
-use Rattle.std.specs.Prelude.{◌≡◌, ◌<◌, ℕ, Bool, List, Option, Some, None, map, string_bytes}
+use Rattle.std.specs.Prelude.{◌≡◌, ◌<◌, ℕ, Bool, ◌||◌, List, Option, Some, None, map, string_bytes}
 use Rattle.std.specs.Option.{option_map}
 use Rattle.throttles.specs.declared.Limits.{Limits}
 use Rattle.command_line.specs.declared.request.RunOptions.{RunOptions}
 use Rattle.command_line.specs.declared.request.Request.{Request}
 use Rattle.command_line.specs.declared.request.Request.TheVariants.{Check, Run, Status, Audit, Rehearse, Graph, Why, Times, Salvage, Page}
 
--- a command with its words: the path of the DAG file first; or the page that is to be printed, which the words alone determine
+-- a command with its words: the path of the DAG file first; of a check also whether hints are asked for; or the page that is to be printed, which the words alone determine
 pub data Asked : Type 0 where
-  checks : List ℕ → Asked
+  checks : List ℕ → (hinted : Bool) → Asked
   runs : List ℕ → RunOptions → Asked
   tells_status : List ℕ → Asked
   audits : List ℕ → Asked
@@ -21,7 +21,7 @@ pub data Asked : Type 0 where
 
 -- what a request asks for
 abbrev pub asked_by : Request → Asked
-asked_by (Check dag) = checks dag.now
+asked_by (Check dag hints condor) = checks dag.now (hints || condor)
 asked_by (Run dag options) = runs dag.now options
 asked_by (Status dag) = tells_status dag.now
 asked_by (Audit dag) = audits dag.now
@@ -45,7 +45,7 @@ pub record AreLimits (limits : Limits) : Type 0 where
 
 -- the limits under which something is to run
 abbrev pub limits_in : Asked → Option Limits
-limits_in (checks dag) = None
+limits_in (checks dag hinted) = None
 limits_in (runs dag options) = Some options.limits
 limits_in (tells_status dag) = None
 limits_in (audits dag) = None

@@ -163,6 +163,18 @@ const ORPHANS: ArgumentRow = ArgumentRow {
     help: "What is done with processes that a manager which was killed left running; kill where it is not given",
 };
 
+const HINTS: ArgumentRow = ArgumentRow {
+    name: "hints",
+    kind: Kind::Flag,
+    help: "Says on standard error, with places, what is odd in the files, and what to write instead",
+};
+
+const CONDOR: ArgumentRow = ArgumentRow {
+    name: "condor",
+    kind: Kind::Flag,
+    help: "Says there, with places, what would be otherwise under condor_submit_dag",
+};
+
 static COMMANDS: [CommandRow; 12] = [
     CommandRow {
         name: "run",
@@ -231,9 +243,11 @@ static COMMANDS: [CommandRow; 12] = [
     CommandRow {
         name: "check",
         about: "Reads a DAG file with its splices, and says whether it is right",
-        arguments: &[FILE_OR_INPUT],
+        arguments: &[FILE_OR_INPUT, HINTS, CONDOR],
         examples: "  dagrun check x.dag                  whether x.dag and its submit files are right
   make-dag | dagrun check -           the same of a DAG that a program writes
+  dagrun check --hints x.dag          also what is odd in them, as a misspelled name
+  dagrun check --condor x.dag         also what would be otherwise under HTCondor
 ",
     },
     CommandRow {

@@ -96,9 +96,12 @@ impl Drop for RunOptions {
 /// What the words of a command line ask for.
 #[derive(Debug, Drop)]
 pub enum Request<'a> {
-    /// `check DAG`: the path of the DAG file, `-` for standard input.
+    /// `check DAG`: the path of the DAG file, `-` for standard input; whether it is said what is odd in the
+    /// files, and what would be otherwise under `condor_submit_dag`.
     Check {
         dag: &'a str,
+        hints: bool,
+        condor: bool,
     },
 
     /// `run DAG`: the path of the DAG file, and how it is run.
@@ -303,7 +306,11 @@ fn request_of<'a>(alloc: Global, matches: &ArgMatches<'a>) -> Result<Request<'a>
         }),
         Some(("status", found)) => Ok(Request::Status { dag: dag_of(found) }),
         Some(("audit", found)) => Ok(Request::Audit { dag: dag_of(found) }),
-        Some(("check", found)) => Ok(Request::Check { dag: dag_of(found) }),
+        Some(("check", found)) => Ok(Request::Check {
+            dag: dag_of(found),
+            hints: found.get_flag("hints"),
+            condor: found.get_flag("condor"),
+        }),
         Some(("rehearse", found)) => Ok(Request::Rehearse {
             dag: dag_of(found),
             outcomes: found.get_str("OUTCOMES"),

@@ -3,7 +3,6 @@
 ghost use Rattle.std.specs.Prelude.{◌≡◌, ◌≤◌, IfOk, IfErr, option_map, string_bytes};
 ghost use Rattle.splices.specs.FileSet.{bytes_of, entries_of};
 ghost use Rattle.event_journal.specs.Image.{IsRescueNumber};
-ghost use Rattle.run_leader.specs.Rounds.{IsNumbered};
 ghost use Rattle.dag_texts.specs.Planned.{IsPlanBy};
 ghost use Rattle.run_leader.specs.Causes.{MayStop};
 ghost use Rattle.dag_files.specs.Beside.{IsFileFault, IsRoundBy, IsRescueOf};
@@ -94,9 +93,7 @@ fn plan_of_round(
 
 /// How the manager of this round begins.
 fn start_of(round: &Round) -> Start
-    requires { IsRescueNumber round.now.next }
-    ensures numbered { IsNumbered result }
-    ensures start { result ≡ start_by round.now }
+    ensures { result ≡ start_by round.now }
 {
     match round.journal {
         Journaled::Nothing | Journaled::Finished => Start::Begin {
@@ -141,7 +138,6 @@ fn led_by<
     disks: (FileDisk<R>, FileDisk<R>),
     watcher: W,
 ) -> Result<Report, Stop>
-    requires numbered { IsNumbered start }
     ensures led { IfOk result (λ report. IsLedRun limits plan.now start
         (string_bytes report.text) report.status) }
     ensures refused { IfErr result (λ stop. IsStopFault stop.fault) }

@@ -5,6 +5,7 @@ ghost use Rattle.dag_reader.specs.declared.fault.ReadFault.TheVariants.{Memory, 
 
 use crate::span::Span;
 use std::alloc::{AllocError, AllocFailed};
+use std::fmt;
 use thiserror::Error;
 
 /// What is wrong with a line, and where.
@@ -14,41 +15,53 @@ use thiserror::Error;
 #[derive(Clone, Copy, Debug, PartialEq, Eq, Error)]
 pub enum LineFault {
     /// A control character, or bytes that are not UTF-8: the first byte that is no text.
-    #[error("L1 NotText")]
     NotText(Span),
 
     /// The first word is no command.
-    #[error("L2 UnknownCommand")]
     UnknownCommand(Span),
 
     /// A word of the DAGMan language that this program leaves out, or the line's last word where
     /// it ends with a backslash as the line's last byte.
-    #[error("L3 Unsupported")]
     Unsupported(Span),
 
     /// The line ends where a word is wanted: no bytes, at the line's end.
-    #[error("L4 MissingWord")]
     MissingWord(Span),
 
     /// A word that has no place there.
-    #[error("L5 UnexpectedWord")]
     UnexpectedWord(Span),
 
     /// A word that can't be the name that is wanted.
-    #[error("L6 BadName")]
     BadName(Span),
 
     /// A word that is no number, or a number out of its range.
-    #[error("L7 BadNumber")]
     BadNumber(Span),
 
     /// The text of a macro is not opened, closed or followed as it has to be.
-    #[error("L8 BadQuote")]
     BadQuote(Span),
 
     /// The line has over 65,536 bytes: those that are too many.
-    #[error("L9 TooLong")]
     TooLong(Span),
+}
+
+impl fmt::Display for LineFault {
+    ghost use Rattle.std.specs.Prelude.{Some};
+    ghost use Rattle.dag_reader.specs.Fault.{line_fault_name};
+
+    ghost output = { λ fault. Some (line_fault_name fault) };
+
+    fn fmt<W: fmt::Write>(&self, f: &mut fmt::Formatter<W>) -> fmt::Result {
+        f.write_str(match self {
+            LineFault::NotText(_) => "L1 NotText",
+            LineFault::UnknownCommand(_) => "L2 UnknownCommand",
+            LineFault::Unsupported(_) => "L3 Unsupported",
+            LineFault::MissingWord(_) => "L4 MissingWord",
+            LineFault::UnexpectedWord(_) => "L5 UnexpectedWord",
+            LineFault::BadName(_) => "L6 BadName",
+            LineFault::BadNumber(_) => "L7 BadNumber",
+            LineFault::BadQuote(_) => "L8 BadQuote",
+            LineFault::TooLong(_) => "L9 TooLong",
+        })
+    }
 }
 
 impl LineFault {

@@ -13,9 +13,15 @@ pub struct Span {
 }
 
 impl fmt::Display for Span {
+    ghost use Rattle.std.specs.Prelude.{Some};
+    ghost use Rattle.dag_reader.specs.Fault.{span_text};
+
+    ghost output = { λ span. Some (span_text span) };
+
     fn fmt<W: fmt::Write>(&self, f: &mut fmt::Formatter<W>) -> fmt::Result {
         let line = self.line;
-        let column = self.start.saturating_add(1);
+        // No place is too far right for it.
+        let column = self.start as u128 + 1;
         write!(f, "{line}:{column}")
     }
 }

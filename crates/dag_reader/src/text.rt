@@ -55,6 +55,10 @@ impl Text {
 }
 
 impl fmt::Display for Text {
+    ghost use Rattle.std.specs.Prelude.{Some};
+
+    ghost output = { λ text. Some text };
+
     fn fmt<W: fmt::Write>(&self, f: &mut fmt::Formatter<W>) -> fmt::Result {
         write!(f, "{}", self.text)
     }
@@ -136,8 +140,14 @@ impl Texts {
 }
 
 impl fmt::Display for Texts {
+    ghost use Rattle.std.specs.Prelude.{Some};
+    ghost use Rattle.dag_reader.specs.Fault.{texts_text};
+
+    ghost output = { λ texts. Some (texts_text texts) };
+
     fn fmt<W: fmt::Write>(&self, f: &mut fmt::Formatter<W>) -> fmt::Result {
-        for text in self.texts.iter() {
+        let texts = self.as_slice();
+        for text in texts {
             write!(f, " {text}")?;
         }
         Ok(())

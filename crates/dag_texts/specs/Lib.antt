@@ -2,3 +2,4 @@ pub mod Warnings
 pub mod Checked
 pub mod Planned
 pub mod Told
+pub mod Displayed

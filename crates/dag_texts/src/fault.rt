@@ -1,6 +1,7 @@
 //! Why a command is refused.
 
 ghost use Rattle.std.specs.Prelude.{◌≡◌};
+ghost use Rattle.dag_texts.specs.Displayed.{line_in};
 ghost use Rattle.dag_texts.specs.declared.fault.RunFault.TheVariants.{Memory};
 
 use dag_reader::{Text, Texts};
@@ -10,12 +11,12 @@ use run_manager::ManagerFault;
 use run_plan::PlanFault;
 use splices::DagFault;
 use std::alloc::{AllocError, AllocFailed};
-use std::error::Error;
 use std::fmt;
+use thiserror::Error;
 
 /// Why a command is refused. It is displayed as `CODE Name detail`, the line that the user reads
 /// behind `dagrun: `.
-#[derive(Drop)]
+#[derive(Drop, Error)]
 pub enum RunFault {
     /// The files of the DAG are refused.
     InFiles(DagFault),
@@ -45,7 +46,9 @@ pub enum RunFault {
 }
 
 /// The line of a rescue file that a fault tells of.
-fn line_of(fault: &RescueFault) -> Option<usize> {
+fn line_of(fault: &RescueFault) -> Option<usize>
+    ensures { result ≡ line_in fault.now }
+{
     match fault {
         RescueFault::BadLine(line)
         | RescueFault::UnknownNode(line)
@@ -55,6 +58,11 @@ fn line_of(fault: &RescueFault) -> Option<usize> {
 }
 
 impl fmt::Display for RunFault {
+    ghost use Rattle.std.specs.Prelude.{Some};
+    ghost use Rattle.dag_texts.specs.Displayed.{run_fault_text};
+
+    ghost output = { λ fault. Some (run_fault_text fault) };
+
     fn fmt<W: fmt::Write>(&self, f: &mut fmt::Formatter<W>) -> fmt::Result {
         match self {
             RunFault::InFiles(fault) => write!(f, "{fault}"),
@@ -82,8 +90,6 @@ impl fmt::Debug for RunFault {
         fmt::Display::fmt(self, f)
     }
 }
-
-impl Error for RunFault {}
 
 impl From<AllocError> for RunFault {
     ghost from_gives = { λ _ fault. fault ≡ Memory };

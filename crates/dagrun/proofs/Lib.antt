@@ -1,2 +1,3 @@
 mod Requests
 mod Salvages
+pub mod Checks

@@ -35,9 +35,14 @@ pub data IsSalvage (path : List ℕ) : (text warnings : List ℕ) → (status : 
   salvaged : (text warnings : List ℕ) (status : ℕ) → IsSalvageOf path text warnings status → IsSalvage path text warnings status
   not_salvaged : (warnings : List ℕ) → IsSalvage path [] warnings 125
 
+-- What `check` answers: what it answers of some files of the path; where hints are asked for, with these behind its warnings.
+pub data IsCheck (path : List ℕ) (hinted : Bool) (text : List ℕ) : (warnings : List ℕ) → (status : ℕ) → Type 0 where
+  without_hints : (warnings : List ℕ) (status : ℕ) → IsCheckOfSome path text warnings status → IsCheck path hinted text warnings status
+  with_hints : (warnings hints : List ℕ) (status : ℕ) → hinted ≡ true → IsCheckOfSome path text warnings status → IsCheck path hinted text (warnings ++ hints) status
+
 -- The answer to a request: the text that is printed, the warnings, and the exit status.
 abbrev pub IsAnswerTo : Asked → (text warnings : List ℕ) → (status : ℕ) → Type 0
-IsAnswerTo (checks path) text warnings status = IsCheckOfSome path text warnings status
+IsAnswerTo (checks path hinted) text warnings status = IsCheck path hinted text warnings status
 IsAnswerTo (runs path options) text warnings status = IsRun path options text warnings status
 IsAnswerTo (tells_status path) text warnings status = IsToldOfRun Status path text warnings status
 IsAnswerTo (audits path) text warnings status = IsToldOfRun Audit path text warnings status
@@ -58,7 +63,7 @@ asked_of Graph path = draws path
 -- Why a request is refused: the system refuses the folder or a file, or memory ran out; or for a cause of the call that it is for.
 pub data IsRefusal : Asked → RunFault → Type 0 where
   not_read : (asked : Asked) (fault : RunFault) → IsFileFault fault → IsRefusal asked fault
-  not_checked : (path : List ℕ) (fault : RunFault) → IsCheckRefusal path fault → IsRefusal (checks path) fault
+  not_checked : (path : List ℕ) (hinted : Bool) (fault : RunFault) → IsCheckRefusal path fault → IsRefusal (checks path hinted) fault
   not_run : (path : List ℕ) (options : RunOptions) (fault : RunFault) → IsRunFault path options fault → IsRefusal (runs path options) fault
   not_told_again : (path : List ℕ) (options : RunOptions) (fault : RunFault) → options.resume ≡ true → IsToldFault Status path fault → IsRefusal (runs path options) fault
   no_status : (path : List ℕ) (fault : RunFault) → IsToldFault Status path fault → IsRefusal (tells_status path) fault

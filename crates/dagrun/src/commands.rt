@@ -1,25 +1,26 @@
 //! The program's commands over the system's files and streams.
 
-ghost use Rattle.std.specs.Prelude.{◌≡◌, ℕ, List, [], ◌++◌, Some, IfOk, IfErr, is_some, length, map, string_bytes, codes};
+ghost use Rattle.std.specs.Prelude.{◌≡◌, ◌⊎◌, ◌||◌, true, ℕ, List, [], ◌++◌, Some, IfOk, IfErr, is_some, length, map, string_bytes, codes};
 ghost use Rattle.std.specs.Option.{option_map};
 ghost use Rattle.command_line.specs.Requests.{asked_by, checks, runs, rehearses, times, salvages, asks_why, shows};
 ghost use Rattle.dag_files.specs.Beside.{IsFileFault};
 ghost use Rattle.run_answers.specs.Asked.{IsToldOfRun};
-ghost use Rattle.folder_answers.specs.Answered.{IsCheckOfSome};
+ghost use Rattle.folder_answers.specs.Answered.{IsCheckRefusal};
 ghost use Rattle.dag_texts.specs.declared.fault.RunFault.TheVariants.{Memory};
 ghost use Rattle.salvage.specs.Faults.{fault_text};
 ghost use Rattle.run_times.specs.Told.{IsTimesOf};
-ghost use Rattle.dagrun.specs.Answered.{IsRun, IsRehearsal, IsSalvage, IsAnswerTo, IsRefusal, IsExit, asked_of};
+ghost use Rattle.dagrun.specs.Answered.{IsRun, IsCheck, IsRehearsal, IsSalvage, IsAnswerTo, IsRefusal, IsExit, asked_of};
 ghost use Rattle.answer_console.specs.Telling.{IsStatusOf};
 
-use crate::telling::{tell_more, tell_totals};
+use crate::telling::{tell_more, tell_totals, tell_worker};
 use answer_console::{SystemConsole, tell_answer};
 use command_line::{Request, RunOptions, WordsFault, read_words};
-use dag_files::{StreamOrFolder, SystemFolder, bytes_of, read_input, refused};
+use dag_files::{Reading, StreamOrFolder, SystemFolder, bytes_of, files_of, read_input, refused};
 use dag_main::{Screen, run_dag};
 use dag_texts::{Answer, RunFault};
 use failure_answers::why_here;
 use folder_answers::{check_here, rehearse_here};
+use hint_answers::{Wanted, hints_of};
 use run_answers::{Question, report_here, told_here};
 use run_times::times_here;
 use salvage::{SalvageFault, salvage_here};
@@ -49,11 +50,11 @@ pub fn run<
     match read_words(rt.alloc(), words) {
         Ok(request) => {
             let dag = dag_in(&request);
-            let asks_status = matches!(request, Request::Status { .. });
-            finish(rt, dag, asks_status, &answer(rt, request))
+            let postscript = postscript_to(&request);
+            finish(rt, dag, postscript, &answer(rt, request))
         }
         Err(WordsFault::Told(text)) => refuse_words(rt, text.as_str()),
-        Err(WordsFault::Memory) => finish(rt, None, false, &Err(RunFault::Memory)),
+        Err(WordsFault::Memory) => finish(rt, None, Postscript::Nothing, &Err(RunFault::Memory)),
     }
 }
 
@@ -79,7 +80,7 @@ fn answer<R: Files<File = File> + Processes + Clock + Screen + Input + AllocGlob
         Request::Times { dag, svg } => times(rt, dag, svg),
         Request::Salvage { dag } => salvage(rt, dag),
         Request::Page { text } => Ok(page(rt.alloc(), text)),
-        Request::Check { dag } => check(rt, dag),
+        Request::Check { dag, hints, condor } => check(rt, dag, Wanted { hints, condor }),
         Request::Rehearse {
             dag,
             outcomes,
@@ -118,27 +119,48 @@ fn dag_in<'a>(request: &Request<'a>) -> Option<&'a str> {
         | Request::Why { dag, .. }
         | Request::Times { dag, .. }
         | Request::Salvage { dag }
-        | Request::Check { dag }
+        | Request::Check { dag, .. }
         | Request::Rehearse { dag, .. } => Some(*dag),
         Request::Page { text: _ } => None,
     }
 }
 
+/// What a person at a terminal is told behind an answer.
+#[derive(Clone, Copy)]
+enum Postscript {
+    Nothing,
+    /// How many nodes stand in which state, and who works on them.
+    Totals,
+    /// Who works on the DAG.
+    Worker,
+}
+
+/// What is told behind the answer to a request.
+fn postscript_to(request: &Request<'_>) -> Postscript {
+    match request {
+        Request::Status { .. } => Postscript::Totals,
+        Request::Why { .. } => Postscript::Worker,
+        _ => Postscript::Nothing,
+    }
+}
+
 /// Tells the result of a request for this DAG file, and gives the exit status; at a terminal, also what may help
-/// where it is refused, and what a status comes to.
+/// where it is refused, and who works on the DAG.
 fn finish<R: Files<File = File> + Print + Screen + AllocGlobal>(
     rt: &R,
     dag: Option<&str>,
-    asks_status: bool,
+    postscript: Postscript,
     answer: &Result<Answer, RunFault>,
 ) -> u8
     ensures { IsStatusOf answer.now result }
 {
     let status = tell_answer(rt.alloc(), &mut SystemConsole { rt }, answer);
     match (answer, dag) {
-        (Ok(answer), Some(dag)) if asks_status && status == 0 => {
-            tell_totals(rt, dag, answer.text.as_str());
-        }
+        (Ok(answer), Some(dag)) if status == 0 => match postscript {
+            Postscript::Nothing => {}
+            Postscript::Totals => tell_totals(rt, dag, answer.text.as_str()),
+            Postscript::Worker => tell_worker(rt, dag),
+        },
         (Err(fault), _) => {
             if let Ok(line) = format!(in rt.alloc(); "{fault}") {
                 tell_more(rt, dag, line.as_str());
@@ -248,12 +270,60 @@ fn salvage<R: Files<File = File> + Clock + Env + AllocGlobal + Copy + Drop>(
     }
 }
 
-fn check<R: Files + Input + AllocGlobal>(rt: &R, dag: &str) -> Result<Answer, RunFault>
-    ensures checked { IfOk result (λ answer.
-        IsCheckOfSome dag.now (string_bytes answer.text) (string_bytes answer.warnings) answer.status) }
-    ensures refused { IfErr result (IsRefusal (checks dag.now)) }
+/// What `check` answers, with hints behind its warnings where they are asked for.
+fn check<R: Files<File = File> + Input + Screen + AllocGlobal>(
+    rt: &R,
+    dag: &str,
+    wanted: Wanted,
+) -> Result<Answer, RunFault>
+    ensures checked { IfOk result (λ answer. IsCheck dag.now (wanted.hints || wanted.condor)
+        (string_bytes answer.text) (string_bytes answer.warnings) answer.status) }
+    ensures refused { IfErr result (IsRefusal (checks dag.now (wanted.hints || wanted.condor))) }
 {
-    check_here(rt.alloc(), &StreamOrFolder { rt }, dag)
+    if wanted.any() {
+        check_with_hints(rt, dag, wanted)
+    } else {
+        check_here(rt.alloc(), &StreamOrFolder { rt }, dag)
+    }
+}
+
+/// The answer to a check of files that are read once, with hints; where it is refused, they are told before the
+/// refusal.
+fn check_with_hints<R: Files<File = File> + Input + Screen + AllocGlobal>(
+    rt: &R,
+    dag: &str,
+    wanted: Wanted,
+) -> Result<Answer, RunFault>
+    ensures checked { IfOk result (λ answer.
+        IsCheck dag.now true (string_bytes answer.text) (string_bytes answer.warnings) answer.status) }
+    ensures refused { IfErr result (IsCheckRefusal dag.now) }
+{
+    let alloc = rt.alloc();
+    let files = files_of(alloc, &StreamOrFolder { rt }, dag, Reading::SubmitFilesToo)?;
+    let reply = check_here(alloc, &files, dag);
+    let hints = match hints_of(rt, &files, dag, wanted) {
+        Ok(hints) => hints,
+        Err(_) => String::new(alloc),
+    };
+    match reply {
+        Ok(answer) => Ok(with_hints(answer, hints.as_str())),
+        Err(fault) => {
+            let hints = hints.as_str();
+            let _ = eprint!(rt; "{hints}");
+            Err(fault)
+        }
+    }
+}
+
+/// An answer with hints behind its warnings, as far as there is memory for them.
+fn with_hints(mut answer: Answer, hints: &str) -> Answer
+    ensures text { string_bytes result.text ≡ string_bytes answer.text }
+    ensures status { result.status ≡ answer.status }
+    ensures warnings { (string_bytes result.warnings ≡ string_bytes answer.warnings ++ hints.now)
+        ⊎ (string_bytes result.warnings ≡ string_bytes answer.warnings) }
+{
+    let _ = answer.warnings.push_str(hints);
+    answer
 }
 
 fn rehearse<R: Files + Input + AllocGlobal>(

@@ -136,8 +136,24 @@ fn manager_in_log<R: Files + AllocGlobal>(rt: &R, dag: &str) -> Option<u32> {
     None
 }
 
-/// Tells how many nodes stand in which state, and whether a manager works on them, behind the status of
-/// this DAG file, where standard error is a terminal.
+/// Who works on this DAG file: no manager, a process, or a manager of which the log doesn't tell.
+fn worker_of<R: Files<File = File> + AllocGlobal>(rt: &R, dag: &str) -> Result<String, AllocError> {
+    let alloc = rt.alloc();
+    let here = Place {
+        folder: "",
+        top: dag,
+    };
+    if !here.is_at_work(rt) {
+        return String::from_str(alloc, "no manager");
+    }
+    match manager_in_log(rt, dag) {
+        Some(process) => format!(in alloc; "process {process}"),
+        None => String::from_str(alloc, "a manager"),
+    }
+}
+
+/// Tells how many nodes stand in which state, and who works on them, behind the status of this DAG file, where
+/// standard error is a terminal.
 pub(crate) fn tell_totals<R: Files<File = File> + Screen + AllocGlobal>(
     rt: &R,
     dag: &str,
@@ -146,23 +162,17 @@ pub(crate) fn tell_totals<R: Files<File = File> + Screen + AllocGlobal>(
     if !rt.is_terminal() {
         return;
     }
-    let Ok(totals) = totals_of(rt.alloc(), status) else {
-        return;
-    };
-    let here = Place {
-        folder: "",
-        top: dag,
-    };
-    if !here.is_at_work(rt) {
-        let _ = eprintln!(rt; "{totals}; no manager works on them");
+    if let (Ok(totals), Ok(worker)) = (totals_of(rt.alloc(), status), worker_of(rt, dag)) {
+        let _ = eprintln!(rt; "{totals}; {worker} works on them");
+    }
+}
+
+/// Tells who works on this DAG file, behind what was told of its nodes, where standard error is a terminal.
+pub(crate) fn tell_worker<R: Files<File = File> + Screen + AllocGlobal>(rt: &R, dag: &str) {
+    if !rt.is_terminal() {
         return;
     }
-    match manager_in_log(rt, dag) {
-        Some(process) => {
-            let _ = eprintln!(rt; "{totals}; process {process} works on them");
-        }
-        None => {
-            let _ = eprintln!(rt; "{totals}; a manager works on them");
-        }
+    if let Ok(worker) = worker_of(rt, dag) {
+        let _ = eprintln!(rt; "{worker} works on {dag}");
     }
 }

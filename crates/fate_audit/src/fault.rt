@@ -5,12 +5,12 @@ ghost use Rattle.fate_audit.specs.Audit.{no_text};
 ghost use Rattle.fate_audit.specs.declared.fault.AuditNo.TheVariants.{Memory};
 
 use std::alloc::AllocError;
-use std::error::Error;
 use std::fmt;
+use thiserror::Error;
 
 /// Why a journal is not that of a finished run without abort. It is displayed as
 /// `CODE Name detail`.
-#[derive(Clone, Copy, Debug, PartialEq, Eq)]
+#[derive(Clone, Copy, Debug, PartialEq, Eq, Error)]
 pub enum AuditNo {
     /// The bytes are no journal of these inputs, or none was begun.
     NotAJournal,
@@ -38,8 +38,6 @@ impl fmt::Display for AuditNo {
         }
     }
 }
-
-impl Error for AuditNo {}
 
 impl From<AllocError> for AuditNo {
     ghost from_gives = { λ _ cause. cause ≡ Memory };

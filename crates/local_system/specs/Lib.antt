@@ -1,1 +1,2 @@
 pub mod Launching
+pub mod Commands

@@ -9,6 +9,7 @@ ghost use Rattle.node_machine.specs.Story.{is_possible};
 ghost use Rattle.sched_core.specs.Run.{is_same, is_among, without};
 ghost use Rattle.job_starter.specs.Calls.{running, TellsNoMore};
 ghost use Rattle.job_starter.specs.Causes.{IsStartFault, IsAskFault};
+ghost use Rattle.local_system.specs.Commands.{longest_pause};
 
 mod launching;
 mod starting;
@@ -21,6 +22,7 @@ pub use launching::Launcher;
 use node_machine::{Key, Outcome};
 use node_specs::ChildCommand;
 use scripted_starter::{CallLog, no_answer, no_memory};
+pub use starting::command_for;
 use starting::{Refusal, start_child};
 use std::alloc::{AllocError, Global};
 use std::fs::File;
@@ -76,10 +78,13 @@ const START_TRIES: u32 = 1_000;
 
 /// The longest pause between two rounds of questions to so many children, in microseconds: a round
 /// takes longer the more there are.
-fn longest_pause(children: usize) -> u64 {
+fn longest_pause(children: usize) -> u64
+    ensures { result ≡ longest_pause children }
+{
     match children {
         0..=16 => 2_000,
-        17..=256 => 10_000,
+        17..=64 => 4_000,
+        65..=256 => 10_000,
         _ => 50_000,
     }
 }
@@ -106,6 +111,8 @@ pub struct LocalSystem<
     next: usize,
     pause: u64,
     faults: u64,
+    // No pause is longer than the longest.
+    ghost bounded: { pause ≤ 50000 },
     // Each key that runs has its child.
     ghost tied: { reverse (map (λ child. child.key) children.items) ≡ running log.calls },
 }

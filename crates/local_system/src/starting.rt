@@ -1,5 +1,9 @@
 //! How a child is started.
 
+ghost use Rattle.std.specs.Prelude.{◌≡◌, ℕ, List, ◌++◌, fold, IfOk, OnOk};
+ghost use Rattle.std.specs.Process.{command_program, command_args, command_var, clears_env, SameProgramAndArgs, SameEnv};
+ghost use Rattle.local_system.specs.Commands.{said_by, IsCommandOf};
+
 use crate::watching::CommandPart;
 use dag_reader::Text;
 use node_specs::ChildCommand;
@@ -106,30 +110,56 @@ fn error_of<R: Files<File = File>>(
     }
 }
 
-/// Sets what is added to the environment.
-fn set_environment(command: &mut Command, settings: &[Text]) -> Result<(), AllocError> {
-    for setting in settings {
-        if let Some((name, value)) = setting.as_str().split_once('=') {
-            command.env(name, value)?;
-        }
+/// Sets the variable of a setting, `name=value`.
+fn set_variable(command: &mut Command, setting: &str) -> Result<(), AllocError>
+    ensures set { OnOk result ((name : List ℕ) → command_var command.new name
+        ≡ said_by name (command_var command.old name) setting.now) }
+    ensures call { OnOk result (SameProgramAndArgs command.old command.new) }
+    ensures inherits { OnOk result (clears_env command.new ≡ clears_env command.old) }
+{
+    if let Some((name, value)) = setting.split_once('=') {
+        command.env(name, value)?;
     }
     Ok(())
 }
 
-fn set_words(command: &mut Command, words: &[Text]) -> Result<(), AllocError> {
+/// Sets what is added to the environment.
+fn set_environment(command: &mut Command, settings: &[Text]) -> Result<(), AllocError>
+    ensures set { OnOk result ((name : List ℕ) → command_var command.new name
+        ≡ fold (said_by name) (command_var command.old name) settings.now) }
+    ensures call { OnOk result (SameProgramAndArgs command.old command.new) }
+    ensures inherits { OnOk result (clears_env command.new ≡ clears_env command.old) }
+{
+    for setting in settings {
+        set_variable(command, setting.as_str())?;
+    }
+    Ok(())
+}
+
+fn set_words(command: &mut Command, words: &[Text]) -> Result<(), AllocError>
+    ensures words { OnOk result (command_args command.new ≡ command_args command.old ++ words.now) }
+    ensures program { OnOk result (command_program command.new ≡ command_program command.old) }
+    ensures environment { OnOk result (SameEnv command.old command.new) }
+{
     for word in words {
         command.arg(word.as_str())?;
     }
     Ok(())
 }
 
-/// The program of a child with its words, its environment and its folder, seen from this folder.
-fn program_of(alloc: Global, folder: &str, told: &ChildCommand) -> Result<Command, AllocError> {
-    let program = path_in(alloc, folder, told.program.as_str())?;
-    let place = path_in(alloc, folder, told.folder.as_str())?;
+/// The command that the system is asked to run for a child: its program and its folder, seen from this folder, its words, and
+/// its environment over the inherited one. The child's streams are not set.
+///
+/// # Errors
+/// Want of memory.
+pub fn command_for(alloc: Global, folder: &str, child: &ChildCommand) -> Result<Command, AllocError>
+    ensures { IfOk result (IsCommandOf folder.now child.now) }
+{
+    let program = path_in(alloc, folder, child.program.as_str())?;
+    let place = path_in(alloc, folder, child.folder.as_str())?;
     let mut command = Command::new(alloc, program.as_str())?;
-    set_words(&mut command, told.words.as_slice())?;
-    set_environment(&mut command, told.environment.as_slice())?;
+    set_words(&mut command, child.words.as_slice())?;
+    set_environment(&mut command, child.environment.as_slice())?;
     command.current_dir(place.as_str())?;
     Ok(command)
 }
@@ -165,7 +195,7 @@ pub(crate) fn start_child<R: Processes + Files<File = File>>(
     folder: &str,
     told: &ChildCommand,
 ) -> Result<Child<R::Started>, Refusal> {
-    let made = program_of(alloc, folder, told).map_err(io::Error::from);
+    let made = command_for(alloc, folder, told).map_err(io::Error::from);
     let mut command = at_part(CommandPart::Program, made)?;
     set_streams(alloc, rt, folder, told, &mut command)?;
     at_part(CommandPart::Program, command.spawn(rt))

@@ -6,3 +6,4 @@ pub mod OutcomeTable
 pub mod TableMaps
 pub mod OutcomesFile
 pub mod OutcomesReading
+pub mod Displayed

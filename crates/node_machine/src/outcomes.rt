@@ -17,6 +17,7 @@ use crate::table::{NamedOutcome, Table};
 use crate::{Outcome, Phase};
 use dag_reader::{LineReader, Token, line_text, split_line};
 use std::alloc::{AllocError, AllocFailed, Global};
+use std::fmt;
 use thiserror::Error;
 
 /// The greatest number of an attempt, which is the greatest number of retries.
@@ -26,12 +27,24 @@ const LAST_ATTEMPT: u32 = 1_000_000;
 #[derive(Clone, Copy, Debug, PartialEq, Eq, Error)]
 pub enum TableFault {
     /// The line of this number, from 1, is the first that says neither an entry nor nothing.
-    #[error("N3 BadLine {0}")]
     BadLine(usize),
 
     /// No memory was left for the table.
-    #[error("N4 Memory")]
     Memory,
+}
+
+impl fmt::Display for TableFault {
+    ghost use Rattle.std.specs.Prelude.{Some};
+    ghost use Rattle.node_machine.specs.Displayed.{table_fault_text};
+
+    ghost output = { λ fault. Some (table_fault_text fault) };
+
+    fn fmt<W: fmt::Write>(&self, f: &mut fmt::Formatter<W>) -> fmt::Result {
+        match self {
+            TableFault::BadLine(number) => write!(f, "N3 BadLine {number}"),
+            TableFault::Memory => f.write_str("N4 Memory"),
+        }
+    }
 }
 
 impl From<AllocError> for TableFault {

@@ -17,20 +17,25 @@ use crate::command::ChildCommand;
 use dag_reader::{Text, Texts};
 use splices::path_in;
 use std::alloc::{AllocError, AllocFailed, Global};
+use thiserror::Error;
 use vars_macros::{
     Attempt, Expanded, Macro, MacroFault, Macros, expand, expand_vars, split_arguments,
 };
 
 /// Why a job has no command.
-#[derive(Clone, Copy, Debug, PartialEq, Eq)]
+#[derive(Clone, Copy, Debug, PartialEq, Eq, Error)]
 pub enum JobFault {
     /// Memory was refused.
+    #[error("P7 Memory")]
     Memory,
     /// A text can't be expanded or split.
+    #[error("{0}")]
     InMacro(MacroFault),
     /// There is no executable, or an empty one.
+    #[error("P4 NoExecutable")]
     NoExecutable,
     /// The universe is none of vanilla, local and scheduler.
+    #[error("P5 BadUniverse")]
     BadUniverse,
 }
 

@@ -3,3 +3,4 @@ pub mod Reports
 pub mod OneReport
 pub mod RescueParts
 pub mod CalmReports
+pub mod TooLongRuns

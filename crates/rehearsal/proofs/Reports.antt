@@ -6,11 +6,11 @@ use Rattle.throttles.specs.declared.Limits.{Limits}
 use Rattle.splices.specs.Opening.{Files}
 use Rattle.run_plan.specs.Plan.{Plan}
 use Rattle.run_plan.specs.Submitted.{bare_plan}
-use Rattle.rehearsal.specs.Rehearsed.{HasEntries, IsRehearsalOf, IsRehearsalFault, rehearsing_had_no_memory}
+use Rattle.rehearsal.specs.Rehearsed.{HasEntries, IsRehearsalOf, IsRehearsalFault, is_too_long, rehearsing_had_no_memory}
+use Rattle.rehearsal.specs.TooLong.{IsTooLong, IsTableRunFault, has_too_many_records, running_had_no_memory}
 use Rattle.dag_texts.specs.Planned.{IsPlanOf}
 use Rattle.rehearsal.specs.Refusals.{ReportsRun}
 use Rattle.dag_texts.specs.declared.fault.RunFault.{RunFault}
-use Rattle.dag_texts.specs.declared.fault.RunFault.TheVariants.{Memory}
 use Rattle.dag_texts.specs.Warnings.{warning_lines}
 use Rattle.rehearsal.proofs.Rehearsals.{same-run}
 
@@ -38,8 +38,14 @@ pub answered : {A E : Type 0} (P R Q : A → Type 0) (result : Result A E) → (
 answered P R Q (Ok answer) more p r = more answer p r
 answered P R Q (Err fault) more p r = tt
 
--- want of memory may stop any rehearsal
-pub rehearsal-memory : {A : Type 0} (files : Files) (path : List ℕ) (outcomes : Option (List ℕ)) (result : Result A RunFault)
-    → IfErr result (λ fault. fault ≡ Memory) → IfErr result (IsRehearsalFault files path outcomes)
-rehearsal-memory files path outcomes (Ok answer) is = tt
-rehearsal-memory files path outcomes (Err fault) is = subst (IsRehearsalFault files path outcomes) (sym is) rehearsing_had_no_memory
+-- a rehearsal is stopped for too many records, or for want of memory
+stopped-rehearsal : (always_post : Bool) (files : Files) (path : List ℕ) (outcomes : Option (List ℕ)) (plan : Plan) (fault : RunFault) → IsPlanOf always_post files path plan
+    → IsTableRunFault plan fault → IsRehearsalFault files path outcomes fault
+stopped-rehearsal always_post files path outcomes plan _ is (has_too_many_records long) =
+    is_too_long always_post plan.graph.dag plan.graph.order is.is_dag is.is_order (subst IsTooLong is.made long)
+stopped-rehearsal always_post files path outcomes plan _ is running_had_no_memory = rehearsing_had_no_memory
+
+pub rehearsal-stopped : {A : Type 0} (always_post : Bool) (files : Files) (path : List ℕ) (outcomes : Option (List ℕ)) (plan : Plan) (result : Result A RunFault) → IsPlanOf always_post files path plan
+    → IfErr result (IsTableRunFault plan) → IfErr result (IsRehearsalFault files path outcomes)
+rehearsal-stopped always_post files path outcomes plan (Ok answer) is why = tt
+rehearsal-stopped always_post files path outcomes plan (Err fault) is why = stopped-rehearsal always_post files path outcomes plan fault is why

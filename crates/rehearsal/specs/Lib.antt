@@ -1,3 +1,4 @@
+pub mod TooLong
 pub mod Rehearsal
 pub mod Report
 pub mod Rehearsed

@@ -20,7 +20,8 @@ use Rattle.rehearsal.specs.Rehearsal.{IsRehearsed}
 use Rattle.dag_texts.specs.Warnings.{warning_lines}
 use Rattle.rehearsal.specs.Report.{report_of, fated_report}
 use Rattle.dag_texts.specs.declared.fault.RunFault.{RunFault}
-use Rattle.dag_texts.specs.declared.fault.RunFault.TheVariants.{Memory}
+use Rattle.dag_texts.specs.declared.fault.RunFault.TheVariants.{InManager, Memory}
+use Rattle.rehearsal.specs.TooLong.{no_slot, IsTooLong}
 
 -- the plan of a DAG, by an order of its nodes, with no submit file read; the flag says whether POST runs behind a failed PRE
 abbrev pub bare_plan_by : Bool → Dag → List ℕ → Plan
@@ -73,9 +74,12 @@ pub record IsFatedReport (always_post : Bool) (files : Files) (path : List ℕ) 
   pub text_is : text ≡ fated_report (bare_plan_by always_post dag order) fates status
   pub status_is : status ≡ fated_status (bare_plan_by always_post dag order) fates
 
--- Why a rehearsal is refused: the files make no graph; the text of outcomes is no table; or memory ran out.
+-- Why a rehearsal is refused: the files make no graph; the text of outcomes is no table; the run has more records than its journal has slots;
+-- or memory ran out.
 pub data IsRehearsalFault (files : Files) (path : List ℕ) (outcomes : Option (List ℕ)) : RunFault → Type 0 where
   has_no_graph : (fault : RunFault) → IsGraphFault files path fault → IsRehearsalFault files path outcomes fault
   has_no_table : (dag : Dag) (fault : RunFault) → dag_at files path ≡ Ok dag → IsAcyclic dag.edges → IsTableFault outcomes fault →
       IsRehearsalFault files path outcomes fault
+  is_too_long : (always_post : Bool) (dag : Dag) (order : List ℕ) → dag_at files path ≡ Ok dag → IsOrderOf dag order →
+      IsTooLong (bare_plan_by always_post dag order) → IsRehearsalFault files path outcomes (InManager no_slot)
   rehearsing_had_no_memory : IsRehearsalFault files path outcomes Memory

@@ -8,6 +8,7 @@ ghost use Rattle.dag_texts.specs.Warnings.{warning_lines};
 ghost use Rattle.rehearsal.specs.Report.{rescue_part};
 ghost use Rattle.rehearsal.specs.Rehearsed.{HasEntries, IsRehearsalOf, IsRehearsalFault};
 ghost use Rattle.rehearsal.specs.Refusals.{ReportsRun, IsTableFault};
+ghost use Rattle.rehearsal.specs.TooLong.{IsTableRunFault};
 ghost use Rattle.dag_texts.specs.declared.fault.RunFault.TheVariants.{Memory};
 
 use crate::table_runs::run_table;
@@ -32,8 +33,8 @@ use throttles::Limits;
 ///
 /// # Errors
 /// The first fault that opening the files meets (`InFiles`), a cycle (`Cycle`), the first bad line
-/// of the table (`InTable`), in this order; and want of memory. After a missing file the caller
-/// may add it and ask again.
+/// of the table (`InTable`), in this order; then more records than the journal of a run has slots (`InManager`
+/// of `SlotsFull`); and want of memory. After a missing file the caller may add it and ask again.
 pub fn rehearse_text(
     alloc: Global,
     files: &FileSet,
@@ -47,7 +48,7 @@ pub fn rehearse_text(
         (option_map (λ b. b.now) outcomes.entry) limits
         (string_bytes answer.text) (string_bytes answer.warnings) answer.status) }
 
-    // It is refused only where an input is, or for want of memory.
+    // It is refused only where an input is, for a run of too many records, or for want of memory.
     ensures refused { IfErr result
         (IsRehearsalFault (bytes_of files.now) path.now (option_map (λ b. b.now) outcomes.entry)) }
 {
@@ -68,7 +69,7 @@ fn rehearse_plan(
         ReportsRun limits plan.now table.now (string_bytes answer.text) answer.status) }
     ensures warnings { IfOk result (λ answer.
         string_bytes answer.warnings ≡ warning_lines plan.now.graph.dag.warnings) }
-    ensures err { IfErr result (λ fault. fault ≡ Memory) }
+    ensures refused { IfErr result (IsTableRunFault plan.now) }
 {
     let run = run_table(alloc, plan, table, limits)?;
     Ok(Answer {

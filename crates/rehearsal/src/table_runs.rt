@@ -1,24 +1,32 @@
 //! The run of a plan at the outcomes of a table.
 
-ghost use Rattle.std.specs.Prelude.{◌≡◌, [], ◌∷◌, IfOk, IfErr, string_bytes};
+ghost use Rattle.std.specs.Prelude.{◌≡◌, ◌⊎◌, [], ◌∷◌, IfOk, IfErr, string_bytes};
 ghost use Rattle.node_machine.specs.OutcomeTable.{HasPossibleOutcomes};
 ghost use Rattle.sched_core.specs.Run.{exit_status};
 ghost use Rattle.run_manager.specs.Managed.{plan_of, past_of};
 ghost use Rattle.job_starter.specs.Drives.{limits_of};
 ghost use Rattle.status_report.specs.Text.{run_text};
+ghost use Rattle.event_journal.specs.Journal.{journal_count, journal_limit};
+ghost use Rattle.job_starter.specs.declared.driving.DriveFault.TheVariants as drives;
 ghost use Rattle.rehearsal.specs.Rehearsal.{IsRehearsed};
-ghost use Rattle.dag_texts.specs.declared.fault.RunFault.TheVariants.{Memory};
+ghost use Rattle.rehearsal.specs.TooLong.{most_slots, no_slot, IsTableRunFault};
+ghost use Rattle.dag_texts.specs.declared.fault.RunFault.TheVariants.{InManager, Memory};
 
 use dag_texts::RunFault;
+use event_journal::JournalFault;
+use job_starter::DriveFault;
 use journal_disks::MemDisk;
 use node_machine::{Record, Table, Verdict};
-use run_leader::lead;
-use run_manager::Manager;
+use run_leader::{MOST_RECORDS, lead};
+use run_manager::{Manager, ManagerFault};
 use run_plan::Plan;
 use sched_core::Core;
 use scripted_starter::{Script, ScriptedStarter};
 use std::alloc::Global;
 use throttles::Limits;
+
+/// The bytes of a journal of as many slots, with its header and its last gate.
+const CAPACITY: usize = 65 + 32 * (MOST_RECORDS as usize);
 
 /// A run that was led to its end: its manager, what it prints, and its exit status.
 pub struct Rehearsal<'a> {
@@ -56,12 +64,27 @@ fn begin<'a>(
     ensures plan { IfOk result (λ manager. plan_of manager ≡ plan.now) }
     ensures limits { IfOk result (λ manager. limits_of manager ≡ limits) }
     ensures past { IfOk result (λ manager. past_of manager ≡ Record.Life ∷ []) }
+    ensures slots { IfOk result (λ manager. journal_limit manager.journal ≡ most_slots) }
+    ensures count { IfOk result (λ manager. journal_count manager.journal ≡ 1) }
     ensures err { IfErr result (λ fault. fault ≡ Memory) }
 {
-    let journal = MemDisk::new(alloc, usize::MAX);
-    match recovery::begin(alloc, journal, plan, 0, 1, u32::MAX, limits) {
+    let journal = MemDisk::new(alloc, CAPACITY);
+    match recovery::begin(alloc, journal, plan, 0, 1, MOST_RECORDS, limits) {
         Ok(manager) => Ok(manager),
         Err((_journal, _fault)) => Err(RunFault::Memory),
+    }
+}
+
+/// What is told of a run that was stopped: that it has more records than its journal has slots; else memory was refused, since a
+/// rehearsal wants nothing else.
+fn told(fault: DriveFault) -> RunFault
+    ensures { (result ≡ Memory) ⊎ ((fault ≡ drives.Manager no_slot) × (result ≡ InManager no_slot)) }
+{
+    match fault {
+        DriveFault::Manager(ManagerFault::Journal(JournalFault::SlotsFull)) => {
+            RunFault::InManager(ManagerFault::Journal(JournalFault::SlotsFull))
+        }
+        _ => RunFault::Memory,
     }
 }
 
@@ -84,8 +107,8 @@ fn in_order(alloc: Global) -> Script
 /// whose child the table says can't be started.
 ///
 /// # Errors
-/// `Memory`, wherever in the run it was refused, and where the run has more than 2^32 - 1 records, as many
-/// as its journal counts.
+/// `InManager` of `SlotsFull`, where the run has more records than its journal has slots, 2^24; `Memory`, wherever in
+/// the run it was refused.
 pub fn run_table<'a>(
     alloc: Global,
     plan: &'a Plan,
@@ -98,17 +121,17 @@ pub fn run_table<'a>(
     ensures text { IfOk result (λ run.
         string_bytes run.text ≡ run_text plan.now (past_of run.manager) run.status) }
     ensures status { IfOk result (λ run. run.status ≡ exit_status plan.now (past_of run.manager)) }
-    ensures err { IfErr result (λ fault. fault ≡ Memory) }
+    ensures refused { IfErr result (IsTableRunFault plan.now) }
 {
     let mut manager = begin(alloc, plan, limits)?;
     let mut starter = ScriptedStarter::new(alloc, plan, table, in_order(alloc));
-    let rescue = MemDisk::new(alloc, usize::MAX);
-    let Ok(led) = lead(alloc, &mut manager, plan, &mut starter, rescue) else {
-        return Err(RunFault::Memory);
-    };
-    Ok(Rehearsal {
-        manager,
-        text: led.text,
-        status: led.status,
-    })
+    let rescue = MemDisk::new(alloc, CAPACITY);
+    match lead(alloc, &mut manager, plan, &mut starter, rescue) {
+        Ok(led) => Ok(Rehearsal {
+            manager,
+            text: led.text,
+            status: led.status,
+        }),
+        Err((_rescue, fault)) => Err(told(fault)),
+    }
 }

@@ -4,3 +4,4 @@ pub mod Reading
 pub mod Grammar
 pub mod Numbered
 pub mod Fit
+pub mod Displayed

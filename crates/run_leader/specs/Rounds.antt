@@ -10,7 +10,7 @@ use Rattle.sched_core.specs.Run.{is_lawful}
 use Rattle.event_journal.specs.Disk.{LeavesOnly}
 use Rattle.event_journal.specs.Journal.{is_broken, journal_count, journal_limit}
 use Rattle.event_journal.specs.Groups.{used_in}
-use Rattle.event_journal.specs.Image.{Header, IsRescueNumber, replay_of, groups_in}
+use Rattle.event_journal.specs.Image.{Header, replay_of, groups_in}
 use Rattle.recovery.specs.Recovery.{IsNewLife, IsMomentOfBegin, IsMomentOfRecovery, IsBeginFault, IsRecoveryFault}
 use Rattle.run_manager.specs.declared.fault.ManagerFault.{ManagerFault}
 use Rattle.run_manager.specs.Managed.{Managed, plan_of, past_of, disk_of, IsAcknowledged}
@@ -25,11 +25,6 @@ use Rattle.run_leader.specs.Led.{IsLed, DrivesToEnd}
 use Rattle.run_leader.specs.Moments.{IsMomentOfLead, IsLastOfLead}
 use Rattle.run_leader.specs.declared.rounds.Start.{Start}
 use Rattle.run_leader.specs.declared.rounds.Start.TheVariants.{Begin, GoOn}
-
--- the rescue file that a new round may write has a number
-abbrev pub IsNumbered : Start → Type 0
-IsNumbered (Begin used next) = IsRescueNumber next
-IsNumbered GoOn = Unit {0}
 
 -- a new round begins where nothing is but what reads as Fresh; the others go on where a journal is
 abbrev pub FitsIn : Start → List ℕ → Type 0

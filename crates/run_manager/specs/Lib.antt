@@ -7,3 +7,4 @@ pub mod Lives
 pub mod Managed
 pub mod Rescue
 pub mod Seal
+pub mod Displayed

@@ -7,12 +7,13 @@ ghost use Rattle.run_plan.specs.declared.fault.PlanFault.TheVariants.{Memory};
 use dag_reader::Text;
 use rescue_file::RescueFault;
 use std::alloc::{AllocError, AllocFailed};
-use std::error::Error;
 use std::fmt;
 use submit_file::SubmitFault;
+use thiserror::Error;
 use vars_macros::MacroFault;
 
 /// Why there is no plan. It is displayed as its code, its name and its place.
+#[derive(Error)]
 pub enum PlanFault {
     /// There is no submit file of this path.
     MissingFile(Text),
@@ -69,6 +70,11 @@ impl PlanFault {
 }
 
 impl fmt::Display for PlanFault {
+    ghost use Rattle.std.specs.Prelude.{Some};
+    ghost use Rattle.run_plan.specs.Displayed.{plan_fault_text};
+
+    ghost output = { λ fault. Some (plan_fault_text fault) };
+
     fn fmt<W: fmt::Write>(&self, f: &mut fmt::Formatter<W>) -> fmt::Result {
         match self {
             PlanFault::MissingFile(path) => write!(f, "P1 MissingFile {path}"),
@@ -91,8 +97,6 @@ impl fmt::Debug for PlanFault {
         fmt::Display::fmt(self, f)
     }
 }
-
-impl Error for PlanFault {}
 
 impl From<AllocError> for PlanFault {
     ghost from_gives = { λ _ fault. fault ≡ Memory };

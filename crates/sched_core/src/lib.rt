@@ -17,7 +17,8 @@ mod ready;
 mod scheduler;
 mod states;
 
-use node_machine::{Key, Verdict};
+use node_machine::Key;
+pub use node_machine::{Record, Verdict};
 pub use scheduler::Core;
 use std::alloc::{AllocError, AllocFailed};
 use thiserror::Error;

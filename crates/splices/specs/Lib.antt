@@ -14,3 +14,4 @@ pub mod Opening
 pub mod Opened
 pub mod OpenedFiles
 pub mod Regular
+pub mod Displayed

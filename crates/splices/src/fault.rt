@@ -5,11 +5,12 @@ ghost use Rattle.splices.specs.declared.fault.SpliceFault.TheVariants.{Memory};
 
 use dag_reader::{LineFault, Span, Text, Texts};
 use std::alloc::{AllocError, AllocFailed};
-use std::{error, fmt};
+use std::fmt;
 use thiserror::Error;
 
 /// What is wrong with the files of a DAG: its code, its name and its place. Where there is a span,
 /// the text is the path of the file that it is in.
+#[derive(Error)]
 pub enum DagFault {
     /// There is no file of this path.
     MissingFile(Text),
@@ -67,6 +68,11 @@ impl Drop for DagFault {
 }
 
 impl fmt::Display for DagFault {
+    ghost use Rattle.std.specs.Prelude.{Some};
+    ghost use Rattle.splices.specs.Displayed.{dag_fault_text};
+
+    ghost output = { λ fault. Some (dag_fault_text fault) };
+
     fn fmt<W: fmt::Write>(&self, f: &mut fmt::Formatter<W>) -> fmt::Result {
         let (name, path, span) = match self {
             DagFault::MissingFile(path) => return write!(f, "S1 MissingFile {path}"),
@@ -94,8 +100,6 @@ impl fmt::Debug for DagFault {
         fmt::Display::fmt(self, f)
     }
 }
-
-impl error::Error for DagFault {}
 
 /// Why no DAG is given.
 #[derive(Debug, Drop, Error)]

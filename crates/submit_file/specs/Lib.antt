@@ -3,3 +3,6 @@ pub mod Forms
 pub mod Fronts
 pub mod Submit
 pub mod Readings
+pub mod Displayed
+pub mod Placed
+pub mod Placings

@@ -4,23 +4,36 @@ ghost use Rattle.std.specs.Prelude.{◌≡◌};
 ghost use Rattle.submit_file.specs.declared.fault.SubmitFault.TheVariants.{Memory};
 
 use std::alloc::{AllocError, AllocFailed};
+use std::fmt;
 use thiserror::Error;
 
 /// What is wrong with a line.
 #[derive(Clone, Copy, Debug, PartialEq, Eq, Error)]
 pub enum LineFault {
     /// There is no equals sign, or the name before it is empty or holds a blank.
-    #[error("U2 BadLine")]
     BadLine,
 
     /// A queue line with a count that isn't 1, or a second queue line.
-    #[error("U4 QueueCount")]
     QueueCount,
 
     /// Other words behind `queue`; or the first word is `if`, `elif`, `else`, `endif` or `include`
     /// and no equals sign follows it.
-    #[error("U5 Unsupported")]
     Unsupported,
+}
+
+impl fmt::Display for LineFault {
+    ghost use Rattle.std.specs.Prelude.{Some};
+    ghost use Rattle.submit_file.specs.Displayed.{submit_line_fault_name};
+
+    ghost output = { λ fault. Some (submit_line_fault_name fault) };
+
+    fn fmt<W: fmt::Write>(&self, f: &mut fmt::Formatter<W>) -> fmt::Result {
+        f.write_str(match self {
+            LineFault::BadLine => "U2 BadLine",
+            LineFault::QueueCount => "U4 QueueCount",
+            LineFault::Unsupported => "U5 Unsupported",
+        })
+    }
 }
 
 /// Why a submit description could not be read.
@@ -30,21 +43,33 @@ pub enum LineFault {
 #[derive(Clone, Copy, Debug, PartialEq, Eq, Error)]
 pub enum SubmitFault {
     /// The bytes are not UTF-8.
-    #[error("U1 NotText")]
     NotText,
 
     /// No line queues the job.
-    #[error("U3 NoQueue")]
     NoQueue,
 
     /// The number of the first line that can't be read, from 1, and what is wrong with it. Lines
     /// that are joined have the number of their first.
-    #[error("{1}")]
     InLine(usize, LineFault),
 
     /// Memory ran out.
-    #[error("U6 Memory")]
     Memory,
+}
+
+impl fmt::Display for SubmitFault {
+    ghost use Rattle.std.specs.Prelude.{Some};
+    ghost use Rattle.submit_file.specs.Displayed.{submit_fault_name};
+
+    ghost output = { λ fault. Some (submit_fault_name fault) };
+
+    fn fmt<W: fmt::Write>(&self, f: &mut fmt::Formatter<W>) -> fmt::Result {
+        match self {
+            SubmitFault::NotText => f.write_str("U1 NotText"),
+            SubmitFault::NoQueue => f.write_str("U3 NoQueue"),
+            SubmitFault::InLine(_, fault) => write!(f, "{fault}"),
+            SubmitFault::Memory => f.write_str("U6 Memory"),
+        }
+    }
 }
 
 impl From<AllocError> for SubmitFault {

@@ -4,7 +4,9 @@
 mod fault;
 mod line;
 mod lines;
+mod placed;
 mod submit;
 
 pub use fault::{LineFault, SubmitFault};
+pub use placed::{PlacedAssignment, placed_assignments};
 pub use submit::{Assignment, Submit, read_submit};

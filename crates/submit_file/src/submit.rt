@@ -68,7 +68,7 @@ impl Reader {
 }
 
 /// The bytes as a text.
-fn text_of(alloc: Global, bytes: &[u8]) -> Result<Text, SubmitFault>
+pub(crate) fn text_of(alloc: Global, bytes: &[u8]) -> Result<Text, SubmitFault>
     requires { IsUtf8 bytes.now }
     ensures { Gives (λ t. t) result (Ok bytes.now) }
 {

@@ -5,7 +5,7 @@
 //! `condor_submit_dag`, as docs/MANUAL.md states them.
 #![tactic(auto)]
 
-ghost use Rattle.std.specs.Prelude.{◌≡◌, ◌==◌, ◌<◌, ◌^◌, ◌+◌, ◌↔◌, not, length, IsTrue, IsOk, IfOk, IfErr, OnOk, OnErr, IfSome};
+ghost use Rattle.std.specs.Prelude.{◌≡◌, ◌==◌, ◌<◌, ◌^◌, ◌+◌, ◌↔◌, length, IsTrue, IsOk, IfOk, IfErr, OnOk, OnErr, IfSome};
 ghost use Rattle.throttles.specs.Throttled.{Throttled, is_below, limit_of, of_kind, all_in, such_in, lets_category, lets_phase, may_start, none_running, with_one, without_one, IsPlace};
 ghost use Rattle.throttles.specs.declared.ThrottleFault.TheVariants.{Full, NoneRunning, Memory};
 
@@ -161,13 +161,6 @@ impl Throttles {
         self.pre + self.jobs + self.post == 0
     }
 
-    /// Whether as many children run as may, so that no phase may start.
-    pub fn is_full(&self) -> bool
-        ensures { result ≡ not (is_below self.now.limits.children (all_in self.now.running)) }
-    {
-        !is_room(self.limits.children, self.pre + self.jobs + self.post)
-    }
-
     /// Whether no limit that counts this phase is reached.
     pub fn may_start(&self, phase: Phase, category: Option<usize>) -> bool
         requires { IsPlace self.now.categories category }
@@ -200,16 +193,19 @@ impl Throttles {
         }
     }
 
-    /// The phase starts, where no limit that counts it is reached.
+    /// The phase starts, where no limit that counts it is reached. Where none is given, 2^64 - 1 phases may run.
+    ///
+    /// # Errors
+    /// `Full` where it does not start.
     pub fn start(&mut self, phase: Phase, category: Option<usize>) -> Result<(), ThrottleFault>
-        requires place { IsPlace self.old.categories category }
-        requires room { all_in self.old.running + 1 < 2 ^ 64 }
-        ensures lets { IsOk result ↔ IsTrue (may_start self.old phase category) }
+        requires { IsPlace self.old.categories category }
+        ensures lets { IsOk result ↔ (IsTrue (may_start self.old phase category) × (all_in self.old.running + 1 < 2 ^ 64)) }
         ensures ok { OnOk result (self.new ≡ record self.old { running = with_one self.old.running phase category }) }
         ensures unchanged { OnErr result (self.new ≡ self.old) }
         ensures err { IfErr result (λ fault. fault ≡ Full) }
     {
-        if self.may_start(phase, category) {
+        let counts_on = self.pre + self.jobs + self.post < u64::MAX;
+        if counts_on && self.may_start(phase, category) {
             self.note(phase, category);
             Ok(())
         } else {

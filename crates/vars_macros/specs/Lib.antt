@@ -23,3 +23,4 @@ pub mod Balanced
 pub mod ArgumentGrammar
 pub mod Symbols
 pub mod Pairs
+pub mod Displayed

@@ -4,6 +4,7 @@ ghost use Rattle.std.specs.Prelude.{◌≡◌};
 ghost use Rattle.vars_macros.specs.declared.fault.MacroFault.TheVariants.{Memory};
 
 use std::alloc::{AllocError, AllocFailed};
+use std::fmt;
 use thiserror::Error;
 
 /// Why a text could not be expanded or split.
@@ -12,29 +13,41 @@ use thiserror::Error;
 #[derive(Clone, Copy, Debug, PartialEq, Eq, Error)]
 pub enum MacroFault {
     /// A parenthesis behind a dollar sign is not closed.
-    #[error("V1 Unclosed")]
     Unclosed,
 
     /// A name is referred to within its own expansion.
-    #[error("V2 Loop")]
     Loop,
 
     /// More than 65,536 bytes are written, or more than 65,536 references replaced.
-    #[error("V3 TooLong")]
     TooLong,
 
     /// A double quote stands alone, or a group is not closed.
-    #[error("V4 BadQuote")]
     BadQuote,
 
     /// A reference whose name is empty, has other bytes than letters, digits, `_` and `.`, or is
     /// `DOLLAR`; or a parenthesis behind two dollar signs, or behind a dollar sign and a word.
-    #[error("V5 BadReference")]
     BadReference,
 
     /// Memory ran out.
-    #[error("V6 Memory")]
     Memory,
+}
+
+impl fmt::Display for MacroFault {
+    ghost use Rattle.std.specs.Prelude.{Some};
+    ghost use Rattle.vars_macros.specs.Displayed.{macro_fault_name};
+
+    ghost output = { λ fault. Some (macro_fault_name fault) };
+
+    fn fmt<W: fmt::Write>(&self, f: &mut fmt::Formatter<W>) -> fmt::Result {
+        f.write_str(match self {
+            MacroFault::Unclosed => "V1 Unclosed",
+            MacroFault::Loop => "V2 Loop",
+            MacroFault::TooLong => "V3 TooLong",
+            MacroFault::BadQuote => "V4 BadQuote",
+            MacroFault::BadReference => "V5 BadReference",
+            MacroFault::Memory => "V6 Memory",
+        })
+    }
 }
 
 impl From<AllocError> for MacroFault {

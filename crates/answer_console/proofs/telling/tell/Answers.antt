@@ -12,6 +12,7 @@ returns-in-Ok-clause-told g c = λ honest.
     whole
     (behind _ _ _ _ (c.in-Ok.ensures.printed honest ∙ ap (λ p. p ++ c.as_str-2.result.now) (c.warn.ensures.printed before)) c.as_str-2.ensures.value)
     (behind _ _ _ _ (c.print.ensures.warned honest ∙ c.warn.ensures.warned before) c.as_str.ensures.value)
+    (c.in-Ok.ensures.taken honest ∙ c.warn.ensures.refuses before)
 
 pub returns-in-Ok-format-clause-status : goal.returns-in-Ok-format-clause-status
 returns-in-Ok-format-clause-status g c = not_printed
@@ -19,7 +20,7 @@ returns-in-Ok-format-clause-status g c = not_printed
 pub returns-in-Ok-format-clause-told : goal.returns-in-Ok-format-clause-told
 returns-in-Ok-format-clause-told g c = λ honest.
     let after = c.warn-in-Ok-format.ensures.back honest in
-    output_refused (line-behind (g.C.Console.warned c.args.console.now) _ _ (string_bytes c.args.answer.now.warnings) _
+    output_refused (c.warn-in-Ok-format.ensures.refuses honest ∙ c.in-Err.ensures.refused after) (line-behind (g.C.Console.warned c.args.console.now) _ _ (string_bytes c.args.answer.now.warnings) _
     (behind _ _ _ _ (c.print.ensures.warned after ∙ c.warn.ensures.warned (c.print.ensures.back after)) c.as_str.ensures.value)
     (c.warn-in-Ok-format.ensures.warned honest))
 
@@ -29,6 +30,6 @@ returns-in-Err-format-clause-status g c = not_printed
 pub returns-in-Err-format-clause-told : goal.returns-in-Err-format-clause-told
 returns-in-Err-format-clause-told g c = λ honest.
     let after = c.warn-in-Err-format.ensures.back honest in
-    output_refused (line-behind (g.C.Console.warned c.args.console.now) _ _ (string_bytes c.args.answer.now.warnings) _
+    output_refused (c.warn-in-Err-format.ensures.refuses honest ∙ c.in-Err.ensures.refused after) (line-behind (g.C.Console.warned c.args.console.now) _ _ (string_bytes c.args.answer.now.warnings) _
     (behind _ _ _ _ (c.print.ensures.warned after ∙ c.warn.ensures.warned (c.print.ensures.back after)) c.as_str.ensures.value)
     (c.warn-in-Err-format.ensures.warned honest))

@@ -10,7 +10,8 @@ returns-in-Err-clause-status g c = subst (IsStatusOf c.args.reply.now) (sym c.re
 
 pub returns-in-Err-clause-told : goal.returns-in-Err-clause-told
 returns-in-Err-clause-told g c = λ honest.
-    subst (λ status. IsToldAs c.args.reply.now (g.C.Console.printed c.args.console.now) (g.C.Console.warned c.args.console.now)
-    (g.C.Console.printed c.refuse.new.console) (g.C.Console.warned c.refuse.new.console) status)
+    subst (λ status. IsToldAs c.args.reply.now
+    (g.C.Console.printed c.args.console.now) (g.C.Console.warned c.args.console.now) (g.C.Console.refuses c.args.console.now)
+    (g.C.Console.printed c.refuse.new.console) (g.C.Console.warned c.refuse.new.console) (g.C.Console.refuses c.refuse.new.console) status)
     (sym c.refuse.ensures.status)
-    (refused c.in-Err.fault c.in-Err.is (c.refuse.ensures.printed honest) (c.refuse.ensures.warned honest))
+    (refused c.in-Err.fault c.in-Err.is (c.refuse.ensures.printed honest) (c.refuse.ensures.refuses honest) (c.refuse.ensures.warned honest))

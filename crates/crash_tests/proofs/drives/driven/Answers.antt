@@ -2,6 +2,6 @@ use Rattle.std.proofs.Common.{ap}
 use Rattle.event_journal.specs.Image.{replay_of}
 use Rattle.crash_tests.proofs.drives.driven.Goals as goal
 
-pub begin-requires-clause-fresh : goal.begin-requires-clause-fresh
+pub begin-requires : goal.begin-requires
 unfolding replay_of
-begin-requires-clause-fresh g c = λ honest. ap replay_of c.new-disk.ensures.bytes
+begin-requires g c = record { fresh = λ honest. ap replay_of c.new-disk.ensures.bytes }

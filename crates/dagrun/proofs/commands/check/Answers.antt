@@ -1,7 +1,11 @@
-use Rattle.dag_texts.proofs.Refusals.{weaker}
-use Rattle.command_line.specs.Requests.{checks}
-use Rattle.dagrun.specs.Answered.{IsRefusal, not_checked}
+use Rattle.dagrun.proofs.Checks.{plain_check, refused_check}
 use Rattle.dagrun.proofs.commands.check.Goals as goal
 
-pub returns-clause-refused : goal.returns-clause-refused
-returns-clause-refused g c = weaker (IsRefusal (checks c.args.dag.now)) c.check_here.result c.check_here.ensures.refused (not_checked _)
+pub returns-then-any-clause-refused : goal.returns-then-any-clause-refused
+returns-then-any-clause-refused g c = refused_check c.args.dag.now _ c.check_with_hints.result c.check_with_hints.ensures.refused
+
+pub returns-else-any-clause-checked : goal.returns-else-any-clause-checked
+returns-else-any-clause-checked g c = plain_check c.args.dag.now _ c.check_here.result c.check_here.ensures.checked
+
+pub returns-else-any-clause-refused : goal.returns-else-any-clause-refused
+returns-else-any-clause-refused g c = refused_check c.args.dag.now _ c.check_here.result c.check_here.ensures.refused

@@ -5,8 +5,8 @@ use Rattle.dag_texts.specs.declared.fault.RunFault.TheVariants.{Memory}
 use Rattle.dagrun.proofs.Requests.{exits, exits-refused}
 use Rattle.dagrun.proofs.commands.run.Goals as goal
 
-pub returns-after-matches : goal.returns-after-matches
-returns-after-matches g c = exits _ (asked_by c.in-Ok.request) (record { no_words = c.in-Ok.ensures.no_words; limited = c.in-Ok.ensures.limits })
+pub returns-in-Ok : goal.returns-in-Ok
+returns-in-Ok g c = exits _ (asked_by c.in-Ok.request) (record { no_words = c.in-Ok.ensures.no_words; limited = c.in-Ok.ensures.limits })
     c.answer.result c.answer.ensures.answered c.finish.result c.finish.ensures
 
 pub returns-in-Err-Told : goal.returns-in-Err-Told

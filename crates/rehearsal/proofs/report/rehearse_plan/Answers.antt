@@ -4,6 +4,10 @@ use Rattle.sched_core.specs.Core.{Progress}
 use Rattle.run_manager.specs.Managed.{past_of}
 use Rattle.rehearsal.specs.Report.{rescue_part}
 use Rattle.rehearsal.proofs.RescueParts.{whole-report}
+use Rattle.dag_texts.proofs.Refusals.{handed-on}
+use Rattle.rehearsal.specs.TooLong.{IsTableRunFault}
+use Rattle.dag_texts.specs.declared.fault.RunFault.TheVariants.{Memory}
+use Rattle.rehearsal.proofs.TooLongRuns.{no-memory}
 use Rattle.rehearsal.proofs.report.rehearse_plan.Goals as goal
 
 pub returns-clause-run : goal.returns-clause-run
@@ -19,3 +23,13 @@ returns-clause-run c =
           ∙ ap (λ (p : Plan). printed ++ rescue_part p past) c.in_ok-run.ensures.plan);
       status_is = c.in_ok-run.ensures.status;
     }
+
+pub returns-in_err-with_rescue-clause-refused : goal.returns-in_err-with_rescue-clause-refused
+returns-in_err-with_rescue-clause-refused c =
+    handed-on (IsTableRunFault c.args.plan.now) c.from_residual-in_err-with_rescue.result c.from_residual-in_err-with_rescue.ensures.1
+    (λ fault same. no-memory c.args.plan.now c.in_err-with_rescue.field-0.0 fault same c.in_err-with_rescue.ensures.err)
+
+pub returns-in_err-warning_text-clause-refused : goal.returns-in_err-warning_text-clause-refused
+returns-in_err-warning_text-clause-refused c =
+    handed-on (IsTableRunFault c.args.plan.now) c.from_residual-in_err-warning_text.result c.from_residual-in_err-warning_text.ensures.1
+    (λ fault same. no-memory c.args.plan.now Memory fault same refl)

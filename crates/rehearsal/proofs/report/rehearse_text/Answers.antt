@@ -5,7 +5,7 @@ use Rattle.rehearsal.specs.Rehearsed.{IsRehearsalOf, IsRehearsalFault, has_no_gr
 use Rattle.rehearsal.specs.Refusals.{ReportsRun}
 use Rattle.dag_texts.specs.Warnings.{warning_lines}
 use Rattle.dag_texts.specs.declared.warnings.Answer.{Answer}
-use Rattle.rehearsal.proofs.Reports.{rehearsal-of, answered, rehearsal-memory}
+use Rattle.rehearsal.proofs.Reports.{rehearsal-of, answered, rehearsal-stopped}
 use Rattle.dag_texts.proofs.Refusals.{handed-on}
 use Rattle.rehearsal.proofs.report.rehearse_text.Goals as goal
 
@@ -33,4 +33,6 @@ returns-in_err-table-clause-refused c =
     (has_no_table c.in_ok-plan.plan.graph.dag c.in_err-table.field-0.0 c.in_ok-plan.ensures.plan.is_dag c.in_ok-plan.ensures.plan.acyclic c.in_err-table.ensures.refused))
 
 pub returns-clause-refused : goal.returns-clause-refused
-returns-clause-refused c = rehearsal-memory (bytes_of c.args.files.now) c.args.path.now (option_map (λ b. b.now) c.args.outcomes) c.rehearse_plan.result c.rehearse_plan.ensures.err
+returns-clause-refused c =
+    rehearsal-stopped c.args.always_post (bytes_of c.args.files.now) c.args.path.now (option_map (λ b. b.now) c.args.outcomes) c.in_ok-plan.plan c.rehearse_plan.result
+    c.in_ok-plan.ensures.plan c.rehearse_plan.ensures.refused

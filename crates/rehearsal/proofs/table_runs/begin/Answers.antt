@@ -2,6 +2,6 @@ use Rattle.std.proofs.Common.{ap}
 use Rattle.event_journal.specs.Image.{replay_of}
 use Rattle.rehearsal.proofs.table_runs.begin.Goals as goal
 
-pub begin-requires-clause-fresh : goal.begin-requires-clause-fresh
+pub begin-requires : goal.begin-requires
 unfolding replay_of
-begin-requires-clause-fresh c = λ honest. ap replay_of c.new-journal.ensures.bytes
+begin-requires c = record { fresh = λ honest. ap replay_of c.new-journal.ensures.bytes }

@@ -1,0 +1,3 @@
+pub mod MacroNames
+pub mod Betters
+pub mod Clashing

@@ -1,0 +1,8 @@
+pub mod Told
+pub mod References
+pub mod Submitted
+pub mod Meant
+pub mod Programs
+pub mod Notes
+pub mod Outputs
+pub mod Commands

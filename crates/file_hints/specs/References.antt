@@ -1,0 +1,32 @@
+-- The macros to which a text refers.
+use Rattle.std.specs.Prelude.{ℕ, Bool, true, false, not, ◌||◌, ◌&&◌, ◌==◌, List, [], ◌∷◌, ◌++◌, length, drop, if◌then◌else◌}
+use Rattle.std.specs.List.{take_while}
+use Rattle.std.specs.Char.{is_ascii_alphanumeric}
+pub use Rattle.dag_reader.specs.Keywords.{begins_with}
+use Rattle.file_hints.specs.declared.macros.Reference.{Reference}
+
+-- letters, digits, the underline (95) and the full stop (46)
+abbrev pub is_name_byte : ℕ → Bool
+is_name_byte b = is_ascii_alphanumeric b || b == 95 || b == 46
+
+abbrev pub name_in : List ℕ → List ℕ
+name_in text = take_while is_name_byte text
+
+-- what a name with this behind it is: a reference with a default behind a colon (58), one without where the parenthesis (41) closes it, or none
+abbrev pub reference_by : (name after : List ℕ) → List Reference
+reference_by name after =
+    if begins_with 58 after || begins_with 41 after then record { name = name; has_default = begins_with 58 after } ∷ [] else []
+
+-- the reference of which a text is what stands behind the dollar sign: it begins with a parenthesis (40)
+abbrev pub reference_in : List ℕ → List Reference
+reference_in [] = []
+reference_in (b ∷ bs) = if b == 40 then reference_by (name_in bs) (drop (length (name_in bs)) bs) else []
+
+-- those of a text behind a dollar sign, or behind none, or a second one
+abbrev pub references_from : (dollar : Bool) → List ℕ → List Reference
+references_from dollar [] = []
+references_from dollar (b ∷ bs) = (if dollar then reference_in (b ∷ bs) else []) ++ references_from (not dollar && b == 36) bs
+
+-- the references of a text, in their order
+unfoldable pub references : List ℕ → List Reference
+references text = references_from false text

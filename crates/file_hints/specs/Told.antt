@@ -1,0 +1,54 @@
+-- How hints are told.
+use Rattle.std.specs.Prelude.{ℕ, List, ◌++◌, codes}
+use Rattle.std.specs.Fmt.{decimal}
+use Rattle.file_hints.specs.declared.hint.Hint.{Hint}
+use Rattle.file_hints.specs.declared.hint.Hint.TheVariants.{UnknownName, Misspelled, PassedOver, BelowQueue, Unassigned, MissingProgram, FolderAsProgram, NotExecutable, CarriageReturn, MissingFolder, SharedOutput, NoLog, NoEnvironment, OwnFolder, ContinuedComment, LaunchNumber, SkipValue, SignalValue, NoopScript}
+use Rattle.file_hints.specs.declared.hint.Finding.{Finding}
+
+-- what stands behind the place
+abbrev pub hint_text : Hint → List ℕ
+hint_text (UnknownName name) = name ++ codes " is no command that dagrun reads, and no macro that is referred to: take the line away"
+hint_text (Misspelled name meant) = name ++ (codes " is no command that dagrun reads, and no macro that is referred to: is " ++ (meant ++ codes " meant?"))
+hint_text (PassedOver name instead) = name ++ (codes " is passed over: " ++ instead)
+hint_text (BelowQueue name) = name ++ codes " stands below queue and has no effect: write it above"
+hint_text (Unassigned name) = codes "$(" ++ (name ++ codes ") is assigned nowhere, so it is empty: assign it here or by VARS, or give it a default")
+hint_text (MissingProgram path) = path ++ codes " is not there: put it there, or mend its path"
+hint_text (FolderAsProgram path) = path ++ codes " is a folder: name a program"
+hint_text (NotExecutable path) = path ++ (codes " may not be executed: chmod +x " ++ path)
+hint_text (CarriageReturn path) = codes "the first line of " ++ (path ++ (codes " ends with a carriage return: sed -i 's/\\r$//' " ++ path))
+hint_text (MissingFolder path) = codes "the folder " ++ (path ++ (codes " is not there: mkdir -p " ++ path))
+hint_text (SharedOutput path first second) = first ++ (codes " and " ++ (second ++ (codes " may run at once, and both write " ++ (path ++ codes ": put $(JOB) into its name"))))
+hint_text NoLog = codes "no log is named, and HTCondor keeps none for this job: write log = FILE"
+hint_text NoEnvironment = codes "the job has the environment of dagrun here, and none under HTCondor: write getenv = true"
+hint_text OwnFolder = codes "HTCondor runs the job in a folder of its own, where relative paths lead elsewhere: write universe = local"
+hint_text ContinuedComment = codes "a comment ends with a backslash, and HTCondor may join the line below: take the backslash away"
+hint_text (LaunchNumber name) = codes "$(" ++ (name ++ codes ") counts the launches here, and the clusters of the queue under HTCondor: write $(JOB) and $(RETRY)")
+hint_text SkipValue = codes "PRE_SKIP skips by exit codes alone, and DAGMan refuses another value: write one from 1 to 255"
+hint_text (SignalValue command) = command ++ codes " has a value below zero, which DAGMan gives otherwise, as -1002 to a job that is removed: write an exit code"
+hint_text (NoopScript node) = node ++ codes " is a NOOP with a script, which DAGMan runs where the submit file is there: put that file there"
+
+-- the word before it
+abbrev pub topic_of : Hint → List ℕ
+topic_of (UnknownName name) = codes "hint"
+topic_of (Misspelled name meant) = codes "hint"
+topic_of (PassedOver name instead) = codes "hint"
+topic_of (BelowQueue name) = codes "hint"
+topic_of (Unassigned name) = codes "hint"
+topic_of (MissingProgram path) = codes "hint"
+topic_of (FolderAsProgram path) = codes "hint"
+topic_of (NotExecutable path) = codes "hint"
+topic_of (CarriageReturn path) = codes "hint"
+topic_of (MissingFolder path) = codes "hint"
+topic_of (SharedOutput path first second) = codes "hint"
+topic_of NoLog = codes "condor"
+topic_of NoEnvironment = codes "condor"
+topic_of OwnFolder = codes "condor"
+topic_of ContinuedComment = codes "condor"
+topic_of (LaunchNumber name) = codes "condor"
+topic_of SkipValue = codes "condor"
+topic_of (SignalValue command) = codes "condor"
+topic_of (NoopScript node) = codes "condor"
+
+-- the line that the user reads
+abbrev pub finding_line : List ℕ → Finding → List ℕ
+finding_line path finding = topic_of finding.hint ++ (codes ": " ++ (path ++ (codes ":" ++ (decimal finding.line ++ (codes " " ++ (hint_text finding.hint ++ codes "\n"))))))

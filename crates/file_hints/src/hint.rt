@@ -1,0 +1,190 @@
+//! Hints, and how they are displayed.
+
+ghost use Rattle.std.specs.Prelude.{◌≡◌, Some, IfOk, string_bytes};
+ghost use Rattle.file_hints.specs.Told.{hint_text, topic_of, finding_line};
+
+use dag_reader::Text;
+use std::alloc::{AllocError, Global};
+use std::fmt;
+
+/// What is odd. It is displayed as what stands behind the place: what it is, and behind a colon what to write instead.
+#[derive(Drop)]
+pub enum Hint {
+    /// A name that is no command, and to which nothing refers.
+    UnknownName(Text),
+    /// Such a name, and the command that may have been meant.
+    Misspelled {
+        name: Text,
+        meant: Text,
+    },
+    /// A command that HTCondor heeds, and what stands for it.
+    PassedOver {
+        name: Text,
+        instead: Text,
+    },
+    /// What is assigned to this name below the queue line.
+    BelowQueue(Text),
+    /// A macro of this name that is referred to without a default.
+    Unassigned(Text),
+    /// The program of this path, which is not there.
+    MissingProgram(Text),
+    /// A folder in the place of a program.
+    FolderAsProgram(Text),
+    /// The program of this path, which nobody may run.
+    NotExecutable(Text),
+    /// The program of this path, whose first line ends with a carriage return.
+    CarriageReturn(Text),
+    /// The folder of this path, which is not there.
+    MissingFolder(Text),
+    /// The path that two nodes write that may run at once.
+    SharedOutput {
+        path: Text,
+        first: Text,
+        second: Text,
+    },
+    /// Under HTCondor: a submit file without `log`.
+    NoLog,
+    /// Under HTCondor: one without `getenv`.
+    NoEnvironment,
+    /// Under HTCondor: a job of the universe vanilla.
+    OwnFolder,
+    /// Under HTCondor: a comment that ends with a backslash.
+    ContinuedComment,
+    /// Under HTCondor: a reference to the launch number by this name.
+    LaunchNumber(Text),
+    /// Under HTCondor: PRE_SKIP with a value that is no exit code.
+    SkipValue,
+    /// Under HTCondor: a value below zero in this line.
+    SignalValue(Text),
+    /// Under HTCondor: a script of this node, whose job is not run.
+    NoopScript(Text),
+}
+
+// By hand, since a derived one has no contract: what is printed of it is proved.
+impl fmt::Display for Hint {
+    ghost output = { λ hint. Some (hint_text hint) };
+
+    fn fmt<W: fmt::Write>(&self, f: &mut fmt::Formatter<W>) -> fmt::Result {
+        match self {
+            Hint::UnknownName(name) => write!(
+                f,
+                "{name} is no command that dagrun reads, and no macro that is referred to: take the line away"
+            ),
+            Hint::Misspelled { name, meant } => write!(
+                f,
+                "{name} is no command that dagrun reads, and no macro that is referred to: is {meant} meant?"
+            ),
+            Hint::PassedOver { name, instead } => write!(f, "{name} is passed over: {instead}"),
+            Hint::BelowQueue(name) => {
+                write!(
+                    f,
+                    "{name} stands below queue and has no effect: write it above"
+                )
+            }
+            Hint::Unassigned(name) => write!(
+                f,
+                "$({name}) is assigned nowhere, so it is empty: assign it here or by VARS, or give it a default"
+            ),
+            Hint::MissingProgram(path) => {
+                write!(f, "{path} is not there: put it there, or mend its path")
+            }
+            Hint::FolderAsProgram(path) => write!(f, "{path} is a folder: name a program"),
+            Hint::NotExecutable(path) => write!(f, "{path} may not be executed: chmod +x {path}"),
+            Hint::CarriageReturn(path) => write!(
+                f,
+                "the first line of {path} ends with a carriage return: sed -i 's/\\r$//' {path}"
+            ),
+            Hint::MissingFolder(path) => {
+                write!(f, "the folder {path} is not there: mkdir -p {path}")
+            }
+            Hint::SharedOutput {
+                path,
+                first,
+                second,
+            } => write!(
+                f,
+                "{first} and {second} may run at once, and both write {path}: put $(JOB) into its name"
+            ),
+            Hint::NoLog => write!(
+                f,
+                "no log is named, and HTCondor keeps none for this job: write log = FILE"
+            ),
+            Hint::NoEnvironment => write!(
+                f,
+                "the job has the environment of dagrun here, and none under HTCondor: write getenv = true"
+            ),
+            Hint::OwnFolder => write!(
+                f,
+                "HTCondor runs the job in a folder of its own, where relative paths lead elsewhere: write universe = local"
+            ),
+            Hint::ContinuedComment => write!(
+                f,
+                "a comment ends with a backslash, and HTCondor may join the line below: take the backslash away"
+            ),
+            Hint::LaunchNumber(name) => write!(
+                f,
+                "$({name}) counts the launches here, and the clusters of the queue under HTCondor: write $(JOB) and $(RETRY)"
+            ),
+            Hint::SkipValue => write!(
+                f,
+                "PRE_SKIP skips by exit codes alone, and DAGMan refuses another value: write one from 1 to 255"
+            ),
+            Hint::SignalValue(command) => write!(
+                f,
+                "{command} has a value below zero, which DAGMan gives otherwise, as -1002 to a job that is removed: write an exit code"
+            ),
+            Hint::NoopScript(node) => write!(
+                f,
+                "{node} is a NOOP with a script, which DAGMan runs where the submit file is there: put that file there"
+            ),
+        }
+    }
+}
+
+/// A hint, and the line that it is about.
+#[derive(Drop)]
+pub struct Finding {
+    /// The number of the line, from 1.
+    pub line: usize,
+    pub hint: Hint,
+}
+
+/// The line by which a finding in the file of this path is told: `hint:` or `condor:`, the place, and what it is.
+///
+/// # Errors
+/// Want of memory.
+pub fn finding_line(alloc: Global, path: &str, finding: &Finding) -> Result<String, AllocError>
+    ensures { IfOk result (λ line. string_bytes line ≡ finding_line path.now finding.now) }
+{
+    let topic = topic_of(&finding.hint);
+    let line = finding.line;
+    let hint = &finding.hint;
+    format!(in alloc; "{topic}: {path}:{line} {hint}\n")
+}
+
+/// The word before a hint.
+fn topic_of(hint: &Hint) -> &'static str
+    ensures { result.now ≡ topic_of hint.now }
+{
+    match hint {
+        Hint::NoLog
+        | Hint::NoEnvironment
+        | Hint::OwnFolder
+        | Hint::ContinuedComment
+        | Hint::LaunchNumber(_)
+        | Hint::SkipValue
+        | Hint::SignalValue(_)
+        | Hint::NoopScript(_) => "condor",
+        Hint::UnknownName(_)
+        | Hint::Misspelled { .. }
+        | Hint::PassedOver { .. }
+        | Hint::BelowQueue(_)
+        | Hint::Unassigned(_)
+        | Hint::MissingProgram(_)
+        | Hint::FolderAsProgram(_)
+        | Hint::NotExecutable(_)
+        | Hint::CarriageReturn(_)
+        | Hint::MissingFolder(_)
+        | Hint::SharedOutput { .. } => "hint",
+    }
+}

@@ -1,0 +1,23 @@
+//! What is odd in the files of a DAG though nothing is wrong with them, and what would be otherwise under
+//! `condor_submit_dag`: each with the place and with what to write instead.
+#![tactic(auto)]
+
+mod commands;
+mod hint;
+mod macros;
+mod meant;
+mod names;
+mod notes;
+mod outputs;
+mod programs;
+mod submit;
+
+pub use commands::dag_notes;
+pub use hint::{Finding, Hint, finding_line};
+pub use macros::{Reference, references};
+pub use meant::with_meant;
+pub use names::{CommandNames, command_names};
+pub use notes::{comment_notes, submit_notes};
+pub use outputs::{Clash, Writer, clashes};
+pub use programs::{ProgramState, folder_hint, program_hint, state_by};
+pub use submit::submit_hints;

@@ -1,0 +1,87 @@
+//! What is odd in a program or a folder, by what the system says of it.
+
+ghost use Rattle.std.specs.Prelude.{◌≡◌, IfOk};
+ghost use Rattle.file_hints.specs.Programs.{program_hint, folder_hint, state_by, ends_with_return};
+
+use crate::hint::Hint;
+use dag_reader::Text;
+use std::alloc::{AllocError, Global};
+
+/// What stands at the path of a program.
+#[derive(Clone, Copy, Debug, PartialEq, Eq)]
+pub enum ProgramState {
+    /// A file that may be run.
+    Runs,
+    /// Nothing.
+    Missing,
+    /// A folder.
+    Folder,
+    /// A file that nobody may run.
+    NotExecutable,
+    /// One whose first line says what reads it, and ends with a carriage return.
+    CarriageReturn,
+}
+
+/// What is odd in the program of this path.
+///
+/// # Errors
+/// Want of memory.
+pub fn program_hint(
+    alloc: Global,
+    path: &str,
+    state: ProgramState,
+) -> Result<Option<Hint>, AllocError>
+    ensures { IfOk result (λ hint. hint ≡ program_hint path.now state) }
+{
+    let path = Text::new(alloc, path)?;
+    Ok(match state {
+        ProgramState::Runs => None,
+        ProgramState::Missing => Some(Hint::MissingProgram(path)),
+        ProgramState::Folder => Some(Hint::FolderAsProgram(path)),
+        ProgramState::NotExecutable => Some(Hint::NotExecutable(path)),
+        ProgramState::CarriageReturn => Some(Hint::CarriageReturn(path)),
+    })
+}
+
+/// What is odd in the folder of this path, which is there or not.
+///
+/// # Errors
+/// Want of memory.
+pub fn folder_hint(alloc: Global, path: &str, is_there: bool) -> Result<Option<Hint>, AllocError>
+    ensures { IfOk result (λ hint. hint ≡ folder_hint path.now is_there) }
+{
+    if is_there {
+        return Ok(None);
+    }
+    Ok(Some(Hint::MissingFolder(Text::new(alloc, path)?)))
+}
+
+/// The state of a file, by whether somebody may run it and by the bytes that it begins with.
+pub fn state_by(is_executable: bool, beginning: &[u8]) -> ProgramState
+    ensures { result ≡ state_by is_executable beginning.now }
+{
+    if !is_executable {
+        return ProgramState::NotExecutable;
+    }
+    match beginning {
+        [b'#', b'!', line @ ..] if ends_with_return(line) => ProgramState::CarriageReturn,
+        _ => ProgramState::Runs,
+    }
+}
+
+/// Whether the first carriage return of some bytes stands at the end of their first line.
+fn ends_with_return(bytes: &[u8]) -> bool
+    ensures { result ≡ ends_with_return bytes.now }
+{
+    let mut rest = bytes;
+    while let [byte, behind @ ..] = rest {
+        if *byte == b'\n' {
+            return false;
+        }
+        if *byte == b'\r' {
+            return matches!(behind, [b'\n', ..]);
+        }
+        rest = behind;
+    }
+    false
+}

@@ -1,0 +1,13 @@
+//! What `check --hints` and `check --condor` tell of the files of a DAG: what is odd in them, and what would be
+//! otherwise under `condor_submit_dag`.
+#![tactic(auto)]
+
+mod findings;
+mod jobs;
+mod looking;
+mod opened;
+mod outputs;
+mod scripts;
+mod told;
+
+pub use told::{Wanted, hints_of};

@@ -1,0 +1,82 @@
+//! What the system says of programs and folders.
+
+use file_hints::{Hint, ProgramState, folder_hint, program_hint, state_by};
+use std::alloc::AllocError;
+use std::fs::{self, File, Metadata};
+use std::io::ErrorKind;
+use std::os::unix::fs::{FileExt, MetadataExt};
+use std::rt::Files;
+
+/// How many bytes of the beginning of a program are read.
+const HEAD: usize = 256;
+
+/// The first bytes of a file, as far as the system gives them.
+fn beginning_of<R: Files<File = File> + AllocGlobal>(rt: &R, path: &str) -> Option<Vec<u8>> {
+    let file = File::open(rt, path).ok()?;
+    let mut bytes = vec![in rt.alloc(); 0u8; HEAD].ok()?;
+    let count = file.read_at(&mut bytes, 0).ok()?;
+    bytes.truncate(count);
+    Some(bytes)
+}
+
+/// The state of what is there.
+fn state_of<R: Files<File = File> + AllocGlobal>(
+    rt: &R,
+    path: &str,
+    found: &Metadata,
+) -> ProgramState {
+    if found.is_dir() {
+        return ProgramState::Folder;
+    }
+    let is_executable = found.mode() & 0o111 != 0;
+    match beginning_of(rt, path) {
+        Some(bytes) if found.is_file() => state_by(is_executable, &bytes),
+        _ => state_by(is_executable, &[]),
+    }
+}
+
+/// Whether the system says that nothing is there.
+fn is_missing(kind: ErrorKind) -> bool {
+    kind == ErrorKind::NotFound || kind == ErrorKind::NotADirectory
+}
+
+/// What is odd in the program of this path.
+///
+/// # Errors
+/// Want of memory.
+pub(crate) fn look_at_program<R: Files<File = File> + AllocGlobal>(
+    rt: &R,
+    path: &str,
+) -> Result<Option<Hint>, AllocError> {
+    let state = match fs::metadata(rt, path) {
+        Ok(found) => state_of(rt, path, &found),
+        Err(error) if is_missing(error.kind()) => ProgramState::Missing,
+        Err(_) => ProgramState::Runs,
+    };
+    program_hint(rt.alloc(), path, state)
+}
+
+/// The folder of the file of this path, which is empty where that is the folder of the call.
+pub(crate) fn folder_of(path: &str) -> &str {
+    match path.rsplit_once('/') {
+        Some(("", _)) => "/",
+        Some((folder, _)) => folder,
+        None => "",
+    }
+}
+
+/// What is odd in the folder of this path.
+///
+/// # Errors
+/// Want of memory.
+pub(crate) fn look_at_folder<R: Files + AllocGlobal>(
+    rt: &R,
+    path: &str,
+) -> Result<Option<Hint>, AllocError> {
+    let is_there = path.is_empty()
+        || match fs::metadata(rt, path) {
+            Ok(_) => true,
+            Err(error) => !is_missing(error.kind()),
+        };
+    folder_hint(rt.alloc(), path, is_there)
+}

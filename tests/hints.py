@@ -1,0 +1,298 @@
+#!/usr/bin/env python3
+"""Compares what `dagrun check --hints` and `dagrun check --condor` tell with texts that were written by hand: hints.py PROGRAM
+
+Each row has files, the words behind `check`, what stands on standard error, and what the same call without the two options answers: its
+standard output, its status and its line on standard error have to be there, too. The last line is 'N passed, M failed'."""
+
+import os
+import subprocess
+import sys
+import tempfile
+
+OK = "ok nodes=1 edges=0 final=no"
+DAG = "JOB A a.sub\n"
+UNKNOWN = "is no command that dagrun reads, and no macro that is referred to"
+LOG = "no log is named, and HTCondor keeps none for this job: write log = FILE"
+GETENV = "the job has the environment of dagrun here, and none under HTCondor: write getenv = true"
+FOLDER = "HTCondor runs the job in a folder of its own, where relative paths lead elsewhere: write universe = local"
+QUIET = "log = a.log\ngetenv = true\nuniverse = local\n"
+
+
+def sub(*lines):
+    """A submit file with these lines between its program and its queue line."""
+    return "\n".join(["executable = /bin/echo", *lines, "queue", ""])
+
+
+class Row:
+    def __init__(self, name, files, told, answer=OK, words=("--hints", "x.dag"), warned=(), stdin=None):
+        self.name, self.files, self.told, self.answer = name, files, told, answer
+        self.words, self.warned, self.stdin = words, warned, stdin
+
+
+ROWS = [
+    Row("nothing odd", {"x.dag": DAG, "a.sub": sub("arguments = hello")}, []),
+    Row(
+        "a misspelled name",
+        {"x.dag": DAG, "a.sub": sub("argumnets = hello", "Ouptut = a.txt")},
+        [f"hint: a.sub:2 argumnets {UNKNOWN}: is arguments meant?", f"hint: a.sub:3 Ouptut {UNKNOWN}: is output meant?"],
+    ),
+    Row(
+        "a name of nothing",
+        {"x.dag": DAG, "a.sub": sub("frobnication_of_all = 1")},
+        [f"hint: a.sub:2 frobnication_of_all {UNKNOWN}: take the line away"],
+    ),
+    Row(
+        "names that mean something",
+        {"x.dag": DAG, "a.sub": sub("LOG = a.log", "+Project = \"x\"", "MY.Owner = \"y\"", "requirements = True", "word = 1", "arguments = $(Word)")},
+        [],
+    ),
+    Row(
+        "a macro that only VARS refers to",
+        {"x.dag": DAG + 'VARS A all="$(part)"\n', "a.sub": sub("part = 1", "arguments = $(all)")},
+        [],
+    ),
+    Row(
+        "commands that are passed over",
+        {"x.dag": DAG, "a.sub": sub("max_retries = 3", "success_exit_code = 2", "env = A=1")},
+        [
+            "hint: a.sub:2 max_retries is passed over: write RETRY in the DAG file",
+            "hint: a.sub:3 success_exit_code is passed over: let a POST script decide which exit code is good",
+            "hint: a.sub:4 env is passed over: write environment",
+        ],
+    ),
+    Row(
+        "below queue",
+        {"x.dag": DAG, "a.sub": "executable = /bin/echo\nqueue\noutput = a.txt\n"},
+        ["hint: a.sub:3 output stands below queue and has no effect: write it above"],
+    ),
+    Row(
+        "macros that nothing assigns",
+        {"x.dag": DAG, "a.sub": sub("arguments = $(words) $(JOB) $(RETRY) $(Cluster) $(none:d) $(words)", "requirements = $$(Arch)")},
+        ["hint: a.sub:2 $(words) is assigned nowhere, so it is empty: assign it here or by VARS, or give it a default"],
+    ),
+    Row(
+        "a macro within a default, on joined lines",
+        {"x.dag": DAG, "a.sub": sub("arguments = one \\", "  $(none:$(more))")},
+        ["hint: a.sub:2 $(more) is assigned nowhere, so it is empty: assign it here or by VARS, or give it a default"],
+    ),
+    Row(
+        "macros of VARS, of one node of two",
+        {"x.dag": "JOB A a.sub\nJOB B a.sub\nVARS B Words=\"x\"\n", "a.sub": sub("arguments = $(words)")},
+        [],
+        "ok nodes=2 edges=0 final=no",
+    ),
+    Row(
+        "programs",
+        {
+            "x.dag": "JOB A a.sub\nJOB B b.sub\nJOB C c.sub\nJOB D d.sub\nJOB E e.sub\n",
+            "a.sub": "executable = none.sh\nqueue\n",
+            "b.sub": "executable = folder\nqueue\n",
+            "c.sub": "\nexecutable = plain.sh\nqueue\n",
+            "d.sub": "executable = return.sh\nqueue\n",
+            "e.sub": "executable = good.sh\nqueue\n",
+            "folder/": None,
+            "plain.sh": "#!/bin/sh\n",
+            "return.sh*": "#!/bin/sh\r\necho\r\n",
+            "good.sh*": "#!/bin/sh\necho a\r\n",
+        },
+        [
+            "hint: a.sub:1 none.sh is not there: put it there, or mend its path",
+            "hint: b.sub:1 folder is a folder: name a program",
+            "hint: c.sub:2 plain.sh may not be executed: chmod +x plain.sh",
+            "hint: d.sub:1 the first line of return.sh ends with a carriage return: sed -i 's/\\r$//' return.sh",
+        ],
+        "ok nodes=5 edges=0 final=no",
+    ),
+    Row(
+        "scripts, also of splices in folders",
+        {
+            "x.dag": "SCRIPT PRE A before.sh\nJOB A a.sub DIR d\nSCRIPT POST ALL_NODES after.sh $RETURN\nSPLICE S inner.dag DIR s\n",
+            "d/a.sub": sub(),
+            "d/after.sh": "#!/bin/sh\n",
+            "s/inner.dag": "JOB B b.sub\nSCRIPT PRE B here.sh\n",
+            "s/b.sub": sub(),
+        },
+        [
+            "hint: x.dag:1 d/before.sh is not there: put it there, or mend its path",
+            "hint: x.dag:3 d/after.sh may not be executed: chmod +x d/after.sh",
+            "hint: s/inner.dag:2 s/here.sh is not there: put it there, or mend its path",
+        ],
+        "ok nodes=2 edges=0 final=no",
+    ),
+    Row(
+        "folders that are missing",
+        {
+            "x.dag": "JOB A a.sub\nJOB B b.sub\n",
+            "a.sub": sub("output = out/$(JOB).txt", "error = err/a.txt"),
+            "b.sub": sub("initialdir = work", "output = b.txt"),
+            "err/": None,
+        },
+        [
+            "hint: a.sub:2 the folder out is not there: mkdir -p out",
+            "hint: b.sub:2 the folder work is not there: mkdir -p work",
+        ],
+        "ok nodes=2 edges=0 final=no",
+    ),
+    Row(
+        "one output of two nodes",
+        {"x.dag": "JOB A a.sub\nJOB B a.sub\nJOB C a.sub\nPARENT A CHILD B C\n", "a.sub": sub("output = a.txt", "error = /dev/null")},
+        ["hint: a.sub:2 B and C may run at once, and both write a.txt: put $(JOB) into its name"],
+        "ok nodes=3 edges=2 final=no",
+    ),
+    Row(
+        "one output of nodes in a chain, and one of a node alone",
+        {"x.dag": "JOB A a.sub\nJOB B a.sub\nJOB C a.sub\nPARENT A CHILD B\nPARENT B CHILD C\n", "a.sub": sub("output = a.txt", "error = a.txt")},
+        [],
+        "ok nodes=3 edges=2 final=no",
+    ),
+    Row(
+        "an error file that is another one's output",
+        {"x.dag": "JOB A a.sub\nJOB B b.sub\n", "a.sub": sub("output = a.txt"), "b.sub": sub("output = b.txt", "error = a.txt")},
+        ["hint: b.sub:3 A and B may run at once, and both write a.txt: put $(JOB) into its name"],
+        "ok nodes=2 edges=0 final=no",
+    ),
+    Row(
+        "files that are named by the launch",
+        {"x.dag": "JOB A a.sub\nJOB B a.sub\n", "a.sub": sub("output = $(Cluster).txt")},
+        [],
+        "ok nodes=2 edges=0 final=no",
+    ),
+    Row(
+        "a cycle: what does not need the graph",
+        {"x.dag": "JOB A a.sub\nPARENT A CHILD A\n", "a.sub": sub("argumnets = x")},
+        [f"hint: a.sub:2 argumnets {UNKNOWN}: is arguments meant?"],
+        None,
+        warned=["dagrun: G1 Cycle A"],
+    ),
+    Row(
+        "a submit file that is refused",
+        {"x.dag": DAG, "a.sub": "executable = /bin/echo\nmax_retries = 1\nbad line\nqueue\n"},
+        ["hint: a.sub:2 max_retries is passed over: write RETRY in the DAG file"],
+        None,
+        warned=["dagrun: U2 BadLine a.sub:3"],
+    ),
+    Row("a DAG file that is refused", {"x.dag": "JOBS A a.sub\n", "a.sub": sub("max_retries = 1")}, [], None, warned=["dagrun: L2 UnknownCommand x.dag:1:1"]),
+    Row(
+        "behind warnings",
+        {"x.dag": "DOT x.dot\n" + DAG, "a.sub": sub("max_retries = 1")},
+        ["hint: a.sub:2 max_retries is passed over: write RETRY in the DAG file"],
+        warned=["warning: x.dag:1 ignored"],
+    ),
+    Row(
+        "standard input",
+        {"a.sub": sub("max_retries = 1")},
+        ["hint: -:2 none.sh is not there: put it there, or mend its path", "hint: a.sub:2 max_retries is passed over: write RETRY in the DAG file"],
+        words=("--hints", "-"),
+        stdin=DAG + "SCRIPT PRE A none.sh\n",
+    ),
+    Row(
+        "a NOOP's submit file is not looked at",
+        {"x.dag": "JOB A a.sub NOOP\n", "a.sub": sub("max_retries = 1")},
+        [],
+    ),
+    Row(
+        "HTCondor: what a submit file lacks",
+        {"x.dag": DAG, "a.sub": sub()},
+        [f"condor: a.sub:1 {LOG}", f"condor: a.sub:1 {GETENV}", f"condor: a.sub:1 {FOLDER}"],
+        words=("--condor", "x.dag"),
+    ),
+    Row("HTCondor: all is there", {"x.dag": DAG, "a.sub": sub(*QUIET.split("\n"))}, [], words=("--condor", "x.dag")),
+    Row(
+        "HTCondor: files that are moved",
+        {"x.dag": DAG, "a.sub": sub("log = a.log", "getenv = true", "universe = vanilla", "transfer_input_files = a.txt")},
+        [],
+        words=("--condor", "x.dag"),
+    ),
+    Row(
+        "HTCondor: the number of the launch",
+        {"x.dag": DAG, "a.sub": sub(*QUIET.split("\n"), "output = $(Cluster).txt")},
+        ["condor: a.sub:6 $(Cluster) counts the launches here, and the clusters of the queue under HTCondor: write $(JOB) and $(RETRY)"],
+        words=("--condor", "x.dag"),
+    ),
+    Row(
+        "HTCondor: a comment that goes on",
+        {"x.dag": DAG, "a.sub": sub(*QUIET.split("\n"), "  # arguments = \\", "# one")},
+        ["condor: a.sub:6 a comment ends with a backslash, and HTCondor may join the line below: take the backslash away"],
+        words=("--condor", "x.dag"),
+    ),
+    Row(
+        "HTCondor: lines of the DAG file",
+        {
+            "x.dag": "JOB A a.sub NOOP\nSCRIPT POST A /bin/true\nPRE_SKIP A 300\nPRE_SKIP A 2\nABORT-DAG-ON A -9\nRETRY A 2 UNLESS-EXIT -1001\nRETRY A 1\n",
+        },
+        [
+            "condor: x.dag:2 A is a NOOP with a script, which DAGMan runs where the submit file is there: put that file there",
+            "condor: x.dag:3 PRE_SKIP skips by exit codes alone, and DAGMan refuses another value: write one from 1 to 255",
+            "condor: x.dag:5 ABORT-DAG-ON has a value below zero, which DAGMan gives otherwise, as -1002 to a job that is removed: write an exit code",
+            "condor: x.dag:6 RETRY has a value below zero, which DAGMan gives otherwise, as -1002 to a job that is removed: write an exit code",
+        ],
+        words=("--condor", "x.dag"),
+        warned=["warning: x.dag:3 overridden", "warning: x.dag:6 overridden"],
+    ),
+    Row(
+        "both, in the order of the lines",
+        {"x.dag": DAG, "a.sub": sub("max_retries = 1", *QUIET.split("\n"), "arguments = $(Cluster) $(x)")},
+        [
+            "hint: a.sub:2 max_retries is passed over: write RETRY in the DAG file",
+            "condor: a.sub:7 $(Cluster) counts the launches here, and the clusters of the queue under HTCondor: write $(JOB) and $(RETRY)",
+            "hint: a.sub:7 $(x) is assigned nowhere, so it is empty: assign it here or by VARS, or give it a default",
+        ],
+        words=("--hints", "--condor", "x.dag"),
+    ),
+]
+
+
+def laid_out(files):
+    """Writes files: a folder's name ends with a slash, that of an executable file with a star."""
+    for name, text in files.items():
+        path = name.rstrip("/*")
+        if name.endswith("/"):
+            os.makedirs(path)
+            continue
+        os.makedirs(os.path.dirname(path) or ".", exist_ok=True)
+        with open(path, "w", newline="") as file:
+            file.write(text)
+        if name.endswith("*"):
+            os.chmod(path, 0o755)
+
+
+def called(program, words, stdin):
+    return subprocess.run([program, "check", *words], capture_output=True, text=True, timeout=60, input=stdin or "")
+
+
+def same(what, found, wanted):
+    if found != wanted:
+        raise AssertionError(f"{what}: found\n{found}\nwanted\n{wanted}")
+
+
+def tried(program, row):
+    laid_out(row.files)
+    answer = "" if row.answer is None else row.answer + "\n"
+    status = 125 if row.answer is None else 0
+    refused = row.warned if row.answer is None else []
+    warned = [] if row.answer is None else list(row.warned)
+    plain = called(program, row.words[-1:], row.stdin)
+    same("without options", (plain.stdout, plain.returncode, plain.stderr.splitlines()), (answer, status, list(row.warned)))
+    done = called(program, row.words, row.stdin)
+    same("answer", (done.stdout, done.returncode), (answer, status))
+    same("told", done.stderr.splitlines(), [*warned, *row.told, *refused])
+
+
+def main():
+    program = os.path.realpath(sys.argv[1])
+    passed = failed = 0
+    for row in ROWS:
+        with tempfile.TemporaryDirectory() as folder:
+            os.chdir(folder)
+            try:
+                tried(program, row)
+                passed += 1
+            except (AssertionError, OSError, subprocess.TimeoutExpired) as error:
+                failed += 1
+                print(f"{row.name}: {error}")
+            os.chdir("/")
+    print(f"{passed} passed, {failed} failed")
+    return 1 if failed else 0
+
+
+sys.exit(main())
