@@ -1,10 +1,11 @@
 //! What is answered of the files of a folder, also of one that changes.
 
-ghost use Rattle.std.specs.Prelude.{None};
+ghost use Rattle.std.specs.Prelude.{None, false};
 
 use crate::same::same;
-use dag_files::Folder;
+use dag_files::{Folder, round_of};
 use dag_texts::{Answer, RunFault};
+use event_journal::Peek;
 use folder_answers::{check_here, rehearse_here};
 use run_answers::{Question, report_here, told_here};
 use splices::FileSet;
@@ -86,6 +87,10 @@ impl Changing {
 impl Folder for Changing {
     ghost holds = { λ _ _. None };
 
+    ghost has = { λ _ _. false };
+
+    ghost streams = { λ _. ⊥ };
+
     ghost honest = { λ _. ⊥ };
 
     fn top(&self, alloc: Global, path: &str) -> Result<Option<Vec<u8>>, RunFault> {
@@ -98,6 +103,18 @@ impl Folder for Changing {
 
     fn beside(&self, alloc: Global, path: &str) -> Result<Option<Vec<u8>>, RunFault> {
         self.now().beside(alloc, path)
+    }
+
+    fn is_there(&self, alloc: Global, path: &str) -> Result<bool, RunFault> {
+        self.now().is_there(alloc, path)
+    }
+
+    fn highest(&self, alloc: Global, top: &str) -> Result<u16, RunFault> {
+        self.now().highest(alloc, top)
+    }
+
+    fn journal(&self, alloc: Global, top: &str) -> Result<Option<Peek>, RunFault> {
+        self.now().journal(alloc, top)
     }
 }
 
@@ -184,6 +201,81 @@ fn no_report(rt: HostRuntime) -> Result<(), Fail> {
             Ok(answer) => same(&rt, answer.is_none(), true),
             Err(fault) => comes_to(&rt, alloc, Err(fault), "none"),
         }
+    }
+    Ok(())
+}
+
+/// Rescue files that stand beside x.dag, whether the highest is read, the one that is gone back to, and the numbers
+/// that are read and written, or the line of a fault.
+struct RoundRow {
+    files: &'static [(&'static str, &'static str)],
+    autorescue: bool,
+    from: Option<u16>,
+    wanted: &'static str,
+}
+
+static ROUNDS: [RoundRow; 8] = [
+    RoundRow {
+        files: &[],
+        autorescue: true,
+        from: None,
+        wanted: "0 1",
+    },
+    RoundRow {
+        files: &[("x.dag.rescue001", ""), ("x.dag.rescue003", "")],
+        autorescue: true,
+        from: None,
+        wanted: "3 4",
+    },
+    RoundRow {
+        files: &[("x.dag.rescue001", ""), ("x.dag.rescue003", "")],
+        autorescue: false,
+        from: None,
+        wanted: "0 4",
+    },
+    RoundRow {
+        files: &[("x.dag.rescue999", "")],
+        autorescue: true,
+        from: None,
+        wanted: "999 999",
+    },
+    RoundRow {
+        files: &[("x.dag.rescue003.old", ""), ("y.dag.rescue003", ""), ("x.dag.rescue3", "")],
+        autorescue: true,
+        from: None,
+        wanted: "0 1",
+    },
+    RoundRow {
+        files: &[("x.dag.rescue001", ""), ("x.dag.rescue003", "")],
+        autorescue: true,
+        from: Some(1),
+        wanted: "1 2",
+    },
+    RoundRow {
+        files: &[("x.dag.rescue001", ""), ("x.dag.rescue003", "")],
+        autorescue: true,
+        from: Some(2),
+        wanted: "E4 NotThere 2",
+    },
+    RoundRow {
+        files: &[("x.dag.journal", "Jammed"), ("x.dag.rescue003", "")],
+        autorescue: true,
+        from: None,
+        wanted: "J3 NotAJournal",
+    },
+];
+
+// A new round reads the rescue file of the highest number and writes the next, and 999 again.
+#[test]
+fn rounds(rt: HostRuntime) -> Result<(), Fail> {
+    let alloc = rt.alloc();
+    for row in &ROUNDS {
+        let files = folder(alloc, row.files)?;
+        let line = match round_of(alloc, &files, "x.dag", row.autorescue, row.from, false) {
+            Ok(round) => format!(in alloc; "{} {}", round.used, round.next)?,
+            Err(fault) => format!(in alloc; "{fault}")?,
+        };
+        same(&rt, line.as_str(), row.wanted);
     }
     Ok(())
 }

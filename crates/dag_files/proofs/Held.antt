@@ -1,12 +1,13 @@
--- A set of files to which one more is added that is held.
-use Rattle.std.proofs.Common.{◌≡◌, ◌≢◌, ℕ, List, Option, Some, None, sym, ap, ◌∙◌, ⊎_elim}
+-- What is held.
+use Rattle.std.proofs.Common.{◌≡◌, ◌≢◌, ℕ, zero, suc, List, Option, Some, None, refl, sym, ap, ◌∙◌, ⊎_elim}
 use Rattle.std.proofs.lemmas.Bool.{cases_Bool, both_ways}
 use Rattle.std.proofs.lemmas.Slice.Eq.{bytes_eq-Decides}
 use Rattle.std.specs.Str.{bytes_eq}
 use Rattle.splices.specs.Opening.{Files}
 use Rattle.splices.specs.FileSet.{bytes_of}
 use Rattle.splices.specs.declared.file_set.FileSet.{FileSet}
-use Rattle.dag_files.specs.Folder.{AreHeld, Keeps}
+use Rattle.rescue_file.specs.Numbered.{rescue_name_of}
+use Rattle.dag_files.specs.Folder.{AreHeld, Keeps, rescue_in}
 
 module _ (old new : FileSet) (name bytes : List ℕ) (added : bytes_of new name ≡ Some bytes)
     (others : (other : List ℕ) → other ≢ name → bytes_of new other ≡ bytes_of old other) where
@@ -26,3 +27,8 @@ module _ (old new : FileSet) (name bytes : List ℕ) (added : bytes_of new name 
       absurd cc)
       (λ differs. others path (λ here. both_ways (bytes_eq path name) differs ((bytes_eq-Decides path name).1 here)) ∙ at)
       (cases_Bool (bytes_eq path name))
+
+-- the rescue file of a number that is not 0
+pub rescue-held : (holds : Files) (top : List ℕ) (used : ℕ) → used ≢ 0 → rescue_in holds top used ≡ holds (rescue_name_of top used)
+rescue-held holds top zero some = absurd (some refl)
+rescue-held holds top (suc n) some = refl

@@ -77,15 +77,19 @@ BeginsAnew journals.Nothing = Unit {0}
 BeginsAnew journals.Finished = Unit {0}
 BeginsAnew journals.Unfinished = ⊥
 
--- Which rescue files a round reads and writes: a new one reads that of the highest number, or none, which is 0, where this is asked for, and
--- writes the next; one that goes back reads that of the number to which it is to go back, and writes the next; one that goes on keeps the
--- numbers of its journal's header. A new one runs POST behind a failed PRE where this is asked for.
-pub data IsRoundBy (autorescue : Bool) (from : Option ℕ) (always_post : Bool) (round : Round) : Type 0 where
-  begins_anew : (highest : ℕ) → from ≡ None → highest ≤ 999 → BeginsAnew round.journal → round.used ≡ (if autorescue then highest else 0) →
-      round.next ≡ number_behind highest → round.goes_back ≡ false → round.always_post ≡ always_post → IsRoundBy autorescue from always_post round
+-- Which rescue files a round reads and writes, where one number counts as the highest: a new one reads that of the highest number, or none, which
+-- is 0, where this is asked for, and writes the next; one that goes back reads that of the number to which it is to go back, and writes the next;
+-- one that goes on keeps the numbers of its journal's header. A new one runs POST behind a failed PRE where this is asked for.
+pub data IsRoundWith (Counts : ℕ → Type 0) (autorescue : Bool) (from : Option ℕ) (always_post : Bool) (round : Round) : Type 0 where
+  begins_anew : (highest : ℕ) → from ≡ None → Counts highest → BeginsAnew round.journal → round.used ≡ (if autorescue then highest else 0) →
+      round.next ≡ number_behind highest → round.goes_back ≡ false → round.always_post ≡ always_post → IsRoundWith Counts autorescue from always_post round
   goes_back : (number : ℕ) → from ≡ Some number → IsNumber number → BeginsAnew round.journal → round.used ≡ number →
-      round.next ≡ number_behind number → round.goes_back ≡ true → round.always_post ≡ always_post → IsRoundBy autorescue from always_post round
-  goes_on : from ≡ None → round.journal ≡ journals.Unfinished → round.goes_back ≡ false → IsRoundBy autorescue from always_post round
+      round.next ≡ number_behind number → round.goes_back ≡ true → round.always_post ≡ always_post → IsRoundWith Counts autorescue from always_post round
+  goes_on : from ≡ None → round.journal ≡ journals.Unfinished → round.goes_back ≡ false → IsRoundWith Counts autorescue from always_post round
+
+-- the same, where the highest may be any number that a rescue file has, or 0
+abbrev pub IsRoundBy : Bool → Option ℕ → Bool → Round → Type 0
+IsRoundBy autorescue from always_post round = IsRoundWith (λ highest. highest ≤ 999) autorescue from always_post round
 
 -- A round goes on, with the numbers and the flag of a header.
 pub record GoesOnBy (used next : ℕ) (always_post : Bool) (round : Round) : Type 0 where

@@ -1,3 +1,4 @@
 pub mod Beside
 pub mod Folder
+pub mod Journals
 pub mod Rescues

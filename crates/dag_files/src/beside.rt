@@ -141,21 +141,6 @@ impl<'a> Place<'a> {
         Ok(pick_number(names.as_slice(), base_of(self.top)))
     }
 
-    /// Whether the rescue file of this number, which is from 1 to 999, is there. Where the system
-    /// doesn't tell, it is taken to be: what is refused is told as it is read.
-    ///
-    /// # Errors
-    /// `Memory` alone.
-    pub fn has_rescue<R: Files + AllocGlobal>(&self, rt: &R, number: u16) -> Result<bool, RunFault>
-        requires { IsNumber number }
-        ensures { IfErr result (λ fault. fault ≡ Memory) }
-    {
-        let alloc = rt.alloc();
-        let path = rescue_path(alloc, self.top, number)?;
-        let place = self.at(alloc, path.as_str())?;
-        Ok(fs::exists(rt, place.as_str()).unwrap_or(true))
-    }
-
     /// The bytes of the file of this path; none where it is missing.
     ///
     /// # Errors

@@ -4,6 +4,7 @@
 
 mod beside;
 mod folder;
+mod headers;
 mod inputs;
 mod loading;
 mod locking;
@@ -13,11 +14,11 @@ mod rounds;
 
 pub use beside::{LAST_NUMBER, Place, journal_path, refused, rescue_path};
 pub use folder::{Folder, StreamOrFolder, SystemFolder};
+pub use headers::{peek_in, read_fault};
 pub use inputs::{MOST_BYTES, read_input};
-pub use loading::{Reading, dag_files_in, files_in, files_of};
+pub use loading::{Reading, files_of};
 pub use locking::Lock;
 pub use rescues::numbers_above;
 pub use rounds::{
-    Journaled, Round, bytes_of, journal_disk, named, next_round, rescue_disk, rescue_of,
-    round_behind, round_of,
+    Journaled, Round, bytes_of, journal_disk, named, rescue_disk, rescue_of, round_of,
 };

@@ -7,13 +7,11 @@ ghost use Rattle.dag_texts.specs.declared.fault.RunFault.TheVariants.{Memory};
 ghost use Rattle.dag_files.specs.Beside.{IsInputFault};
 ghost use Rattle.dag_files.specs.Folder.{AreHeld, Keeps, IsReadFrom};
 
-use crate::folder::{Folder, SystemFolder};
-use crate::inputs::read_named;
+use crate::folder::Folder;
 use dag_reader::{Command, ReadFault, Text, Word, read_dag};
 use dag_texts::RunFault;
 use splices::{FileSet, NameTable, path_in};
 use std::alloc::{AllocError, Global};
-use std::rt::Files;
 
 /// How many lines that name a file are followed at most: far more than may be opened.
 const MOST_WANTED: usize = 1 << 20;
@@ -60,8 +58,8 @@ struct ToRead {
 /// of all nodes but NOOPs. A file that can't be read stays missing.
 ///
 /// # Errors
-/// `FileRefused` with `-` where standard input is asked for and can't be read; `Memory`, also for a file of
-/// more than 256 MiB.
+/// `FileRefused` with `-` where standard input is asked for and can't be read, of a folder in which `-` is standard
+/// input; `Memory`, also for a file of more than 256 MiB.
 pub fn files_of<F: Folder>(
     alloc: Global,
     folder: &F,
@@ -71,40 +69,10 @@ pub fn files_of<F: Folder>(
     // Each is a file that the folder holds, and the DAG file is among them if it holds that.
     ensures read { F.honest folder.now → IfOk result (IsReadFrom (F.holds folder.now) top.now) }
     ensures refused { IfErr result (IsInputFault top.now) }
+    ensures unstreamed { ¬ (F.streams folder.now) → IfErr result (λ fault. fault ≡ Memory) }
 {
     let bytes = folder.top(alloc, top)?;
     files_from(alloc, folder, top, bytes, reading)
-}
-
-/// The files of a run: relative paths are taken from this folder, `-` is a path like others, and the
-/// submit files are read too.
-///
-/// # Errors
-/// `Memory` alone, also for a file of more than 256 MiB.
-pub fn files_in<R: Files + AllocGlobal>(rt: &R, seat: &str, top: &str) -> Result<FileSet, RunFault>
-    ensures { IfErr result (λ fault. fault ≡ Memory) }
-{
-    let alloc = rt.alloc();
-    let folder = SystemFolder { rt, seat };
-    let bytes = read_named(alloc, rt, seat, top, true)?;
-    files_from(alloc, &folder, top, bytes, Reading::SubmitFilesToo)
-}
-
-/// The DAG file of a run and the files of its splices, as `files_in` reads them, without submit files.
-///
-/// # Errors
-/// `Memory` alone.
-pub fn dag_files_in<R: Files + AllocGlobal>(
-    rt: &R,
-    seat: &str,
-    top: &str,
-) -> Result<FileSet, RunFault>
-    ensures { IfErr result (λ fault. fault ≡ Memory) }
-{
-    let alloc = rt.alloc();
-    let folder = SystemFolder { rt, seat };
-    let bytes = read_named(alloc, rt, seat, top, true)?;
-    files_from(alloc, &folder, top, bytes, Reading::SplicesAlone)
 }
 
 /// The DAG file of these bytes, if it could be read, and the files that its lines name.

@@ -1,20 +1,20 @@
 //! Which round of a DAG a run is: what its journal and its rescue files say.
 
-ghost use Rattle.std.specs.Prelude.{◌≡◌, ◌≤◌, Bool, true, None, Some, IfOk, IfErr, option_map, if◌then◌else◌};
-ghost use Rattle.event_journal.specs.Image.{IsRescueNumber, replay_of};
-ghost use Rattle.event_journal.specs.Peeks.{ReadsPeek};
+ghost use Rattle.std.specs.Prelude.{◌≡◌, ◌≤◌, Bool, true, false, None, Some, IfOk, IfErr, option_map, if◌then◌else◌};
+ghost use Rattle.event_journal.specs.Image.{IsRescueNumber};
 ghost use Rattle.rescue_file.specs.Numbered.{IsNumber};
 ghost use Rattle.dag_texts.specs.Planned.{in_line, named_by};
 ghost use Rattle.dag_texts.specs.declared.fault.RunFault.TheVariants.{Memory};
-ghost use Rattle.dag_files.specs.Beside.{IsJournalFault, IsRoundFault, IsRoundBy, HasJournal, GoesOnBy, IsRescueOf, IsRescueFault, number_behind};
+ghost use Rattle.dag_files.specs.Beside.{IsRoundFault, IsRoundBy, GoesOnBy, IsRescueOf, IsRescueFault, number_behind};
+ghost use Rattle.dag_files.specs.Folder.{IsRoundFrom, rescue_in};
 
 use crate::beside::{LAST_NUMBER, Place, journal_path, rescue_path};
+use crate::folder::Folder;
 use dag_reader::Text;
 use dag_texts::RunFault;
-use event_journal::{Disk, Journal, JournalFault, Peek};
+use event_journal::Peek;
 use journal_disks::FileDisk;
 use rescue_file::RescueFault;
-use run_manager::ManagerFault;
 use run_plan::PlanFault;
 use std::alloc::Global;
 use std::fs::File;
@@ -70,7 +70,7 @@ fn number_read(autorescue: bool, highest: u16) -> u16
 ///
 /// # Errors
 /// `Memory` alone.
-fn disk_at<R: Files<File = File> + AllocGlobal + Copy + Drop>(
+pub(crate) fn disk_at<R: Files<File = File> + AllocGlobal + Copy + Drop>(
     rt: R,
     place: &Place<'_>,
     path: &str,
@@ -121,32 +121,6 @@ pub fn rescue_disk<R: Files<File = File> + AllocGlobal + Copy + Drop>(
     Ok(FileDisk::drafted(rt, path, draft))
 }
 
-/// What the header of the journal on a disk says, where a journal was begun there.
-fn peek_on<D: Disk + Drop>(alloc: Global, disk: &mut D) -> Result<Option<Peek>, RunFault>
-    ensures gives { D.honest disk.old → IfOk result (λ peek. ReadsPeek peek (replay_of (D.seen disk.old))) }
-    ensures refused { IfErr result IsJournalFault }
-{
-    match Journal::peek(alloc, disk) {
-        Ok(peek) => Ok(peek),
-        Err(JournalFault::Memory) => Err(RunFault::Memory),
-        Err(fault) => Err(RunFault::InManager(ManagerFault::Journal(fault))),
-    }
-}
-
-/// The disk of the journal, to be read. Nothing is opened yet.
-///
-/// # Errors
-/// `Memory` alone.
-fn journal_read<R: Files<File = File> + AllocGlobal + Copy + Drop>(
-    rt: R,
-    place: &Place<'_>,
-) -> Result<FileDisk<R>, RunFault>
-    ensures { IfErr result (λ fault. fault ≡ Memory) }
-{
-    let path = journal_path(rt.alloc(), place.top)?;
-    disk_at(rt, place, path.as_str())
-}
-
 /// The round that the journal and the rescue files that are there make of a run. Where a number is
 /// given, a new round goes back to the rescue file of that number, whatever `autorescue` says. A new
 /// round runs POST scripts as `always_post` says; one that goes on, as the journal's header does.
@@ -156,13 +130,17 @@ fn journal_read<R: Files<File = File> + AllocGlobal + Copy + Drop>(
 /// missing; a journal that can't be read; `Unfinished`, where a number is given and the journal's run
 /// has not ended; else a number in the header of such a journal that no rescue file has, that of the
 /// file read first; a folder that can't be listed.
-pub fn round_of<R: Files<File = File> + AllocGlobal + Copy + Drop>(
-    rt: R,
-    place: &Place<'_>,
+pub fn round_of<F: Folder>(
+    alloc: Global,
+    folder: &F,
+    top: &str,
     autorescue: bool,
     from: Option<u16>,
     always_post: bool,
 ) -> Result<Round, RunFault>
+    // It is the one that is found by the journal and the rescue files that the folder holds.
+    ensures held { F.honest folder.now → IfOk result
+        (IsRoundFrom (F.holds folder.now) (F.has folder.now) top.now autorescue from always_post) }
     ensures numbers { IfOk result (λ round. IsRescueNumber round.next × (round.used ≤ 999)) }
     ensures back { IfOk result (λ round. round.goes_back ≡ true → IsNumber round.used) }
     ensures by { IfOk result (IsRoundBy autorescue from always_post) }
@@ -173,42 +151,37 @@ pub fn round_of<R: Files<File = File> + AllocGlobal + Copy + Drop>(
             if number == 0 || number > LAST_NUMBER {
                 return Err(RunFault::NotThere(number));
             }
-            let mut disk = journal_read(rt, place)?;
-            round_behind(&rt, &mut disk, place, number, always_post)
+            round_behind(alloc, folder, top, number, always_post)
         }
-        None => {
-            let mut disk = journal_read(rt, place)?;
-            next_round(&rt, &mut disk, place, autorescue, always_post)
-        }
+        None => next_round(alloc, folder, top, autorescue, always_post),
     }
 }
 
-/// The round that comes next, by the journal on a disk and the rescue files that are there.
+/// The round that comes next.
 ///
 /// # Errors
 /// In this order: a journal that can't be read; a number in the header of an unfinished one that no rescue file has,
 /// that of the file read first; a folder that can't be listed.
-pub fn next_round<D: Disk + Drop, R: Files + AllocGlobal + Clone + Drop>(
-    rt: &R,
-    disk: &mut D,
-    place: &Place<'_>,
+fn next_round<F: Folder>(
+    alloc: Global,
+    folder: &F,
+    top: &str,
     autorescue: bool,
     always_post: bool,
 ) -> Result<Round, RunFault>
-    // It begins where the disk has no journal or that of a run which has ended; it goes on, by the header of the
-    // journal, where it has not.
-    ensures journal { D.honest disk.old → IfOk result (HasJournal (replay_of (D.seen disk.old))) }
+    ensures held { F.honest folder.now → IfOk result
+        (IsRoundFrom (F.holds folder.now) (F.has folder.now) top.now autorescue None always_post) }
     ensures numbers { IfOk result (λ round. IsRescueNumber round.next × (round.used ≤ 999)) }
     ensures back { IfOk result (λ round. round.goes_back ≡ true → IsNumber round.used) }
     ensures by { IfOk result (IsRoundBy autorescue None always_post) }
     ensures refused { IfErr result (IsRoundFault None) }
 {
-    let journal = match peek_on(rt.alloc(), disk)? {
+    let journal = match folder.journal(alloc, top)? {
         None => Journaled::Nothing,
         Some(peek) if peek.finished => Journaled::Finished,
         Some(peek) => return unfinished(&peek),
     };
-    let highest = place.highest(rt)?;
+    let highest = folder.highest(alloc, top)?;
     Ok(Round {
         journal,
         used: number_read(autorescue, highest),
@@ -221,33 +194,34 @@ pub fn next_round<D: Disk + Drop, R: Files + AllocGlobal + Clone + Drop>(
 /// The round that goes back to the rescue file of this number, which is from 1 to 999.
 ///
 /// # Errors
-/// In this order: `NotThere` with the number, where its file is missing; a journal on the disk that can't be
-/// read; `Unfinished`, where its run has not ended; a folder that can't be listed.
-pub fn round_behind<D: Disk + Drop, R: Files + AllocGlobal + Clone + Drop>(
-    rt: &R,
-    disk: &mut D,
-    place: &Place<'_>,
+/// In this order: `NotThere` with the number, where its file is missing; a journal that can't be read;
+/// `Unfinished`, where its run has not ended; a folder that can't be listed.
+fn round_behind<F: Folder>(
+    alloc: Global,
+    folder: &F,
+    top: &str,
     number: u16,
     always_post: bool,
 ) -> Result<Round, RunFault>
     requires { IsNumber number }
-    // The disk has no journal, or that of a run which has ended.
-    ensures journal { D.honest disk.old → IfOk result (HasJournal (replay_of (D.seen disk.old))) }
+    ensures held { (autorescue : Bool) → F.honest folder.now → IfOk result
+        (IsRoundFrom (F.holds folder.now) (F.has folder.now) top.now autorescue (Some number) always_post) }
     ensures numbers { IfOk result (λ round. IsRescueNumber round.next × (round.used ≤ 999)) }
     ensures back { IfOk result (λ round. round.goes_back ≡ true → IsNumber round.used) }
     ensures by { (autorescue : Bool) → IfOk result (IsRoundBy autorescue (Some number) always_post) }
     ensures refused { IfErr result (IsRoundFault (Some number)) }
 {
-    if !place.has_rescue(rt, number)? {
+    let path = rescue_path(alloc, top, number)?;
+    if !folder.is_there(alloc, path.as_str())? {
         return Err(RunFault::NotThere(number));
     }
-    let journal = match peek_on(rt.alloc(), disk)? {
+    let journal = match folder.journal(alloc, top)? {
         None => Journaled::Nothing,
         Some(peek) if peek.finished => Journaled::Finished,
         Some(_) => return Err(RunFault::Unfinished),
     };
     // Before anything is changed: the folder is one that can be listed.
-    place.highest(rt)?;
+    folder.highest(alloc, top)?;
     Ok(Round {
         journal,
         used: number,
@@ -262,6 +236,7 @@ fn unfinished(peek: &Peek) -> Result<Round, RunFault>
     ensures numbers { IfOk result (λ round. IsRescueNumber round.next × (round.used ≤ 999)) }
     ensures back { IfOk result (λ round. round.goes_back ≡ true → IsNumber round.used) }
     ensures by { (autorescue asked : Bool) → IfOk result (IsRoundBy autorescue None asked) }
+    ensures ahead { IfOk result (λ round. round.goes_back ≡ false) }
     ensures header { IfOk result (GoesOnBy peek.now.used peek.now.next peek.now.always_post) }
     ensures refused { IfErr result (IsRoundFault None) }
 {
@@ -287,23 +262,28 @@ fn unfinished(peek: &Peek) -> Result<Round, RunFault>
 /// `NotThere` with the number of a file that is missing where the round goes back to it; `FileRefused`
 /// with the path of a file that may be another user's, as `Place::trusts` tells it, or that the system
 /// refuses to read; `Memory`.
-pub fn rescue_of<R: Files + AllocGlobal>(
+pub fn rescue_of<R: Files + AllocGlobal, F: Folder>(
     rt: &R,
+    folder: &F,
     place: &Place<'_>,
     round: &Round,
     trust_owner: bool,
 ) -> Result<Option<Vec<u8>>, RunFault>
     requires used { round.now.used ≤ 999 }
     requires back { round.now.goes_back ≡ true → IsNumber round.now.used }
+    // It is the one that the folder holds.
+    ensures held { F.honest folder.now → IfOk result (λ bytes.
+        option_map (λ b. b.items) bytes ≡ rescue_in (F.holds folder.now) place.now.top.now round.now.used) }
     ensures read { IfOk result (λ bytes. IsRescueOf round.now (option_map (λ b. b.items) bytes)) }
     ensures refused { IfErr result (IsRescueFault round.now) }
 {
     if round.used == 0 {
         return Ok(None);
     }
-    let path = rescue_path(rt.alloc(), place.top, round.used)?;
+    let alloc = rt.alloc();
+    let path = rescue_path(alloc, place.top, round.used)?;
     place.trusts(rt, path.as_str(), trust_owner)?;
-    let bytes = place.read(rt, path.as_str())?;
+    let bytes = folder.beside(alloc, path.as_str())?;
     if round.goes_back && bytes.is_none() {
         return Err(RunFault::NotThere(round.used));
     }

@@ -1,14 +1,16 @@
 -- What a run prints, by its plan.
-use Rattle.std.proofs.Common.{◌≡◌, ℕ, List, Result, Ok, Err, IfOk, string_bytes}
-use Rattle.splices.specs.FileSet.{bytes_of}
+use Rattle.std.proofs.Common.{◌≡◌, ℕ, Bool, List, Option, Result, Ok, Err, IfOk, string_bytes, subst}
+use Rattle.splices.specs.Opening.{Files}
+use Rattle.splices.specs.FileSet.{bytes_of, entries_of}
 use Rattle.splices.specs.declared.file_set.FileSet.{FileSet}
 use Rattle.dag_graph.specs.Graph.{Network}
 use Rattle.run_plan.specs.Plan.{Plan}
 use Rattle.command_line.specs.declared.request.RunOptions.{RunOptions}
 use Rattle.dag_files.specs.declared.rounds.Round.{Round}
 use Rattle.dag_files.specs.Beside.{IsRoundBy}
-use Rattle.dag_main.specs.Runs.{start_by, IsPlannedRun, IsPlannedFor, IsLedRun, IsRunOf}
-use Rattle.dag_texts.specs.Planned.{IsGraphOf}
+use Rattle.dag_files.specs.Folder.{IsReadFrom, IsRoundFrom, rescue_in}
+use Rattle.dag_main.specs.Runs.{start_by, IsPlannedRun, IsPlannedFor, IsLedRun, IsRunOf, IsRunFrom}
+use Rattle.dag_texts.specs.Planned.{IsGraphOf, IsPlanBy}
 use Rattle.dag_texts.specs.Warnings.{warning_lines}
 use Rattle.dag_texts.specs.declared.fault.RunFault.{RunFault}
 use Rattle.dag_texts.specs.declared.warnings.Answer.{Answer}
@@ -51,3 +53,29 @@ planned-for path options files graph round plan is_graph is_round planned = reco
   is_round = is_round;
   planned = planned;
 }
+
+-- the same where files are held
+pub answer-from : (holds : Files) (has : List ℕ → Bool) (path : List ℕ) (options : RunOptions) (files : FileSet) (graph : Network) (round : Round) (plan : Plan)
+    (rescue : Option (List ℕ)) → IsReadFrom holds path files → IsGraphOf (bytes_of files) path graph
+    → IsRoundFrom holds has path options.autorescue options.dorescuefrom options.always_post round → rescue ≡ rescue_in holds path round.used
+    → IsPlanBy round.always_post (bytes_of files) (entries_of files) rescue graph plan → (r : Result Answer RunFault)
+    → IfOk r (λ answer. IsLedRun options.limits plan (start_by round) (string_bytes answer.text) answer.status)
+    → IfOk r (λ answer. string_bytes answer.warnings ≡ warning_lines plan.graph.dag.warnings)
+    → IfOk r (λ answer. IsRunFrom holds has path options (string_bytes answer.text) (string_bytes answer.warnings) answer.status)
+answer-from holds has path options files graph round plan rescue read is_graph is_round is_rescue made (Ok answer) led notes = record {
+  files = files;
+  read = read;
+  round = round;
+  is_round = is_round;
+  told = record {
+    plan = plan;
+    planned = record {
+      graph = graph;
+      is_graph = is_graph;
+      made = subst (λ (r : Option (List ℕ)). IsPlanBy round.always_post (bytes_of files) (entries_of files) r graph plan) is_rescue made;
+    };
+    told = led;
+    warnings_are = notes;
+  };
+}
+answer-from holds has path options files graph round plan rescue read is_graph is_round is_rescue made (Err fault) led notes = tt

@@ -1,5 +1,5 @@
 -- What `run` prints.
-use Rattle.std.specs.Prelude.{ℕ, List, [], ◌∷◌, Option, Some, None}
+use Rattle.std.specs.Prelude.{ℕ, Bool, List, [], ◌∷◌, Option, Some, None}
 use Rattle.splices.specs.FileSet.{bytes_of, entries_of}
 use Rattle.splices.specs.declared.file_set.FileSet.{FileSet}
 use Rattle.dag_graph.specs.Graph.{Network}
@@ -23,6 +23,8 @@ use Rattle.run_leader.specs.Causes.{IsManagerStop}
 use Rattle.dag_files.specs.declared.rounds.Journaled.{Journaled}
 use Rattle.dag_files.specs.declared.rounds.Journaled.TheVariants as journals
 use Rattle.dag_files.specs.declared.rounds.Round.{Round}
+use Rattle.splices.specs.Opening.{Files}
+use Rattle.dag_files.specs.Folder.{IsReadFrom, IsRoundFrom, rescue_in}
 use Rattle.dag_files.specs.Beside.{IsFileFault, IsRoomFault, IsRoundFault, IsRoundBy, IsRescueOf, IsRescueFault}
 use Rattle.dag_texts.specs.Planned.{IsGraphOf, IsGraphFault, IsPlanBy, IsPlanByFault, in_line, named_by}
 use Rattle.dag_texts.specs.Told.{IsToldOf}
@@ -69,6 +71,16 @@ pub record IsRunOf (path : List ℕ) (options : RunOptions) (text warnings : Lis
   pub rescue : Option (List ℕ)
   pub rescue_is : IsRescueOf round rescue
   pub told : IsToldOf round.always_post (bytes_of files) (entries_of files) path rescue (λ plan. IsLedRun options.limits plan (start_by round) text status) warnings
+
+-- The same where these files are held and these paths are there: it is the plan of files that are held, with the rescue file that is held, in the
+-- round that the journal and the rescue files make of it.
+pub record IsRunFrom (holds : Files) (has : List ℕ → Bool) (path : List ℕ) (options : RunOptions) (text warnings : List ℕ) (status : ℕ) : Type 0 where
+  pub files : FileSet
+  pub read : IsReadFrom holds path files
+  pub round : Round
+  pub is_round : IsRoundFrom holds has path options.autorescue options.dorescuefrom options.always_post round
+  pub told : IsToldOf round.always_post (bytes_of files) (entries_of files) path (rescue_in holds path round.used)
+      (λ plan. IsLedRun options.limits plan (start_by round) text status) warnings
 
 -- Why it is not told which round this is and what its rescue file says, the first cause first: the second is met where the first is not.
 pub data IsFindingFault (options : RunOptions) : RunFault → Type 0 where

@@ -6,8 +6,9 @@ ghost use Rattle.event_journal.specs.Image.{IsRescueNumber};
 ghost use Rattle.dag_texts.specs.Planned.{IsPlanBy};
 ghost use Rattle.run_leader.specs.Causes.{MayStop};
 ghost use Rattle.dag_files.specs.Beside.{IsFileFault, IsRoundBy, IsRescueOf};
+ghost use Rattle.dag_files.specs.Folder.{IsRoundFrom, rescue_in};
 ghost use Rattle.dag_texts.specs.Warnings.{warning_lines};
-ghost use Rattle.dag_main.specs.Runs.{start_by, IsPlannedRun, IsLedRun, IsRunOf, IsFindingFault, IsLockedFault, IsFirstFault, IsRoundPlanFault, IsStopFault, IsHeldFault, IsRunFault};
+ghost use Rattle.dag_main.specs.Runs.{start_by, IsPlannedRun, IsLedRun, IsRunOf, IsRunFrom, IsFindingFault, IsLockedFault, IsFirstFault, IsRoundPlanFault, IsStopFault, IsHeldFault, IsRunFault};
 
 use crate::beginning::{
     forget_children, has_own_files, ignores_endings, keep_inputs, life_of, make_journal, settled,
@@ -17,8 +18,8 @@ use crate::launching::launcher_of;
 use crate::progress::{RoundWatcher, progress_of};
 use command_line::RunOptions;
 use dag_files::{
-    Journaled, Lock, Place, Round, bytes_of, files_in, journal_disk, named, rescue_disk, rescue_of,
-    rescue_path, round_of,
+    Folder, Journaled, Lock, Place, Reading, Round, bytes_of, files_of, journal_disk, named,
+    rescue_disk, rescue_of, rescue_path, round_of,
 };
 use dag_graph::Graph;
 use dag_texts::{Answer, RunFault, graph_of, plan_by, warning_text};
@@ -79,6 +80,8 @@ fn plan_of_round(
     requires used { round.now.used ≤ 999 }
     requires rescue { IsRescueOf round.now (option_map (λ b. b.now) rescue) }
     ensures plan { IfOk result (IsPlannedRun files.now graph round.now) }
+    ensures by_rescue { IfOk result (IsPlanBy round.now.always_post (bytes_of files.now) (entries_of files.now)
+        (option_map (λ b. b.now) rescue.entry) graph) }
     ensures refused { IfErr result (IsRoundPlanFault files.now place.now.top.now graph) }
 {
     if round.used == 0 {
@@ -289,24 +292,29 @@ fn run_planned<R: Processes + Files<File = File> + Clock + Screen + AllocGlobal 
 ///
 /// # Errors
 /// As `round_of`, and then as `rescue_of`.
-fn round_with_rescue<R: Files<File = File> + AllocGlobal + Copy + Drop>(
+fn round_with_rescue<R: Files<File = File> + AllocGlobal + Copy + Drop, F: Folder>(
     rt: R,
+    folder: &F,
     place: &Place<'_>,
     options: &RunOptions,
 ) -> Result<(Round, Option<Vec<u8>>), RunFault>
+    ensures held { F.honest folder.now → IfOk result (λ found. IsRoundFrom (F.holds folder.now) (F.has folder.now) place.now.top.now
+        options.now.autorescue options.now.dorescuefrom options.now.always_post found.0
+        × (option_map (λ b. b.items) found.1 ≡ rescue_in (F.holds folder.now) place.now.top.now found.0.used)) }
     ensures numbers { IfOk result (λ found. IsRescueNumber found.0.next × (found.0.used ≤ 999)) }
     ensures by { IfOk result (λ found. IsRoundBy options.now.autorescue options.now.dorescuefrom options.now.always_post found.0) }
     ensures rescue { IfOk result (λ found. IsRescueOf found.0 (option_map (λ b. b.items) found.1)) }
     ensures refused { IfErr result (IsFindingFault options.now) }
 {
     let round = round_of(
-        rt,
-        place,
+        rt.alloc(),
+        folder,
+        place.top,
         options.autorescue,
         options.dorescuefrom,
         options.always_post,
     )?;
-    let rescue = rescue_of(&rt, place, &round, options.trust_owner)?;
+    let rescue = rescue_of(&rt, folder, place, &round, options.trust_owner)?;
     Ok((round, rescue))
 }
 
@@ -319,19 +327,23 @@ fn round_with_rescue<R: Files<File = File> + AllocGlobal + Copy + Drop>(
 /// then as `round_with_rescue`, but where the journal can't be read and a name beside the DAG file would be
 /// too long, `FileRefused` with that name, or where another manager runs the DAG with the file that it has
 /// locked.
-fn first_look<R: Files<File = File> + Clock + AllocGlobal + Copy + Drop>(
+fn first_look<R: Files<File = File> + Clock + AllocGlobal + Copy + Drop, F: Folder>(
     rt: R,
+    folder: &F,
     place: &Place<'_>,
     options: &RunOptions,
 ) -> Result<(Round, Option<Vec<u8>>), RunFault>
+    ensures held { F.honest folder.now → IfOk result (λ found. IsRoundFrom (F.holds folder.now) (F.has folder.now) place.now.top.now
+        options.now.autorescue options.now.dorescuefrom options.now.always_post found.0
+        × (option_map (λ b. b.items) found.1 ≡ rescue_in (F.holds folder.now) place.now.top.now found.0.used)) }
     ensures numbers { IfOk result (λ found. IsRescueNumber found.0.next × (found.0.used ≤ 999)) }
     ensures by { IfOk result (λ found. IsRoundBy options.now.autorescue options.now.dorescuefrom options.now.always_post found.0) }
     ensures rescue { IfOk result (λ found. IsRescueOf found.0 (option_map (λ b. b.items) found.1)) }
     ensures refused { IfErr result (IsFirstFault place.now.top.now options.now) }
 {
     has_own_files(&rt, place, options.trust_owner)?;
-    match round_with_rescue(rt, place, options) {
-        Err(RunFault::InManager(_journal)) => look_locked(rt, place, options),
+    match round_with_rescue(rt, folder, place, options) {
+        Err(RunFault::InManager(_journal)) => look_locked(rt, folder, place, options),
         Ok(found) => Ok(found),
         Err(fault) => Err(fault),
     }
@@ -342,11 +354,15 @@ fn first_look<R: Files<File = File> + Clock + AllocGlobal + Copy + Drop>(
 /// # Errors
 /// `FileRefused` with a name beside the DAG file that would be too long, or with the lock, where it is
 /// refused or another manager has it; then as `round_with_rescue`.
-fn look_locked<R: Files<File = File> + Clock + AllocGlobal + Copy + Drop>(
+fn look_locked<R: Files<File = File> + Clock + AllocGlobal + Copy + Drop, F: Folder>(
     rt: R,
+    folder: &F,
     place: &Place<'_>,
     options: &RunOptions,
 ) -> Result<(Round, Option<Vec<u8>>), RunFault>
+    ensures held { F.honest folder.now → IfOk result (λ found. IsRoundFrom (F.holds folder.now) (F.has folder.now) place.now.top.now
+        options.now.autorescue options.now.dorescuefrom options.now.always_post found.0
+        × (option_map (λ b. b.items) found.1 ≡ rescue_in (F.holds folder.now) place.now.top.now found.0.used)) }
     ensures numbers { IfOk result (λ found. IsRescueNumber found.0.next × (found.0.used ≤ 999)) }
     ensures by { IfOk result (λ found. IsRoundBy options.now.autorescue options.now.dorescuefrom options.now.always_post found.0) }
     ensures rescue { IfOk result (λ found. IsRescueOf found.0 (option_map (λ b. b.items) found.1)) }
@@ -354,7 +370,7 @@ fn look_locked<R: Files<File = File> + Clock + AllocGlobal + Copy + Drop>(
 {
     place.has_room_for_names(rt.alloc())?;
     let lock = place.lock(&rt)?;
-    let found = round_with_rescue(rt, place, options);
+    let found = round_with_rescue(rt, folder, place, options);
     place.unlock(&rt, lock);
     found
 }
@@ -367,8 +383,12 @@ fn is_same(found: &(Round, Option<Vec<u8>>), again: &(Round, Option<Vec<u8>>)) -
 
 /// Runs the round that was found before the lock was taken, with the rescue file that it reads, where it is
 /// still found, and answers what is printed. What a round begins with is kept first.
-fn run_locked<R: Processes + Files<File = File> + Clock + Screen + AllocGlobal + Copy + Drop>(
+fn run_locked<
+    R: Processes + Files<File = File> + Clock + Screen + AllocGlobal + Copy + Drop,
+    F: Folder,
+>(
     rt: R,
+    folder: &F,
     place: &Place<'_>,
     files: &FileSet,
     plan: &Plan,
@@ -385,7 +405,7 @@ fn run_locked<R: Processes + Files<File = File> + Clock + Screen + AllocGlobal +
 {
     let alloc = rt.alloc();
     let (round, rescue) = found;
-    let again = round_with_rescue(rt, place, options)?;
+    let again = round_with_rescue(rt, folder, place, options)?;
     if !is_same(found, &again) {
         return Err(place.taken(alloc));
     }
@@ -399,8 +419,9 @@ fn run_locked<R: Processes + Files<File = File> + Clock + Screen + AllocGlobal +
     })
 }
 
-/// Runs the DAG file of this path with children of this process. Relative paths are taken from the
-/// folder, which is absolute.
+/// Runs the DAG file of this path with children of this process, with the inputs that stand in a folder: its files, the
+/// journal and the rescue files. What it writes, it writes at the place, which is in that folder: relative paths are
+/// taken from its path, which is absolute.
 ///
 /// The journal stands beside the DAG file, under its name and `.journal`, and so do the rescue
 /// files, of which that with the highest number is read unless the options forbid it, and the next
@@ -427,30 +448,36 @@ fn run_locked<R: Processes + Files<File = File> + Clock + Screen + AllocGlobal +
 /// renamed (`FileRefused`); the same options go on from there. Then those of the manager
 /// (`InManager`) and of the children (`StartMemory`, `WaitFault`); what was recorded stays. Want of
 /// memory may stand before any.
-pub fn run_dag<R: Processes + Files<File = File> + Clock + Screen + AllocGlobal + Copy + Drop>(
+pub fn run_dag<
+    R: Processes + Files<File = File> + Clock + Screen + AllocGlobal + Copy + Drop,
+    F: Folder,
+>(
     rt: R,
-    folder: &str,
-    top: &str,
+    folder: &F,
+    place: &Place<'_>,
     options: &RunOptions,
 ) -> Result<Answer, RunFault>
     // The report is that of a round of the plan of some files, led to its end under the limits of
     // the options, with the rescue file that they ask for.
     ensures run { IfOk result (λ answer.
-        IsRunOf top.now options.now (string_bytes answer.text) (string_bytes answer.warnings) answer.status) }
+        IsRunOf place.now.top.now options.now (string_bytes answer.text) (string_bytes answer.warnings) answer.status) }
+    // These are the files, the journal and the rescue file that the folder holds.
+    ensures held { F.honest folder.now → IfOk result (λ answer.
+        IsRunFrom (F.holds folder.now) (F.has folder.now) place.now.top.now options.now
+        (string_bytes answer.text) (string_bytes answer.warnings) answer.status) }
     // It is refused for the first cause of the stated order, or for want of memory.
-    ensures refused { IfErr result (IsRunFault top.now options.now) }
+    ensures refused { ¬ (F.streams folder.now) → IfErr result (IsRunFault place.now.top.now options.now) }
 {
     let alloc = rt.alloc();
-    let place = Place { folder, top };
-    let files = files_in(&rt, folder, top)?;
-    let graph = graph_of(alloc, &files, top)?;
-    let found = first_look(rt, &place, options)?;
-    let plan = plan_of_round(alloc, &place, &files, graph, &found.0, bytes_of(&found.1))?;
-    let launcher = launcher_of(&rt, folder, &plan, options)?;
+    let files = files_of(alloc, folder, place.top, Reading::SubmitFilesToo)?;
+    let graph = graph_of(alloc, &files, place.top)?;
+    let found = first_look(rt, folder, place, options)?;
+    let plan = plan_of_round(alloc, place, &files, graph, &found.0, bytes_of(&found.1))?;
+    let launcher = launcher_of(&rt, place.folder, &plan, options)?;
     place.has_room_for_names(alloc)?;
     let mut lock = place.lock(&rt)?;
     let answer = run_locked(
-        rt, &place, &files, &plan, &found, options, &launcher, &mut lock,
+        rt, folder, place, &files, &plan, &found, options, &launcher, &mut lock,
     );
     place.unlock(&rt, lock);
     answer

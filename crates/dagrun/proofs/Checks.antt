@@ -2,36 +2,36 @@
 use Rattle.std.proofs.Common.{◌≡◌, ◌⊎◌, ◌++◌, ℕ, Bool, true, List, Result, Ok, Err, IfOk, inl, inr, refl, string_bytes, sym, subst}
 use Rattle.std.specs.Prelude.{IfErr}
 use Rattle.command_line.specs.Requests.{checks}
-use Rattle.folder_answers.specs.Answered.{IsCheckOfSome, IsCheckRefusal}
+use Rattle.folder_answers.specs.Answered.{IsCheckRefusal}
 use Rattle.dag_texts.specs.declared.fault.RunFault.{RunFault}
 use Rattle.dag_texts.specs.declared.warnings.Answer.{Answer}
 use Rattle.dag_texts.proofs.Refusals.{weaker}
-use Rattle.dagrun.specs.Answered.{IsCheck, without_hints, with_hints, IsRefusal, not_checked}
+use Rattle.dagrun.specs.Answered.{Said, IsCheckWith, without_hints, with_hints, IsRefusal, not_checked}
 
 -- what is said of an answer
-abbrev pub IsAnswer : List ℕ → Bool → Answer → Type 0
-IsAnswer path hinted answer = IsCheck path hinted (string_bytes answer.text) (string_bytes answer.warnings) answer.status
+abbrev pub IsAnswer : Said → Bool → Answer → Type 0
+IsAnswer Checked hinted answer = IsCheckWith Checked hinted (string_bytes answer.text) (string_bytes answer.warnings) answer.status
 
-abbrev pub IsPlain : List ℕ → Answer → Type 0
-IsPlain path answer = IsCheckOfSome path (string_bytes answer.text) (string_bytes answer.warnings) answer.status
+abbrev pub IsPlain : Said → Answer → Type 0
+IsPlain Checked answer = Checked (string_bytes answer.text) (string_bytes answer.warnings) answer.status
 
 -- without hints
-pub plain_check : (path : List ℕ) (hinted : Bool) (r : Result Answer RunFault) → IfOk r (IsPlain path) → IfOk r (IsAnswer path hinted)
-plain_check path hinted (Ok answer) is = without_hints _ _ is
-plain_check path hinted (Err fault) is = tt
+pub plain_check : (Checked : Said) (hinted : Bool) (r : Result Answer RunFault) → IfOk r (IsPlain Checked) → IfOk r (IsAnswer Checked hinted)
+plain_check Checked hinted (Ok answer) is = without_hints _ _ is
+plain_check Checked hinted (Err fault) is = tt
 
 -- the same of a refusal
 pub refused_check : (path : List ℕ) (hinted : Bool) (r : Result Answer RunFault) → IfErr r (IsCheckRefusal path) → IfErr r (IsRefusal (checks path hinted))
 refused_check path hinted r why = weaker (IsRefusal (checks path hinted)) r why (λ fault is. not_checked path hinted fault is)
 
 -- an answer with hints behind its warnings
-behind : (path text warnings hints all : List ℕ) (status : ℕ) → IsCheckOfSome path text warnings status → (all ≡ warnings ++ hints) ⊎ (all ≡ warnings) → IsCheck path true text all status
-behind path text warnings hints all status is (inl more) = subst (λ (w : List ℕ). IsCheck path true text w status) (sym more) (with_hints warnings hints status refl is)
-behind path text warnings hints all status is (inr same) = subst (λ (w : List ℕ). IsCheck path true text w status) (sym same) (without_hints warnings status is)
+behind : (Checked : Said) (text warnings hints all : List ℕ) (status : ℕ) → Checked text warnings status → (all ≡ warnings ++ hints) ⊎ (all ≡ warnings) → IsCheckWith Checked true text all status
+behind Checked text warnings hints all status is (inl more) = subst (λ (w : List ℕ). IsCheckWith Checked true text w status) (sym more) (with_hints warnings hints status refl is)
+behind Checked text warnings hints all status is (inr same) = subst (λ (w : List ℕ). IsCheckWith Checked true text w status) (sym same) (without_hints warnings status is)
 
-pub hints_behind : (path : List ℕ) (plain hinted : Answer) (hints : List ℕ) → IsPlain path plain → string_bytes hinted.text ≡ string_bytes plain.text → hinted.status ≡ plain.status
-    → (string_bytes hinted.warnings ≡ string_bytes plain.warnings ++ hints) ⊎ (string_bytes hinted.warnings ≡ string_bytes plain.warnings) → IsAnswer path true hinted
-hints_behind path plain hinted hints is text status more =
-    let told = behind path (string_bytes plain.text) (string_bytes plain.warnings) hints (string_bytes hinted.warnings) plain.status is more in
-    let texts = subst (λ (t : List ℕ). IsCheck path true t (string_bytes hinted.warnings) plain.status) (sym text) told in
-    subst (λ (s : ℕ). IsCheck path true (string_bytes hinted.text) (string_bytes hinted.warnings) s) (sym status) texts
+pub hints_behind : (Checked : Said) (plain hinted : Answer) (hints : List ℕ) → IsPlain Checked plain → string_bytes hinted.text ≡ string_bytes plain.text → hinted.status ≡ plain.status
+    → (string_bytes hinted.warnings ≡ string_bytes plain.warnings ++ hints) ⊎ (string_bytes hinted.warnings ≡ string_bytes plain.warnings) → IsAnswer Checked true hinted
+hints_behind Checked plain hinted hints is text status more =
+    let told = behind Checked (string_bytes plain.text) (string_bytes plain.warnings) hints (string_bytes hinted.warnings) plain.status is more in
+    let texts = subst (λ (t : List ℕ). IsCheckWith Checked true t (string_bytes hinted.warnings) plain.status) (sym text) told in
+    subst (λ (s : ℕ). IsCheckWith Checked true (string_bytes hinted.text) (string_bytes hinted.warnings) s) (sym status) texts

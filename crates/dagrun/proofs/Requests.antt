@@ -2,18 +2,10 @@
 use Rattle.std.proofs.Common.{ℕ, List, Result, Err, IfOk, string_bytes}
 use Rattle.std.proofs.lemmas.Result.{IfOk-at_ok}
 use Rattle.command_line.specs.Requests.{Asked}
-use Rattle.run_answers.specs.declared.by_journal.Question.{Question}
-use Rattle.run_answers.specs.declared.by_journal.Question.TheVariants.{Status, Audit, Graph}
-use Rattle.run_answers.specs.Asked.{IsToldFault}
 use Rattle.dag_texts.specs.declared.fault.RunFault.{RunFault}
 use Rattle.dag_texts.specs.declared.warnings.Answer.{Answer}
-use Rattle.dagrun.specs.Answered.{asked_of, IsRefusal, no_status, not_audited, not_drawn, MayAsk, IsAnswerTo, IsExit, answered, refused}
+use Rattle.dagrun.specs.Answered.{MayAsk, IsAnswerTo, IsExit, answered, refused}
 use Rattle.answer_console.specs.Telling.{IsStatusOf, printed, not_printed}
-
-pub no-answer : (question : Question) (path : List ℕ) (fault : RunFault) → IsToldFault question path fault → IsRefusal (asked_of question path) fault
-no-answer Status path fault why = no_status path fault why
-no-answer Audit path fault why = not_audited path fault why
-no-answer Graph path fault why = not_drawn path fault why
 
 -- an answer is printed with its status, or refused
 pub exits : (count : ℕ) (asked : Asked) → MayAsk count asked → (result : Result Answer RunFault)

@@ -1,12 +1,17 @@
--- What is told of a round that is salvaged, or is not.
-use Rattle.std.proofs.Common.{◌≡◌, ℕ, List, [], Result, Ok, Err, IfOk, string_bytes, sym, subst}
+-- What is told of a round that is not salvaged.
+use Rattle.std.proofs.Common.{◌≡◌, ◌++◌, ℕ, List, [], Some, Result, Ok, Err, IfOk, codes, string_bytes, sym, subst}
 use Rattle.dag_texts.specs.declared.fault.RunFault.{RunFault}
 use Rattle.dag_texts.specs.declared.warnings.Answer.{Answer}
-use Rattle.dagrun.specs.Answered.{IsSalvage, not_salvaged}
+use Rattle.salvage.specs.Faults.{fault_text}
+use Rattle.salvage.specs.Refused.{IsSalvageFault}
+use Rattle.salvage.specs.declared.fault.SalvageFault.{SalvageFault}
+use Rattle.dagrun.specs.Answered.{Said, IsSalvageWith, IsToldCause, not_salvaged}
 
-pub line-told : (path : List ℕ) (result : Result Answer RunFault) → IfOk result (λ (a : Answer). string_bytes a.text ≡ [])
-    → IfOk result (λ (a : Answer). a.status ≡ 125) → IfOk result (λ (a : Answer). IsSalvage path (string_bytes a.text) (string_bytes a.warnings) a.status)
-line-told path (Ok a) text status =
-    subst (λ (t : List ℕ). IsSalvage path t (string_bytes a.warnings) a.status) (sym text)
-    (subst (λ (s : ℕ). IsSalvage path [] (string_bytes a.warnings) s) (sym status) (not_salvaged (string_bytes a.warnings)))
-line-told path (Err e) text status = tt
+pub line-told : (Salvaged : Said) (path : List ℕ) (fault : SalvageFault) (result : Result Answer RunFault) → IsSalvageFault path fault
+    → IfOk result (λ (a : Answer). IsToldCause fault (string_bytes a.warnings))
+    → IfOk result (λ (a : Answer). string_bytes a.text ≡ []) → IfOk result (λ (a : Answer). a.status ≡ 125)
+    → IfOk result (λ (a : Answer). IsSalvageWith Salvaged path (string_bytes a.text) (string_bytes a.warnings) a.status)
+line-told Salvaged path fault (Ok a) is told text status =
+    subst (λ (t : List ℕ). IsSalvageWith Salvaged path t (string_bytes a.warnings) a.status) (sym text)
+    (subst (λ (s : ℕ). IsSalvageWith Salvaged path [] (string_bytes a.warnings) s) (sym status) (not_salvaged fault (string_bytes a.warnings) is told))
+line-told Salvaged path fault (Err e) is told text status = tt

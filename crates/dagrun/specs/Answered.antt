@@ -1,64 +1,90 @@
 -- What the program answers to a request, and its exit status (docs/MANUAL.md, "The command line").
-use Rattle.std.specs.Prelude.{◌≡◌, ◌≤◌, ℕ, Bool, true, false, List, [], ◌++◌, Option, Some, None, Result, Ok, codes, is_some, IfSome}
+use Rattle.std.specs.Prelude.{◌≡◌, ◌≤◌, ℕ, Bool, true, false, List, [], ◌++◌, Option, Some, None, codes, is_some, IfSome}
+use Rattle.splices.specs.Opening.{Files}
 use Rattle.throttles.specs.declared.Limits.{Limits}
 use Rattle.command_line.specs.Requests.{Asked, checks, runs, tells_status, audits, rehearses, draws, asks_why, times, salvages, shows, no_limits, limits_in, AreLimits}
 use Rattle.command_line.specs.declared.request.RunOptions.{RunOptions}
 use Rattle.dag_files.specs.Beside.{IsFileFault}
+use Rattle.dag_texts.specs.Checked.{IsCheckOf}
+use Rattle.rehearsal.specs.Rehearsed.{IsRehearsalOf}
 use Rattle.folder_answers.specs.Answered.{IsCheckOfSome, IsCheckRefusal, IsRehearsalOfSome, IsRehearsalRefusal}
 use Rattle.dag_texts.specs.declared.fault.RunFault.{RunFault}
-use Rattle.dag_main.specs.Runs.{IsRunOf, IsRunFault}
-use Rattle.run_answers.specs.Asked.{IsToldOfRun, IsToldFault}
-use Rattle.run_answers.specs.Reported.{IsReportHere}
-use Rattle.run_times.specs.Told.{IsTimesOf, IsTimesFault}
+use Rattle.dag_main.specs.Runs.{IsRunOf, IsRunFrom, IsRunFault}
+use Rattle.run_answers.specs.Asked.{IsToldOfRun, IsToldFrom, IsToldFault}
+use Rattle.run_answers.specs.Reported.{IsReportHere, IsReportFrom}
+use Rattle.run_times.specs.Told.{IsTimesOf, IsTimesFrom, IsTimesFault}
 use Rattle.run_answers.specs.declared.by_journal.Question.TheVariants.{Status, Audit, Graph}
-use Rattle.run_answers.specs.declared.by_journal.Question.{Question}
-use Rattle.salvage.specs.Salvaged.{IsSalvageOf}
+use Rattle.salvage.specs.Salvaged.{IsSalvageOf, IsSalvageFrom}
+use Rattle.salvage.specs.Faults.{fault_text}
+use Rattle.salvage.specs.declared.fault.SalvageFault.{SalvageFault}
 use Rattle.salvage.specs.Refused.{IsSalvageFault}
 use Rattle.salvage.specs.declared.fault.SalvageFault.TheVariants.{Refused}
-use Rattle.failure_answers.specs.Answered.{IsWhyOf}
+use Rattle.failure_answers.specs.Answered.{IsWhyOf, IsWhyHeld}
+
+-- what is said of the text, the warnings and the status of an answer
+abbrev pub Said : Type 1
+Said = List ℕ → List ℕ → ℕ → Type 0
 
 -- What `run` answers: what is printed of a round that was led to its end; or, where that is asked for, what was printed of the last round, which
 -- has ended.
-pub data IsRun (path : List ℕ) (options : RunOptions) (text warnings : List ℕ) (status : ℕ) : Type 0 where
-  led : IsRunOf path options text warnings status → IsRun path options text warnings status
-  told_again : options.resume ≡ true → IsReportHere path text warnings status → IsRun path options text warnings status
+pub data IsRunWith (Led Again : Said) (options : RunOptions) (text warnings : List ℕ) (status : ℕ) : Type 0 where
+  led : Led text warnings status → IsRunWith Led Again options text warnings status
+  told_again : options.resume ≡ true → Again text warnings status → IsRunWith Led Again options text warnings status
 
--- What `rehearse` answers, of some files of the path, and of the text of a table where one is named.
-pub record IsRehearsal (path : List ℕ) (outcomes : Option (List ℕ)) (limits : Limits) (always_post : Bool) (text warnings : List ℕ) (status : ℕ) : Type 0 where
+-- What `rehearse` answers, by the text of a table where one is named.
+pub record IsRehearsalWith (Rehearsed : Option (List ℕ) → Said) (outcomes : Option (List ℕ)) (text warnings : List ℕ) (status : ℕ) : Type 0 where
   pub table : Option (List ℕ)
   pub is_named : is_some table ≡ is_some outcomes
-  pub rehearsed : IsRehearsalOfSome always_post path table limits text warnings status
+  pub rehearsed : Rehearsed table text warnings status
+
+-- `dagrun: CODE Name PATH`, of a cause that no other command has
+abbrev pub IsToldCause : SalvageFault → List ℕ → Type 0
+IsToldCause fault warnings = IfSome (fault_text fault) (λ line. warnings ≡ codes "dagrun: " ++ (line ++ codes "\n"))
 
 -- What `salvage` answers: what it made of a round that was cut short; or the line of a cause that no other command has, as a warning, with
 -- nothing printed and exit status 125.
-pub data IsSalvage (path : List ℕ) : (text warnings : List ℕ) → (status : ℕ) → Type 0 where
-  salvaged : (text warnings : List ℕ) (status : ℕ) → IsSalvageOf path text warnings status → IsSalvage path text warnings status
-  not_salvaged : (warnings : List ℕ) → IsSalvage path [] warnings 125
+pub data IsSalvageWith (Salvaged : Said) (path : List ℕ) : (text warnings : List ℕ) → (status : ℕ) → Type 0 where
+  salvaged : (text warnings : List ℕ) (status : ℕ) → Salvaged text warnings status → IsSalvageWith Salvaged path text warnings status
+  not_salvaged : (fault : SalvageFault) (warnings : List ℕ) → IsSalvageFault path fault → IsToldCause fault warnings → IsSalvageWith Salvaged path [] warnings 125
 
--- What `check` answers: what it answers of some files of the path; where hints are asked for, with these behind its warnings.
-pub data IsCheck (path : List ℕ) (hinted : Bool) (text : List ℕ) : (warnings : List ℕ) → (status : ℕ) → Type 0 where
-  without_hints : (warnings : List ℕ) (status : ℕ) → IsCheckOfSome path text warnings status → IsCheck path hinted text warnings status
-  with_hints : (warnings hints : List ℕ) (status : ℕ) → hinted ≡ true → IsCheckOfSome path text warnings status → IsCheck path hinted text (warnings ++ hints) status
+-- What `check` answers; where hints are asked for, with these behind its warnings.
+pub data IsCheckWith (Checked : Said) (hinted : Bool) (text : List ℕ) : (warnings : List ℕ) → (status : ℕ) → Type 0 where
+  without_hints : (warnings : List ℕ) (status : ℕ) → Checked text warnings status → IsCheckWith Checked hinted text warnings status
+  with_hints : (warnings hints : List ℕ) (status : ℕ) → hinted ≡ true → Checked text warnings status → IsCheckWith Checked hinted text (warnings ++ hints) status
 
--- The answer to a request: the text that is printed, the warnings, and the exit status.
+-- The answer to a request, of some files of its path: the text that is printed, the warnings, and the exit status.
 abbrev pub IsAnswerTo : Asked → (text warnings : List ℕ) → (status : ℕ) → Type 0
-IsAnswerTo (checks path hinted) text warnings status = IsCheck path hinted text warnings status
-IsAnswerTo (runs path options) text warnings status = IsRun path options text warnings status
+IsAnswerTo (checks path hinted) text warnings status = IsCheckWith (IsCheckOfSome path) hinted text warnings status
+IsAnswerTo (runs path options) text warnings status = IsRunWith (IsRunOf path options) (IsReportHere path) options text warnings status
 IsAnswerTo (tells_status path) text warnings status = IsToldOfRun Status path text warnings status
 IsAnswerTo (audits path) text warnings status = IsToldOfRun Audit path text warnings status
 IsAnswerTo (rehearses path outcomes limits always_post) text warnings status =
-    IsRehearsal path outcomes limits always_post text warnings status
+    IsRehearsalWith (λ table. IsRehearsalOfSome always_post path table limits) outcomes text warnings status
 IsAnswerTo (draws path) text warnings status = IsToldOfRun Graph path text warnings status
 IsAnswerTo (asks_why path nodes) text warnings status = IsWhyOf path nodes text warnings status
 IsAnswerTo (times path svg) text warnings status = IsTimesOf path svg text warnings status
-IsAnswerTo (salvages path) text warnings status = IsSalvage path text warnings status
+IsAnswerTo (salvages path) text warnings status = IsSalvageWith (IsSalvageOf path) path text warnings status
 IsAnswerTo (shows page) text warnings status = (text ≡ page) × (warnings ≡ []) × (status ≡ 0)
 
--- what a question asks for
-abbrev pub asked_of : Question → List ℕ → Asked
-asked_of Status path = tells_status path
-asked_of Audit path = audits path
-asked_of Graph path = draws path
+-- The same where these files are held and these paths are there: it is that of the files that are held.
+abbrev pub IsAnswerFrom : Files → (List ℕ → Bool) → Asked → (text warnings : List ℕ) → (status : ℕ) → Type 0
+IsAnswerFrom holds has (checks path hinted) text warnings status = IsCheckWith (IsCheckOf holds path) hinted text warnings status
+IsAnswerFrom holds has (runs path options) text warnings status =
+    IsRunWith (IsRunFrom holds has path options) (IsReportFrom holds path) options text warnings status
+IsAnswerFrom holds has (tells_status path) text warnings status = IsToldFrom holds Status path text warnings status
+IsAnswerFrom holds has (audits path) text warnings status = IsToldFrom holds Audit path text warnings status
+IsAnswerFrom holds has (rehearses path outcomes limits always_post) text warnings status =
+    IsRehearsalWith (λ table. IsRehearsalOf always_post holds path table limits) outcomes text warnings status
+IsAnswerFrom holds has (draws path) text warnings status = IsToldFrom holds Graph path text warnings status
+IsAnswerFrom holds has (asks_why path nodes) text warnings status = IsWhyHeld holds path nodes text warnings status
+IsAnswerFrom holds has (times path svg) text warnings status = IsTimesFrom holds path svg text warnings status
+IsAnswerFrom holds has (salvages path) text warnings status = IsSalvageWith (IsSalvageFrom holds path) path text warnings status
+IsAnswerFrom holds has (shows page) text warnings status = (text ≡ page) × (warnings ≡ []) × (status ≡ 0)
+
+-- a round is asked for
+abbrev pub is_run : Asked → Bool
+is_run (runs path options) = true
+is_run _ = false
 
 -- Why a request is refused: the system refuses the folder or a file, or memory ran out; or for a cause of the call that it is for.
 pub data IsRefusal : Asked → RunFault → Type 0 where

@@ -1,39 +1,23 @@
 //! The program's commands over the system's files and streams.
 
-ghost use Rattle.std.specs.Prelude.{◌≡◌, ◌⊎◌, ◌||◌, true, ℕ, List, [], ◌++◌, Some, IfOk, IfErr, is_some, length, map, string_bytes, codes};
-ghost use Rattle.std.specs.Option.{option_map};
-ghost use Rattle.command_line.specs.Requests.{asked_by, checks, runs, rehearses, times, salvages, asks_why, shows};
+ghost use Rattle.std.specs.Prelude.{◌≡◌, true, IfOk, IfErr, length, string_bytes};
+ghost use Rattle.command_line.specs.Requests.{asked_by};
 ghost use Rattle.dag_files.specs.Beside.{IsFileFault};
-ghost use Rattle.run_answers.specs.Asked.{IsToldOfRun};
-ghost use Rattle.folder_answers.specs.Answered.{IsCheckRefusal};
-ghost use Rattle.dag_texts.specs.declared.fault.RunFault.TheVariants.{Memory};
-ghost use Rattle.salvage.specs.Faults.{fault_text};
-ghost use Rattle.run_times.specs.Told.{IsTimesOf};
-ghost use Rattle.dagrun.specs.Answered.{IsRun, IsCheck, IsRehearsal, IsSalvage, IsAnswerTo, IsRefusal, IsExit, asked_of};
+ghost use Rattle.dagrun.specs.Answered.{is_run, IsAnswerTo, IsRefusal, IsExit};
 ghost use Rattle.answer_console.specs.Telling.{IsStatusOf};
 
+use crate::answers::{REFUSED, answer_in};
 use crate::telling::{tell_more, tell_totals, tell_worker};
 use answer_console::{SystemConsole, tell_answer};
-use command_line::{Request, RunOptions, WordsFault, read_words};
-use dag_files::{Reading, StreamOrFolder, SystemFolder, bytes_of, files_of, read_input, refused};
-use dag_main::{Screen, run_dag};
+use command_line::{Request, WordsFault, read_words};
+use dag_files::{StreamOrFolder, SystemFolder, refused};
+use dag_main::Screen;
 use dag_texts::{Answer, RunFault};
-use failure_answers::why_here;
-use folder_answers::{check_here, rehearse_here};
-use hint_answers::{Wanted, hints_of};
-use run_answers::{Question, report_here, told_here};
-use run_times::times_here;
-use salvage::{SalvageFault, salvage_here};
-use std::alloc::Global;
 use std::env;
 use std::fs::File;
 use std::process::Processes;
 use std::rt::{Env, Files};
 use std::time::Clock;
-use throttles::Limits;
-
-/// The exit status of whatever is refused.
-const REFUSED: u8 = 125;
 
 /// Runs the command of these words, of which the first is the program's name, and answers the
 /// exit status.
@@ -58,7 +42,8 @@ pub fn run<
     }
 }
 
-/// What is answered to a request.
+/// What is answered to a request, by the files of the folder in which the program was called; `check` and `rehearse` read
+/// standard input where `-` is asked for.
 ///
 /// # Errors
 /// The system refuses the folder in which the program was called or a file, or memory; else those of
@@ -71,33 +56,24 @@ fn answer<R: Files<File = File> + Processes + Clock + Screen + Input + AllocGlob
         (string_bytes answer.text) (string_bytes answer.warnings) answer.status) }
     ensures refused { IfErr result (IsRefusal (asked_by request.entry)) }
 {
-    match request {
-        Request::Run { dag, options } => run_here(rt, dag, &options),
-        Request::Status { dag } => told(rt, dag, Question::Status),
-        Request::Audit { dag } => told(rt, dag, Question::Audit),
-        Request::Graph { dag } => told(rt, dag, Question::Graph),
-        Request::Why { dag, nodes } => why(rt, dag, &nodes),
-        Request::Times { dag, svg } => times(rt, dag, svg),
-        Request::Salvage { dag } => salvage(rt, dag),
-        Request::Page { text } => Ok(page(rt.alloc(), text)),
-        Request::Check { dag, hints, condor } => check(rt, dag, Wanted { hints, condor }),
-        Request::Rehearse {
-            dag,
-            outcomes,
-            limits,
-            always_post,
-        } => rehearse(rt, dag, outcomes, limits, always_post),
+    if !is_beside(&request) {
+        return answer_in(rt, &StreamOrFolder { rt }, "", request);
     }
+    let folder = folder_now(rt)?;
+    let here = SystemFolder {
+        rt,
+        seat: folder.as_str(),
+    };
+    answer_in(rt, &here, folder.as_str(), request)
 }
 
-/// The answer that is this page.
-fn page(alloc: Global, text: String) -> Answer
-    ensures { IsAnswerTo (shows (string_bytes text)) (string_bytes result.text) (string_bytes result.warnings) result.status }
+/// Whether a request is for a run, and so for the files that stand beside a DAG file.
+fn is_beside(request: &Request<'_>) -> bool
+    ensures { is_run (asked_by request.now) ≡ true → result ≡ true }
 {
-    Answer {
-        text,
-        warnings: String::new(alloc),
-        status: 0,
+    match request {
+        Request::Check { .. } | Request::Rehearse { .. } | Request::Page { .. } => false,
+        _ => true,
     }
 }
 
@@ -178,212 +154,5 @@ fn folder_now<R: Env + AllocGlobal>(rt: &R) -> Result<String, RunFault>
     match env::current_dir(rt) {
         Ok(folder) => Ok(String::from_str(rt.alloc(), folder.as_str())?),
         Err(error) => Err(refused(rt.alloc(), ".", &error)),
-    }
-}
-
-/// Runs the DAG file of this path; or, where the options ask for it and its last round has ended, answers
-/// what that printed.
-fn run_here<R: Files<File = File> + Processes + Clock + Screen + AllocGlobal + Copy + Drop>(
-    rt: &R,
-    dag: &str,
-    options: &RunOptions,
-) -> Result<Answer, RunFault>
-    ensures run { IfOk result (λ answer.
-        IsRun dag.now options.now (string_bytes answer.text) (string_bytes answer.warnings) answer.status) }
-    ensures refused { IfErr result (IsRefusal (runs dag.now options.now)) }
-{
-    let folder = folder_now(rt)?;
-    if options.resume {
-        let here = SystemFolder {
-            rt,
-            seat: folder.as_str(),
-        };
-        if let Some(answer) = report_here(rt.alloc(), &here, dag)? {
-            return Ok(answer);
-        }
-    }
-    run_dag(*rt, folder.as_str(), dag, options)
-}
-
-fn told<R: Files + Env + AllocGlobal>(
-    rt: &R,
-    dag: &str,
-    question: Question,
-) -> Result<Answer, RunFault>
-    ensures told { IfOk result (λ answer. IsToldOfRun question dag.now
-        (string_bytes answer.text) (string_bytes answer.warnings) answer.status) }
-    ensures refused { IfErr result (IsRefusal (asked_of question dag.now)) }
-{
-    let folder = folder_now(rt)?;
-    let here = SystemFolder {
-        rt,
-        seat: folder.as_str(),
-    };
-    told_here(rt.alloc(), &here, dag, question)
-}
-
-fn why<R: Files<File = File> + Env + AllocGlobal>(
-    rt: &R,
-    dag: &str,
-    nodes: &[&str],
-) -> Result<Answer, RunFault>
-    ensures told { IfOk result (λ answer. IsAnswerTo (asks_why dag.now (map (λ n. n.now) nodes.now))
-        (string_bytes answer.text) (string_bytes answer.warnings) answer.status) }
-    ensures refused { IfErr result (IsRefusal (asks_why dag.now (map (λ n. n.now) nodes.now))) }
-{
-    let folder = folder_now(rt)?;
-    why_here(rt, folder.as_str(), dag, nodes)
-}
-
-/// What is told of a fault that no other command has: its line, as a warning, and status 125.
-///
-/// # Errors
-/// `Memory` alone.
-fn told_salvage(alloc: Global, fault: &SalvageFault) -> Result<Answer, RunFault>
-    ensures told { (line : List ℕ) → fault_text fault.now ≡ Some line → IfOk result (λ answer.
-        string_bytes answer.warnings ≡ codes "dagrun: " ++ (line ++ codes "\n")) }
-    ensures text { IfOk result (λ answer. string_bytes answer.text ≡ []) }
-    ensures status { IfOk result (λ answer. answer.status ≡ 125) }
-    ensures err { IfErr result (λ fault. fault ≡ Memory) }
-{
-    let warnings = format!(in alloc; "dagrun: {fault}\n")?;
-    Ok(Answer {
-        text: String::new(alloc),
-        warnings,
-        status: REFUSED,
-    })
-}
-
-fn salvage<R: Files<File = File> + Clock + Env + AllocGlobal + Copy + Drop>(
-    rt: &R,
-    dag: &str,
-) -> Result<Answer, RunFault>
-    ensures salvaged { IfOk result (λ answer. IsSalvage dag.now
-        (string_bytes answer.text) (string_bytes answer.warnings) answer.status) }
-    ensures refused { IfErr result (IsRefusal (salvages dag.now)) }
-{
-    let folder = folder_now(rt)?;
-    match salvage_here(*rt, folder.as_str(), dag) {
-        Ok(answer) => Ok(answer),
-        Err(SalvageFault::Refused(fault)) => Err(fault),
-        Err(fault) => told_salvage(rt.alloc(), &fault),
-    }
-}
-
-/// What `check` answers, with hints behind its warnings where they are asked for.
-fn check<R: Files<File = File> + Input + Screen + AllocGlobal>(
-    rt: &R,
-    dag: &str,
-    wanted: Wanted,
-) -> Result<Answer, RunFault>
-    ensures checked { IfOk result (λ answer. IsCheck dag.now (wanted.hints || wanted.condor)
-        (string_bytes answer.text) (string_bytes answer.warnings) answer.status) }
-    ensures refused { IfErr result (IsRefusal (checks dag.now (wanted.hints || wanted.condor))) }
-{
-    if wanted.any() {
-        check_with_hints(rt, dag, wanted)
-    } else {
-        check_here(rt.alloc(), &StreamOrFolder { rt }, dag)
-    }
-}
-
-/// The answer to a check of files that are read once, with hints; where it is refused, they are told before the
-/// refusal.
-fn check_with_hints<R: Files<File = File> + Input + Screen + AllocGlobal>(
-    rt: &R,
-    dag: &str,
-    wanted: Wanted,
-) -> Result<Answer, RunFault>
-    ensures checked { IfOk result (λ answer.
-        IsCheck dag.now true (string_bytes answer.text) (string_bytes answer.warnings) answer.status) }
-    ensures refused { IfErr result (IsCheckRefusal dag.now) }
-{
-    let alloc = rt.alloc();
-    let files = files_of(alloc, &StreamOrFolder { rt }, dag, Reading::SubmitFilesToo)?;
-    let reply = check_here(alloc, &files, dag);
-    let hints = match hints_of(rt, &files, dag, wanted) {
-        Ok(hints) => hints,
-        Err(_) => String::new(alloc),
-    };
-    match reply {
-        Ok(answer) => Ok(with_hints(answer, hints.as_str())),
-        Err(fault) => {
-            let hints = hints.as_str();
-            let _ = eprint!(rt; "{hints}");
-            Err(fault)
-        }
-    }
-}
-
-/// An answer with hints behind its warnings, as far as there is memory for them.
-fn with_hints(mut answer: Answer, hints: &str) -> Answer
-    ensures text { string_bytes result.text ≡ string_bytes answer.text }
-    ensures status { result.status ≡ answer.status }
-    ensures warnings { (string_bytes result.warnings ≡ string_bytes answer.warnings ++ hints.now)
-        ⊎ (string_bytes result.warnings ≡ string_bytes answer.warnings) }
-{
-    let _ = answer.warnings.push_str(hints);
-    answer
-}
-
-fn rehearse<R: Files + Input + AllocGlobal>(
-    rt: &R,
-    dag: &str,
-    outcomes: Option<&str>,
-    limits: Limits,
-    always_post: bool,
-) -> Result<Answer, RunFault>
-    ensures report { IfOk result (λ answer.
-        IsRehearsal dag.now (option_map (λ t. t.now) outcomes.entry) limits always_post
-        (string_bytes answer.text) (string_bytes answer.warnings) answer.status) }
-    ensures refused { IfErr result
-        (IsRefusal (rehearses dag.now (option_map (λ t. t.now) outcomes.entry) limits always_post)) }
-{
-    let table = outcomes_of(rt, outcomes)?;
-    rehearse_here(
-        rt.alloc(),
-        &StreamOrFolder { rt },
-        dag,
-        bytes_of(&table),
-        limits,
-        always_post,
-    )
-}
-
-/// When the phases of the last round ran.
-fn times<R: Files + Env + AllocGlobal>(rt: &R, dag: &str, svg: bool) -> Result<Answer, RunFault>
-    ensures told { IfOk result (λ answer.
-        IsTimesOf dag.now svg (string_bytes answer.text) (string_bytes answer.warnings) answer.status) }
-    ensures refused { IfErr result (IsRefusal (times dag.now svg)) }
-{
-    let folder = folder_now(rt)?;
-    times_here(rt, folder.as_str(), dag, svg)
-}
-
-/// The table of outcomes, where one is named.
-fn outcomes_of<R: Files + AllocGlobal>(
-    rt: &R,
-    path: Option<&str>,
-) -> Result<Option<Vec<u8>>, RunFault>
-    ensures named { IfOk result (λ bytes. is_some (option_map (λ b. b.items) bytes) ≡ is_some (option_map (λ p. p.now) path.entry)) }
-    ensures refused { IfErr result IsFileFault }
-{
-    match path {
-        Some(path) => Ok(Some(read_outcomes(rt, path)?)),
-        None => Ok(None),
-    }
-}
-
-/// The bytes of a table of outcomes: a regular file, or a pipe.
-///
-/// # Errors
-/// `FileRefused` with the path of another sort of file, or of one that the system refuses to read;
-/// `Memory`, also for more than 256 MiB.
-fn read_outcomes<R: Files + AllocGlobal>(rt: &R, path: &str) -> Result<Vec<u8>, RunFault>
-    ensures { IfErr result IsFileFault }
-{
-    match read_input(rt, path, true) {
-        Ok(bytes) => Ok(bytes),
-        Err(error) => Err(refused(rt.alloc(), path, &error)),
     }
 }

@@ -1,6 +1,7 @@
 //! dagrun: a workflow manager for job graphs on one machine.
 #![tactic(auto)]
 
+mod answers;
 mod commands;
 mod telling;
 

@@ -1,5 +1,6 @@
 -- What `why` answers.
 use Rattle.std.specs.Prelude.{◌≡◌, ◌≢◌, ℕ, List, [], length, Option, Some, IsTrue}
+use Rattle.splices.specs.Opening.{Files}
 use Rattle.splices.specs.FileSet.{bytes_of, entries_of}
 use Rattle.splices.specs.declared.file_set.FileSet.{FileSet}
 use Rattle.node_machine.specs.declared.Record.{Record}
@@ -7,6 +8,8 @@ use Rattle.run_plan.specs.Plan.{Plan}
 use Rattle.sched_core.specs.Run.{written, is_lawful}
 use Rattle.dag_texts.specs.Planned.{IsPlanWith}
 use Rattle.dag_texts.specs.Warnings.{warning_lines}
+use Rattle.dag_files.specs.Folder.{IsReadFrom}
+use Rattle.run_answers.specs.LastRound.{IsLastRound}
 use Rattle.run_answers.specs.Statused.{journal_bytes, flag_by, records_at}
 use Rattle.failure_report.specs.Told.{HasAllFailed}
 use Rattle.failure_report.specs.Named.{HasNamed, IsUnknownName}
@@ -33,4 +36,14 @@ pub record IsWhyOf (path : List ℕ) (names : List (List ℕ)) (text warnings : 
   pub files : FileSet
   pub rescue : Option (List ℕ)
   pub journal : Option (List ℕ)
+  pub told : IsWhyFrom files path rescue journal names text warnings status
+
+-- The same where these files are held: of the DAG file and those that were read with it, the journal, and the rescue file that the journal's
+-- header names.
+pub record IsWhyHeld (holds : Files) (path : List ℕ) (names : List (List ℕ)) (text warnings : List ℕ) (status : ℕ) : Type 0 where
+  pub files : FileSet
+  pub rescue : Option (List ℕ)
+  pub journal : Option (List ℕ)
+  pub read : IsReadFrom holds path files
+  pub beside : IsLastRound holds path journal rescue
   pub told : IsWhyFrom files path rescue journal names text warnings status

@@ -7,9 +7,9 @@ ghost use Rattle.splices.specs.FileSet.{bytes_of, entries_of};
 ghost use Rattle.run_answers.specs.Asked.{IsToldFault};
 ghost use Rattle.run_answers.specs.Statused.{IsStatusFault};
 ghost use Rattle.run_answers.specs.declared.by_journal.Question.TheVariants.{Status};
-ghost use Rattle.failure_answers.specs.Answered.{IsAnswerOf, IsWhyFrom, IsWhyOf};
+ghost use Rattle.failure_answers.specs.Answered.{IsAnswerOf, IsWhyFrom, IsWhyOf, IsWhyHeld};
 
-use dag_files::{Place, SystemFolder, bytes_of, files_in, named};
+use dag_files::{Folder, Place, Reading, bytes_of, files_of, named};
 use dag_reader::Text;
 use dag_texts::{Answer, RunFault, warning_text};
 use failure_report::{Surroundings, Why, why_text};
@@ -94,8 +94,8 @@ fn why_of<R: Files<File = File> + AllocGlobal>(
     answer_of(rt, place, &core, names)
 }
 
-/// Why nodes of the DAG file of this path, seen from this folder, are in error, and for whom others wait:
-/// by its journal, its log and the files of their jobs. Of the nodes of these names in their order; where
+/// Why nodes of a DAG file are in error, and for whom others wait: by the files and the journal of this folder, and by
+/// the log and the files of jobs that the system has at its place. Of the nodes of these names in their order; where
 /// there is no name, of all that are in error, those first for which most nodes wait, and of as many in
 /// plan order.
 ///
@@ -105,23 +105,26 @@ fn why_of<R: Files<File = File> + AllocGlobal>(
 /// As `told_here` for the status: in this order a journal that the system refuses to read, a number of a
 /// rescue file above 999 in its header, a rescue file that the system refuses to read; then those of
 /// `status_of`, a fault in a line of the rescue file with its path. Want of memory may stand before any.
-pub fn why_here<R: Files<File = File> + AllocGlobal>(
+pub fn why_here<R: Files<File = File> + AllocGlobal, F: Folder>(
     rt: &R,
-    folder: &str,
-    top: &str,
+    folder: &F,
+    place: &Place<'_>,
     names: &[&str],
 ) -> Result<Answer, RunFault>
-    ensures answered { IfOk result (λ answer.
-        IsWhyOf top.now (map (λ n. n.now) names.now) (string_bytes answer.text) (string_bytes answer.warnings) answer.status) }
-    ensures refused { IfErr result (IsToldFault Status top.now) }
+    ensures answered { IfOk result (λ answer. IsWhyOf place.now.top.now (map (λ n. n.now) names.now)
+        (string_bytes answer.text) (string_bytes answer.warnings) answer.status) }
+    // It is that of the files, the journal and the rescue file that the folder holds.
+    ensures held { F.honest folder.now → IfOk result (λ answer.
+        IsWhyHeld (F.holds folder.now) place.now.top.now (map (λ n. n.now) names.now)
+        (string_bytes answer.text) (string_bytes answer.warnings) answer.status) }
+    ensures refused { IfErr result (IsToldFault Status place.now.top.now) }
 {
-    let place = Place { folder, top };
-    let here = SystemFolder { rt, seat: folder };
-    let round = last_round(rt.alloc(), &here, top)?;
-    let files = files_in(rt, folder, top)?;
+    let alloc = rt.alloc();
+    let round = last_round(alloc, folder, place.top)?;
+    let files = files_of(alloc, folder, place.top, Reading::SubmitFilesToo)?;
     let rescue = bytes_of(&round.rescue);
     let journal = bytes_of(&round.journal);
-    match why_of(rt, &place, &files, rescue, journal, names) {
+    match why_of(rt, place, &files, rescue, journal, names) {
         Ok(answer) => Ok(answer),
         Err(fault) => Err(named(fault, round.name)),
     }

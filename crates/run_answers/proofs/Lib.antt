@@ -1,5 +1,4 @@
 mod StatusFaults
 mod AuditTexts
 mod Pictures
-pub mod Inputs
 pub mod Rounds

@@ -1,5 +1,7 @@
 -- What `times` prints.
-use Rattle.std.specs.Prelude.{◌≡◌, ℕ, Bool, false, List}
+use Rattle.std.specs.Prelude.{◌≡◌, ℕ, Bool, false, List, ◌++◌, Some, codes}
+use Rattle.splices.specs.Opening.{Files}
+use Rattle.dag_files.specs.Folder.{IsReadFrom}
 use Rattle.splices.specs.FileSet.{bytes_of}
 use Rattle.splices.specs.declared.file_set.FileSet.{FileSet}
 use Rattle.dag_files.specs.Beside.{IsFileFault}
@@ -24,6 +26,17 @@ pub record IsTimesOf (path : List ℕ) (svg : Bool) (text warnings : List ℕ) (
   pub table : svg ≡ false → IsTable text
   pub warnings_are : warnings ≡ warning_lines graph.dag.warnings
   pub status_is : status ≡ 0
+
+-- `top.log`
+abbrev pub log_name_of : List ℕ → List ℕ
+log_name_of top = top ++ codes ".log"
+
+-- the same where these files are held, the log among them
+pub record IsTimesFrom (holds : Files) (path : List ℕ) (svg : Bool) (text warnings : List ℕ) (status : ℕ) : Type 0 where
+  pub of_files : IsTimesOf path svg text warnings status
+  pub read : IsReadFrom holds path of_files.files
+  pub log : List ℕ
+  pub log_is : holds (log_name_of path) ≡ Some log
 
 -- Why nothing is printed: the files make no graph; or the log is missing or refused, or memory ran out
 pub data IsTimesFault (path : List ℕ) : RunFault → Type 0 where

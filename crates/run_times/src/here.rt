@@ -1,20 +1,19 @@
 //! What `times` answers.
 
-ghost use Rattle.std.specs.Prelude.{◌≡◌, false, length, IfOk, IfErr, string_bytes};
+ghost use Rattle.std.specs.Prelude.{◌≡◌, false, Some, length, IfOk, IfErr, string_bytes};
 ghost use Rattle.dag_files.specs.Beside.{IsFileFault};
-ghost use Rattle.run_times.specs.Told.{IsTable, IsTimesOf, IsTimesFault};
+ghost use Rattle.run_times.specs.Told.{log_name_of, IsTable, IsTimesOf, IsTimesFrom, IsTimesFault};
 
 use crate::critical::critical_marks;
 use crate::picture::picture_text;
 use crate::runs::{PhaseRun, runs_in};
 use crate::table::table_text;
-use dag_files::{Place, files_in};
+use dag_files::{Folder, Reading, files_of};
 use dag_reader::Text;
 use dag_texts::{Answer, RunFault, graph_of, warning_text};
 use std::alloc::{AllocError, Global};
-use std::rt::Files;
 
-/// When each phase of the last round of the DAG file of this path began, seen from this folder, and how long
+/// When each phase of the last round of the DAG file of this path began, of the files in this folder, and how long
 /// it took, by the log that stands beside it: a table with a row for each phase, in the order in which they
 /// began, or a picture.
 ///
@@ -22,21 +21,22 @@ use std::rt::Files;
 /// The first fault that opening the files meets (`InFiles`), a cycle (`Cycle`), a log that is missing or that
 /// the system refuses to read (`FileRefused` with its path), and want of memory. Submit files are not
 /// read.
-pub fn times_here<R: Files + AllocGlobal>(
-    rt: &R,
-    folder: &str,
+pub fn times_here<F: Folder>(
+    alloc: Global,
+    folder: &F,
     top: &str,
     svg: bool,
 ) -> Result<Answer, RunFault>
     ensures told { IfOk result (λ answer.
         IsTimesOf top.now svg (string_bytes answer.text) (string_bytes answer.warnings) answer.status) }
+    // These are the files and the log that the folder holds.
+    ensures held { F.honest folder.now → IfOk result (λ answer. IsTimesFrom (F.holds folder.now) top.now svg
+        (string_bytes answer.text) (string_bytes answer.warnings) answer.status) }
     ensures refused { IfErr result (IsTimesFault top.now) }
 {
-    let alloc = rt.alloc();
-    let place = Place { folder, top };
-    let files = files_in(rt, folder, top)?;
+    let files = files_of(alloc, folder, top, Reading::SplicesAlone)?;
     let graph = graph_of(alloc, &files, top)?;
-    let log = log_of(rt, &place)?;
+    let log = log_of(alloc, folder, top)?;
     let runs = runs_in(alloc, log.as_slice())?;
     let marks = critical_marks(alloc, &graph, &runs)?;
     Ok(Answer {
@@ -64,12 +64,12 @@ fn text_of(
 }
 
 /// The bytes of the log beside a DAG file.
-fn log_of<R: Files + AllocGlobal>(rt: &R, place: &Place<'_>) -> Result<Vec<u8>, RunFault>
-    ensures { IfErr result IsFileFault }
+fn log_of<F: Folder>(alloc: Global, folder: &F, top: &str) -> Result<Vec<u8>, RunFault>
+    ensures held { F.honest folder.now → IfOk result (λ log. F.holds folder.now (log_name_of top.now) ≡ Some log.items) }
+    ensures refused { IfErr result IsFileFault }
 {
-    let alloc = rt.alloc();
-    let path = Text::joined(alloc, place.top, ".log")?;
-    if let Some(log) = place.read(rt, path.as_str())? {
+    let path = Text::joined(alloc, top, ".log")?;
+    if let Some(log) = folder.beside(alloc, path.as_str())? {
         return Ok(log);
     }
     Err(RunFault::FileRefused(String::from_str(alloc, path.as_str())?))

@@ -1,5 +1,5 @@
 -- Why a round is not salvaged.
-use Rattle.std.proofs.Common.{◌≡◌, ◌≤◌, ◌<◌, ◌&&◌, ◌⊎◌, inl, inr, not, cond, ℕ, Bool, true, false, List, [], ◌∷◌, ◌++◌, Bor, String, Vec, Global, Option, Some, None, Result, Ok, Err, IfErr, map, length, arith, refl, sym, ap, subst, ◌∙◌}
+use Rattle.std.proofs.Common.{◌≡◌, ◌≤◌, ◌<◌, ◌&&◌, ◌⊎◌, inl, inr, not, cond, ℕ, Bool, true, false, List, [], ◌∷◌, ◌++◌, Bor, String, Vec, Global, Option, Some, None, Result, Ok, Err, IfErr, IfOk, map, length, arith, refl, sym, ap, subst, ◌∙◌}
 use Rattle.std.specs.Prelude.{IsErrAnd, slice_get, slice_range, string_bytes, All}
 use Rattle.std.specs.Str.{bytes_eq}
 use Rattle.std.specs.Map.Iter.{deref_pair}
@@ -28,7 +28,8 @@ use Rattle.splices.specs.FileSet.{entries_of}
 use Rattle.splices.specs.declared.file_set.FileSet.{FileSet}
 use Rattle.salvage.specs.Round.{IsSame}
 use Rattle.salvage.specs.Salvaged.{HasRecords}
-use Rattle.salvage.specs.Refused.{read_fault, IsUnread, bad_journal, reading_had_no_memory, IsNoNumber, IsNotCutShort, has_ended, no_such_number, IsOtherFile, IsFirstOther, IsUnsalvaged, no_records, of_other_flag, foreign_record, salvaging_had_no_memory}
+use Rattle.dag_files.specs.Journals.{read_fault}
+use Rattle.salvage.specs.Refused.{IsNoNumber, IsNotCutShort, has_ended, no_such_number, IsOtherFile, IsFirstOther, IsUnsalvaged, no_records, of_other_flag, foreign_record, salvaging_had_no_memory}
 use Rattle.salvage.specs.declared.inputs.Listed.{Listed}
 use Rattle.salvage.specs.declared.fault.SalvageFault.{SalvageFault}
 use Rattle.salvage.specs.declared.fault.SalvageFault.TheVariants.{Refused, Ended}
@@ -47,24 +48,16 @@ pub weaker-as : {A : Type 0} {Q : SalvageFault → Type 0} (P : SalvageFault →
 weaker-as P (Ok x) h more = tt
 weaker-as P (Err fault) h more = more fault h
 
+pub if-ok : {A E : Type 0} (P Q : A → Type 0) (r : Result A E) → IfOk r P → ((x : A) → P x → Q x) → IfOk r Q
+if-ok P Q (Ok x) h more = more x h
+if-ok P Q (Err e) h more = tt
+
 -- a sum that is another one
 pub differ : (sum digest hash : List ℕ) (other : Bool) → other ≡ not (bytes_eq sum digest) → other ≡ true → digest ≡ hash → sum ≡ hash → ⊥
 differ sum digest hash other is holds d same =
     false≢true (sym (not-true (bytes_eq sum digest) (sym is ∙ holds)) ∙ (bytes_eq-Decides sum digest).1 (same ∙ sym d))
 
--- a journal that can't be read
-pub unread : (journal : List ℕ) (fault : JournalFault) → RefusedAs fault (replay_of journal) → IsUnread journal (read_fault fault)
-unread journal journals.Memory is = reading_had_no_memory
-unread journal journals.Device is = reading_had_no_memory
-unread journal journals.DiskFull is = absurd is
-unread journal journals.NotAJournal is = bad_journal journals.NotAJournal is
-unread journal (journals.Version v) is = bad_journal (journals.Version v) is
-unread journal journals.OtherInputs is = bad_journal journals.OtherInputs is
-unread journal journals.OtherFlag is = bad_journal journals.OtherFlag is
-unread journal journals.SlotsFull is = absurd is
-unread journal journals.Broken is = absurd is
-unread journal (journals.BadSlot slot) is = bad_journal (journals.BadSlot slot) is
-
+-- a round that has ended, and a number that no rescue file has
 pub over : (path journal : List ℕ) (peek : Peek) → ReadsPeek (Some peek) (replay_of journal) → peek.finished ≡ true → IsNotCutShort path journal (Ended path)
 over path journal peek (found, reads, used_is, next_is, flag_is, finished_is) ended = has_ended found reads (finished_is ∙ ended)
 

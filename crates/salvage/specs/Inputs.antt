@@ -44,3 +44,7 @@ head_line digest = codes "# dagrun inputs, digest " ++ (encode_lower digest ++ c
 -- the digest of a round's plan, and a line for each file
 abbrev pub inputs_text_of : List ℕ → List Listed → List ℕ
 inputs_text_of digest files = head_line digest ++ flat_map listed_line files
+
+-- `top.inputs`
+abbrev pub inputs_name_of : List ℕ → List ℕ
+inputs_name_of top = top ++ codes ".inputs"

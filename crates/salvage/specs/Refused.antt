@@ -21,34 +21,13 @@ use Rattle.dag_texts.specs.declared.fault.RunFault.{RunFault}
 use Rattle.dag_texts.specs.declared.fault.RunFault.TheVariants.{InPlan, NotThere, InManager, Memory}
 use Rattle.dag_texts.specs.Planned.{IsGraphOf, IsGraphFault, rescue_line, named_by}
 use Rattle.dag_files.specs.Beside.{journal_name_of, IsFileFault}
-use Rattle.salvage.specs.Inputs.{inputs_text_of}
+use Rattle.dag_files.specs.Journals.{IsUnread}
+use Rattle.salvage.specs.Inputs.{inputs_name_of, inputs_text_of}
 use Rattle.salvage.specs.Round.{IsCutShort, sum_in, IsSame, IsSameRescue}
 use Rattle.salvage.specs.Salvaged.{IsBarePlan}
 use Rattle.salvage.specs.declared.inputs.Listed.{Listed}
 use Rattle.salvage.specs.declared.fault.SalvageFault.{SalvageFault}
 use Rattle.salvage.specs.declared.fault.SalvageFault.TheVariants.{Refused, NoJournal, Ended, NoInputs, BadInputs, OtherRound, Changed, NotListed}
-
--- `top.inputs`
-abbrev pub inputs_name_of : List ℕ → List ℕ
-inputs_name_of top = top ++ codes ".inputs"
-
--- what is told of the fault of a journal's bytes; they are read in memory, so that their disk fails for want of memory alone
-abbrev pub read_fault : JournalFault → RunFault
-read_fault journals.Memory = Memory
-read_fault journals.Device = Memory
-read_fault journals.DiskFull = InManager (manager.Journal journals.DiskFull)
-read_fault journals.NotAJournal = InManager (manager.Journal journals.NotAJournal)
-read_fault (journals.Version v) = InManager (manager.Journal (journals.Version v))
-read_fault journals.OtherInputs = InManager (manager.Journal journals.OtherInputs)
-read_fault journals.OtherFlag = InManager (manager.Journal journals.OtherFlag)
-read_fault journals.SlotsFull = InManager (manager.Journal journals.SlotsFull)
-read_fault journals.Broken = InManager (manager.Journal journals.Broken)
-read_fault (journals.BadSlot slot) = InManager (manager.Journal (journals.BadSlot slot))
-
--- a journal of these bytes can't be read, or memory ran out
-pub data IsUnread (journal : List ℕ) : RunFault → Type 0 where
-  bad_journal : (fault : JournalFault) → replay_of journal ≡ Err fault → IsUnread journal (InManager (manager.Journal fault))
-  reading_had_no_memory : IsUnread journal Memory
 
 -- no rescue file has one of two numbers: that of the file which a round read, 0 for none, or else that of the one which it would write
 pub data IsNoNumber (used next : ℕ) : RunFault → Type 0 where

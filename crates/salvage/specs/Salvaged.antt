@@ -1,5 +1,7 @@
 -- The rescue file of a round that was cut short.
-use Rattle.std.specs.Prelude.{◌≡◌, ℕ, List, [], ◌∷◌, ◌++◌, Bool, Option, Some, None, Result, Ok, Err, All, IsTrue, codes, decimal}
+use Rattle.std.specs.Prelude.{◌≡◌, ◌⊎◌, ℕ, List, [], ◌∷◌, ◌++◌, Bool, Option, Some, None, Result, Ok, Err, All, IsTrue, codes, decimal, if◌then◌else◌}
+use Rattle.std.specs.Str.{bytes_eq}
+use Rattle.sha2.specs.Sha256.{sha256}
 use Rattle.std.specs.List.{count_by}
 use Rattle.splices.specs.Opening.{Files}
 use Rattle.splices.specs.FileSet.{bytes_of, entries_of}
@@ -15,6 +17,9 @@ use Rattle.event_journal.specs.declared.fault.JournalFault.{JournalFault}
 use Rattle.event_journal.specs.Image.{Found, replay_of}
 use Rattle.run_manager.specs.Rescue.{marks_of, rescue_text_for}
 use Rattle.dag_texts.specs.Planned.{IsGraphOf}
+use Rattle.dag_files.specs.Beside.{journal_name_of}
+use Rattle.dag_files.specs.Folder.{IsReadFrom, rescue_in}
+use Rattle.salvage.specs.Inputs.{inputs_name_of, inputs_text_of}
 use Rattle.dag_texts.specs.Warnings.{warning_lines}
 use Rattle.salvage.specs.Round.{IsCutShort, IsSame, IsSameRescue}
 use Rattle.salvage.specs.declared.inputs.Listed.{Listed}
@@ -48,11 +53,24 @@ change_line path None = []
 change_line path (Some Other) = codes "changed since the round began: " ++ (path ++ codes "\n")
 change_line path (Some Missing) = codes "missing since the round began: " ++ (path ++ codes "\n")
 
--- the lines of files, each of which is as it was, is changed or is missing
-pub data AreChanges : List Listed → List ℕ → Type 0 where
-  no_files : AreChanges [] []
-  one_more : (files : List Listed) (text : List ℕ) (file : Listed) (change : Option Change) → AreChanges files text →
-      AreChanges (files ++ file ∷ []) (text ++ change_line file.path change)
+-- how a file differs from these bytes at its path, if it does: none are there, or they have another sum
+abbrev pub change_from : List ℕ → Option (List ℕ) → Option Change
+change_from sum None = Some Missing
+change_from sum (Some bytes) = if bytes_eq (sha256 bytes) sum then None else Some Other
+
+-- a file differs so from the one that is held at its path; or the system refuses that one
+abbrev pub IsChangeFrom : Files → Listed → Option Change → Type 0
+IsChangeFrom holds file change = (change ≡ change_from file.sum (holds file.path)) ⊎ (change ≡ Some Other)
+
+-- the lines of files, each with a change for which this holds
+pub data AreChanges (IsOf : Listed → Option Change → Type 0) : List Listed → List ℕ → Type 0 where
+  no_files : AreChanges IsOf [] []
+  one_more : (files : List Listed) (text : List ℕ) (file : Listed) (change : Option Change) → AreChanges IsOf files text → IsOf file change →
+      AreChanges IsOf (files ++ file ∷ []) (text ++ change_line file.path change)
+
+-- each is as it was, is changed or is missing
+abbrev pub any_change : Listed → Option Change → Type 0
+any_change file change = Unit {0}
 
 -- `N of M nodes are done: NAME`
 abbrev pub report_line : ℕ → ℕ → List ℕ → List ℕ
@@ -61,14 +79,20 @@ report_line done total name = decimal done ++ (codes " of " ++ (decimal total ++
 -- What is known of a round that is salvaged. Its journal is that of a round which was cut short. Files, and a rescue file or none, are as they
 -- were when the round began, by sums which these are; and this is the rescue file that marks what is done by the journal's records, in the plan
 -- of those files.
-pub record IsReadRound (path journal digest : List ℕ) (used next : ℕ) (always_post : Bool) (listed : List Listed) (plan : Plan) (rescue_text : List ℕ) (done : ℕ) : Type 0 where
+pub record IsReadRound (path journal digest : List ℕ) (used next : ℕ) (always_post : Bool) (listed : List Listed) (files : FileSet) (rescue : Option (List ℕ))
+    (plan : Plan) (rescue_text : List ℕ) (done : ℕ) : Type 0 where
   pub cut_short : IsCutShort journal digest used next always_post
-  pub files : FileSet
   pub are_same : All (IsSame listed) (entries_of files)
-  pub rescue : Option (List ℕ)
   pub is_same : IsSameRescue listed path used rescue
   pub planned : IsBarePlan always_post (bytes_of files) path rescue plan
   pub salvaged : IsSalvaged plan journal rescue_text done
+
+-- That is what these files say that are held: the journal, the list of the files that the round was begun with, these files, and the rescue file.
+pub record IsHeldRound (holds : Files) (path journal digest : List ℕ) (used : ℕ) (listed : List Listed) (files : FileSet) (rescue : Option (List ℕ)) : Type 0 where
+  pub journal_is : holds (journal_name_of path) ≡ Some journal
+  pub listed_are : holds (inputs_name_of path) ≡ Some (inputs_text_of digest listed)
+  pub read : IsReadFrom holds path files
+  pub rescue_is : rescue ≡ rescue_in holds path used
 
 -- What `salvage` answers of the DAG file of this path: how many nodes are done in a round that was cut short, the name of the rescue file that
 -- marks them, and what is changed.
@@ -79,12 +103,20 @@ pub record IsSalvageOf (path text warnings : List ℕ) (status : ℕ) : Type 0 w
   pub next : ℕ
   pub always_post : Bool
   pub listed : List Listed
+  pub files : FileSet
+  pub rescue : Option (List ℕ)
   pub plan : Plan
   pub rescue_text : List ℕ
   pub done : ℕ
-  pub read : IsReadRound path journal digest used next always_post listed plan rescue_text done
+  pub read : IsReadRound path journal digest used next always_post listed files rescue plan rescue_text done
   pub changes : List ℕ
-  pub are_changes : AreChanges listed changes
+  pub are_changes : AreChanges any_change listed changes
   pub text_is : text ≡ report_line done (count_of plan) (rescue_name_of path next) ++ changes
   pub warnings_are : warnings ≡ warning_lines plan.graph.dag.warnings
   pub status_is : status ≡ 0
+
+-- the same where these files are held: all of it is said by them
+pub record IsSalvageFrom (holds : Files) (path text warnings : List ℕ) (status : ℕ) : Type 0 where
+  pub of_round : IsSalvageOf path text warnings status
+  pub held : IsHeldRound holds path of_round.journal of_round.digest of_round.used of_round.listed of_round.files of_round.rescue
+  pub changes_held : AreChanges (IsChangeFrom holds) of_round.listed of_round.changes

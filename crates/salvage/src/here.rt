@@ -1,27 +1,32 @@
 //! A round that was cut short, made into a rescue file.
 
-ghost use Rattle.std.specs.Prelude.{◌≡◌, ◌++◌, ◌≤◌, IfOk, IfErr, OnOk, string_bytes, option_map};
+ghost use Rattle.std.specs.Str.{bytes_eq};
+ghost use Rattle.sha2.specs.Sha256.{sha256};
+ghost use Rattle.std.specs.Prelude.{◌≡◌, ◌++◌, ◌≤◌, ℕ, List, Option, IfOk, IfErr, OnOk, string_bytes, option_map};
 ghost use Rattle.splices.specs.FileSet.{bytes_of};
 ghost use Rattle.rescue_file.specs.Numbered.{IsNumber, rescue_name_of};
 ghost use Rattle.run_plan.specs.Plan.{count_of};
 ghost use Rattle.dag_texts.specs.declared.fault.RunFault.TheVariants.{Memory};
 ghost use Rattle.dag_texts.specs.Warnings.{warning_lines};
 ghost use Rattle.dag_files.specs.Beside.{IsFileFault};
-ghost use Rattle.salvage.specs.Salvaged.{IsBarePlan, IsReadRound, change_line, AreChanges, report_line, IsSalvageOf};
+ghost use Rattle.splices.specs.declared.file_set.FileSet.{FileSet};
+ghost use Rattle.salvage.specs.Salvaged.{IsBarePlan, IsReadRound, IsHeldRound, change_line, IsChangeFrom, any_change, AreChanges, report_line, IsSalvageOf, IsSalvageFrom};
 ghost use Rattle.salvage.specs.Refused.{IsBarePlanFault, IsSalvageFault};
 
 use crate::fault::SalvageFault;
 use crate::inputs::{Inputs, Listed};
 use crate::rescue::{Salvaged, salvage_text};
 use crate::rounds::{CutShort, check_files, cut_short, inputs_with, rescue_in};
-use dag_files::{Place, bytes_of, dag_files_in, journal_path, named, rescue_disk, rescue_path};
+use dag_files::{
+    Folder, Place, Reading, bytes_of, files_of, journal_path, named, rescue_disk, rescue_path,
+};
 use dag_texts::{Answer, RunFault, graph_of, warning_text};
 use event_journal::put_bytes;
 use run_plan::Plan;
 use sha2::{Digest, Sha256};
 use splices::FileSet;
 use std::alloc::{AllocError, Global};
-use std::fs::{self, File};
+use std::fs::File;
 use std::rt::Files;
 use std::time::Clock;
 
@@ -31,24 +36,24 @@ use std::time::Clock;
 /// Those of the DAG files (`InFiles`, `Cycle`) and of the rescue file (`InRescue`), and `Memory`.
 fn plan_of_round(
     alloc: Global,
-    place: &Place<'_>,
+    top: &str,
     files: &FileSet,
     round: &CutShort,
     rescue: Option<&[u8]>,
 ) -> Result<Plan, RunFault>
     requires { round.now.used ≤ 999 }
-    ensures plan { IfOk result (IsBarePlan round.now.always_post (bytes_of files.now) place.now.top.now
+    ensures plan { IfOk result (IsBarePlan round.now.always_post (bytes_of files.now) top.now
         (option_map (λ b. b.now) rescue.entry)) }
-    ensures refused { IfErr result (IsBarePlanFault round.now.always_post (bytes_of files.now) place.now.top.now round.now.used
+    ensures refused { IfErr result (IsBarePlanFault round.now.always_post (bytes_of files.now) top.now round.now.used
         (option_map (λ b. b.now) rescue.entry)) }
 {
-    let graph = graph_of(alloc, files, place.top)?;
+    let graph = graph_of(alloc, files, top)?;
     match Plan::build_bare(alloc, graph, rescue, round.always_post) {
         Ok(plan) => Ok(plan),
         Err((_graph, fault)) if fault.is_memory() => Err(RunFault::Memory),
         Err((_graph, fault)) if round.used == 0 => Err(RunFault::InPlan(fault)),
         Err((_graph, fault)) => {
-            let path = rescue_path(alloc, place.top, round.used)?;
+            let path = rescue_path(alloc, top, round.used)?;
             Err(named(RunFault::InPlan(fault), Some(path)))
         }
     }
@@ -64,20 +69,23 @@ enum Change {
 }
 
 /// Whether this is the sum of these bytes.
-fn is_sum(bytes: &[u8], sum: &[u8; 32]) -> bool {
+fn is_sum(bytes: &[u8], sum: &[u8; 32]) -> bool
+    ensures { result ≡ bytes_eq (sha256 bytes.now) sum.now }
+{
     let found = Sha256::digest(bytes);
     found[..] == sum[..]
 }
 
 /// How a file is changed, if it is.
-fn change_of<R: Files + AllocGlobal>(
-    rt: &R,
-    place: &Place<'_>,
+fn change_of<F: Folder>(
+    alloc: Global,
+    folder: &F,
     file: &Listed,
 ) -> Result<Option<Change>, RunFault>
-    ensures { IfErr result IsFileFault }
+    ensures held { F.honest folder.now → IfOk result (IsChangeFrom (F.holds folder.now) file.now) }
+    ensures refused { IfErr result IsFileFault }
 {
-    let bytes = match place.read(rt, file.path.as_str()) {
+    let bytes = match folder.beside(alloc, file.path.as_str()) {
         Ok(bytes) => bytes,
         Err(RunFault::FileRefused(_path)) => return Ok(Some(Change::Other)),
         Err(fault) => return Err(fault),
@@ -103,17 +111,15 @@ fn push_change(text: &mut String, path: &str, change: Option<Change>) -> Result<
 }
 
 /// The lines of the files that are no longer as they were when the round began.
-fn changes<R: Files + AllocGlobal>(
-    rt: &R,
-    place: &Place<'_>,
-    inputs: &Inputs,
-) -> Result<String, RunFault>
-    ensures changes { IfOk result (λ text. AreChanges inputs.now.files.items (string_bytes text)) }
+fn changes<F: Folder>(alloc: Global, folder: &F, inputs: &Inputs) -> Result<String, RunFault>
+    ensures changes { IfOk result (λ text. AreChanges any_change inputs.now.files.items (string_bytes text)) }
+    ensures held { F.honest folder.now → IfOk result (λ text.
+        AreChanges (IsChangeFrom (F.holds folder.now)) inputs.now.files.items (string_bytes text)) }
     ensures refused { IfErr result IsFileFault }
 {
-    let mut text = String::new(rt.alloc());
+    let mut text = String::new(alloc);
     for file in inputs.files.iter() {
-        let change = change_of(rt, place, file)?;
+        let change = change_of(alloc, folder, file)?;
         push_change(&mut text, file.path.as_str(), change)?;
     }
     Ok(text)
@@ -172,15 +178,6 @@ fn write_rescue<R: Files<File = File> + AllocGlobal + Copy + Drop>(
     }
 }
 
-/// Whether the DAG file has a journal. Where the system doesn't tell, it is taken to have one: what is
-/// refused is told as it is read.
-fn has_journal<R: Files + AllocGlobal>(rt: &R, place: &Place<'_>) -> Result<bool, AllocError> {
-    let alloc = rt.alloc();
-    let path = journal_path(alloc, place.top)?;
-    let at = place.at(alloc, path.as_str())?;
-    Ok(fs::exists(rt, at.as_str()).unwrap_or(true))
-}
-
 /// A round that was cut short, once nothing of it is refused: what it is, what it was begun with, its plan
 /// and its rescue file.
 #[derive(Drop)]
@@ -195,19 +192,21 @@ struct Found {
 ///
 /// # Errors
 /// As `salvage_here` has them from the journal on, before anything is changed.
-fn read_round<R: Files + AllocGlobal>(rt: &R, place: &Place<'_>) -> Result<Found, SalvageFault>
-    ensures read { IfOk result (λ found. IsReadRound place.now.top.now found.round.journal.items found.round.digest
-        found.round.used found.round.next found.round.always_post found.inputs.files.items found.plan
-        (string_bytes found.salvaged.text) found.salvaged.done) }
-    ensures refused { IfErr result (IsSalvageFault place.now.top.now) }
+fn read_round<F: Folder>(alloc: Global, folder: &F, top: &str) -> Result<Found, SalvageFault>
+    ensures read { IfOk result (λ found. (files : FileSet) × (rescue : Option (List ℕ))
+        × IsReadRound top.now found.round.journal.items found.round.digest found.round.used found.round.next
+        found.round.always_post found.inputs.files.items files rescue found.plan
+        (string_bytes found.salvaged.text) found.salvaged.done
+        × (F.honest folder.now → IsHeldRound (F.holds folder.now) top.now found.round.journal.items found.round.digest
+        found.round.used found.inputs.files.items files rescue)) }
+    ensures refused { IfErr result (IsSalvageFault top.now) }
 {
-    let alloc = rt.alloc();
-    let round = cut_short(rt, place)?;
-    let inputs = inputs_with(rt, place, &round.digest)?;
-    let files = dag_files_in(rt, place.folder, place.top)?;
+    let round = cut_short(alloc, folder, top)?;
+    let inputs = inputs_with(alloc, folder, top, &round.digest)?;
+    let files = files_of(alloc, folder, top, Reading::SplicesAlone)?;
     check_files(alloc, &inputs, &files)?;
-    let rescue = rescue_in(rt, place, &inputs, round.used)?;
-    let plan = plan_of_round(alloc, place, &files, &round, bytes_of(&rescue))?;
+    let rescue = rescue_in(alloc, folder, top, &inputs, round.used)?;
+    let plan = plan_of_round(alloc, top, &files, &round, bytes_of(&rescue))?;
     let salvaged = salvage_text(alloc, &plan, round.journal.as_slice())?;
     Ok(Found {
         round,
@@ -221,19 +220,23 @@ fn read_round<R: Files + AllocGlobal>(rt: &R, place: &Place<'_>) -> Result<Found
 ///
 /// # Errors
 /// As `salvage_here` has them from the journal on.
-fn salvage_locked<R: Files<File = File> + AllocGlobal + Copy + Drop>(
+fn salvage_locked<R: Files<File = File> + AllocGlobal + Copy + Drop, F: Folder>(
     rt: R,
+    folder: &F,
     place: &Place<'_>,
 ) -> Result<Answer, SalvageFault>
     ensures salvaged { IfOk result (λ answer. IsSalvageOf place.now.top.now
         (string_bytes answer.text) (string_bytes answer.warnings) answer.status) }
+    ensures held { F.honest folder.now → IfOk result (λ answer. IsSalvageFrom (F.holds folder.now) place.now.top.now
+        (string_bytes answer.text) (string_bytes answer.warnings) answer.status) }
     ensures refused { IfErr result (IsSalvageFault place.now.top.now) }
 {
-    let found = read_round(&rt, place)?;
-    let changes = changes(&rt, place, &found.inputs)?;
+    let alloc = rt.alloc();
+    let found = read_round(alloc, folder, place.top)?;
+    let changes = changes(alloc, folder, &found.inputs)?;
     let (next, salvaged) = (found.round.next, &found.salvaged);
     let answer = report_of(
-        rt.alloc(),
+        alloc,
         place,
         &found.plan,
         next,
@@ -245,8 +248,8 @@ fn salvage_locked<R: Files<File = File> + AllocGlobal + Copy + Drop>(
     Ok(answer)
 }
 
-/// Makes a rescue file of the last round of the DAG file of this path, which was cut short. Relative paths
-/// are taken from the folder, which is absolute; both are as they were for `run`.
+/// Makes a rescue file of the last round of the DAG file of this path, which was cut short, of the files that stand
+/// in a folder. Relative paths are taken from its path, which is absolute; both are as they were for `run`.
 ///
 /// The rescue file has the number that the journal's header names as the next, and marks the nodes that are
 /// done by the journal's records: it is the one that the round would have written had it stopped there. Once it
@@ -263,21 +266,25 @@ fn salvage_locked<R: Files<File = File> + AllocGlobal + Copy + Drop>(
 /// that the file of a splice is missing (`InFiles`), and a record that may not follow those before it
 /// (`InManager`). Then a rescue file or a journal that the system refuses (`FileRefused`); the same call goes on
 /// from there. Want of memory may stand before any.
-pub fn salvage_here<R: Files<File = File> + Clock + AllocGlobal + Copy + Drop>(
+pub fn salvage_here<R: Files<File = File> + Clock + AllocGlobal + Copy + Drop, F: Folder>(
     rt: R,
-    folder: &str,
-    top: &str,
+    folder: &F,
+    place: &Place<'_>,
 ) -> Result<Answer, SalvageFault>
-    ensures salvaged { IfOk result (λ answer. IsSalvageOf top.now
+    ensures salvaged { IfOk result (λ answer. IsSalvageOf place.now.top.now
         (string_bytes answer.text) (string_bytes answer.warnings) answer.status) }
-    ensures refused { IfErr result (IsSalvageFault top.now) }
+    // It is that of the files that the folder holds.
+    ensures held { F.honest folder.now → IfOk result (λ answer. IsSalvageFrom (F.holds folder.now) place.now.top.now
+        (string_bytes answer.text) (string_bytes answer.warnings) answer.status) }
+    ensures refused { IfErr result (IsSalvageFault place.now.top.now) }
 {
-    let place = Place { folder, top };
-    if !has_journal(&rt, &place)? {
-        return Err(SalvageFault::NoJournal(journal_path(rt.alloc(), top)?));
+    let alloc = rt.alloc();
+    let journal = journal_path(alloc, place.top)?;
+    if !folder.is_there(alloc, journal.as_str())? {
+        return Err(SalvageFault::NoJournal(journal));
     }
     let lock = place.lock(&rt)?;
-    let answer = salvage_locked(rt, &place);
+    let answer = salvage_locked(rt, folder, place);
     place.unlock(&rt, lock);
     answer
 }

@@ -9,7 +9,8 @@ ghost use Rattle.dag_texts.specs.declared.fault.RunFault.TheVariants.{Memory};
 ghost use Rattle.salvage.specs.Salvaged.{HasRecords, IsSalvaged};
 ghost use Rattle.salvage.specs.Refused.{IsUnsalvaged};
 
-use crate::rounds::{digest_in, read_fault};
+use crate::rounds::digest_in;
+use dag_files::read_fault;
 use dag_texts::RunFault;
 use event_journal::{read_journal, slot_of};
 use node_machine::Record;

@@ -1,27 +1,25 @@
 //! Rounds that were cut short, and what they were begun with.
 
-ghost use Rattle.std.specs.Prelude.{◌≡◌, ◌≤◌, ◌↔◌, All, IsTrue, IfOk, IfErr, OnOk, is_some, length, slice_range, option_map};
+ghost use Rattle.std.specs.Prelude.{◌≡◌, ◌≤◌, ◌↔◌, Some, All, IsTrue, IfOk, IfErr, OnOk, is_some, length, slice_range, option_map};
 ghost use Rattle.splices.specs.FileSet.{entries_of};
-ghost use Rattle.journal_disks.specs.Memory.{disk_bytes};
-ghost use Rattle.event_journal.specs.Image.{replay_of, IsRescueNumber};
-ghost use Rattle.event_journal.specs.Peeks.{ReadsPeek};
+ghost use Rattle.event_journal.specs.Image.{IsRescueNumber};
 ghost use Rattle.salvage.specs.Round.{IsCutShort, sum_in, IsSame, IsSameRescue};
-ghost use Rattle.salvage.specs.Refused.{read_fault, IsUnread, IsNoNumber, IsNotCutShort, IsNoRound, IsNoInputs, IsOtherFile, IsFirstOther, IsOtherRescue};
+ghost use Rattle.dag_files.specs.Beside.{journal_name_of};
+ghost use Rattle.dag_files.specs.Folder as held;
+ghost use Rattle.salvage.specs.Inputs.{inputs_name_of, inputs_text_of};
+ghost use Rattle.salvage.specs.Refused.{IsNoNumber, IsNotCutShort, IsNoRound, IsNoInputs, IsOtherFile, IsFirstOther, IsOtherRescue};
 
 use crate::fault::SalvageFault;
 use crate::inputs::Inputs;
 use crate::listing::inputs_path;
 use crate::reading::{BadInputs, inputs_in};
-use dag_files::{LAST_NUMBER, Place, journal_path, rescue_path};
+use dag_files::{Folder, LAST_NUMBER, journal_path, peek_in, rescue_path};
 use dag_reader::Text;
 use dag_texts::RunFault;
-use event_journal::{Journal, JournalFault, Peek};
-use journal_disks::MemDisk;
-use run_manager::ManagerFault;
+use event_journal::Peek;
 use sha2::{Digest, Sha256};
 use splices::FileSet;
-use std::alloc::{AllocError, Global};
-use std::rt::Files;
+use std::alloc::Global;
 
 /// A round that was cut short, as its journal says.
 #[derive(Drop)]
@@ -36,41 +34,6 @@ pub(crate) struct CutShort {
     pub next: u16,
     /// Whether POST scripts run behind PRE scripts that failed, too.
     pub always_post: bool,
-}
-
-/// A disk in memory of these bytes.
-fn disk_of(alloc: Global, bytes: &[u8]) -> Result<MemDisk, AllocError>
-    ensures { IfOk result (λ disk. disk_bytes disk ≡ bytes.now) }
-{
-    let mut copy = Vec::new(alloc);
-    copy.extend_from_slice(bytes)?;
-    Ok(MemDisk::of(alloc, copy, bytes.len()))
-}
-
-/// What is told of the fault of a journal's bytes.
-pub(crate) fn read_fault(fault: JournalFault) -> RunFault
-    ensures { result ≡ read_fault fault }
-{
-    match fault {
-        // A disk in memory tells that it was refused memory as a failure.
-        JournalFault::Memory | JournalFault::Device => RunFault::Memory,
-        fault => RunFault::InManager(ManagerFault::Journal(fault)),
-    }
-}
-
-/// What the header of a journal says that has these bytes; none where none was begun.
-///
-/// # Errors
-/// `InManager` with the fault of bytes that can't be read, and `Memory`.
-fn peek_in(alloc: Global, bytes: &[u8]) -> Result<Option<Peek>, RunFault>
-    ensures peek { IfOk result (λ peek. ReadsPeek peek (replay_of bytes.now)) }
-    ensures refused { IfErr result (IsUnread bytes.now) }
-{
-    let mut disk = disk_of(alloc, bytes)?;
-    match Journal::peek(alloc, &mut disk) {
-        Ok(peek) => Ok(peek),
-        Err(fault) => Err(read_fault(fault)),
-    }
 }
 
 /// The digest in the header of a journal; zeros where the bytes have no header.
@@ -110,6 +73,7 @@ fn numbers_in(peek: &Peek) -> Result<(u16, u16), RunFault>
 /// ended (`Ended`), and a number in its header that no rescue file has (`Refused`).
 fn round_in(alloc: Global, name: Text, journal: Vec<u8>) -> Result<CutShort, SalvageFault>
     ensures cut_short { IfOk result (λ round. IsCutShort round.journal.items round.digest round.used round.next round.always_post) }
+    ensures kept { IfOk result (λ round. round.journal.items ≡ journal.items) }
     ensures refused { IfErr result (IsNotCutShort name journal.items) }
 {
     let Some(peek) = peek_in(alloc, journal.as_slice())? else {
@@ -132,16 +96,19 @@ fn round_in(alloc: Global, name: Text, journal: Vec<u8>) -> Result<CutShort, Sal
 ///
 /// # Errors
 /// `NoJournal`, a journal that the system refuses to read, and then as `round_in`.
-pub(crate) fn cut_short<R: Files + AllocGlobal>(
-    rt: &R,
-    place: &Place<'_>,
+pub(crate) fn cut_short<F: Folder>(
+    alloc: Global,
+    folder: &F,
+    top: &str,
 ) -> Result<CutShort, SalvageFault>
     ensures cut_short { IfOk result (λ round. IsCutShort round.journal.items round.digest round.used round.next round.always_post) }
-    ensures refused { IfErr result (IsNoRound place.now.top.now) }
+    // Its journal is the one that the folder holds.
+    ensures held { F.honest folder.now → IfOk result (λ round.
+        F.holds folder.now (journal_name_of top.now) ≡ Some round.journal.items) }
+    ensures refused { IfErr result (IsNoRound top.now) }
 {
-    let alloc = rt.alloc();
-    let name = journal_path(alloc, place.top)?;
-    match place.read(rt, name.as_str())? {
+    let name = journal_path(alloc, top)?;
+    match folder.beside(alloc, name.as_str())? {
         Some(journal) => round_in(alloc, name, journal),
         None => Err(SalvageFault::NoJournal(name)),
     }
@@ -159,17 +126,20 @@ fn has_digest(inputs: &Inputs, digest: &[u8; 32]) -> bool
 /// # Errors
 /// `NoInputs`, `BadInputs`, and `OtherRound` where another digest stands there; a file that the system
 /// refuses to read.
-pub(crate) fn inputs_with<R: Files + AllocGlobal>(
-    rt: &R,
-    place: &Place<'_>,
+pub(crate) fn inputs_with<F: Folder>(
+    alloc: Global,
+    folder: &F,
+    top: &str,
     digest: &[u8; 32],
 ) -> Result<Inputs, SalvageFault>
     ensures inputs { IfOk result (λ inputs. inputs.digest ≡ digest.now) }
-    ensures refused { IfErr result (IsNoInputs place.now.top.now digest.now) }
+    // The file that the folder holds spells them.
+    ensures held { F.honest folder.now → IfOk result (λ inputs.
+        F.holds folder.now (inputs_name_of top.now) ≡ Some (inputs_text_of inputs.digest inputs.files.items)) }
+    ensures refused { IfErr result (IsNoInputs top.now digest.now) }
 {
-    let alloc = rt.alloc();
-    let name = inputs_path(alloc, place.top)?;
-    let Some(bytes) = place.read(rt, name.as_str())? else {
+    let name = inputs_path(alloc, top)?;
+    let Some(bytes) = folder.beside(alloc, name.as_str())? else {
         return Err(SalvageFault::NoInputs(name));
     };
     let inputs = match inputs_in(alloc, bytes.as_slice()) {
@@ -235,23 +205,26 @@ fn has_file(inputs: &Inputs, path: &Text) -> bool
 /// # Errors
 /// As `check_file`; `Changed` where the file that it read is missing; a file that the system refuses to
 /// read.
-pub(crate) fn rescue_in<R: Files + AllocGlobal>(
-    rt: &R,
-    place: &Place<'_>,
+pub(crate) fn rescue_in<F: Folder>(
+    alloc: Global,
+    folder: &F,
+    top: &str,
     inputs: &Inputs,
     used: u16,
 ) -> Result<Option<Vec<u8>>, SalvageFault>
     requires { used ≤ 999 }
-    ensures same { IfOk result (λ bytes. IsSameRescue inputs.now.files.items place.now.top.now used
+    ensures same { IfOk result (λ bytes. IsSameRescue inputs.now.files.items top.now used
         (option_map (λ b. b.items) bytes)) }
-    ensures refused { IfErr result (IsOtherRescue inputs.now.files.items place.now.top.now used) }
+    // It is the one that the folder holds.
+    ensures held { F.honest folder.now → IfOk result (λ bytes.
+        option_map (λ b. b.items) bytes ≡ held.rescue_in (F.holds folder.now) top.now used) }
+    ensures refused { IfErr result (IsOtherRescue inputs.now.files.items top.now used) }
 {
     if used == 0 {
         return Ok(None);
     }
-    let alloc = rt.alloc();
-    let path = rescue_path(alloc, place.top, used)?;
-    match place.read(rt, path.as_str())? {
+    let path = rescue_path(alloc, top, used)?;
+    match folder.beside(alloc, path.as_str())? {
         Some(bytes) => {
             check_file(alloc, inputs, path.as_str(), bytes.as_slice())?;
             Ok(Some(bytes))

@@ -15,4 +15,4 @@ returns-in-Err-InManager-clause-refused g c =
     (λ fault is. looked_again c.in-Err-InManager._journal fault (subst (IsFindingFault c.args.options.now) c.in-Err-InManager.field-0-is c.in-Err-InManager.ensures.refused) is)
 
 pub returns-in-Err : goal.returns-in-Err
-returns-in-Err g c = record { numbers = tt; by = tt; rescue = tt; refused = not_found_at_first c.in-Err.fault c.in-Err.ensures.refused }
+returns-in-Err g c = record { held = λ honest. tt; numbers = tt; by = tt; rescue = tt; refused = not_found_at_first c.in-Err.fault c.in-Err.ensures.refused }

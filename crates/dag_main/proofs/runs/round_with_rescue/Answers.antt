@@ -11,3 +11,6 @@ pub returns-in_err-rescue-clause-refused : goal.returns-in_err-rescue-clause-ref
 returns-in_err-rescue-clause-refused g c =
     by-fault (IsFindingFault c.args.options.now) c.in_err-rescue.field-0.0 (no_rescue c.in_ok-round.round _ c.in_ok-round.ensures.by c.in_err-rescue.ensures.refused)
     c.from_residual-in_err-rescue.result c.from_residual-in_err-rescue.ensures.1
+
+pub returns-clause-held : goal.returns-clause-held
+returns-clause-held g c = λ honest. (c.in_ok-round.ensures.held honest, c.in_ok-rescue.ensures.held honest)

@@ -4,8 +4,7 @@ use Rattle.dag_files.specs.Beside.{IsFileFault, reading_had_no_memory, folder_no
 use Rattle.run_answers.specs.Asked.{IsToldFault, no_last_round, not_told}
 use Rattle.run_answers.specs.Reported.{no_journal, no_end, unended}
 use Rattle.run_answers.specs.declared.by_journal.Question.TheVariants.{Status}
-use Rattle.dag_files.proofs.RunFaults.{by-fault}
-use Rattle.run_answers.proofs.Inputs.{input-is-file}
+use Rattle.dag_files.proofs.RunFaults.{by-fault, input-is-file}
 use Rattle.run_answers.proofs.Rounds.{if-some, if-none, same-round, reported}
 use Rattle.run_answers.proofs.by_journal.report_here.Goals as goal
 

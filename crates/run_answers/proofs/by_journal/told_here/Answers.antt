@@ -1,8 +1,7 @@
 use Rattle.std.proofs.Common.{sym, subst}
 use Rattle.dag_files.specs.Beside.{folder_not_read}
 use Rattle.run_answers.specs.Asked.{IsToldFault, no_last_round, not_told}
-use Rattle.dag_files.proofs.RunFaults.{by-fault}
-use Rattle.run_answers.proofs.Inputs.{input-is-file}
+use Rattle.dag_files.proofs.RunFaults.{by-fault, input-is-file}
 use Rattle.run_answers.proofs.Rounds.{same-round, told}
 use Rattle.run_answers.proofs.by_journal.told_here.Goals as goal
 

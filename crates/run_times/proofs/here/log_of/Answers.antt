@@ -1,13 +1,20 @@
+use Rattle.std.proofs.Common.{◌∙◌, ap, sym}
+use Rattle.std.specs.Option.{option_map}
 use Rattle.dag_files.specs.Beside.{IsFileFault, file_refused, reading_had_no_memory}
 use Rattle.dag_texts.specs.declared.fault.RunFault.TheVariants.{Memory}
 use Rattle.dag_files.proofs.RunFaults.{by-fault}
 use Rattle.run_times.proofs.here.log_of.Goals as goal
 
-pub returns-in_err-path : goal.returns-in_err-path
-returns-in_err-path g c = by-fault IsFileFault Memory reading_had_no_memory c.from_residual.result c.from_residual.ensures.1
+pub returns-in_err-path-clause-refused : goal.returns-in_err-path-clause-refused
+returns-in_err-path-clause-refused g c = by-fault IsFileFault Memory reading_had_no_memory c.from_residual.result c.from_residual.ensures.1
 
-pub returns-in_err-from_str : goal.returns-in_err-from_str
-returns-in_err-from_str g c = by-fault IsFileFault Memory reading_had_no_memory c.from_residual-in_err-from_str.result c.from_residual-in_err-from_str.ensures.1
+pub returns-in_err-from_str-clause-refused : goal.returns-in_err-from_str-clause-refused
+returns-in_err-from_str-clause-refused g c = by-fault IsFileFault Memory reading_had_no_memory c.from_residual-in_err-from_str.result c.from_residual-in_err-from_str.ensures.1
 
-pub returns : goal.returns
-returns g c = file_refused c.in_ok-from_str.field-0
+pub returns-clause-refused : goal.returns-clause-refused
+returns-clause-refused g c = file_refused c.in_ok-from_str.field-0
+
+pub returns-in-Some-clause-held : goal.returns-in-Some-clause-held
+returns-in-Some-clause-held g c = λ honest.
+    ap (g.F.Folder.holds c.args.folder.now) (sym (c.as_str.ensures ∙ c.in_ok-path.ensures)) ∙ sym (c.in_ok-log.ensures.bytes honest)
+    ∙ ap (option_map (λ b. b.items)) c.in-Some.is

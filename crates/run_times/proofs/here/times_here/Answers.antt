@@ -1,15 +1,15 @@
-use Rattle.std.proofs.Common.{◌∙◌, ap, sym, subst, refl}
+use Rattle.std.proofs.Common.{◌∙◌, ap, refl}
 use Rattle.splices.specs.Dag.{Dag}
-use Rattle.dag_files.specs.Beside.{IsFileFault, reading_had_no_memory}
+use Rattle.dag_files.specs.Beside.{reading_had_no_memory}
 use Rattle.dag_texts.specs.Warnings.{warning_lines}
 use Rattle.dag_texts.specs.declared.fault.RunFault.TheVariants.{Memory}
-use Rattle.dag_files.proofs.RunFaults.{by-fault}
+use Rattle.dag_files.proofs.RunFaults.{by-fault, input-is-file}
 use Rattle.run_times.specs.Told.{IsTimesFault, no_graph, no_log}
 use Rattle.run_times.proofs.here.times_here.Goals as goal
 
 pub returns-in_err-files-clause-refused : goal.returns-in_err-files-clause-refused
 returns-in_err-files-clause-refused g c =
-    by-fault (IsTimesFault c.args.top.now) c.in_err-files.field-0.0 (no_log _ (subst IsFileFault (sym c.in_err-files.ensures) reading_had_no_memory))
+    by-fault (IsTimesFault c.args.top.now) c.in_err-files.field-0.0 (no_log _ (input-is-file _ _ c.in_err-files.ensures.refused))
     c.from_residual.result c.from_residual.ensures.1
 
 pub returns-in_err-graph-clause-refused : goal.returns-in_err-graph-clause-refused
@@ -19,7 +19,7 @@ returns-in_err-graph-clause-refused g c =
 
 pub returns-in_err-log-clause-refused : goal.returns-in_err-log-clause-refused
 returns-in_err-log-clause-refused g c =
-    by-fault (IsTimesFault c.args.top.now) c.in_err-log.field-0.0 (no_log _ c.in_err-log.ensures)
+    by-fault (IsTimesFault c.args.top.now) c.in_err-log.field-0.0 (no_log _ c.in_err-log.ensures.refused)
     c.from_residual-in_err-log.result c.from_residual-in_err-log.ensures.1
 
 pub returns-in_err-runs-clause-refused : goal.returns-in_err-runs-clause-refused
@@ -46,4 +46,19 @@ returns-clause-told g c = record {
   table = c.in_ok-text_of.ensures;
   warnings_are = c.in_ok-warning_text.ensures ∙ ap warning_lines (c.warnings.ensures ∙ ap (λ (d : Dag). d.warnings) c.flat.ensures);
   status_is = refl;
+}
+
+pub returns-clause-held : goal.returns-clause-held
+returns-clause-held g c = λ honest. record {
+  of_files = record {
+    files = c.in_ok-files.files;
+    graph = c.in_ok-graph.graph;
+    is_graph = c.in_ok-graph.ensures.graph;
+    table = c.in_ok-text_of.ensures;
+    warnings_are = c.in_ok-warning_text.ensures ∙ ap warning_lines (c.warnings.ensures ∙ ap (λ (d : Dag). d.warnings) c.flat.ensures);
+    status_is = refl;
+  };
+  read = c.in_ok-files.ensures.read honest;
+  log = c.in_ok-log.log.items;
+  log_is = c.in_ok-log.ensures.held honest;
 }

@@ -10,7 +10,7 @@ use Rattle.salvage.proofs.here.plan_of_round.Goals as goal
 
 pub returns-in_err-graph-clause-refused : goal.returns-in_err-graph-clause-refused
 returns-in_err-graph-clause-refused c =
-    by-fault (IsBarePlanFault c.args.round.now.always_post (bytes_of c.args.files.now) c.args.place.now.top.now c.args.round.now.used (option_map (λ b. b.now) c.args.rescue))
+    by-fault (IsBarePlanFault c.args.round.now.always_post (bytes_of c.args.files.now) c.args.top.now c.args.round.now.used (option_map (λ b. b.now) c.args.rescue))
     c.in_err-graph.field-0.0 (has_no_graph _ c.in_err-graph.ensures.refused) c.from_residual.result c.from_residual.ensures.1
 
 pub returns-in-Ok-clause-plan : goal.returns-in-Ok-clause-plan
@@ -26,13 +26,13 @@ returns-in-Err-2-clause-refused c =
 
 pub returns-in_err-path-in-Err-3-clause-refused : goal.returns-in_err-path-in-Err-3-clause-refused
 returns-in_err-path-in-Err-3-clause-refused c =
-    let P = IsBarePlanFault c.args.round.now.always_post (bytes_of c.args.files.now) c.args.place.now.top.now c.args.round.now.used (option_map (λ (b : Bor (List ℕ)). b.now) c.args.rescue) in
+    let P = IsBarePlanFault c.args.round.now.always_post (bytes_of c.args.files.now) c.args.top.now c.args.round.now.used (option_map (λ (b : Bor (List ℕ)). b.now) c.args.rescue) in
     by-fault P c.in_err-path-in-Err-3.field-0.0 (subst P (sym c.in_err-path-in-Err-3.ensures.err) planning_had_no_memory)
     c.from_residual-in_err-path-in-Err-3.result c.from_residual-in_err-path-in-Err-3.ensures.1
 
 pub returns-in_ok-path-in-Err-3-clause-refused : goal.returns-in_ok-path-in-Err-3-clause-refused
 returns-in_ok-path-in-Err-3-clause-refused c =
-    let P = IsBarePlanFault c.args.round.now.always_post (bytes_of c.args.files.now) c.args.place.now.top.now c.args.round.now.used (option_map (λ (b : Bor (List ℕ)). b.now) c.args.rescue) in
+    let P = IsBarePlanFault c.args.round.now.always_post (bytes_of c.args.files.now) c.args.top.now c.args.round.now.used (option_map (λ (b : Bor (List ℕ)). b.now) c.args.rescue) in
     subst P (sym (c.named.ensures ∙ ap (λ (p : List ℕ). named_by (rescue_line c.in-Err.fault) (Some p) (InPlan c.in-Err.fault)) c.in_ok-path-in-Err-3.ensures.name))
     (not_marked c.in_ok-graph.graph c.in-Err.fault c.if-round-eq0.false c.in_ok-graph.ensures.graph
     (plan-fault c.in-Err.fault _ (sym c.is_memory.ensures ∙ c.if-is_memory.false) c.in-Err.ensures.refused.1))

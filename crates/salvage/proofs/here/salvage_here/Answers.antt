@@ -1,23 +1,25 @@
 use Rattle.std.proofs.Common.{List, ℕ, sym, subst}
 use Rattle.dag_texts.specs.declared.fault.RunFault.TheVariants.{Memory}
-use Rattle.dag_files.specs.Beside.{reading_had_no_memory}
+use Rattle.dag_files.specs.Beside.{IsFileFault, reading_had_no_memory}
 use Rattle.salvage.specs.declared.fault.SalvageFault.TheVariants.{Refused, NoJournal}
 use Rattle.salvage.specs.Refused.{IsSalvageFault, no_round, has_no_journal, system_refuses}
 use Rattle.salvage.proofs.Refusals.{told-as}
 use Rattle.salvage.proofs.here.salvage_here.Goals as goal
 
-pub returns-in_err-has_journal-clause-refused : goal.returns-in_err-has_journal-clause-refused
-returns-in_err-has_journal-clause-refused g c =
-    told-as (IsSalvageFault c.args.top.now) (Refused Memory) (system_refuses _ reading_had_no_memory) c.from_residual.result c.from_residual.ensures.1
+pub returns-in_err-journal-clause-refused : goal.returns-in_err-journal-clause-refused
+returns-in_err-journal-clause-refused g c =
+    told-as (IsSalvageFault c.args.place.now.top.now) (Refused Memory) (system_refuses _ reading_had_no_memory) c.from_residual.result c.from_residual.ensures.1
 
-pub returns-in_err-journal_path-clause-refused : goal.returns-in_err-journal_path-clause-refused
-returns-in_err-journal_path-clause-refused g c =
-    told-as (IsSalvageFault c.args.top.now) (Refused Memory) (system_refuses _ reading_had_no_memory) c.from_residual-in_err-journal_path.result c.from_residual-in_err-journal_path.ensures.1
+pub returns-in_err-is_there-clause-refused : goal.returns-in_err-is_there-clause-refused
+returns-in_err-is_there-clause-refused g c =
+    told-as (IsSalvageFault c.args.place.now.top.now) (Refused c.in_err-is_there.field-0.0)
+    (system_refuses _ (subst IsFileFault (sym c.in_err-is_there.ensures.refused) reading_had_no_memory))
+    c.from_residual-in_err-is_there.result c.from_residual-in_err-is_there.ensures.1
 
 pub returns-then-not-branch-clause-refused : goal.returns-then-not-branch-clause-refused
 returns-then-not-branch-clause-refused g c =
-    subst (λ (n : List ℕ). IsSalvageFault c.args.top.now (NoJournal n)) (sym c.in_ok-journal_path.ensures) (no_round _ has_no_journal)
+    subst (λ (n : List ℕ). IsSalvageFault c.args.place.now.top.now (NoJournal n)) (sym c.in_ok-journal.ensures) (no_round _ has_no_journal)
 
 pub returns-in_err-lock-clause-refused : goal.returns-in_err-lock-clause-refused
 returns-in_err-lock-clause-refused g c =
-    told-as (IsSalvageFault c.args.top.now) (Refused c.in_err-lock.field-0.0) (system_refuses _ c.in_err-lock.ensures) c.from_residual-in_err-lock.result c.from_residual-in_err-lock.ensures.1
+    told-as (IsSalvageFault c.args.place.now.top.now) (Refused c.in_err-lock.field-0.0) (system_refuses _ c.in_err-lock.ensures) c.from_residual-in_err-lock.result c.from_residual-in_err-lock.ensures.1

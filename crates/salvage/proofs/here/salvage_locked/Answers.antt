@@ -18,16 +18,46 @@ returns-clause-salvaged g c =
       next = found.round.next;
       always_post = found.round.always_post;
       listed = found.inputs.files.items;
+      files = c.in_ok-found.ensures.read.0;
+      rescue = c.in_ok-found.ensures.read.1;
       plan = found.plan;
       rescue_text = string_bytes found.salvaged.text;
       done = found.salvaged.done;
-      read = c.in_ok-found.ensures.read;
+      read = c.in_ok-found.ensures.read.2;
       changes = string_bytes c.in_ok-changes.changes;
       are_changes = c.in_ok-changes.ensures.changes;
       text_is = c.in_ok-answer.ensures.text
           ∙ ap (λ (t : List ℕ). report_line found.salvaged.done (count_of found.plan) (rescue_name_of c.args.place.now.top.now found.round.next) ++ t) c.as_str.ensures.value;
       warnings_are = c.in_ok-answer.ensures.warnings;
       status_is = c.in_ok-answer.ensures.status;
+    }
+
+pub returns-clause-held : goal.returns-clause-held
+returns-clause-held g c = λ honest.
+    let found = c.in_ok-found.found in
+    record {
+      of_round = record {
+        journal = found.round.journal.items;
+        digest = found.round.digest;
+        used = found.round.used;
+        next = found.round.next;
+        always_post = found.round.always_post;
+        listed = found.inputs.files.items;
+        files = c.in_ok-found.ensures.read.0;
+        rescue = c.in_ok-found.ensures.read.1;
+        plan = found.plan;
+        rescue_text = string_bytes found.salvaged.text;
+        done = found.salvaged.done;
+        read = c.in_ok-found.ensures.read.2;
+        changes = string_bytes c.in_ok-changes.changes;
+        are_changes = c.in_ok-changes.ensures.changes;
+        text_is = c.in_ok-answer.ensures.text
+            ∙ ap (λ (t : List ℕ). report_line found.salvaged.done (count_of found.plan) (rescue_name_of c.args.place.now.top.now found.round.next) ++ t) c.as_str.ensures.value;
+        warnings_are = c.in_ok-answer.ensures.warnings;
+        status_is = c.in_ok-answer.ensures.status;
+      };
+      held = c.in_ok-found.ensures.read.3 honest;
+      changes_held = c.in_ok-changes.ensures.held honest;
     }
 
 pub returns-in_err-found-clause-refused : goal.returns-in_err-found-clause-refused

@@ -4,7 +4,8 @@ use Rattle.event_journal.specs.declared.journal.Peek.{Peek}
 use Rattle.event_journal.specs.Image.{replay_of}
 use Rattle.event_journal.specs.Peeks.{ReadsPeek}
 use Rattle.salvage.specs.declared.fault.SalvageFault.TheVariants.{Refused}
-use Rattle.salvage.specs.Refused.{IsNotCutShort, not_begun, not_read, IsUnread}
+use Rattle.dag_files.specs.Journals.{IsUnread}
+use Rattle.salvage.specs.Refused.{IsNotCutShort, not_begun, not_read}
 use Rattle.salvage.proofs.CutShort.{cut-short}
 use Rattle.salvage.proofs.Refusals.{told-as, over, bad-number}
 use Rattle.salvage.proofs.rounds.round_in.Goals as goal

@@ -1,0 +1,20 @@
+use Rattle.splices.specs.FileSet.{bytes_of}
+use Rattle.dag_files.proofs.RunFaults.{by-fault}
+use Rattle.folder_answers.specs.Answered.{IsCheckRefusal, check_not_read}
+use Rattle.folder_answers.proofs.Held.{checked}
+use Rattle.dagrun.proofs.Checks.{hints_behind}
+use Rattle.dagrun.proofs.answers.check_with_hints.Goals as goal
+
+pub returns-in_err-files-clause-refused : goal.returns-in_err-files-clause-refused
+returns-in_err-files-clause-refused g c = by-fault (IsCheckRefusal c.args.dag.now) c.in_err-files.field-0.0
+    (check_not_read _ c.in_err-files.ensures.refused) c.from_residual.result c.from_residual.ensures.1
+
+pub returns-in-Ok-reply-clause-checked : goal.returns-in-Ok-reply-clause-checked
+returns-in-Ok-reply-clause-checked g c =
+    hints_behind _ c.in-Ok-reply.answer c.with_hints.result _ c.in-Ok-reply.ensures.checked c.with_hints.ensures.text c.with_hints.ensures.status c.with_hints.ensures.warnings
+
+pub returns-in-Ok-reply-clause-held : goal.returns-in-Ok-reply-clause-held
+returns-in-Ok-reply-clause-held g c = λ honest.
+    hints_behind _ c.in-Ok-reply.answer c.with_hints.result _
+    (checked (bytes_of c.in_ok-files.files) (g.F.Folder.holds c.args.folder.now) (c.in_ok-files.ensures.read honest).held c.args.dag.now _ _ _ (c.in-Ok-reply.ensures.held tt))
+    c.with_hints.ensures.text c.with_hints.ensures.status c.with_hints.ensures.warnings

@@ -1,0 +1,277 @@
+//! What is answered to a request by the files of a folder.
+
+ghost use Rattle.std.specs.Prelude.{◌≡◌, ◌⊎◌, ◌||◌, true, ℕ, List, [], ◌++◌, Some, IfOk, IfErr, is_some, map, string_bytes, codes};
+ghost use Rattle.std.specs.Option.{option_map};
+ghost use Rattle.command_line.specs.Requests.{asked_by, checks, runs, rehearses, salvages, shows};
+ghost use Rattle.dag_files.specs.Beside.{IsFileFault};
+ghost use Rattle.dag_texts.specs.Checked.{IsCheckOf};
+ghost use Rattle.folder_answers.specs.Answered.{IsCheckOfSome, IsCheckRefusal};
+ghost use Rattle.dag_texts.specs.declared.fault.RunFault.TheVariants.{Memory};
+ghost use Rattle.salvage.specs.Faults.{fault_text};
+ghost use Rattle.salvage.specs.Refused.{IsSalvageFault};
+ghost use Rattle.dagrun.specs.Answered.{is_run, IsAnswerTo, IsAnswerFrom, IsCheckWith, IsToldCause, IsRefusal};
+
+use command_line::{Request, RunOptions};
+use dag_files::{Folder, Place, Reading, bytes_of, files_of, read_input, refused};
+use dag_main::{Screen, run_dag};
+use dag_texts::{Answer, RunFault};
+use failure_answers::why_here;
+use folder_answers::{check_here, rehearse_here};
+use hint_answers::{Wanted, hints_of};
+use run_answers::{Question, report_here, told_here};
+use run_times::times_here;
+use salvage::{SalvageFault, salvage_here};
+use std::alloc::Global;
+use std::fs::File;
+use std::process::Processes;
+use std::rt::Files;
+use std::time::Clock;
+use throttles::Limits;
+
+/// The exit status of whatever is refused.
+pub(crate) const REFUSED: u8 = 125;
+
+/// What is answered to a request by the files of a folder. What a run writes, and what the system has besides, as a
+/// table of outcomes or the output of a job, stands where the system says, seen from the path of that folder.
+///
+/// # Errors
+/// Those of the call that the request is for; a table of outcomes that the system refuses to read; memory.
+pub(crate) fn answer_in<
+    R: Files<File = File> + Processes + Clock + Screen + AllocGlobal + Copy + Drop,
+    F: Folder,
+>(rt: &R, folder: &F, seat: &str, request: Request<'_>) -> Result<Answer, RunFault>
+    ensures answered { IfOk result (λ answer. IsAnswerTo (asked_by request.entry)
+        (string_bytes answer.text) (string_bytes answer.warnings) answer.status) }
+    // It is that of the files that the folder holds.
+    ensures held { F.honest folder.now → IfOk result (λ answer.
+        IsAnswerFrom (F.holds folder.now) (F.has folder.now) (asked_by request.entry)
+        (string_bytes answer.text) (string_bytes answer.warnings) answer.status) }
+    // It is refused for a cause of the call; `run` does not read standard input.
+    ensures refused { (is_run (asked_by request.entry) ≡ true → ¬ (F.streams folder.now))
+        → IfErr result (IsRefusal (asked_by request.entry)) }
+{
+    let alloc = rt.alloc();
+    match request {
+        Request::Run { dag, options } => run_in(rt, folder, seat, dag, &options),
+        Request::Status { dag } => told_here(alloc, folder, dag, Question::Status),
+        Request::Audit { dag } => told_here(alloc, folder, dag, Question::Audit),
+        Request::Graph { dag } => told_here(alloc, folder, dag, Question::Graph),
+        Request::Why { dag, nodes } => {
+            let place = Place {
+                folder: seat,
+                top: dag,
+            };
+            why_here(rt, folder, &place, &nodes)
+        }
+        Request::Times { dag, svg } => times_here(alloc, folder, dag, svg),
+        Request::Salvage { dag } => {
+            let place = Place {
+                folder: seat,
+                top: dag,
+            };
+            salvage_in(rt, folder, &place)
+        }
+        Request::Page { text } => Ok(page(alloc, text)),
+        Request::Check { dag, hints, condor } => check(rt, folder, dag, Wanted { hints, condor }),
+        Request::Rehearse {
+            dag,
+            outcomes,
+            limits,
+            always_post,
+        } => rehearse(rt, folder, dag, outcomes, limits, always_post),
+    }
+}
+
+/// The answer that is this page.
+fn page(alloc: Global, text: String) -> Answer
+    ensures { IsAnswerTo (shows (string_bytes text)) (string_bytes result.text) (string_bytes result.warnings) result.status }
+{
+    Answer {
+        text,
+        warnings: String::new(alloc),
+        status: 0,
+    }
+}
+
+/// Runs a DAG file; or, where the options ask for it and its last round has ended, answers
+/// what that printed.
+fn run_in<
+    R: Files<File = File> + Processes + Clock + Screen + AllocGlobal + Copy + Drop,
+    F: Folder,
+>(rt: &R, folder: &F, seat: &str, dag: &str, options: &RunOptions) -> Result<Answer, RunFault>
+    ensures answered { IfOk result (λ answer. IsAnswerTo (runs dag.now options.now)
+        (string_bytes answer.text) (string_bytes answer.warnings) answer.status) }
+    ensures held { F.honest folder.now → IfOk result (λ answer.
+        IsAnswerFrom (F.holds folder.now) (F.has folder.now) (runs dag.now options.now)
+        (string_bytes answer.text) (string_bytes answer.warnings) answer.status) }
+    ensures refused { ¬ (F.streams folder.now) → IfErr result (IsRefusal (runs dag.now options.now)) }
+{
+    if options.resume {
+        if let Some(answer) = report_here(rt.alloc(), folder, dag)? {
+            return Ok(answer);
+        }
+    }
+    let place = Place {
+        folder: seat,
+        top: dag,
+    };
+    run_dag(*rt, folder, &place, options)
+}
+
+/// What is told of a fault that no other command has: its line, as a warning, and status 125.
+///
+/// # Errors
+/// `Memory` alone.
+fn told_salvage(alloc: Global, fault: &SalvageFault) -> Result<Answer, RunFault>
+    ensures told { IfOk result (λ answer. IsToldCause fault.now (string_bytes answer.warnings)) }
+    ensures text { IfOk result (λ answer. string_bytes answer.text ≡ []) }
+    ensures status { IfOk result (λ answer. answer.status ≡ 125) }
+    ensures err { IfErr result (λ fault. fault ≡ Memory) }
+{
+    let warnings = format!(in alloc; "dagrun: {fault}\n")?;
+    Ok(Answer {
+        text: String::new(alloc),
+        warnings,
+        status: REFUSED,
+    })
+}
+
+/// Makes a rescue file of a round that was cut short.
+fn salvage_in<R: Files<File = File> + Clock + AllocGlobal + Copy + Drop, F: Folder>(
+    rt: &R,
+    folder: &F,
+    place: &Place<'_>,
+) -> Result<Answer, RunFault>
+    ensures answered { IfOk result (λ answer. IsAnswerTo (salvages place.now.top.now)
+        (string_bytes answer.text) (string_bytes answer.warnings) answer.status) }
+    ensures held { F.honest folder.now → IfOk result (λ answer.
+        IsAnswerFrom (F.holds folder.now) (F.has folder.now) (salvages place.now.top.now)
+        (string_bytes answer.text) (string_bytes answer.warnings) answer.status) }
+    ensures refused { IfErr result (IsRefusal (salvages place.now.top.now)) }
+{
+    match salvage_here(*rt, folder, place) {
+        Ok(answer) => Ok(answer),
+        Err(SalvageFault::Refused(fault)) => Err(fault),
+        Err(fault) => told_salvage(rt.alloc(), &fault),
+    }
+}
+
+/// What `check` answers, with hints behind its warnings where they are asked for.
+fn check<R: Files<File = File> + Screen + AllocGlobal, F: Folder>(
+    rt: &R,
+    folder: &F,
+    dag: &str,
+    wanted: Wanted,
+) -> Result<Answer, RunFault>
+    ensures answered { IfOk result (λ answer. IsAnswerTo (checks dag.now (wanted.hints || wanted.condor))
+        (string_bytes answer.text) (string_bytes answer.warnings) answer.status) }
+    ensures held { F.honest folder.now → IfOk result (λ answer.
+        IsAnswerFrom (F.holds folder.now) (F.has folder.now) (checks dag.now (wanted.hints || wanted.condor))
+        (string_bytes answer.text) (string_bytes answer.warnings) answer.status) }
+    ensures refused { IfErr result (IsRefusal (checks dag.now (wanted.hints || wanted.condor))) }
+{
+    if wanted.any() {
+        check_with_hints(rt, folder, dag, wanted)
+    } else {
+        check_here(rt.alloc(), folder, dag)
+    }
+}
+
+/// The answer to a check of files that are read once, with hints; where it is refused, they are told before the
+/// refusal.
+fn check_with_hints<R: Files<File = File> + Screen + AllocGlobal, F: Folder>(
+    rt: &R,
+    folder: &F,
+    dag: &str,
+    wanted: Wanted,
+) -> Result<Answer, RunFault>
+    ensures checked { IfOk result (λ answer. IsCheckWith (IsCheckOfSome dag.now) true
+        (string_bytes answer.text) (string_bytes answer.warnings) answer.status) }
+    ensures held { F.honest folder.now → IfOk result (λ answer. IsCheckWith (IsCheckOf (F.holds folder.now) dag.now) true
+        (string_bytes answer.text) (string_bytes answer.warnings) answer.status) }
+    ensures refused { IfErr result (IsCheckRefusal dag.now) }
+{
+    let alloc = rt.alloc();
+    let files = files_of(alloc, folder, dag, Reading::SubmitFilesToo)?;
+    let reply = check_here(alloc, &files, dag);
+    let hints = match hints_of(rt, &files, dag, wanted) {
+        Ok(hints) => hints,
+        Err(_) => String::new(alloc),
+    };
+    match reply {
+        Ok(answer) => Ok(with_hints(answer, hints.as_str())),
+        Err(fault) => {
+            let hints = hints.as_str();
+            let _ = eprint!(rt; "{hints}");
+            Err(fault)
+        }
+    }
+}
+
+/// An answer with hints behind its warnings, as far as there is memory for them.
+fn with_hints(mut answer: Answer, hints: &str) -> Answer
+    ensures text { string_bytes result.text ≡ string_bytes answer.text }
+    ensures status { result.status ≡ answer.status }
+    ensures warnings { (string_bytes result.warnings ≡ string_bytes answer.warnings ++ hints.now)
+        ⊎ (string_bytes result.warnings ≡ string_bytes answer.warnings) }
+{
+    let _ = answer.warnings.push_str(hints);
+    answer
+}
+
+/// What `rehearse` answers, by the table of outcomes where one is named.
+fn rehearse<R: Files + AllocGlobal, F: Folder>(
+    rt: &R,
+    folder: &F,
+    dag: &str,
+    outcomes: Option<&str>,
+    limits: Limits,
+    always_post: bool,
+) -> Result<Answer, RunFault>
+    ensures answered { IfOk result (λ answer.
+        IsAnswerTo (rehearses dag.now (option_map (λ t. t.now) outcomes.entry) limits always_post)
+        (string_bytes answer.text) (string_bytes answer.warnings) answer.status) }
+    ensures held { F.honest folder.now → IfOk result (λ answer. IsAnswerFrom (F.holds folder.now) (F.has folder.now)
+        (rehearses dag.now (option_map (λ t. t.now) outcomes.entry) limits always_post)
+        (string_bytes answer.text) (string_bytes answer.warnings) answer.status) }
+    ensures refused { IfErr result
+        (IsRefusal (rehearses dag.now (option_map (λ t. t.now) outcomes.entry) limits always_post)) }
+{
+    let table = outcomes_of(rt, outcomes)?;
+    rehearse_here(
+        rt.alloc(),
+        folder,
+        dag,
+        bytes_of(&table),
+        limits,
+        always_post,
+    )
+}
+
+/// The table of outcomes, where one is named.
+fn outcomes_of<R: Files + AllocGlobal>(
+    rt: &R,
+    path: Option<&str>,
+) -> Result<Option<Vec<u8>>, RunFault>
+    ensures named { IfOk result (λ bytes. is_some (option_map (λ b. b.items) bytes) ≡ is_some (option_map (λ p. p.now) path.entry)) }
+    ensures refused { IfErr result IsFileFault }
+{
+    match path {
+        Some(path) => Ok(Some(read_outcomes(rt, path)?)),
+        None => Ok(None),
+    }
+}
+
+/// The bytes of a table of outcomes: a regular file, or a pipe.
+///
+/// # Errors
+/// `FileRefused` with the path of another sort of file, or of one that the system refuses to read;
+/// `Memory`, also for more than 256 MiB.
+fn read_outcomes<R: Files + AllocGlobal>(rt: &R, path: &str) -> Result<Vec<u8>, RunFault>
+    ensures { IfErr result IsFileFault }
+{
+    match read_input(rt, path, true) {
+        Ok(bytes) => Ok(bytes),
+        Err(error) => Err(refused(rt.alloc(), path, &error)),
+    }
+}
