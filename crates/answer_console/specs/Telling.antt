@@ -1,8 +1,8 @@
 -- How the result of a request is told on standard output and standard error (docs/MANUAL.md, "The command line").
 use Rattle.std.specs.Prelude.{◌≡◌, ◌⊎◌, ℕ, Bool, List, ◌++◌, Result, Ok, Err, IsTrue, codes, string_bytes}
-use Rattle.dag_texts.specs.declared.fault.RunFault.{RunFault}
-use Rattle.dag_texts.specs.declared.warnings.Answer.{Answer}
-use Rattle.dag_texts.specs.Displayed.{run_fault_text}
+use Rattle.dag_main_check.specs.declared.fault.RunFault.{RunFault}
+use Rattle.dag_main_check.specs.declared.warnings.Answer.{Answer}
+use Rattle.dag_main_check.specs.Displayed.{run_fault_text}
 
 -- the exit status with which the result of a request is told: that of its answer, once this is printed; else 125
 pub data IsStatusOf (result : Result Answer RunFault) : ℕ → Type 0 where

@@ -4,7 +4,7 @@ ghost use Rattle.std.specs.Prelude.{◌≡◌, ◌⊎◌, ◌++◌, Ok};
 ghost use Rattle.answer_console.specs.Telling.{IsTold, IsToldAs, IsStatusOf, refusal_line, no_memory_line};
 
 use crate::console::Console;
-use dag_texts::{Answer, RunFault};
+use dag_main_check::{Answer, RunFault};
 use std::alloc::Global;
 
 /// The exit status of whatever is refused.

@@ -2,7 +2,7 @@
 
 use crate::same::same;
 use answer_console::{MemConsole, tell_answer};
-use dag_texts::{Answer, RunFault};
+use dag_main_check::{Answer, RunFault};
 use std::alloc::Global;
 use std::process::Abort;
 use std::test::Fail;

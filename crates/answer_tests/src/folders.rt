@@ -3,12 +3,12 @@
 ghost use Rattle.std.specs.Prelude.{None, false};
 
 use crate::same::same;
-use dag_files::{Folder, round_of};
-use dag_texts::{Answer, RunFault};
-use event_journal::Peek;
+use dag_main_check::{Answer, RunFault};
+use dag_main_files::{Folder, round_of};
+use dag_main_inspect::{Question, report_here, told_here};
+use event_journal_log::Peek;
 use folder_answers::{check_here, rehearse_here};
-use run_answers::{Question, report_here, told_here};
-use splices::FileSet;
+use splices_flat::FileSet;
 use std::alloc::Global;
 use std::cell::Cell;
 use std::process::Abort;
@@ -240,7 +240,11 @@ static ROUNDS: [RoundRow; 8] = [
         wanted: "999 999",
     },
     RoundRow {
-        files: &[("x.dag.rescue003.old", ""), ("y.dag.rescue003", ""), ("x.dag.rescue3", "")],
+        files: &[
+            ("x.dag.rescue003.old", ""),
+            ("y.dag.rescue003", ""),
+            ("x.dag.rescue3", ""),
+        ],
         autorescue: true,
         from: None,
         wanted: "0 1",

@@ -1,5 +1,5 @@
 // The images that a crash may leave, made of what a disk in memory kept of its calls.
-use journal_disks::DiskEvent;
+use event_journal::DiskEvent;
 use std::alloc::{AllocError, Global};
 
 // How a write is torn, byte by byte of its range.

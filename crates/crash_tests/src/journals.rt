@@ -1,6 +1,6 @@
 // Each call of a journal, torn at each moment.
 ghost use Rattle.std.specs.Prelude.{IfOk, IsFalse};
-ghost use Rattle.event_journal.specs.Journal.{journal_disk, is_broken, IsSettled};
+ghost use Rattle.event_journal_log.specs.Journal.{journal_disk, is_broken, IsSettled};
 
 use crate::readings::{Due, SLOTS, disk_of, torn_everywhere};
 use crate::same::same;

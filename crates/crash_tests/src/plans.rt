@@ -1,8 +1,7 @@
 // Plans of the tests.
 use dag_graph::Graph;
-use dag_opener::open_dag;
 use run_plan::{Plan, PlanFault};
-use splices::FileSet;
+use splices::{FileSet, open_dag};
 use std::alloc::Global;
 use std::test::Fail;
 use throttles::Limits;

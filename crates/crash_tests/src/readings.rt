@@ -1,8 +1,7 @@
 // What the images of a journal's disk read as.
 use crate::images::{images_of, replayed, synced};
 use crate::managers::goes_on;
-use event_journal::{Journal, Opened};
-use journal_disks::{DiskEvent, MemDisk};
+use event_journal::{DiskEvent, Journal, MemDisk, Opened};
 use node_machine::Record;
 use run_plan::Plan;
 use std::alloc::Global;

@@ -1,6 +1,6 @@
 -- Ranks, cycles and ancestors.
 use Rattle.std.proofs.Common.{ℕ, ◌<◌, List, [], ◌∷◌, arith}
-use Rattle.splices.specs.declared.flat.Edge.{Edge}
+use Rattle.splices_flat.specs.declared.flat.Edge.{Edge}
 use Rattle.dag_graph.specs.Graph.{IsAncestor, direct, through, IsAcyclic, RisesAlong, Leads, IsCycle}
 
 lower : (rank : ℕ → ℕ) (edges : List Edge) (a v : ℕ) → RisesAlong rank edges → IsAncestor edges a v → rank a < rank v

@@ -8,8 +8,8 @@ use Rattle.std.proofs.lemmas.List.Elements.{All-filter, All-head, All-tail}
 use Rattle.std.proofs.lemmas.Grind.{common_steps}
 use Rattle.std.proofs.Math.Bool.{or-false}
 use Rattle.std.specs.List.{range_with_len, list_any, All}
-use Rattle.splices.specs.declared.flat.Edge.{Edge}
-use Rattle.splices.specs.Dag.{Dag, IsBelow}
+use Rattle.splices_flat.specs.declared.flat.Edge.{Edge}
+use Rattle.splices_flat.specs.Dag.{Dag, IsBelow}
 use Rattle.std.specs.List.{sum_by, count_by}
 use Rattle.std.proofs.lemmas.List.Sums.{sum_by-le, length-filter, count_by-le-length}
 use Rattle.dag_graph.specs.Numbers.{has, AreBelow, holders_of}

@@ -6,12 +6,12 @@ use Rattle.std.proofs.lemmas.List.Folds.{list_any-append}
 use Rattle.std.proofs.lemmas.List.FromFn.{length-map-range_with_len, get_or-map-range_with_len}
 use Rattle.std.proofs.lemmas.List.Elements.{All-nil, All-append, All-head, All-tail, All-filter}
 use Rattle.std.specs.List.{range_with_len, list_any, All}
-use Rattle.splices.specs.declared.flat.Edge.{Edge}
-use Rattle.splices.specs.declared.flat.EdgeGroup.{EdgeGroup}
-use Rattle.splices.specs.declared.flat.Side.{Side}
-use Rattle.splices.specs.declared.flat.Side.TheVariants.{Parent, Child}
-use Rattle.splices.specs.Dag.{IsGroupBelow}
-use Rattle.splices.specs.Places.{edge, pairs, edges_of, ends_of}
+use Rattle.splices_flat.specs.declared.flat.Edge.{Edge}
+use Rattle.splices_flat.specs.declared.flat.EdgeGroup.{EdgeGroup}
+use Rattle.splices_flat.specs.declared.flat.Side.{Side}
+use Rattle.splices_flat.specs.declared.flat.Side.TheVariants.{Parent, Child}
+use Rattle.splices_flat.specs.Dag.{IsGroupBelow}
+use Rattle.splices_flat.specs.Places.{edge, pairs, edges_of, ends_of}
 use Rattle.dag_graph.specs.Numbers.{has, AreBelow, holders_of, holders_below, named, all_named}
 use Rattle.dag_graph.specs.Graph.{is_edge}
 use Rattle.dag_graph.proofs.Lists.{filter_range_more, range_below}

@@ -3,8 +3,8 @@ use Rattle.std.proofs.Common.{◌≡◌, ℕ, ◌+◌, ◌-◌, ◌<◌, ◌≤�
 use Rattle.std.specs.List.{All}
 use Rattle.std.proofs.lemmas.List.{get_or_default}
 use Rattle.std.proofs.lemmas.List.Sums.{sum_by-le}
-use Rattle.splices.specs.declared.flat.Edge.{Edge}
-use Rattle.splices.specs.Dag.{Dag}
+use Rattle.splices_flat.specs.declared.flat.Edge.{Edge}
+use Rattle.splices_flat.specs.Dag.{Dag}
 use Rattle.dag_graph.specs.Graph.{IsOrderOf, rank_in}
 use Rattle.dag_graph.specs.Climb.{Climbing, IsClosed, IsSettled, up}
 use Rattle.dag_graph.specs.Cycles.{IsClosedBy}

@@ -6,8 +6,8 @@ use Rattle.std.proofs.lemmas.Grind.{common_steps}
 use Rattle.std.proofs.lemmas.List.{append-nil, reverse-append, take-append-drop, drop_more, get_or-drop, length-drop, length-reverse, get_or-reverse}
 use Rattle.std.proofs.lemmas.List.Elements.{All-append, All-take, All-drop, All-cons, All-nil, All-contains}
 use Rattle.std.specs.List.{All}
-use Rattle.splices.specs.declared.flat.Edge.{Edge}
-use Rattle.splices.specs.Dag.{IsBelow}
+use Rattle.splices_flat.specs.declared.flat.Edge.{Edge}
+use Rattle.splices_flat.specs.Dag.{IsBelow}
 use Rattle.dag_graph.specs.Graph.{IsParent, Leads, IsCycle, AreApart, rank_in}
 use Rattle.dag_graph.specs.Cycles.{IsRound, IsClosedBy}
 use Rattle.dag_graph.proofs.Ranks.{rank_at}

@@ -4,7 +4,7 @@ use Rattle.std.specs.List.{Contains}
 use Rattle.std.proofs.lemmas.Bool.{cases_lt, cases_Bool, false≢true, cond-true, cond-false}
 use Rattle.std.proofs.lemmas.List.{length-set, length_push, take_more, get_or-set_same, get_or_push, get_or_append_left}
 use Rattle.std.proofs.lemmas.List.Elements.{Contains-append_left, Contains-push}
-use Rattle.splices.specs.declared.flat.Edge.{Edge}
+use Rattle.splices_flat.specs.declared.flat.Edge.{Edge}
 use Rattle.std.specs.Prelude.{replicate, ◌↔◌}
 use Rattle.std.proofs.lemmas.List.{get_or-replicate, length-replicate, get_or_past, get_or_default}
 use Rattle.dag_graph.specs.Climb.{up}

@@ -5,8 +5,8 @@ use Rattle.std.proofs.lemmas.List.{get_or_past}
 use Rattle.std.proofs.lemmas.List.Folds.{list_any_at}
 use Rattle.std.proofs.lemmas.List.Elements.{All-contains, All-filter}
 use Rattle.std.specs.List.{Contains, All, range_with_len, list_any}
-use Rattle.splices.specs.declared.flat.Edge.{Edge}
-use Rattle.splices.specs.Dag.{IsBelow}
+use Rattle.splices_flat.specs.declared.flat.Edge.{Edge}
+use Rattle.splices_flat.specs.Dag.{IsBelow}
 use Rattle.dag_graph.specs.Numbers.{has}
 use Rattle.dag_graph.specs.Graph.{IsParent, is_edge, parents_among}
 use Rattle.dag_graph.specs.Climb.{up}

@@ -1,7 +1,7 @@
 -- Paths that come back, and what is told of them.
 use Rattle.std.specs.Prelude.{◌≡◌, ℕ, ◌+◌, ◌-◌, ◌<◌, List, [], ◌∷◌, length, map, slice_index}
-use Rattle.splices.specs.declared.flat.Edge.{Edge}
-use Rattle.splices.specs.Dag.{Dag}
+use Rattle.splices_flat.specs.declared.flat.Edge.{Edge}
+use Rattle.splices_flat.specs.Dag.{Dag}
 use Rattle.dag_graph.specs.declared.fault.GraphFault.{GraphFault}
 use Rattle.dag_graph.specs.declared.fault.GraphFault.TheVariants.{Cycle, Memory}
 use Rattle.dag_graph.specs.Graph.{IsParent, Leads, IsCycle, AreApart, rank_in, name_of}

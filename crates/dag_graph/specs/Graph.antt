@@ -1,9 +1,9 @@
 -- The graph of a DAG: parents, ancestors, orders and cycles. Nodes go by their numbers.
 use Rattle.std.specs.Prelude.{◌≡◌, ◌≢◌, ℕ, ◌<◌, ◌≤◌, Bool, ◌&&◌, ◌==◌, List, [], ◌∷◌, ◌++◌, length, map, filter, slice_index, slice_index_or, Option, Some, None}
 use Rattle.std.specs.List.{Contains, All, list_any, position_or_len, range_with_len, sum_by}
-use Rattle.splices.specs.declared.flat.Edge.{Edge}
-use Rattle.splices.specs.declared.flat.FlatNode.{FlatNode}
-use Rattle.splices.specs.Dag.{Dag}
+use Rattle.splices_flat.specs.declared.flat.Edge.{Edge}
+use Rattle.splices_flat.specs.declared.flat.FlatNode.{FlatNode}
+use Rattle.splices_flat.specs.Dag.{Dag}
 
 -- an edge from the parent to the child stands among these
 abbrev pub IsParent : List Edge → ℕ → ℕ → Type 0

@@ -1,6 +1,6 @@
 -- What a graph keeps beside its flat DAG.
 use Rattle.std.specs.Prelude.{◌≡◌, ℕ, List, Option}
-use Rattle.splices.specs.Dag.{Dag}
+use Rattle.splices_flat.specs.Dag.{Dag}
 use Rattle.dag_graph.specs.Graph.{IsOrderOf, names_of, all_parents_of, all_children_of}
 use Rattle.dag_graph.specs.Names.{GivesPlaces}
 

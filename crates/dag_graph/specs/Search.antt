@@ -1,7 +1,7 @@
 -- A search from a node to its ancestors.
 use Rattle.std.specs.Prelude.{◌≡◌, ℕ, ◌+◌, ◌<◌, ◌≤◌, ◌⊎◌, Bool, true, not, false, List, [], ◌∷◌, ◌++◌, length, slice_set, slice_index, slice_index_or, if◌then◌else◌}
 use Rattle.std.specs.List.{Contains, count_by}
-use Rattle.splices.specs.declared.flat.Edge.{Edge}
+use Rattle.splices_flat.specs.declared.flat.Edge.{Edge}
 use Rattle.dag_graph.specs.Graph.{IsAncestor, rank_in}
 use Rattle.dag_graph.specs.Climb.{up}
 

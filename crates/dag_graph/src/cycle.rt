@@ -2,13 +2,13 @@
 
 ghost use Rattle.std.specs.Prelude.{◌≡◌, ◌++◌, ◌<◌, ◌≤◌, List, IfOk, length, drop, take, reverse, map, slice_index};
 ghost use Rattle.std.specs.List.{All};
-ghost use Rattle.splices.specs.declared.flat.Edge.{Edge};
+ghost use Rattle.splices_flat.specs.declared.flat.Edge.{Edge};
 ghost use Rattle.dag_graph.specs.Graph.{IsCycle, rank_in, name_of};
 ghost use Rattle.dag_graph.specs.Cycles.{IsClosedBy, IsCycleFault, NamesCycle};
 
 use crate::fault::GraphFault;
 use dag_reader::{Text, Texts};
-use splices::FlatDag;
+use splices_flat::FlatDag;
 use std::alloc::{AllocError, Global};
 
 /// The first place of a node, or the length where it has none.

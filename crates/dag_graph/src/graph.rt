@@ -14,7 +14,7 @@ use crate::order::order_of;
 use crate::relatives::{Relatives, relatives_of};
 use crate::search::is_above;
 use indexmap::IndexMap;
-use splices::FlatDag;
+use splices_flat::FlatDag;
 use std::alloc::Global;
 use std::marker::Model;
 

@@ -1,7 +1,7 @@
 //! What holds of the definitions alone. No program calls these functions.
 
 ghost use Rattle.std.specs.Prelude.{ℕ, List};
-ghost use Rattle.splices.specs.declared.flat.Edge.{Edge};
+ghost use Rattle.splices_flat.specs.declared.flat.Edge.{Edge};
 ghost use Rattle.dag_graph.specs.Graph.{IsAcyclic, IsCycle, RisesAlong};
 
 /// Where each parent has a lower rank than its child, no node is its own ancestor.

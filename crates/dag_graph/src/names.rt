@@ -6,7 +6,7 @@ ghost use Rattle.dag_graph.specs.Graph.{names_of};
 ghost use Rattle.dag_graph.specs.Names.{GivesPlaces, with_name};
 
 use indexmap::IndexMap;
-use splices::FlatDag;
+use splices_flat::FlatDag;
 use std::alloc::{AllocError, Global};
 
 /// Gives a name its number, unless it has one.

@@ -8,7 +8,7 @@ use crate::climb::Climb;
 use crate::cycle::cycle_fault;
 use crate::fault::GraphFault;
 use crate::numbers::Numbers;
-use splices::FlatDag;
+use splices_flat::FlatDag;
 use std::alloc::Global;
 
 /// The ordinary nodes in a topological order, or the names of a cycle.

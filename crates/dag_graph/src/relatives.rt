@@ -2,13 +2,13 @@
 
 ghost use Rattle.std.specs.Prelude.{◌≡◌, ◌<◌, ◌≤◌, IfOk, length, map};
 ghost use Rattle.std.specs.List.{All, flat_map, range_with_len};
-ghost use Rattle.splices.specs.Dag.{IsGroupBelow};
-ghost use Rattle.splices.specs.Places.{ends_of};
+ghost use Rattle.splices_flat.specs.Dag.{IsGroupBelow};
+ghost use Rattle.splices_flat.specs.Places.{ends_of};
 ghost use Rattle.dag_graph.specs.Numbers.{AreBelow, holders_of, all_named, named};
 ghost use Rattle.dag_graph.specs.Graph.{all_parents_of, all_children_of};
 
 use crate::numbers::{Numbers, add_at, empty_lists, inverted};
-use splices::{EdgeGroup, FlatDag, Side};
+use splices_flat::{EdgeGroup, FlatDag, Side};
 use std::alloc::{AllocError, Global};
 
 /// Of each ordinary node its parents and its children, ascending and each once.

@@ -6,7 +6,7 @@ ghost use Rattle.dag_graph.specs.Graph.{IsAncestor, all_parents_of};
 ghost use Rattle.dag_graph.specs.Search.{IsSearch, Meets, with_met};
 
 use crate::numbers::Numbers;
-use splices::FlatDag;
+use splices_flat::FlatDag;
 use std::alloc::{AllocError, Global};
 use std::marker::Model;
 

@@ -1,13 +1,7 @@
-//! A run of a DAG file with children of the operating system. The program, dagrun, has it beside the calls over texts of
-//! dag_texts and the rehearsals of rehearsal.
+//! The commands of dagrun as calls, each by the crate that has it.
 #![tactic(auto)]
 
-mod beginning;
-mod launching;
-mod progress;
-mod runs;
-
-pub use command_line::RunOptions;
-pub use dag_texts::{Answer, RunFault};
-pub use run_progress::Screen;
-pub use runs::run_dag;
+pub use dag_main_check::{Answer, RunFault, check_text};
+pub use dag_main_inspect::{audit_of, status_of};
+pub use dag_main_rehearse::rehearse_text;
+pub use dag_main_run::{RunOptions, Screen, run_dag};

@@ -1,11 +1,11 @@
 -- What `check` answers, with hints and without.
 use Rattle.std.proofs.Common.{◌≡◌, ◌⊎◌, ◌++◌, ℕ, Bool, true, List, Result, Ok, Err, IfOk, inl, inr, refl, string_bytes, sym, subst}
 use Rattle.std.specs.Prelude.{IfErr}
-use Rattle.command_line.specs.Requests.{checks}
+use Rattle.dag_main_args.specs.Requests.{checks}
 use Rattle.folder_answers.specs.Answered.{IsCheckRefusal}
-use Rattle.dag_texts.specs.declared.fault.RunFault.{RunFault}
-use Rattle.dag_texts.specs.declared.warnings.Answer.{Answer}
-use Rattle.dag_texts.proofs.Refusals.{weaker}
+use Rattle.dag_main_check.specs.declared.fault.RunFault.{RunFault}
+use Rattle.dag_main_check.specs.declared.warnings.Answer.{Answer}
+use Rattle.dag_main_check.proofs.Refusals.{weaker}
 use Rattle.dagrun.specs.Answered.{Said, IsCheckWith, without_hints, with_hints, IsRefusal, not_checked}
 
 -- what is said of an answer

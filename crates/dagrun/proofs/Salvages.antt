@@ -1,7 +1,7 @@
 -- What is told of a round that is not salvaged.
 use Rattle.std.proofs.Common.{◌≡◌, ◌++◌, ℕ, List, [], Some, Result, Ok, Err, IfOk, codes, string_bytes, sym, subst}
-use Rattle.dag_texts.specs.declared.fault.RunFault.{RunFault}
-use Rattle.dag_texts.specs.declared.warnings.Answer.{Answer}
+use Rattle.dag_main_check.specs.declared.fault.RunFault.{RunFault}
+use Rattle.dag_main_check.specs.declared.warnings.Answer.{Answer}
 use Rattle.salvage.specs.Faults.{fault_text}
 use Rattle.salvage.specs.Refused.{IsSalvageFault}
 use Rattle.salvage.specs.declared.fault.SalvageFault.{SalvageFault}

@@ -1,19 +1,21 @@
 -- What the program answers to a request, and its exit status (docs/MANUAL.md, "The command line").
-use Rattle.std.specs.Prelude.{◌≡◌, ◌≤◌, ℕ, Bool, true, false, List, [], ◌++◌, Option, Some, None, codes, is_some, IfSome}
-use Rattle.splices.specs.Opening.{Files}
+use Rattle.std.specs.Prelude.{◌≡◌, ◌<◌, ◌≤◌, ℕ, Bool, true, false, List, [], ◌++◌, Option, Some, None, codes, length, is_some, IfSome}
+use Rattle.splices_flat.specs.Opening.{Files}
 use Rattle.throttles.specs.declared.Limits.{Limits}
-use Rattle.command_line.specs.Requests.{Asked, checks, runs, tells_status, audits, rehearses, draws, asks_why, times, salvages, shows, no_limits, limits_in, AreLimits}
-use Rattle.command_line.specs.declared.request.RunOptions.{RunOptions}
-use Rattle.dag_files.specs.Beside.{IsFileFault}
-use Rattle.dag_texts.specs.Checked.{IsCheckOf}
-use Rattle.rehearsal.specs.Rehearsed.{IsRehearsalOf}
+use Rattle.dag_main_args.specs.declared.request.Request.{Request}
+use Rattle.dag_main_args.specs.Answered.{IsAskedFor}
+use Rattle.dag_main_args.specs.Requests.{Asked, asked_by, checks, runs, tells_status, audits, rehearses, draws, asks_why, times, salvages, shows, no_limits, limits_in, AreLimits}
+use Rattle.dag_main_args.specs.declared.request.RunOptions.{RunOptions}
+use Rattle.dag_main_files.specs.Beside.{IsFileFault}
+use Rattle.dag_main_check.specs.Checked.{IsCheckOf}
+use Rattle.dag_main_rehearse.specs.Rehearsed.{IsRehearsalOf}
 use Rattle.folder_answers.specs.Answered.{IsCheckOfSome, IsCheckRefusal, IsRehearsalOfSome, IsRehearsalRefusal}
-use Rattle.dag_texts.specs.declared.fault.RunFault.{RunFault}
-use Rattle.dag_main.specs.Runs.{IsRunOf, IsRunFrom, IsRunFault}
-use Rattle.run_answers.specs.Asked.{IsToldOfRun, IsToldFrom, IsToldFault}
-use Rattle.run_answers.specs.Reported.{IsReportHere, IsReportFrom}
+use Rattle.dag_main_check.specs.declared.fault.RunFault.{RunFault}
+use Rattle.dag_main_run.specs.Runs.{IsRunOf, IsRunFrom, IsRunFault}
+use Rattle.dag_main_inspect.specs.Asked.{IsToldOfRun, IsToldFrom, IsToldFault}
+use Rattle.dag_main_inspect.specs.Reported.{IsReportHere, IsReportFrom}
 use Rattle.run_times.specs.Told.{IsTimesOf, IsTimesFrom, IsTimesFault}
-use Rattle.run_answers.specs.declared.by_journal.Question.TheVariants.{Status, Audit, Graph}
+use Rattle.dag_main_inspect.specs.declared.by_journal.Question.TheVariants.{Status, Audit, Graph}
 use Rattle.salvage.specs.Salvaged.{IsSalvageOf, IsSalvageFrom}
 use Rattle.salvage.specs.Faults.{fault_text}
 use Rattle.salvage.specs.declared.fault.SalvageFault.{SalvageFault}
@@ -101,13 +103,15 @@ pub data IsRefusal : Asked → RunFault → Type 0 where
   not_rehearsed : (path : List ℕ) (outcomes table : Option (List ℕ)) (limits : Limits) (always_post : Bool) (fault : RunFault) →
       is_some table ≡ is_some outcomes → IsRehearsalRefusal path table fault → IsRefusal (rehearses path outcomes limits always_post) fault
 
--- What the words of a command line may ask for, where there are `count` of them, the program's name among them: without others
--- it is `rehearse -`; and there is always a limit on all children.
-pub record MayAsk (count : ℕ) (asked : Asked) : Type 0 where
-  pub no_words : count ≤ 1 → asked ≡ rehearses (codes "-") None no_limits false
-  pub limited : IfSome (limits_in asked) AreLimits
+-- What the words of a command line ask for, the program's name among them: without others it is `rehearse -`; others ask for what the manual says of
+-- the command to which clap matches them; and there is always a limit on all children.
+pub record AskFor (words : List (List ℕ)) (request : Request) : Type 0 where
+  pub no_words : length words ≤ 1 → asked_by request ≡ rehearses (codes "-") None no_limits false
+  pub said : 1 < length words → IsAskedFor words request
+  pub limited : IfSome (limits_in (asked_by request)) AreLimits
 
--- The exit status of the program on a command line of `count` words: that of an answer to what they may ask for, or 125.
-pub data IsExit (count : ℕ) : ℕ → Type 0 where
-  answered : (asked : Asked) (text warnings : List ℕ) (status : ℕ) → MayAsk count asked → IsAnswerTo asked text warnings status → IsExit count status
-  refused : IsExit count 125
+-- The exit status of the program on a command line of these words: that of an answer to what they ask for, or 125.
+pub data IsExit (words : List (List ℕ)) : ℕ → Type 0 where
+  answered : (request : Request) (text warnings : List ℕ) (status : ℕ) → AskFor words request → IsAnswerTo (asked_by request) text warnings status →
+      IsExit words status
+  refused : IsExit words 125

@@ -2,23 +2,23 @@
 
 ghost use Rattle.std.specs.Prelude.{◌≡◌, ◌⊎◌, ◌||◌, true, ℕ, List, [], ◌++◌, Some, IfOk, IfErr, is_some, map, string_bytes, codes};
 ghost use Rattle.std.specs.Option.{option_map};
-ghost use Rattle.command_line.specs.Requests.{asked_by, checks, runs, rehearses, salvages, shows};
-ghost use Rattle.dag_files.specs.Beside.{IsFileFault};
-ghost use Rattle.dag_texts.specs.Checked.{IsCheckOf};
+ghost use Rattle.dag_main_args.specs.Requests.{asked_by, checks, runs, rehearses, salvages, shows};
+ghost use Rattle.dag_main_files.specs.Beside.{IsFileFault};
+ghost use Rattle.dag_main_check.specs.Checked.{IsCheckOf};
 ghost use Rattle.folder_answers.specs.Answered.{IsCheckOfSome, IsCheckRefusal};
-ghost use Rattle.dag_texts.specs.declared.fault.RunFault.TheVariants.{Memory};
+ghost use Rattle.dag_main_check.specs.declared.fault.RunFault.TheVariants.{Memory};
 ghost use Rattle.salvage.specs.Faults.{fault_text};
 ghost use Rattle.salvage.specs.Refused.{IsSalvageFault};
 ghost use Rattle.dagrun.specs.Answered.{is_run, IsAnswerTo, IsAnswerFrom, IsCheckWith, IsToldCause, IsRefusal};
 
-use command_line::{Request, RunOptions};
-use dag_files::{Folder, Place, Reading, bytes_of, files_of, read_input, refused};
-use dag_main::{Screen, run_dag};
-use dag_texts::{Answer, RunFault};
+use dag_main_args::{Request, RunOptions};
+use dag_main_check::{Answer, RunFault};
+use dag_main_files::{Folder, Place, Reading, bytes_of, files_of, read_input, refused};
+use dag_main_inspect::{Question, report_here, told_here};
+use dag_main_run::{Screen, run_dag};
 use failure_answers::why_here;
 use folder_answers::{check_here, rehearse_here};
 use hint_answers::{Wanted, hints_of};
-use run_answers::{Question, report_here, told_here};
 use run_times::times_here;
 use salvage::{SalvageFault, salvage_here};
 use std::alloc::Global;

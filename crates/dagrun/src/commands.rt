@@ -1,18 +1,18 @@
 //! The program's commands over the system's files and streams.
 
-ghost use Rattle.std.specs.Prelude.{◌≡◌, true, IfOk, IfErr, length, string_bytes};
-ghost use Rattle.command_line.specs.Requests.{asked_by};
-ghost use Rattle.dag_files.specs.Beside.{IsFileFault};
+ghost use Rattle.std.specs.Prelude.{◌≡◌, true, IfOk, IfErr, map, string_bytes};
+ghost use Rattle.dag_main_args.specs.Requests.{asked_by};
+ghost use Rattle.dag_main_files.specs.Beside.{IsFileFault};
 ghost use Rattle.dagrun.specs.Answered.{is_run, IsAnswerTo, IsRefusal, IsExit};
 ghost use Rattle.answer_console.specs.Telling.{IsStatusOf};
 
 use crate::answers::{REFUSED, answer_in};
 use crate::telling::{tell_more, tell_totals, tell_worker};
 use answer_console::{SystemConsole, tell_answer};
-use command_line::{Request, WordsFault, read_words};
-use dag_files::{StreamOrFolder, SystemFolder, refused};
-use dag_main::Screen;
-use dag_texts::{Answer, RunFault};
+use dag_main_args::{Request, WordsFault, read_words};
+use dag_main_check::{Answer, RunFault};
+use dag_main_files::{StreamOrFolder, SystemFolder, refused};
+use dag_main_run::Screen;
 use std::env;
 use std::fs::File;
 use std::process::Processes;
@@ -28,8 +28,8 @@ use std::time::Clock;
 pub fn run<
     R: Files<File = File> + Processes + Clock + Input + Print + Screen + AllocGlobal + Copy + Drop,
 >(rt: &R, words: &[&str]) -> u8
-    // It is that of the answer to what the words may ask for, or 125.
-    ensures { IsExit (length words.now) result }
+    // It is that of the answer to what the words ask for, or 125.
+    ensures { IsExit (map (λ w. w.now) words.now) result }
 {
     match read_words(rt.alloc(), words) {
         Ok(request) => {

@@ -1,7 +1,7 @@
 //! What a person at a terminal is told behind the line of a refusal, and behind a status.
 
-use dag_files::{Place, bytes_of, read_input};
-use dag_main::Screen;
+use dag_main_files::{Place, bytes_of, read_input};
+use dag_main_run::Screen;
 use log_lines::{read_line, unquoted, whole_lines};
 use refusal_hints::{Evidence, Refusal, hint_text};
 use std::alloc::{AllocError, Global};

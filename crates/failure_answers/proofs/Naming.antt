@@ -4,7 +4,7 @@ use Rattle.std.proofs.lemmas.List.{length-map}
 use Rattle.std.proofs.lemmas.Bool.{cases_eq}
 use Rattle.node_machine.specs.declared.Record.{Record}
 use Rattle.run_plan.specs.Plan.{Plan}
-use Rattle.dag_texts.specs.Warnings.{warning_lines}
+use Rattle.dag_main_check.specs.Warnings.{warning_lines}
 use Rattle.failure_report.specs.declared.why.Why.TheVariants as why
 use Rattle.failure_report.specs.Told.{IsWhyOfAll}
 use Rattle.failure_report.specs.Named.{IsWhyOfNamed}

@@ -1,16 +1,16 @@
 -- What `why` answers.
 use Rattle.std.specs.Prelude.{◌≡◌, ◌≢◌, ℕ, List, [], length, Option, Some, IsTrue}
-use Rattle.splices.specs.Opening.{Files}
-use Rattle.splices.specs.FileSet.{bytes_of, entries_of}
-use Rattle.splices.specs.declared.file_set.FileSet.{FileSet}
+use Rattle.splices_flat.specs.Opening.{Files}
+use Rattle.splices_flat.specs.FileSet.{bytes_of, entries_of}
+use Rattle.splices_flat.specs.declared.file_set.FileSet.{FileSet}
 use Rattle.node_machine.specs.declared.Record.{Record}
 use Rattle.run_plan.specs.Plan.{Plan}
 use Rattle.sched_core.specs.Run.{written, is_lawful}
-use Rattle.dag_texts.specs.Planned.{IsPlanWith}
-use Rattle.dag_texts.specs.Warnings.{warning_lines}
-use Rattle.dag_files.specs.Folder.{IsReadFrom}
-use Rattle.run_answers.specs.LastRound.{IsLastRound}
-use Rattle.run_answers.specs.Statused.{journal_bytes, flag_by, records_at}
+use Rattle.dag_main_check.specs.Planned.{IsPlanWith}
+use Rattle.dag_main_check.specs.Warnings.{warning_lines}
+use Rattle.dag_main_files.specs.Folder.{IsReadFrom}
+use Rattle.dag_main_inspect.specs.LastRound.{IsLastRound}
+use Rattle.dag_main_inspect.specs.Statused.{journal_bytes, flag_by, records_at}
 use Rattle.failure_report.specs.Told.{HasAllFailed}
 use Rattle.failure_report.specs.Named.{HasNamed, IsUnknownName}
 

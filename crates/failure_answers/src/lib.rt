@@ -2,20 +2,20 @@
 #![tactic(auto)]
 
 ghost use Rattle.std.specs.Prelude.{◌≡◌, map, IfOk, IfErr, option_map, string_bytes};
-ghost use Rattle.dag_texts.specs.declared.fault.RunFault.TheVariants.{Memory};
-ghost use Rattle.splices.specs.FileSet.{bytes_of, entries_of};
-ghost use Rattle.run_answers.specs.Asked.{IsToldFault};
-ghost use Rattle.run_answers.specs.Statused.{IsStatusFault};
-ghost use Rattle.run_answers.specs.declared.by_journal.Question.TheVariants.{Status};
+ghost use Rattle.dag_main_check.specs.declared.fault.RunFault.TheVariants.{Memory};
+ghost use Rattle.splices_flat.specs.FileSet.{bytes_of, entries_of};
+ghost use Rattle.dag_main_inspect.specs.Asked.{IsToldFault};
+ghost use Rattle.dag_main_inspect.specs.Statused.{IsStatusFault};
+ghost use Rattle.dag_main_inspect.specs.declared.by_journal.Question.TheVariants.{Status};
 ghost use Rattle.failure_answers.specs.Answered.{IsAnswerOf, IsWhyFrom, IsWhyOf, IsWhyHeld};
 
-use dag_files::{Folder, Place, Reading, bytes_of, files_of, named};
+use dag_main_check::{Answer, RunFault, warning_text};
+use dag_main_files::{Folder, Place, Reading, bytes_of, files_of, named};
+use dag_main_inspect::{bytes_in, core_of, last_round, plan_by, records_of};
 use dag_reader::Text;
-use dag_texts::{Answer, RunFault, warning_text};
 use failure_report::{Surroundings, Why, why_text};
-use run_answers::{bytes_in, core_of, last_round, plan_by, records_of};
 use sched_core::Core;
-use splices::FileSet;
+use splices_flat::FileSet;
 use std::alloc::Global;
 use std::fs::{self, File};
 use std::io::ErrorKind;

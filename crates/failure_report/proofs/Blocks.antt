@@ -2,7 +2,7 @@
 use Rattle.std.proofs.Common.{◌≡◌, ℕ, ◌+◌, ◌<◌, List, [], ◌++◌, Option, Some, length, take, get_or, sym, ap, ◌∙◌, subst}
 use Rattle.std.proofs.lemmas.List.{take_more}
 use Rattle.node_machine.specs.declared.Ended.{Ended}
-use Rattle.node_specs.specs.Node.{NodeSpec}
+use Rattle.run_plan_node.specs.Node.{NodeSpec}
 use Rattle.run_plan.specs.Plan.{Plan, node_at}
 use Rattle.failure_report.specs.declared.failed.Failure.{Failure}
 use Rattle.failure_report.specs.declared.why.Told.{Told}

@@ -4,8 +4,8 @@
 use crate::quotes::push_all_shown;
 use dag_reader::Text;
 use log_lines::push_word;
-use node_specs::ChildCommand;
-use splices::path_in;
+use run_plan_node::ChildCommand;
+use splices_flat::path_in;
 use std::alloc::{AllocError, Global};
 
 /// How a child is started, seen from a folder.

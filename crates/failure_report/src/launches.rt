@@ -3,7 +3,7 @@
 ghost use Rattle.std.specs.Prelude.{◌≡◌};
 
 use node_machine::Record;
-use node_specs::PhaseFacts;
+use run_plan_node::PhaseFacts;
 use sched_core::Core;
 use std::alloc::{AllocError, Global};
 

@@ -8,7 +8,7 @@ use crate::heads::{phase_words, push_attempt, push_ending};
 use crate::told::{Run, Story, push_story};
 use log_lines::unquoted;
 use node_machine::{Ended, Key, Phase};
-use node_specs::NodeSpec;
+use run_plan_node::NodeSpec;
 use sched_core::Core;
 use status_report::{Status, status_at};
 use std::alloc::{AllocError, Global};

@@ -1,7 +1,7 @@
 //! What is told of a node in error, or of one that runs: its command, its files, and what is found in them.
 
 ghost use Rattle.std.specs.Prelude.{◌≡◌, IfOk, string_bytes};
-ghost use Rattle.node_specs.specs.Commands.{starts_child};
+ghost use Rattle.run_plan_node.specs.Commands.{starts_child};
 ghost use Rattle.failure_report.specs.Told.{IsFailureBlock};
 
 use crate::details::{Details, Quote, SeenCommand, push_details, seen_command};
@@ -12,7 +12,7 @@ use crate::notes::{LogNotes, PhaseNotes, Refused};
 use crate::quotes::push_all_shown;
 use log_lines::unquoted;
 use node_machine::{Ended, Key, Outcome, Phase};
-use node_specs::{NodeSpec, PhaseFacts};
+use run_plan_node::{NodeSpec, PhaseFacts};
 use sched_core::Core;
 use std::alloc::{AllocError, Global};
 use std::fs::File;

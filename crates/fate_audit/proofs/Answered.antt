@@ -10,16 +10,16 @@ use Rattle.sched_core.specs.Run.{written, table_of, is_lawful, is_over, is_finis
 use Rattle.sched_core.specs.Fate.{Fate}
 use Rattle.sched_core.proofs.LivesLemmas.{lawful-tail}
 use Rattle.sched_core.proofs.Finished.{lawful_part}
-use Rattle.event_journal.specs.declared.fault.JournalFault.{JournalFault}
-use Rattle.event_journal.specs.Groups.{slot_at, IsSlotAt}
-use Rattle.event_journal.specs.Image.{Header, Found, groups_in}
-use Rattle.event_journal.specs.Journal.{Replay}
-use Rattle.event_journal.specs.Reading.{FailsAs, ReadsRecords, replay_for}
-use Rattle.event_journal.specs.declared.fault.JournalFault.TheVariants as journal
+use Rattle.event_journal_log.specs.declared.fault.JournalFault.{JournalFault}
+use Rattle.event_journal_log.specs.Groups.{slot_at, IsSlotAt}
+use Rattle.event_journal_log.specs.Image.{Header, Found, groups_in}
+use Rattle.event_journal_log.specs.Journal.{Replay}
+use Rattle.event_journal_log.specs.Reading.{FailsAs, ReadsRecords, replay_for}
+use Rattle.event_journal_log.specs.declared.fault.JournalFault.TheVariants as journal
 use Rattle.recovery.specs.Replay.{IsFirstForeign, IsForeignSlot, IsReplayFault}
 use Rattle.recovery.proofs.Slots.{first_at, foreign_in}
-use Rattle.run_manager.specs.declared.fault.ManagerFault.TheVariants as manager
-use Rattle.run_manager.specs.Inputs.{replay_by}
+use Rattle.recovery_manager.specs.declared.fault.ManagerFault.TheVariants as manager
+use Rattle.recovery_manager.specs.Inputs.{replay_by}
 use Rattle.fate_audit.specs.Fates.{AreFatesOf}
 use Rattle.fate_audit.specs.Shown.{AreShown}
 use Rattle.fate_audit.specs.Audit.{HasNoRecords, IsJournalOf, AreSound, IsAuditOf, IsAuditNo, no_journal, foreign_record, no_finish, had_abort, no_memory, no_of}

@@ -4,7 +4,7 @@ use Rattle.std.proofs.lemmas.Bool.{cases_eq, false≢true, ltb-true}
 use Rattle.std.proofs.lemmas.List.{get_or-set_same, get_or-set_other, length-set}
 use Rattle.node_machine.specs.declared.State.TheVariants.{NotRun}
 use Rattle.node_machine.specs.Story.{Table}
-use Rattle.splices.specs.Dag.{Dag}
+use Rattle.splices_flat.specs.Dag.{Dag}
 use Rattle.dag_graph.specs.Graph.{rank_in, IsOrderOf}
 use Rattle.run_plan.specs.Plan.{Plan, count_of, IsRankedBy}
 use Rattle.sched_core.specs.Fate.{Fate, AreFates, fate_by, without_attempts}

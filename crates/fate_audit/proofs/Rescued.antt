@@ -5,11 +5,11 @@ use Rattle.std.specs.List.{range_with_len}
 use Rattle.std.specs.Option.{option_map}
 use Rattle.std.proofs.lemmas.Bool.{cases_eq}
 use Rattle.std.proofs.lemmas.Bool.{ne_eqb}
-use Rattle.splices.specs.Dag.{Dag}
-use Rattle.splices.specs.Opening.{Files}
-use Rattle.splices.specs.Opened.{dag_at}
-use Rattle.splices.specs.declared.flat.CategoryLimit.{CategoryLimit}
-use Rattle.splices.specs.declared.flat.FlatNode.{FlatNode}
+use Rattle.splices_flat.specs.Dag.{Dag}
+use Rattle.splices_flat.specs.Opening.{Files}
+use Rattle.splices_flat.specs.Opened.{dag_at}
+use Rattle.splices_flat.specs.declared.flat.CategoryLimit.{CategoryLimit}
+use Rattle.splices_flat.specs.declared.flat.FlatNode.{FlatNode}
 use Rattle.dag_graph.specs.Graph.{Network, parents_of}
 use Rattle.node_machine.specs.Story.{is_good_after}
 use Rattle.rescue_file.specs.Written.{ordinary_names, marked, rescue_text_of}
@@ -17,16 +17,16 @@ use Rattle.rescue_file.specs.Reading.{rescued_of}
 use Rattle.rescue_file.proofs.OpenedNames.{dag_fit}
 use Rattle.rescue_file.proofs.ReadBack.{read_again}
 use Rattle.run_plan.specs.declared.fault.PlanFault.{PlanFault}
-use Rattle.node_specs.specs.Node.{Job, NodeSpec, no_node}
+use Rattle.run_plan_node.specs.Node.{Job, NodeSpec, no_node}
 use Rattle.run_plan.specs.Plan.{Plan, node_at, count_of}
-use Rattle.node_specs.specs.Specs.{spec_of}
+use Rattle.run_plan_node.specs.Specs.{spec_of}
 use Rattle.run_plan.specs.Specs.{Sources, specs_from, final_spec, plan_of, is_listed}
 use Rattle.run_plan.specs.Submitted.{◌>>=◌, first_fault, all_nodes, rescued_in, in_rescue, sources_of, plan_at}
 use Rattle.run_plan.proofs.PlanFacts.{count-is}
 use Rattle.node_machine.specs.declared.Record.{Record}
 use Rattle.sched_core.specs.Run.{history, is_done, needs_rescue}
 use Rattle.sched_core.specs.Rounds.{Round, IsRound, IsRescuedBy, AreRounds}
-use Rattle.run_manager.specs.Rescue.{marks_of, rescue_text_for}
+use Rattle.recovery_manager.specs.Rescue.{marks_of, rescue_text_for}
 
 -- a part of a node's specification that no mark changes
 abbrev IsUnmarked : {X : Type 0} → (NodeSpec → X) → Type 0

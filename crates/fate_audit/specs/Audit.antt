@@ -5,11 +5,11 @@ use Rattle.run_plan.specs.Plan.{Plan}
 use Rattle.node_machine.specs.declared.Record.{Record}
 use Rattle.sched_core.specs.Run.{table_of, is_lawful, is_over, is_finished, is_aborted}
 use Rattle.sched_core.specs.Fate.{Fate}
-use Rattle.event_journal.specs.declared.fault.JournalFault.{JournalFault}
-use Rattle.event_journal.specs.declared.fault.JournalFault.TheVariants as journal
-use Rattle.event_journal.specs.Image.{Header, Found, groups_in}
-use Rattle.run_manager.specs.Managed.{read_of}
-use Rattle.run_manager.specs.Inputs.{replay_by}
+use Rattle.event_journal_log.specs.declared.fault.JournalFault.{JournalFault}
+use Rattle.event_journal_log.specs.declared.fault.JournalFault.TheVariants as journal
+use Rattle.event_journal_log.specs.Image.{Header, Found, groups_in}
+use Rattle.recovery_manager.specs.Managed.{read_of}
+use Rattle.recovery_manager.specs.Inputs.{replay_by}
 use Rattle.recovery.specs.Replay.{IsForeignSlot}
 use Rattle.fate_audit.specs.Fates.{AreFatesOf}
 use Rattle.fate_audit.specs.declared.fault.AuditNo.{AuditNo}

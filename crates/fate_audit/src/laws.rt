@@ -2,8 +2,8 @@
 
 ghost use Rattle.std.specs.Prelude.{Bool, ◌≡◌, ◌≢◌, ℕ, ◌<◌, List, ◌∷◌, Option, Some, Ok, IsTrue};
 ghost use Rattle.node_machine.specs.Story.{Table};
-ghost use Rattle.splices.specs.Opening.{Files};
-ghost use Rattle.splices.specs.Opened.{dag_at};
+ghost use Rattle.splices_flat.specs.Opening.{Files};
+ghost use Rattle.splices_flat.specs.Opened.{dag_at};
 ghost use Rattle.dag_graph.specs.Graph.{Network};
 ghost use Rattle.run_plan.specs.Plan.{Plan, node_at, count_of, IsRankedBy};
 ghost use Rattle.run_plan.specs.Submitted.{plan_at};
@@ -11,7 +11,7 @@ ghost use Rattle.node_machine.specs.declared.Record.{Record};
 ghost use Rattle.sched_core.specs.Run.{needs_rescue};
 ghost use Rattle.sched_core.specs.Fate.{Fate, AreFates};
 ghost use Rattle.sched_core.specs.Rounds.{Round, IsRound, IsRescuedBy, AreRounds};
-ghost use Rattle.run_manager.specs.Rescue.{rescue_text_for};
+ghost use Rattle.recovery_manager.specs.Rescue.{rescue_text_for};
 ghost use Rattle.fate_audit.specs.Fates.{fate_at, AreFatesOf};
 ghost use Rattle.fate_audit.specs.Audit.{AreSound, IsAuditOf, IsAuditNo};
 ghost use Rattle.fate_audit.specs.declared.fault.AuditNo.{AuditNo};

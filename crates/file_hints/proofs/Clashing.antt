@@ -1,7 +1,7 @@
 -- The clashes of one writer more.
 use Rattle.std.proofs.Common.{◌≡◌, ◌∙◌, sym, ap, refl, subst, inl, inr, ℕ, ◌+◌, ◌<◌, List, [], ◌∷◌, ◌++◌, Option, Some, None, length, get_or, take, drop, append_assoc}
 use Rattle.std.proofs.lemmas.List.{append-nil, take_more, drop_more}
-use Rattle.splices.specs.declared.flat.Edge.{Edge}
+use Rattle.splices_flat.specs.declared.flat.Edge.{Edge}
 use Rattle.file_hints.specs.Outputs.{last_from, a_clash, HasClash, AreClashes}
 use Rattle.file_hints.specs.declared.outputs.Writer.{Writer}
 use Rattle.file_hints.specs.declared.outputs.Clash.{Clash}

@@ -5,7 +5,7 @@ use Rattle.dag_reader.specs.declared.command.Command.{Command}
 use Rattle.dag_reader.specs.declared.command.Command.TheVariants.{Job, Final, Script, Retry, PreSkip, AbortDagOn}
 use Rattle.dag_reader.specs.declared.command.Target.{Target}
 use Rattle.dag_reader.specs.declared.command.Target.TheVariants.{Node, AllNodes}
-use Rattle.splices.specs.Settings.{line_of}
+use Rattle.splices_flat.specs.Settings.{line_of}
 use Rattle.file_hints.specs.Submitted.{at_line}
 use Rattle.file_hints.specs.declared.hint.Hint.{Hint}
 use Rattle.file_hints.specs.declared.hint.Hint.TheVariants.{SkipValue, SignalValue, NoopScript}

@@ -2,7 +2,7 @@
 use Rattle.std.specs.Prelude.{◌≡◌, ◌⊎◌, ℕ, List, [], ◌∷◌, ◌++◌, Option, Some, None, if◌then◌else◌}
 use Rattle.std.specs.Str.{bytes_eq}
 use Rattle.dag_graph.specs.Graph.{IsAncestor}
-use Rattle.splices.specs.declared.flat.Edge.{Edge}
+use Rattle.splices_flat.specs.declared.flat.Edge.{Edge}
 use Rattle.file_hints.specs.declared.outputs.Writer.{Writer}
 use Rattle.file_hints.specs.declared.outputs.Clash.{Clash}
 

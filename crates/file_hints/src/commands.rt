@@ -7,7 +7,7 @@ ghost use Rattle.file_hints.specs.Commands.{dag_notes, note_of, skip_note, signa
 use crate::hint::{Finding, Hint};
 use crate::submit::push_hint;
 use dag_reader::{Command, Target, Text};
-use splices::target_line;
+use splices_flat::target_line;
 use std::alloc::{AllocError, Global};
 
 /// What would be otherwise of a DAG file with these lines: PRE_SKIP with a value that is no exit code; values below

@@ -1,24 +1,24 @@
 -- What is said of files that are read where they are held is said of those that are held.
 use Rattle.std.proofs.Common.{◌≡◌, ℕ, Bool, true, false, List, [], ◌∷◌, Option, Some, None, Result, Ok, Err, refl, sym, ap, ◌∙◌, if◌then◌else◌}
 use Rattle.std.specs.Option.{option_map}
-use Rattle.splices.specs.Dag.{Dag}
-use Rattle.splices.specs.Opening.{Files}
-use Rattle.splices.specs.declared.flat.FlatNode.{FlatNode}
-use Rattle.splices.specs.declared.fault.DagFault.{DagFault}
-use Rattle.splices.specs.declared.fault.DagFault.TheVariants.{MissingFile}
-use Rattle.splices.specs.Opened.{dag_at}
-use Rattle.node_specs.specs.Node.{Job, Program}
+use Rattle.splices_flat.specs.Dag.{Dag}
+use Rattle.splices_flat.specs.Opening.{Files}
+use Rattle.splices_flat.specs.declared.flat.FlatNode.{FlatNode}
+use Rattle.splices_flat.specs.declared.fault.DagFault.{DagFault}
+use Rattle.splices_flat.specs.declared.fault.DagFault.TheVariants.{MissingFile}
+use Rattle.splices_flat.specs.Opened.{dag_at}
+use Rattle.run_plan_node.specs.Node.{Job, Program}
 use Rattle.run_plan.specs.declared.fault.PlanFault.{PlanFault}
 use Rattle.run_plan.specs.declared.fault.PlanFault.TheVariants as plans
 use Rattle.run_plan.specs.Submitted.{◌>>=◌, submit_at, described, assigned_to, described_by, job_at, first_fault, all_nodes}
-use Rattle.dag_texts.specs.Planned.{IsGraphFault, not_opened, cyclic, opening_had_no_memory}
-use Rattle.dag_texts.specs.Checked.{IsCheckOf, IsCheckFault, has_no_graph, not_sound, checking_had_no_memory}
-use Rattle.dag_texts.specs.declared.fault.RunFault.{RunFault}
-use Rattle.dag_texts.specs.declared.fault.RunFault.TheVariants.{Memory}
-use Rattle.splices.specs.FileSet.{bytes_of}
-use Rattle.splices.specs.declared.file_set.FileSet.{FileSet}
-use Rattle.dag_files.specs.Folder.{IsReadFrom}
-use Rattle.rehearsal.specs.Rehearsed.{IsRehearsalOf}
+use Rattle.dag_main_check.specs.Planned.{IsGraphFault, not_opened, cyclic, opening_had_no_memory}
+use Rattle.dag_main_check.specs.Checked.{IsCheckOf, IsCheckFault, has_no_graph, not_sound, checking_had_no_memory}
+use Rattle.dag_main_check.specs.declared.fault.RunFault.{RunFault}
+use Rattle.dag_main_check.specs.declared.fault.RunFault.TheVariants.{Memory}
+use Rattle.splices_flat.specs.FileSet.{bytes_of}
+use Rattle.splices_flat.specs.declared.file_set.FileSet.{FileSet}
+use Rattle.dag_main_files.specs.Folder.{IsReadFrom}
+use Rattle.dag_main_rehearse.specs.Rehearsed.{IsRehearsalOf}
 use Rattle.throttles.specs.declared.Limits.{Limits}
 use Rattle.folder_answers.specs.Answered.{missing_in, IsConfirmed, stays, came_meanwhile, asking_had_no_memory, IsCheckRefusal, not_checked, file_came, IsCheckRefusalFrom, held_not_checked, held_file_came}
 use Rattle.folder_answers.proofs.Openings.{dag-same}

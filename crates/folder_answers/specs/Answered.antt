@@ -1,20 +1,20 @@
 -- What `check` and `rehearse` answer of the files of a folder, and why they are refused.
 use Rattle.std.specs.Prelude.{◌≡◌, ℕ, Bool, List, Option, Some, None, String, string_bytes}
 use Rattle.std.specs.Global.{Global}
-use Rattle.splices.specs.Opening.{Files}
-use Rattle.splices.specs.FileSet.{bytes_of}
-use Rattle.splices.specs.declared.file_set.FileSet.{FileSet}
-use Rattle.splices.specs.declared.fault.DagFault.{DagFault}
-use Rattle.splices.specs.declared.fault.DagFault.TheVariants as files
+use Rattle.splices_flat.specs.Opening.{Files}
+use Rattle.splices_flat.specs.FileSet.{bytes_of}
+use Rattle.splices_flat.specs.declared.file_set.FileSet.{FileSet}
+use Rattle.splices_flat.specs.declared.fault.DagFault.{DagFault}
+use Rattle.splices_flat.specs.declared.fault.DagFault.TheVariants as files
 use Rattle.run_plan.specs.declared.fault.PlanFault.{PlanFault}
 use Rattle.run_plan.specs.declared.fault.PlanFault.TheVariants as plans
 use Rattle.throttles.specs.declared.Limits.{Limits}
-use Rattle.dag_texts.specs.declared.fault.RunFault.{RunFault}
-use Rattle.dag_texts.specs.declared.fault.RunFault.TheVariants.{InFiles, InPlan, FileRefused, Memory}
-use Rattle.dag_texts.specs.Checked.{IsCheckOf, IsCheckFault}
-use Rattle.dag_files.specs.Beside.{IsInputFault}
-use Rattle.dag_files.specs.Folder.{IsReadFrom}
-use Rattle.rehearsal.specs.Rehearsed.{IsRehearsalOf, IsRehearsalFault}
+use Rattle.dag_main_check.specs.declared.fault.RunFault.{RunFault}
+use Rattle.dag_main_check.specs.declared.fault.RunFault.TheVariants.{InFiles, InPlan, FileRefused, Memory}
+use Rattle.dag_main_check.specs.Checked.{IsCheckOf, IsCheckFault}
+use Rattle.dag_main_files.specs.Beside.{IsInputFault}
+use Rattle.dag_main_files.specs.Folder.{IsReadFrom}
+use Rattle.dag_main_rehearse.specs.Rehearsed.{IsRehearsalOf, IsRehearsalFault}
 
 -- the path of the file of which a fault tells that it is missing
 abbrev pub missing_file : DagFault → Option (List ℕ)

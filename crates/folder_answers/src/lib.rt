@@ -3,15 +3,15 @@
 
 ghost use Rattle.std.specs.Prelude.{◌≡◌, None, Some, IfOk, IfErr, string_bytes};
 ghost use Rattle.std.specs.Option.{option_map};
-ghost use Rattle.dag_texts.specs.Checked.{IsCheckOf};
+ghost use Rattle.dag_main_check.specs.Checked.{IsCheckOf};
 ghost use Rattle.folder_answers.specs.Answered.{missing_in, IsCheckOfSome, IsCheckRefusal, IsCheckRefusalFrom, IsConfirmed, IsRehearsalOfSome, IsRehearsalRefusal};
-ghost use Rattle.rehearsal.specs.Rehearsed.{IsRehearsalOf};
+ghost use Rattle.dag_main_rehearse.specs.Rehearsed.{IsRehearsalOf};
 
-use dag_files::{Folder, Reading, files_of};
-use dag_texts::{Answer, RunFault, check_text};
-use rehearsal::rehearse_text;
+use dag_main_check::{Answer, RunFault, check_text};
+use dag_main_files::{Folder, Reading, files_of};
+use dag_main_rehearse::rehearse_text;
 use run_plan::PlanFault;
-use splices::DagFault;
+use splices_flat::DagFault;
 use std::alloc::Global;
 use throttles::Limits;
 

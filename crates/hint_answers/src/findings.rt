@@ -2,7 +2,7 @@
 
 use dag_reader::Text;
 use file_hints::{Finding, Hint, finding_line};
-use splices::{FileSet, NameTable};
+use splices_flat::{FileSet, NameTable};
 use std::alloc::{AllocError, Global};
 
 /// What is found in a file.

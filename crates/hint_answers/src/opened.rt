@@ -1,7 +1,7 @@
 //! The DAG files that are opened, with the folders from which their paths are taken.
 
 use dag_reader::{Command, DagFile, ReadFault, Text, Word, read_dag};
-use splices::{FileSet, NameTable, path_in};
+use splices_flat::{FileSet, NameTable, path_in};
 use std::alloc::{AllocError, Global};
 
 /// How many files are opened at most: the DAG file and its splices.

@@ -5,8 +5,8 @@ use crate::jobs::{JobFile, JobFiles};
 use dag_graph::{Graph, GraphFault};
 use dag_reader::Text;
 use file_hints::{Clash, Finding, Hint, Writer, clashes};
-use node_specs::ChildCommand;
-use splices::NameTable;
+use run_plan_node::ChildCommand;
+use splices_flat::NameTable;
 use std::alloc::{AllocError, Global};
 
 /// The files that a node writes, and the place of its submit file.

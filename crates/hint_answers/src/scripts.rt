@@ -4,7 +4,7 @@ use crate::findings::Findings;
 use crate::looking::look_at_program;
 use crate::opened::{Opened, dir_text, lines_of};
 use dag_reader::{Command, Target, Word};
-use splices::{FileSet, NameTable, path_in, target_line};
+use splices_flat::{FileSet, NameTable, path_in, target_line};
 use std::alloc::{AllocError, Global};
 use std::fs::File;
 use std::rt::Files;

@@ -1,75 +1,10 @@
-//! The children of a run: started, waited for, killed; and the run itself, each launch handed over
-//! to a starter and each ending recorded as the starter told it.
-//!
-//! The rules are those of the HTCondor manual, DAGMan workflows, as docs/MANUAL.md states them.
+//! The children of a run: what drives a run by a starter, and the starters that there are. Each part is a crate of its own.
 #![tactic(auto)]
 
-mod driving;
-pub mod examples;
-mod keys;
-pub mod laws;
-mod records;
-mod rounds;
-mod starter;
-
-pub use driving::{DriveFault, RunEnd, drive};
-pub use keys::{are_same, key_at};
-use node_machine::{Key, Outcome};
-use node_specs::ChildCommand;
-pub use rounds::launch_round;
-pub use starter::{Starter, System};
-use std::snapshot::Snapshot;
-use thiserror::Error;
-
-/// What came of a start.
-#[derive(Clone, Copy, Debug, PartialEq, Eq)]
-pub enum Started {
-    /// The child runs.
-    Running,
-    /// It could not be started.
-    NotStarted,
-}
-
-/// What came of a kill.
-#[derive(Clone, Copy, Debug, PartialEq, Eq)]
-pub enum Killed {
-    /// The child ended, and was waited for.
-    Ended,
-    /// The system refused the kill or the wait: the child is let go.
-    LetGo,
-}
-
-/// A call that was answered. Of a command nothing is kept but for contracts to read.
-pub enum Call {
-    /// A child was to be started by this command, with this answer.
-    Started(Key, Snapshot<ChildCommand>, Started),
-    /// A child was told to have ended.
-    Ended(Key, Outcome),
-    /// A child was killed.
-    Killed(Key),
-}
-
-// Each function that lets a value go calls this; a derived drop stands in each, part by part.
-impl Drop for Call {
-    fn drop(self) {
-        match self {
-            Call::Started(_, _, _) => {}
-            Call::Ended(_, _) => {}
-            Call::Killed(_) => {}
-        }
-    }
-}
-
-/// Why a call of a starter is refused.
-#[derive(Clone, Copy, Debug, PartialEq, Eq, Error)]
-pub enum StartFault {
-    /// Memory for the child was refused. None was started.
-    #[error("A1 StartMemory")]
-    StartMemory,
-    /// The system refused the question or the wait. The children stay as they were.
-    #[error("A2 WaitFault")]
-    WaitFault,
-    /// No child runs.
-    #[error("A4 NoChild")]
-    NoChild,
-}
+pub use job_starter_drive::{
+    Call, CallLog, DriveFault, Killed, RunEnd, StartFault, Started, Starter, System, drive,
+    launch_round, no_answer, no_memory,
+};
+pub use job_starter_local::{ChildWatcher, Launcher, LocalSystem, Unwatched};
+pub use job_starter_poll::ProcessStarter;
+pub use job_starter_table::{Script, ScriptedStarter};

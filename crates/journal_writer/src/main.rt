@@ -3,12 +3,12 @@
 #![tactic(auto)]
 
 ghost use Rattle.std.specs.Prelude.{◌≡◌, IfOk, IsTrue, IsFalse};
-ghost use Rattle.event_journal.specs.Slot.{has_slot};
-ghost use Rattle.event_journal.specs.Journal.{journal_disk, is_broken, IsSettled};
+ghost use Rattle.event_journal_log.specs.Slot.{has_slot};
+ghost use Rattle.event_journal_log.specs.Journal.{journal_disk, is_broken, IsSettled};
 
 use anyhow::{Result, bail};
-use event_journal::{Disk, Journal, JournalFault, Opened};
-use journal_disks::FileDisk;
+use event_journal::FileDisk;
+use event_journal_log::{Disk, Journal, JournalFault, Opened};
 use node_machine::{Key, Phase, Record};
 use std::alloc::Global;
 use std::env;

@@ -1,12 +1,11 @@
 //! Journals on disks in memory, and the growth of such a disk.
 ghost use Rattle.std.specs.Prelude.{◌≡◌, ◌≤◌, OnErr, IsTrue, IsFalse, length};
-ghost use Rattle.event_journal.specs.Slot.{has_slot};
-ghost use Rattle.event_journal.specs.Journal.{journal_disk, is_broken, IsSettled};
+ghost use Rattle.event_journal_log.specs.Slot.{has_slot};
+ghost use Rattle.event_journal_log.specs.Journal.{journal_disk, is_broken, IsSettled};
 
 use crate::said::say;
 use anyhow::{Result, bail};
-use event_journal::{Disk, DiskFault, Journal, JournalFault, Opened, has_slot};
-use journal_disks::MemDisk;
+use event_journal::{Disk, DiskFault, Journal, JournalFault, MemDisk, Opened, has_slot};
 use node_machine::{Key, Outcome, Phase, Record};
 use std::alloc::{AllocError, Global};
 

@@ -1,22 +1,20 @@
 //! Runs by a script over a disk in memory, of which each fault ends a life; the next one begins or recovers.
 ghost use Rattle.std.specs.Prelude.{◌≡◌, [], IfOk};
 ghost use Rattle.node_machine.specs.OutcomeTable.{HasPossibleOutcomes};
-ghost use Rattle.job_starter.specs.Calls.{running};
-ghost use Rattle.run_manager.specs.Managed.{plan_of, past_of};
+ghost use Rattle.job_starter_drive.specs.Calls.{running};
+ghost use Rattle.recovery_manager.specs.Managed.{plan_of, past_of};
 ghost use Rattle.recovery.specs.Recovery.{IsNewLife};
 
 use crate::disks::{ROOM, SLOTS};
 use crate::lives::{TABLES, behind, print_end};
 use crate::made::{DIAMOND, NO_LIMITS, bare_plan};
 use anyhow::{Result, bail};
-use event_journal::{Journal, JournalFault};
-use job_starter::{drive, launch_round};
-use journal_disks::MemDisk;
+use event_journal::{Journal, JournalFault, MemDisk};
+use job_starter_drive::{drive, launch_round};
+use job_starter_table::{Script, ScriptedStarter};
 use node_machine::{Record, Table, read_table};
-use recovery::{begin, recover};
-use run_manager::{Manager, ManagerFault};
+use recovery::{Manager, ManagerFault, begin, recover};
 use run_plan::Plan;
-use scripted_starter::{Script, ScriptedStarter};
 use std::alloc::Global;
 
 // Begins a run where the disk is Fresh, and recovers it where a journal is.

@@ -4,7 +4,7 @@ ghost use Rattle.std.specs.Prelude.{◌≡◌};
 use crate::disks::SLOTS;
 use crate::made::{DIAMOND, File, NO_LIMITS, fault_of, files_of, graph_of};
 use anyhow::{Result, bail};
-use journal_disks::FileDisk;
+use event_journal::FileDisk;
 use node_machine::{Key, Outcome, Phase};
 use recovery::begin;
 use run_plan::Plan;

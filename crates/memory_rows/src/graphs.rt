@@ -4,9 +4,8 @@ use crate::made::{DIAMOND, File, files_of, graph_of};
 use crate::said::{barred, say};
 use anyhow::Result;
 use dag_graph::Graph;
-use dag_opener::open_dag;
 use rescue_file::{read_rescue, rescue_text};
-use splices::{FileSet, FlatDag};
+use splices::{FileSet, FlatDag, open_dag};
 use std::alloc::{AllocError, Global};
 
 const TOP: File = (

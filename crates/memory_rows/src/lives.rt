@@ -1,17 +1,15 @@
 //! Lives of a manager over a disk in memory: each call that is refused memory is made once more, and behind a fault of the disk
 //! another life goes on.
 ghost use Rattle.std.specs.Prelude.{◌≡◌, ◌<◌, ◌≤◌, IfOk, length};
-ghost use Rattle.run_manager.specs.Managed.{plan_of, past_of};
-ghost use Rattle.run_manager.specs.Seal.{IsSealOf};
+ghost use Rattle.recovery_manager.specs.Managed.{plan_of, past_of};
+ghost use Rattle.recovery_manager.specs.Seal.{IsSealOf};
 
 use crate::disks::{ROOM, SLOTS};
 use crate::made::{DIAMOND, NO_LIMITS, bare_plan};
 use anyhow::{Result, bail};
-use event_journal::{Disk, Journal, JournalFault};
-use journal_disks::MemDisk;
+use event_journal::{Disk, Journal, JournalFault, MemDisk};
 use node_machine::{Key, Outcome, Record, Table, read_table};
-use recovery::{begin, recover};
-use run_manager::{Manager, ManagerFault, Sealed};
+use recovery::{Manager, ManagerFault, Sealed, begin, recover};
 use run_plan::Plan;
 use sched_core::Core;
 use status_report::status_text;

@@ -2,9 +2,8 @@
 
 use anyhow::Result;
 use dag_graph::Graph;
-use dag_opener::open_dag;
 use run_plan::{Plan, PlanFault};
-use splices::FileSet;
+use splices::{FileSet, open_dag};
 use std::alloc::Global;
 use throttles::Limits;
 

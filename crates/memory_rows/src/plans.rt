@@ -6,8 +6,8 @@ use crate::texts::SUBMIT;
 use anyhow::{Result, bail};
 use dag_graph::Graph;
 use node_machine::{Key, Phase};
-use node_specs::{ChildCommand, PhaseFacts};
 use run_plan::{Plan, PlanFault};
+use run_plan_node::{ChildCommand, PhaseFacts};
 use splices::FileSet;
 use std::alloc::{AllocError, Global};
 

@@ -1,9 +1,8 @@
 //! Sets of files, their graphs, and what building a plan of one comes to.
 
 use dag_graph::Graph;
-use dag_opener::open_dag;
 use run_plan::{Plan, PlanFault};
-use splices::FileSet;
+use splices::{FileSet, open_dag};
 use std::alloc::{AllocError, Global};
 use std::test::Fail;
 

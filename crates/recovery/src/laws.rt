@@ -6,7 +6,7 @@ ghost use Rattle.node_machine.specs.declared.Key.{Key};
 ghost use Rattle.node_machine.specs.declared.Phase.{Phase};
 ghost use Rattle.node_machine.specs.Story.{Table};
 ghost use Rattle.run_plan.specs.Plan.{Plan, node_at, count_of, IsRankedBy};
-ghost use Rattle.node_specs.specs.Commands.{CommandOrFault, is_sound, uses_whole_run};
+ghost use Rattle.run_plan_node.specs.Commands.{CommandOrFault, is_sound, uses_whole_run};
 ghost use Rattle.sched_core.specs.Run.{is_done, is_lawful};
 ghost use Rattle.sched_core.specs.Fate.{AreFates, shown, is_done_state};
 ghost use Rattle.sched_core.specs.Agree.{AgreeOnFates, Agree};
@@ -14,14 +14,14 @@ ghost use Rattle.sched_core.specs.Commands.{command_by, with_commands};
 ghost use Rattle.sched_core.specs.Lives.{IsRunBy};
 ghost use Rattle.node_machine.specs.declared.Record.{Record};
 ghost use Rattle.node_machine.specs.declared.Record.TheVariants.{Life};
-ghost use Rattle.event_journal.specs.Image.{Header, replay_of};
-ghost use Rattle.run_manager.specs.Managed.{Managed, plan_of, past_of, ReadsBeforeOrAfter};
+ghost use Rattle.event_journal_log.specs.Image.{Header, replay_of};
+ghost use Rattle.recovery_manager.specs.Managed.{Managed, plan_of, past_of, ReadsBeforeOrAfter};
 ghost use Rattle.recovery.specs.Recovery.{IsMomentOfBegin, IsMomentOfRecovery, IsRecovered};
-ghost use Rattle.run_manager.specs.Lives.{LifeRecords, AreLives};
-ghost use Rattle.run_manager.specs.Chain.{Command, key_of, ManagerLife, IsLifeOf, AreManagerLives, HandsOver, Leaves, ReadsForInputs, life_records, life_of, by_what_it_left};
-ghost use Rattle.run_manager.specs.Inputs.{IsHeaderOf, header_for};
+ghost use Rattle.recovery_manager.specs.Lives.{LifeRecords, AreLives};
+ghost use Rattle.recovery_manager.specs.Chain.{Command, key_of, ManagerLife, IsLifeOf, AreManagerLives, HandsOver, Leaves, ReadsForInputs, life_records, life_of, by_what_it_left};
+ghost use Rattle.recovery_manager.specs.Inputs.{IsHeaderOf, header_for};
 
-use event_journal::Disk;
+use event_journal_log::Disk;
 
 /// Lives on the bytes of a journal are lives on lists of records, and the last holds what each one
 /// before it held. Over every list of lives, each on what the one before left, whose last finished the

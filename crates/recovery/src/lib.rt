@@ -11,4 +11,5 @@ mod opening;
 mod replays;
 
 pub use opening::{begin, recover};
+pub use recovery_manager::{Manager, ManagerFault, Sealed};
 pub use replays::replay;

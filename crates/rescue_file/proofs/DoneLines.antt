@@ -3,7 +3,7 @@ use Rattle.std.proofs.Common.{◌≡◌, ℕ, suc, ◌+◌, ◌<◌, ◌≤◌, 
 use Rattle.std.proofs.lemmas.Grind.{common_steps}
 use Rattle.std.proofs.lemmas.List.{append-nil}
 use Rattle.std.proofs.lemmas.List.Sums.{sum_by-cons}
-use Rattle.splices.specs.declared.flat.FlatNode.{FlatNode}
+use Rattle.splices_flat.specs.declared.flat.FlatNode.{FlatNode}
 use Rattle.rescue_file.specs.Written.{marked, done_line, done_lines}
 
 abbrev pub node_names : List FlatNode → List (List ℕ)

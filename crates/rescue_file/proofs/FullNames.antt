@@ -9,10 +9,10 @@ use Rattle.std.proofs.lemmas.Str.Ascii.{IsAscii-cons, IsAscii-nil}
 use Rattle.std.specs.List.{All, flat_map}
 use Rattle.dag_reader.specs.Lines.{is_control}
 use Rattle.dag_reader.specs.Words.{is_blank}
-use Rattle.splices.specs.declared.flat.FlatNode.{FlatNode}
-use Rattle.splices.specs.declared.flat.Settings.{Settings}
-use Rattle.splices.specs.Nodes.{Declared, names_in, job_names, jobs_in, nodes_of}
-use Rattle.splices.specs.Forest.{Said, Forest, none, more, OpenFile, inside, opened_as, forest_files, job_nodes}
+use Rattle.splices_flat.specs.declared.flat.FlatNode.{FlatNode}
+use Rattle.splices_flat.specs.declared.flat.Settings.{Settings}
+use Rattle.splices_flat.specs.Nodes.{Declared, names_in, job_names, jobs_in, nodes_of}
+use Rattle.splices_flat.specs.Forest.{Said, Forest, none, more, OpenFile, inside, opened_as, forest_files, job_nodes}
 use Rattle.rescue_file.proofs.PlainNames.{IsPlain, Others, AreNew, AreApart, right_of, apart_append}
 
 -- The names of splices, and those of nodes seen from the file that holds the splices.

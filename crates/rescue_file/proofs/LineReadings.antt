@@ -7,7 +7,7 @@ use Rattle.dag_reader.specs.Words.{words}
 use Rattle.dag_reader.specs.Keywords.{is_keyword, is_comment, begins_with}
 use Rattle.dag_reader.proofs.LineTexts.{IsText, text_again}
 use Rattle.dag_reader.proofs.Parts.{chosen}
-use Rattle.splices.specs.Dag.{Dag}
+use Rattle.splices_flat.specs.Dag.{Dag}
 use Rattle.rescue_file.specs.declared.fault.RescueFault.{RescueFault}
 use Rattle.rescue_file.specs.Reading.{◌>>=◌, number_of, last_name, name_behind, words_say, text_says, name_at, ordinary_of, said_of, line_at}
 

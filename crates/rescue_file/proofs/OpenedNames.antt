@@ -13,17 +13,17 @@ use Rattle.dag_reader.specs.declared.fault.LineFault.{LineFault}
 use Rattle.dag_reader.specs.Grammar.{SayAll}
 use Rattle.dag_reader.specs.Reading.{text_at}
 use Rattle.dag_reader.proofs.LineTexts.{lines_ok}
-use Rattle.splices.specs.declared.fault.DagFault.{DagFault}
-use Rattle.splices.specs.declared.flat.FlatNode.{FlatNode}
-use Rattle.splices.specs.Dag.{Dag}
-use Rattle.splices.specs.Faults.{files_fault}
-use Rattle.splices.specs.Nodes.{job_names, jobs_in, splice_name, splice_names, own_count, finals_in}
-use Rattle.splices.specs.Forest.{Forest, none, more, Tree, tree_files}
-use Rattle.splices.specs.OpenedFiles.{Spliced, splice_folder, splice_path}
-use Rattle.splices.specs.Opened.{flat_of, dag_unless, dag_at}
-use Rattle.splices.specs.Opening.{Files, Opener, in_file, says_at, check_final, check_lines, check_count, check_file, forest_declared, with_file, with_forest, with_splice, said_by, joined, enter_at, open_line, open_lines, open_said, open_file, opened_at}
-use Rattle.splices.proofs.Opened.{declared-joined}
-use Rattle.splices.proofs.Own.{names-length}
+use Rattle.splices_flat.specs.declared.fault.DagFault.{DagFault}
+use Rattle.splices_flat.specs.declared.flat.FlatNode.{FlatNode}
+use Rattle.splices_flat.specs.Dag.{Dag}
+use Rattle.splices_flat.specs.Faults.{files_fault}
+use Rattle.splices_flat.specs.Nodes.{job_names, jobs_in, splice_name, splice_names, own_count, finals_in}
+use Rattle.splices_flat.specs.Forest.{Forest, none, more, Tree, tree_files}
+use Rattle.splices_flat.specs.OpenedFiles.{Spliced, splice_folder, splice_path}
+use Rattle.splices_flat.specs.Opened.{flat_of, dag_unless, dag_at}
+use Rattle.splices_flat.specs.Opening.{Files, Opener, in_file, says_at, check_final, check_lines, check_count, check_file, forest_declared, with_file, with_forest, with_splice, said_by, joined, enter_at, open_line, open_lines, open_said, open_file, opened_at}
+use Rattle.splices_flat.proofs.Opened.{declared-joined}
+use Rattle.splices_flat.proofs.Own.{names-length}
 use Rattle.rescue_file.specs.Written.{ordinary_names}
 use Rattle.rescue_file.specs.Fit.{IsFit, AreFit}
 use Rattle.rescue_file.proofs.PlainNames.{IsPlain, AreApart, then_ok, names_plain, names_apart}

@@ -14,9 +14,9 @@ use Rattle.dag_reader.specs.Words.{is_blank}
 use Rattle.dag_reader.specs.Keywords.{joins_names, is_name}
 use Rattle.dag_reader.specs.Grammar.{SayAll}
 use Rattle.dag_reader.proofs.Named.{Declares, IsDeclared, each_declared}
-use Rattle.splices.specs.declared.fault.DagFault.{DagFault}
-use Rattle.splices.specs.Nodes.{Declared, job_in, jobs_in, names_in, job_names, final_names, splice_name, splice_names}
-use Rattle.splices.specs.Opening.{◌>>=◌, is_declared, once, check_line, check_lines}
+use Rattle.splices_flat.specs.declared.fault.DagFault.{DagFault}
+use Rattle.splices_flat.specs.Nodes.{Declared, job_in, jobs_in, names_in, job_names, final_names, splice_name, splice_names}
+use Rattle.splices_flat.specs.Opening.{◌>>=◌, is_declared, once, check_line, check_lines}
 use Rattle.rescue_file.proofs.PlainWords.{IsWord, line_words}
 
 pub record IsPlain (name : List ℕ) : Type 0 where

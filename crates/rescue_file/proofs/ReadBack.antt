@@ -6,8 +6,8 @@ use Rattle.std.proofs.lemmas.List.Elements.{All-head, All-tail, All-cons, All-ni
 use Rattle.std.proofs.lemmas.List.Sums.{position_or_len_is}
 use Rattle.std.proofs.lemmas.Slice.Eq.{bytes_eq-Decides}
 use Rattle.std.specs.List.{All, range_with_len, position_or_len}
-use Rattle.splices.specs.declared.flat.FlatNode.{FlatNode}
-use Rattle.splices.specs.Dag.{Dag}
+use Rattle.splices_flat.specs.declared.flat.FlatNode.{FlatNode}
+use Rattle.splices_flat.specs.Dag.{Dag}
 use Rattle.dag_graph.specs.Graph.{names_of, final_names}
 use Rattle.rescue_file.specs.Written.{ordinary_names, marked, rescue_text_of}
 use Rattle.rescue_file.specs.Grammar.{SayAll}

@@ -15,7 +15,7 @@ use Rattle.dag_reader.specs.Keywords.{is_keyword, is_comment}
 use Rattle.dag_reader.proofs.LineTexts.{IsText}
 use Rattle.dag_reader.proofs.Scan.{from_to, words-nil, words-first, words-last}
 use Rattle.dag_reader.proofs.TextLines.{lines-first}
-use Rattle.splices.specs.Dag.{Dag}
+use Rattle.splices_flat.specs.Dag.{Dag}
 use Rattle.rescue_file.specs.Written.{done_line, done_lines, head_text}
 use Rattle.rescue_file.proofs.LineReadings.{AreSilent, LineSays, Says}
 use Rattle.rescue_file.specs.Fit.{IsFit}

@@ -4,7 +4,7 @@ use Rattle.std.specs.List.{All}
 use Rattle.std.specs.Str.{IsUtf8}
 use Rattle.dag_reader.specs.Lines.{is_control}
 use Rattle.dag_reader.specs.Words.{is_blank}
-use Rattle.splices.specs.Dag.{Dag}
+use Rattle.splices_flat.specs.Dag.{Dag}
 use Rattle.rescue_file.specs.Written.{ordinary_names}
 
 -- A name that is a word: not empty, UTF-8, with no blank and no control character; and short enough for a line, behind

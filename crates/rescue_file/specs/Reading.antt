@@ -10,7 +10,7 @@ use Rattle.dag_reader.specs.Keywords.{is_keyword, is_comment}
 use Rattle.dag_reader.specs.Reading.{text_of}
 pub use Rattle.dag_reader.specs.Results.{◌>>=◌}
 use Rattle.dag_reader.specs.Results.{Tells, Returns}
-use Rattle.splices.specs.Dag.{Dag}
+use Rattle.splices_flat.specs.Dag.{Dag}
 use Rattle.dag_graph.specs.Graph.{names_of}
 use Rattle.rescue_file.specs.declared.fault.RescueFault.{RescueFault}
 use Rattle.rescue_file.specs.declared.fault.RescueFault.TheVariants.{BadLine, UnknownNode, FinalDone, Memory}

@@ -1,7 +1,7 @@
 -- The text of a rescue file.
 use Rattle.std.specs.Prelude.{ℕ, Bool, List, [], ◌∷◌, ◌++◌, length, map, codes, decimal, if◌then◌else◌}
 use Rattle.std.specs.List.{flat_map}
-use Rattle.splices.specs.Dag.{Dag}
+use Rattle.splices_flat.specs.Dag.{Dag}
 
 -- the full names of the ordinary nodes in plan order
 abbrev pub ordinary_names : Dag → List (List ℕ)

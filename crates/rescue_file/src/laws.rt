@@ -2,9 +2,9 @@
 
 ghost use Rattle.std.specs.Prelude.{◌≡◌, ℕ, Bool, List, length, Ok};
 ghost use Rattle.std.specs.List.{range_with_len};
-ghost use Rattle.splices.specs.Dag.{Dag};
-ghost use Rattle.splices.specs.Opening.{Files};
-ghost use Rattle.splices.specs.Opened.{dag_at};
+ghost use Rattle.splices_flat.specs.Dag.{Dag};
+ghost use Rattle.splices_flat.specs.Opening.{Files};
+ghost use Rattle.splices_flat.specs.Opened.{dag_at};
 ghost use Rattle.rescue_file.specs.Written.{ordinary_names, marked, rescue_text_of};
 ghost use Rattle.rescue_file.specs.Reading.{rescued_of};
 ghost use Rattle.rescue_file.specs.Fit.{AreFit};

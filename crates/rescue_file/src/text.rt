@@ -8,7 +8,7 @@ ghost use Rattle.rescue_file.specs.declared.fault.RescueFault.TheVariants.{Memor
 use crate::fault::RescueFault;
 use dag_graph::Graph;
 use itoa::Buffer;
-use splices::FlatNode;
+use splices_flat::FlatNode;
 use std::alloc::{AllocError, Global};
 
 /// The text of the rescue file of a graph, with a mark for each ordinary node, in plan order: whether

@@ -4,8 +4,8 @@ use crate::children::{NextChild, NotedChild, NotedManager, manager_in, next_in, 
 use crate::events::push_time;
 use crate::line_file::LineFile;
 use crate::processes::{Standing, all_numbers, boot_of, own_number, standing_of, words_of};
-use command_line::OrphanRule;
-use journal_disks::require_regular;
+use dag_main_args::OrphanRule;
+use event_journal::require_regular;
 use std::alloc::{AllocError, Global};
 use std::fs::{self, File};
 use std::io::{self, ErrorKind};

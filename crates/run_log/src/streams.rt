@@ -1,8 +1,8 @@
 //! The files of a child's streams, which are brought to the disk before its ending is told.
 
 use dag_reader::Text;
-use node_specs::ChildCommand;
-use splices::path_in;
+use run_plan_node::ChildCommand;
+use splices_flat::path_in;
 use std::alloc::{AllocError, Global};
 use std::fs::{self, File};
 use std::io;

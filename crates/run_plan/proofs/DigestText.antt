@@ -5,8 +5,8 @@ use Rattle.std.specs.List.{flat_map}
 use Rattle.std.specs.Map.Iter.{deref_pair}
 use Rattle.std.proofs.lemmas.List.{flat_map_more}
 use Rattle.std.proofs.lemmas.List.Folds.{flat_map-map}
-use Rattle.splices.specs.FileSet.{entries_of}
-use Rattle.splices.specs.declared.file_set.FileSet.{FileSet}
+use Rattle.splices_flat.specs.FileSet.{entries_of}
+use Rattle.splices_flat.specs.declared.file_set.FileSet.{FileSet}
 use Rattle.run_plan.specs.Digest.{sized, sized_file}
 
 -- a name and a file, as a set's iterator lends them

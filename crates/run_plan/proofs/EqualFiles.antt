@@ -13,8 +13,8 @@ use Rattle.std.specs.declared.cmp.Ordering.{Ordering}
 use Rattle.std.specs.declared.cmp.Ordering.TheVariants.{Less, Equal, Greater}
 use Rattle.std.specs.Prelude.{string_bytes}
 use Rattle.std.specs.String.{string_cmp}
-use Rattle.splices.specs.FileSet.{bytes_of, entries_of}
-use Rattle.splices.specs.declared.file_set.FileSet.{FileSet}
+use Rattle.splices_flat.specs.FileSet.{bytes_of, entries_of}
+use Rattle.splices_flat.specs.declared.file_set.FileSet.{FileSet}
 use Rattle.run_plan.specs.Digest.{digest_of}
 
 abbrev order : List ℕ → List ℕ → Ordering

@@ -1,11 +1,11 @@
 -- A phase that has a command fails for want of memory alone.
 use Rattle.std.proofs.Common.{◌≡◌, ℕ, List, Result, Ok, ⊎_elim}
-use Rattle.node_specs.specs.declared.command.ChildCommand.{ChildCommand}
+use Rattle.run_plan_node.specs.declared.command.ChildCommand.{ChildCommand}
 use Rattle.run_plan.specs.declared.fault.PlanFault.{PlanFault}
 use Rattle.run_plan.specs.declared.fault.PlanFault.TheVariants as plan
-use Rattle.node_specs.specs.declared.job.JobFault.{JobFault}
-use Rattle.node_specs.specs.declared.job.JobFault.TheVariants.{Memory, InMacro, NoExecutable, BadUniverse}
-use Rattle.node_specs.specs.JobAnswers.{Fails}
+use Rattle.run_plan_node.specs.declared.job.JobFault.{JobFault}
+use Rattle.run_plan_node.specs.declared.job.JobFault.TheVariants.{Memory, InMacro, NoExecutable, BadUniverse}
+use Rattle.run_plan_node.specs.JobAnswers.{Fails}
 use Rattle.run_plan.specs.PlanAnswers.{IsFault}
 use Rattle.run_plan.specs.Submitted.{fault_in}
 

@@ -8,17 +8,17 @@ use Rattle.std.proofs.lemmas.Grind.{common_steps}
 use Rattle.std.proofs.lemmas.List.{take_more}
 use Rattle.std.proofs.lemmas.List.Elements.{All-nil, All-cons, All-head, All-tail, All-filter, All-contains}
 use Rattle.std.proofs.lemmas.Option.{slice_get_past}
-use Rattle.splices.specs.Dag.{Dag}
-use Rattle.splices.specs.declared.flat.FlatNode.{FlatNode}
-use Rattle.splices.specs.declared.flat.CategoryLimit.{CategoryLimit}
-use Rattle.splices.specs.declared.flat.CategorySetting.{CategorySetting}
+use Rattle.splices_flat.specs.Dag.{Dag}
+use Rattle.splices_flat.specs.declared.flat.FlatNode.{FlatNode}
+use Rattle.splices_flat.specs.declared.flat.CategoryLimit.{CategoryLimit}
+use Rattle.splices_flat.specs.declared.flat.CategorySetting.{CategorySetting}
 use Rattle.std.specs.Str.{bytes_eq}
 use Rattle.dag_graph.specs.Graph.{Network, IsParent, IsOrderOf, is_edge, rank_in, parents_of}
 use Rattle.dag_graph.proofs.Told.{any_edge}
-use Rattle.node_specs.specs.Node.{Job, NodeSpec, no_node}
+use Rattle.run_plan_node.specs.Node.{Job, NodeSpec, no_node}
 use Rattle.run_plan.specs.Plan.{Plan, node_at, count_of, has_parents_below, IsRankedBy}
 use Rattle.run_plan.specs.Planned.{IsPlanned}
-use Rattle.node_specs.specs.Specs.{place_of, spec_of}
+use Rattle.run_plan_node.specs.Specs.{place_of, spec_of}
 use Rattle.run_plan.specs.Specs.{Sources, specs_from, final_spec, plan_of}
 
 pub specs-length : (dag : Dag) (sources : Sources) (number : ℕ) (nodes : List FlatNode) → length (specs_from dag sources number nodes) ≡ length nodes

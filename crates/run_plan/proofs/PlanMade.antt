@@ -3,16 +3,16 @@ use Rattle.std.proofs.Common.{◌≡◌, ℕ, ◌+◌, ◌<◌, Bool, false, Lis
 use Rattle.std.specs.Prelude.{slice_index_or, option_to_list}
 use Rattle.std.specs.Option.{option_map}
 use Rattle.std.proofs.lemmas.List.{take_more, take-append-drop}
-use Rattle.splices.specs.Dag.{Dag}
-use Rattle.splices.specs.Opening.{Files}
-use Rattle.splices.specs.declared.flat.FlatNode.{FlatNode}
+use Rattle.splices_flat.specs.Dag.{Dag}
+use Rattle.splices_flat.specs.Opening.{Files}
+use Rattle.splices_flat.specs.declared.flat.FlatNode.{FlatNode}
 use Rattle.dag_graph.specs.Graph.{Network, parents_of}
 use Rattle.run_plan.specs.declared.fault.PlanFault.{PlanFault}
 use Rattle.run_plan.specs.declared.fault.PlanFault.TheVariants.{MissingFile, InSubmit, InMacro, NoExecutable, BadUniverse, InRescue, Memory}
 use Rattle.run_plan.specs.PlanAnswers.{Fails}
-use Rattle.node_specs.specs.Node.{Job, NodeSpec}
+use Rattle.run_plan_node.specs.Node.{Job, NodeSpec}
 use Rattle.run_plan.specs.Planned.{marked_sources}
-use Rattle.node_specs.specs.Specs.{spec_of}
+use Rattle.run_plan_node.specs.Specs.{spec_of}
 use Rattle.run_plan.specs.Specs.{specs_from, final_spec, plan_of, is_listed}
 use Rattle.run_plan.specs.Submitted.{◌>>=◌, job_at, first_fault, all_nodes, rescued_in, sources_of, plan_at}
 

@@ -4,23 +4,23 @@ use Rattle.std.specs.Prelude.{option_to_list, is_ok}
 use Rattle.std.specs.Option.{option_map}
 use Rattle.std.specs.List.{list_all}
 use Rattle.std.proofs.lemmas.Bool.{and_from}
-use Rattle.splices.specs.Dag.{Dag}
-use Rattle.splices.specs.Opening.{Files}
-use Rattle.splices.specs.declared.flat.FlatNode.{FlatNode}
-use Rattle.splices.specs.declared.flat.CategoryLimit.{CategoryLimit}
+use Rattle.splices_flat.specs.Dag.{Dag}
+use Rattle.splices_flat.specs.Opening.{Files}
+use Rattle.splices_flat.specs.declared.flat.FlatNode.{FlatNode}
+use Rattle.splices_flat.specs.declared.flat.CategoryLimit.{CategoryLimit}
 use Rattle.submit_file.specs.declared.submit.Assignment.{Assignment}
 use Rattle.vars_macros.specs.Meaning.{Scope}
 use Rattle.vars_macros.specs.declared.assignment.Macro.{Macro}
 use Rattle.dag_graph.specs.Graph.{Network, parents_of}
-use Rattle.node_specs.specs.declared.command.ChildCommand.{ChildCommand}
+use Rattle.run_plan_node.specs.declared.command.ChildCommand.{ChildCommand}
 use Rattle.run_plan.specs.declared.fault.PlanFault.{PlanFault}
-use Rattle.node_specs.specs.declared.job.JobFault.{JobFault}
-use Rattle.node_specs.specs.Node.{Job, Program, Described, no_node}
+use Rattle.run_plan_node.specs.declared.job.JobFault.{JobFault}
+use Rattle.run_plan_node.specs.Node.{Job, Program, Described, no_node}
 use Rattle.run_plan.specs.Plan.{Plan}
-use Rattle.node_specs.specs.Commands as commands
-use Rattle.node_specs.specs.Commands.{scope_in, greatest, universe_of, job_command, checked, command_of_job, is_sound}
+use Rattle.run_plan_node.specs.Commands as commands
+use Rattle.run_plan_node.specs.Commands.{scope_in, greatest, universe_of, job_command, checked, command_of_job, is_sound}
 use Rattle.run_plan.specs.Planned.{IsPlanned}
-use Rattle.node_specs.specs.Specs.{spec_of, retries_of}
+use Rattle.run_plan_node.specs.Specs.{spec_of, retries_of}
 use Rattle.run_plan.specs.Specs.{specs_from, final_spec, plan_of}
 use Rattle.run_plan.specs.Submitted.{◌>>=◌, job_at, described, described_by, kept, submit_at, assigned_to, job_or_program, first_fault, all_nodes, rescued_in, sources_of, plan_at}
 use Rattle.run_plan.proofs.PlanFacts.{all_get}

@@ -1,11 +1,11 @@
 -- Plans without a rescue file: the bare plan, and which fault a plan with submit files is refused for.
 use Rattle.std.proofs.Common.{◌≡◌, ℕ, Bool, true, false, List, [], ◌∷◌, Some, None, Result, Ok, Err, refl, sym, ap, ◌∙◌, subst}
-use Rattle.splices.specs.Opening.{Files}
-use Rattle.splices.specs.declared.flat.FlatNode.{FlatNode}
+use Rattle.splices_flat.specs.Opening.{Files}
+use Rattle.splices_flat.specs.declared.flat.FlatNode.{FlatNode}
 use Rattle.dag_graph.specs.Graph.{Network}
 use Rattle.run_plan.specs.declared.fault.PlanFault.{PlanFault}
 use Rattle.run_plan.specs.declared.fault.PlanFault.TheVariants.{MissingFile, InSubmit, InMacro, NoExecutable, BadUniverse, InRescue, Memory}
-use Rattle.node_specs.specs.Node.{Program}
+use Rattle.run_plan_node.specs.Node.{Program}
 use Rattle.run_plan.specs.Plan.{Plan}
 use Rattle.run_plan.specs.Specs.{plan_of}
 use Rattle.run_plan.specs.PlanAnswers.{Fails, is_memory}

@@ -2,7 +2,7 @@
 use Rattle.std.specs.Prelude.{ℕ, zero, suc, ◌<◌, nat_lt, Bool, true, ◌&&◌, List, length, Option, unwrap_or, slice_get}
 use Rattle.std.specs.List.{Contains, list_all}
 use Rattle.dag_graph.specs.Graph.{Network}
-use Rattle.node_specs.specs.Node.{NodeSpec, no_node}
+use Rattle.run_plan_node.specs.Node.{NodeSpec, no_node}
 
 -- the ordinary nodes by their numbers, the FINAL node, which has the next number, the graph that they were made from, the
 -- digest of all files that the plan was made from, and whether POST runs behind a failed PRE

@@ -1,10 +1,10 @@
 -- What each plan keeps.
 use Rattle.std.specs.Prelude.{◌≡◌, ℕ, Bool, true, false, List, [], slice_index_or, Option}
-use Rattle.node_specs.specs.Commands.{is_sound}
+use Rattle.run_plan_node.specs.Commands.{is_sound}
 use Rattle.run_plan.specs.Plan.{Plan, node_at}
 use Rattle.run_plan.specs.Specs.{Sources, plan_of}
 use Rattle.run_plan.specs.Submitted.{sources_of}
-use Rattle.splices.specs.Opening.{Files}
+use Rattle.splices_flat.specs.Opening.{Files}
 
 -- It is that of its graph, and the texts of its jobs can be expanded.
 pub record IsPlanned (plan : Plan) : Type 0 where

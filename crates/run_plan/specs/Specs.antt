@@ -3,10 +3,10 @@ use Rattle.std.specs.Prelude.{ℕ, ◌+◌, ◌==◌, Bool, false, List, [], ◌
 use Rattle.std.specs.List.{list_any}
 use Rattle.std.specs.Option.{option_map}
 use Rattle.dag_graph.specs.Graph.{Network, parents_of}
-use Rattle.splices.specs.Dag.{Dag}
-use Rattle.splices.specs.declared.flat.FlatNode.{FlatNode}
-use Rattle.node_specs.specs.Node.{Job, NodeSpec}
-use Rattle.node_specs.specs.Specs.{spec_of}
+use Rattle.splices_flat.specs.Dag.{Dag}
+use Rattle.splices_flat.specs.declared.flat.FlatNode.{FlatNode}
+use Rattle.run_plan_node.specs.Node.{Job, NodeSpec}
+use Rattle.run_plan_node.specs.Specs.{spec_of}
 use Rattle.run_plan.specs.Plan.{Plan}
 
 -- what the jobs of nodes are started by, which nodes a rescue file marks, and whether POST runs behind a failed PRE

@@ -5,10 +5,10 @@ use Rattle.dag_reader.specs.declared.command.Placement.{Placement}
 use Rattle.dag_reader.specs.declared.command.Placement.TheVariants.{Prepend, Append}
 use Rattle.dag_graph.specs.Graph.{Network}
 pub use Rattle.dag_reader.specs.Results.{◌>>=◌}
-use Rattle.splices.specs.Dag.{Dag}
-use Rattle.splices.specs.Opening.{Files}
-use Rattle.splices.specs.declared.flat.FlatNode.{FlatNode}
-use Rattle.splices.specs.declared.flat.MacroSetting.{MacroSetting}
+use Rattle.splices_flat.specs.Dag.{Dag}
+use Rattle.splices_flat.specs.Opening.{Files}
+use Rattle.splices_flat.specs.declared.flat.FlatNode.{FlatNode}
+use Rattle.splices_flat.specs.declared.flat.MacroSetting.{MacroSetting}
 use Rattle.submit_file.specs.Submit.{submit_of}
 use Rattle.submit_file.specs.declared.submit.Assignment.{Assignment}
 use Rattle.submit_file.specs.declared.fault.SubmitFault.{SubmitFault}
@@ -17,15 +17,15 @@ use Rattle.vars_macros.specs.declared.assignment.Macro.{Macro}
 use Rattle.vars_macros.specs.declared.expanding.Attempt.{Attempt}
 use Rattle.rescue_file.specs.Reading.{rescued_of}
 use Rattle.rescue_file.specs.declared.fault.RescueFault.{RescueFault}
-use Rattle.node_specs.specs.declared.job.JobFault.{JobFault}
-use Rattle.node_specs.specs.declared.job.JobFault.TheVariants as job
+use Rattle.run_plan_node.specs.declared.job.JobFault.{JobFault}
+use Rattle.run_plan_node.specs.declared.job.JobFault.TheVariants as job
 use Rattle.run_plan.specs.declared.fault.PlanFault.{PlanFault}
 use Rattle.run_plan.specs.declared.fault.PlanFault.TheVariants.{MissingFile, InSubmit, InMacro, NoExecutable, BadUniverse, InRescue, Memory}
-use Rattle.node_specs.specs.Node.{Job, Program, Described}
+use Rattle.run_plan_node.specs.Node.{Job, Program, Described}
 use Rattle.run_plan.specs.Plan.{Plan}
-use Rattle.node_specs.specs.Commands.{scope_in, greatest, checked}
+use Rattle.run_plan_node.specs.Commands.{scope_in, greatest, checked}
 use Rattle.run_plan.specs.Digest.{digest_of}
-use Rattle.node_specs.specs.Specs.{retries_of}
+use Rattle.run_plan_node.specs.Specs.{retries_of}
 use Rattle.run_plan.specs.Specs.{Sources, is_listed, plan_of}
 
 abbrev pub fault_in : List ℕ → JobFault → PlanFault

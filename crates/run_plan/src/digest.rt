@@ -4,11 +4,11 @@ ghost use Rattle.std.specs.Prelude.{◌≡◌, ◌++◌, ℕ, List, []};
 ghost use Rattle.std.specs.Option.{option_map, option_map_or};
 ghost use Rattle.std.specs.List.{flat_map};
 ghost use Rattle.sha2.specs.Hashers.{Holds256};
-ghost use Rattle.splices.specs.FileSet.{entries_of};
+ghost use Rattle.splices_flat.specs.FileSet.{entries_of};
 ghost use Rattle.run_plan.specs.Digest.{digest_of, sized, sized_file, sized_rescue};
 
 use sha2::{Digest, Sha256};
-use splices::FileSet;
+use splices_flat::FileSet;
 
 /// Adds a text behind its length.
 fn add_sized(hasher: &mut Sha256, text: &[u8])

@@ -1,8 +1,8 @@
 //! Laws of the definitions alone. No program calls them.
 
 ghost use Rattle.std.specs.Prelude.{◌≡◌, ℕ, List, Option};
-ghost use Rattle.splices.specs.FileSet.{bytes_of, entries_of};
-ghost use Rattle.splices.specs.declared.file_set.FileSet.{FileSet};
+ghost use Rattle.splices_flat.specs.FileSet.{bytes_of, entries_of};
+ghost use Rattle.splices_flat.specs.declared.file_set.FileSet.{FileSet};
 ghost use Rattle.run_plan.specs.Digest.{digest_of};
 
 /// Sets with the same files have one digest, in whatever order the files were added.

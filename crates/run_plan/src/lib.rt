@@ -8,5 +8,5 @@ mod plan;
 mod submitted;
 
 pub use fault::PlanFault;
-pub use node_specs::{ChildCommand, NodeSpec, PhaseFacts};
 pub use plan::Plan;
+pub use run_plan_node::{ChildCommand, NodeSpec, PhaseFacts};

@@ -2,11 +2,11 @@
 
 ghost use Rattle.std.specs.Prelude.{◌≡◌, ◌≢◌, ◌⊎◌, ◌+◌, ◌^◌, ◌<◌, ◌≤◌, ℕ, List, [], IsTrue, IfOk, IfErr, IfSome, Some, None, Ok, is_some, length, option_to_list, slice_index_or, false};
 ghost use Rattle.std.specs.Option.{option_map, option_map_or};
-ghost use Rattle.splices.specs.FileSet.{bytes_of, entries_of};
+ghost use Rattle.splices_flat.specs.FileSet.{bytes_of, entries_of};
 ghost use Rattle.dag_graph.specs.Graph.{rank_in};
 ghost use Rattle.rescue_file.specs.declared.fault.RescueFault.TheVariants as rescue;
 ghost use Rattle.run_plan.specs.declared.fault.PlanFault.TheVariants.{Memory, InRescue};
-ghost use Rattle.node_specs.specs.Commands.{command_of, is_sound, starts_child, uses_whole_run};
+ghost use Rattle.run_plan_node.specs.Commands.{command_of, is_sound, starts_child, uses_whole_run};
 ghost use Rattle.run_plan.specs.Digest.{digest_of};
 ghost use Rattle.run_plan.specs.Plan.{node_at, count_of, has_parents_below, IsRankedBy};
 ghost use Rattle.run_plan.specs.PlanAnswers.{Gives, Fails};
@@ -19,9 +19,9 @@ use crate::fault::PlanFault;
 use crate::submitted::{fault_in, job_at};
 use dag_graph::Graph;
 use node_machine::Key;
-use node_specs::{Categories, ChildCommand, NodeSpec, PhaseFacts};
 use rescue_file::{RescueFault, read_rescue};
-use splices::{FileSet, FlatNode};
+use run_plan_node::{Categories, ChildCommand, NodeSpec, PhaseFacts};
+use splices_flat::{FileSet, FlatNode};
 use std::alloc::{AllocError, Global};
 use std::marker::Model;
 
@@ -52,7 +52,7 @@ impl Drop for Plan {
 
 impl Model for Plan {
     ghost use Rattle.std.specs.Prelude.{◌≡◌};
-    ghost use Rattle.node_specs.specs.Node.{no_node};
+    ghost use Rattle.run_plan_node.specs.Node.{no_node};
     ghost use Rattle.run_plan.specs.Plan.{Plan as PlanValue};
     ghost use Rattle.run_plan.specs.Planned.{IsPlanned};
 
@@ -211,7 +211,7 @@ impl Plan {
         ensures parents { IsTrue (has_parents_below (count_of self.now) (node_at self.now node)) }
         // Its category is one of those that have a limit.
         ensures category { IfSome (node_at self.now node).category (λ place. place < length self.now.graph.dag.categories) }
-        // Each of its phases has a command in each attempt that is allowed (`node_specs::laws::commands_exist`).
+        // Each of its phases has a command in each attempt that is allowed (`run_plan_node::laws::commands_exist`).
         ensures sound { IsTrue (is_sound (node_at self.now node)) }
     {
         let index = node as usize;

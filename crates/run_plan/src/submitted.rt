@@ -2,20 +2,20 @@
 
 ghost use Rattle.std.specs.Prelude.{◌≡◌, ◌≢◌, ◌⊎◌, ◌++◌, IfOk, IfErr, OnOk, map, filter};
 ghost use Rattle.std.specs.Option.{option_map};
-ghost use Rattle.splices.specs.FileSet.{bytes_of};
+ghost use Rattle.splices_flat.specs.FileSet.{bytes_of};
 ghost use Rattle.vars_macros.specs.Meaning.{scope_of};
 ghost use Rattle.vars_macros.specs.declared.fault.MacroFault.TheVariants as macro;
 ghost use Rattle.submit_file.specs.declared.fault.SubmitFault.TheVariants as submit;
 ghost use Rattle.run_plan.specs.declared.fault.PlanFault.TheVariants.{InSubmit, Memory};
-ghost use Rattle.node_specs.specs.Commands.{checked};
+ghost use Rattle.run_plan_node.specs.Commands.{checked};
 ghost use Rattle.run_plan.specs.Submitted.{job_at, described_by, submit_at, assigned_to, fault_in, macro_of_setting, macro_of_assignment, has_placement, last_attempt};
 ghost use Rattle.run_plan.specs.PlanAnswers.{Gives, IsFault};
-ghost use Rattle.node_specs.specs.JobAnswers as answers;
+ghost use Rattle.run_plan_node.specs.JobAnswers as answers;
 
 use crate::fault::PlanFault;
 use dag_reader::{Placement, Text};
-use node_specs::{Job, JobFault, Source, check_universe, job_command, retries_of};
-use splices::{FileSet, FlatNode, MacroSetting};
+use run_plan_node::{Job, JobFault, Source, check_universe, job_command, retries_of};
+use splices_flat::{FileSet, FlatNode, MacroSetting};
 use std::alloc::Global;
 use submit_file::{Assignment, Submit, SubmitFault, read_submit};
 use vars_macros::{Attempt, MacroFault, Macros};

@@ -2,8 +2,8 @@
 
 use crate::line::Counts;
 use node_machine::{Key, NodeRun, Outcome, Phase, Record, State, value_of};
-use node_specs::NodeSpec;
 use run_plan::Plan;
+use run_plan_node::NodeSpec;
 use std::alloc::{AllocError, Global};
 
 /// How far a node is, and how many of its parents are not done.

@@ -1,6 +1,6 @@
 //! The terminal on which a run is watched.
 
-use command_line::ProgressRule;
+use dag_main_args::ProgressRule;
 use std::alloc::Global;
 use std::env;
 use std::fs::File;

@@ -6,11 +6,11 @@ use crate::processors::processor_count;
 use crate::shown::{columns_of, push_shown, shown};
 use crate::tally::{Ending, Tally};
 use crate::terminal::{Screen, Way, Width};
-use job_starter::Killed;
-use local_system::{ChildWatcher, CommandPart, refused_part};
+use job_starter_drive::Killed;
+use job_starter_local::{ChildWatcher, CommandPart, refused_part};
 use node_machine::{Key, Outcome, Record, value_of};
-use node_specs::ChildCommand;
 use run_plan::Plan;
+use run_plan_node::ChildCommand;
 use std::alloc::AllocError;
 use std::fs::File;
 use std::process::Processes;
@@ -259,7 +259,7 @@ impl<'a, R: Screen + Processes + Files<File = File> + Clock + AllocGlobal + Copy
         lines.push('\n')?;
         if ending == Ending::Failed {
             if let Some(errors) = &failure.errors {
-                let path = splices::path_in(alloc, self.run.folder, errors.as_str())?;
+                let path = splices_flat::path_in(alloc, self.run.folder, errors.as_str())?;
                 let width = self.width.usable();
                 let last = last_lines(alloc, &self.rt, path.as_str(), width)?;
                 lines.push_str(last.as_str())?;

@@ -1,10 +1,9 @@
 // Calls of a local system with one child.
 use crate::same::same;
 use dag_reader::{Text, Texts};
-use job_starter::{Killed, Started, System};
-use local_system::{Launcher, LocalSystem, Unwatched};
+use job_starter::{Killed, Launcher, LocalSystem, Started, System, Unwatched};
 use node_machine::{Key, Outcome, Phase};
-use node_specs::ChildCommand;
+use run_plan_node::ChildCommand;
 use std::alloc::{AllocError, Global};
 use std::test::Fail;
 

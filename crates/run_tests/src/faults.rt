@@ -1,19 +1,17 @@
 // Runs that are stopped, by a disk that fails or by a starter that refuses, and taken up again.
 ghost use Rattle.std.specs.Prelude.{◌≡◌, IfOk};
 ghost use Rattle.node_machine.specs.OutcomeTable.{HasPossibleOutcomes};
-ghost use Rattle.run_manager.specs.Managed.{plan_of, past_of};
+ghost use Rattle.recovery_manager.specs.Managed.{plan_of, past_of};
 ghost use Rattle.recovery.specs.Recovery.{IsNewLife};
 
 use crate::plans::{File, NO_LIMITS, plan_of};
 use crate::same::same;
-use event_journal::{Journal, Opened};
-use journal_disks::{Fuse, FuseDisk, MemDisk};
+use event_journal::{Fuse, FuseDisk, Journal, MemDisk, Opened};
+use job_starter::{Script, ScriptedStarter};
 use node_machine::{Record, Table, read_table};
-use recovery::{begin, recover, replay};
-use run_leader::lead;
-use run_manager::{Manager, ManagerFault};
+use recovery::{Manager, ManagerFault, begin, recover, replay};
 use run_plan::Plan;
-use scripted_starter::{Script, ScriptedStarter};
+use run_round::lead;
 use status_report::run_text;
 use std::alloc::Global;
 use std::process::Abort;

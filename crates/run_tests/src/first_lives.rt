@@ -1,13 +1,11 @@
 // A first life of a manager over a file, and a round with real children that goes on behind it.
 use crate::plans::{File, NO_LIMITS, plan_of};
 use crate::same::same;
-use job_starter::{Call, Starter};
-use journal_disks::FileDisk;
-use local_system::{Launcher, LocalSystem, Unwatched};
+use event_journal::FileDisk;
+use job_starter::{Call, Launcher, LocalSystem, ProcessStarter, Starter, Unwatched};
 use node_machine::{Key, Outcome, Phase};
-use process_starter::ProcessStarter;
-use run_leader::{Start, open_round, run_round};
 use run_plan::Plan;
+use run_round::{Start, open_round, run_round};
 use std::alloc::Global;
 use std::fs;
 use std::process::Abort;

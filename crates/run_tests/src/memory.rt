@@ -1,11 +1,11 @@
 // A process starter over a system in memory with two running keys.
 use crate::children::shell;
 use crate::same::same;
-use job_starter::{Call, Killed, StartFault, Started, Starter, System};
+use job_starter::{
+    Call, CallLog, Killed, ProcessStarter, StartFault, Started, Starter, System, no_memory,
+};
 use node_machine::{Key, Outcome, Phase};
-use node_specs::ChildCommand;
-use process_starter::ProcessStarter;
-use scripted_starter::{CallLog, no_memory};
+use run_plan_node::ChildCommand;
 use std::alloc::Global;
 use std::process::Abort;
 use std::test::Fail;

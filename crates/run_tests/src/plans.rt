@@ -1,19 +1,16 @@
 // Plans of the tests, and what a run of one comes to.
 ghost use Rattle.std.specs.Prelude.{◌≡◌, [], IfOk, IsTrue};
 ghost use Rattle.node_machine.specs.OutcomeTable.{HasPossibleOutcomes};
-ghost use Rattle.job_starter.specs.Calls.{running};
+ghost use Rattle.job_starter_drive.specs.Calls.{running};
 
 use dag_graph::Graph;
-use dag_opener::open_dag;
-use job_starter::{DriveFault, RunEnd, Starter, drive};
-use journal_disks::MemDisk;
+use event_journal::MemDisk;
+use job_starter::{DriveFault, RunEnd, Script, ScriptedStarter, Starter, drive};
 use node_machine::Table;
-use recovery::begin;
-use run_manager::Manager;
+use recovery::{Manager, begin};
 use run_plan::{Plan, PlanFault};
 use sched_core::Core;
-use scripted_starter::{Script, ScriptedStarter};
-use splices::FileSet;
+use splices::{FileSet, open_dag};
 use std::alloc::Global;
 use std::process::Abort;
 use std::test::Fail;

@@ -3,10 +3,11 @@ ghost use Rattle.node_machine.specs.OutcomeTable.{HasPossibleOutcomes};
 
 use crate::plans::{File, NO_LIMITS, in_order, plan_behind, plan_of, run};
 use crate::same::same;
-use job_starter::{Call, DriveFault, RunEnd, StartFault, Started, Starter};
+use job_starter::{
+    Call, DriveFault, RunEnd, Script, ScriptedStarter, StartFault, Started, Starter,
+};
 use node_machine::{Table, read_table};
 use run_plan::Plan;
-use scripted_starter::{Script, ScriptedStarter};
 use std::alloc::Global;
 use std::process::Abort;
 use std::test::Fail;

@@ -1,14 +1,14 @@
 -- What `times` prints.
 use Rattle.std.specs.Prelude.{◌≡◌, ℕ, Bool, false, List, ◌++◌, Some, codes}
-use Rattle.splices.specs.Opening.{Files}
-use Rattle.dag_files.specs.Folder.{IsReadFrom}
-use Rattle.splices.specs.FileSet.{bytes_of}
-use Rattle.splices.specs.declared.file_set.FileSet.{FileSet}
-use Rattle.dag_files.specs.Beside.{IsFileFault}
+use Rattle.splices_flat.specs.Opening.{Files}
+use Rattle.dag_main_files.specs.Folder.{IsReadFrom}
+use Rattle.splices_flat.specs.FileSet.{bytes_of}
+use Rattle.splices_flat.specs.declared.file_set.FileSet.{FileSet}
+use Rattle.dag_main_files.specs.Beside.{IsFileFault}
 use Rattle.dag_graph.specs.Graph.{Network}
-use Rattle.dag_texts.specs.Planned.{IsGraphOf, IsGraphFault}
-use Rattle.dag_texts.specs.Warnings.{warning_lines}
-use Rattle.dag_texts.specs.declared.fault.RunFault.{RunFault}
+use Rattle.dag_main_check.specs.Planned.{IsGraphOf, IsGraphFault}
+use Rattle.dag_main_check.specs.Warnings.{warning_lines}
+use Rattle.dag_main_check.specs.declared.fault.RunFault.{RunFault}
 use Rattle.run_times.specs.declared.runs.PhaseRun.{PhaseRun}
 use Rattle.run_times.specs.Table.{table_text_of}
 

@@ -1,16 +1,16 @@
 //! What `times` answers.
 
 ghost use Rattle.std.specs.Prelude.{◌≡◌, false, Some, length, IfOk, IfErr, string_bytes};
-ghost use Rattle.dag_files.specs.Beside.{IsFileFault};
+ghost use Rattle.dag_main_files.specs.Beside.{IsFileFault};
 ghost use Rattle.run_times.specs.Told.{log_name_of, IsTable, IsTimesOf, IsTimesFrom, IsTimesFault};
 
 use crate::critical::critical_marks;
 use crate::picture::picture_text;
 use crate::runs::{PhaseRun, runs_in};
 use crate::table::table_text;
-use dag_files::{Folder, Reading, files_of};
+use dag_main_check::{Answer, RunFault, graph_of, warning_text};
+use dag_main_files::{Folder, Reading, files_of};
 use dag_reader::Text;
-use dag_texts::{Answer, RunFault, graph_of, warning_text};
 use std::alloc::{AllocError, Global};
 
 /// When each phase of the last round of the DAG file of this path began, of the files in this folder, and how long

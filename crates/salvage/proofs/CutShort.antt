@@ -1,10 +1,10 @@
 -- Rounds that were cut short, by what a header says.
 use Rattle.std.proofs.Common.{◌≡◌, ◌≤◌, ◌<◌, ℕ, List, Bool, true, false, Option, Some, None, Ok, length, arith, sym, ap, ◌∙◌}
 use Rattle.std.specs.Prelude.{slice_range}
-use Rattle.event_journal.specs.declared.journal.Peek.{Peek}
-use Rattle.event_journal.specs.Image.{Header, Found, replay_of, IsRescueNumber}
-use Rattle.event_journal.specs.Peeks.{ReadsPeek}
-use Rattle.event_journal.proofs.Replays.{journals}
+use Rattle.event_journal_log.specs.declared.journal.Peek.{Peek}
+use Rattle.event_journal_log.specs.Image.{Header, Found, replay_of, IsRescueNumber}
+use Rattle.event_journal_log.specs.Peeks.{ReadsPeek}
+use Rattle.event_journal_log.proofs.Replays.{journals}
 use Rattle.salvage.specs.Round.{IsCutShort}
 
 pub cut-short : (journal digest : List ℕ) (peek : Peek) (used next : ℕ) → ReadsPeek (Some peek) (replay_of journal) → peek.finished ≡ false

@@ -3,8 +3,8 @@ use Rattle.std.proofs.Common.{◌≡◌, ℕ, List, [], ◌∷◌, map, Bor, Str
 use Rattle.std.specs.Prelude.{string_bytes, All}
 use Rattle.std.specs.Map.Iter.{deref_pair}
 use Rattle.std.proofs.lemmas.List.Elements.{All-map}
-use Rattle.splices.specs.FileSet.{entries_of}
-use Rattle.splices.specs.declared.file_set.FileSet.{FileSet}
+use Rattle.splices_flat.specs.FileSet.{entries_of}
+use Rattle.splices_flat.specs.declared.file_set.FileSet.{FileSet}
 use Rattle.salvage.specs.Inputs.{listed_of}
 use Rattle.salvage.specs.declared.inputs.Listed.{Listed}
 

@@ -4,13 +4,13 @@ use Rattle.std.specs.List.{count_by}
 use Rattle.run_plan.specs.Plan.{Plan}
 use Rattle.sched_core.specs.Core.{Progress}
 use Rattle.sched_core.specs.Run.{written, is_lawful}
-use Rattle.run_manager.specs.Rescue.{marks_of, rescue_text_for}
-use Rattle.dag_texts.specs.declared.fault.RunFault.{RunFault}
+use Rattle.recovery_manager.specs.Rescue.{marks_of, rescue_text_for}
+use Rattle.dag_main_check.specs.declared.fault.RunFault.{RunFault}
 use Rattle.node_machine.specs.declared.Record.{Record}
-use Rattle.event_journal.specs.Image.{Found, replay_of}
-use Rattle.event_journal.specs.Journal.{Replay}
-use Rattle.event_journal.specs.Reading.{ReadsRecords, replay_for}
-use Rattle.event_journal.proofs.Readings.{replay_for-ok}
+use Rattle.event_journal_log.specs.Image.{Found, replay_of}
+use Rattle.event_journal_log.specs.Journal.{Replay}
+use Rattle.event_journal_log.specs.Reading.{ReadsRecords, replay_for}
+use Rattle.event_journal_log.proofs.Readings.{replay_for-ok}
 use Rattle.salvage.specs.Salvaged.{HasRecords, IsSalvaged}
 use Rattle.salvage.specs.declared.rescue.Salvaged.{Salvaged}
 

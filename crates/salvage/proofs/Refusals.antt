@@ -12,23 +12,23 @@ use Rattle.run_plan.specs.Plan.{Plan}
 use Rattle.run_plan.specs.PlanAnswers.{Fails, is_memory}
 use Rattle.run_plan.specs.declared.fault.PlanFault.{PlanFault}
 use Rattle.run_plan.specs.declared.fault.PlanFault.TheVariants as plans
-use Rattle.event_journal.specs.declared.fault.JournalFault.{JournalFault}
-use Rattle.event_journal.specs.declared.fault.JournalFault.TheVariants as journals
-use Rattle.event_journal.specs.declared.journal.Peek.{Peek}
-use Rattle.event_journal.specs.Groups.{IsSlotAt}
-use Rattle.event_journal.specs.Image.{Found, replay_of, groups_in, header_in, is_headed}
-use Rattle.event_journal.specs.Peeks.{ReadsPeek}
-use Rattle.event_journal.specs.Reading.{RefusedAs, FailsAs, has_other, has_other_flag, is_known, replay_for}
+use Rattle.event_journal_log.specs.declared.fault.JournalFault.{JournalFault}
+use Rattle.event_journal_log.specs.declared.fault.JournalFault.TheVariants as journals
+use Rattle.event_journal_log.specs.declared.journal.Peek.{Peek}
+use Rattle.event_journal_log.specs.Groups.{IsSlotAt}
+use Rattle.event_journal_log.specs.Image.{Found, replay_of, groups_in, header_in, is_headed}
+use Rattle.event_journal_log.specs.Peeks.{ReadsPeek}
+use Rattle.event_journal_log.specs.Reading.{RefusedAs, FailsAs, has_other, has_other_flag, is_known, replay_for}
 use Rattle.recovery.specs.Replay.{IsFirstForeign, IsReplayFault}
 use Rattle.recovery.proofs.Slots.{first_at, foreign_slot, groups_read}
-use Rattle.run_manager.specs.declared.fault.ManagerFault.TheVariants as manager
-use Rattle.dag_texts.specs.declared.fault.RunFault.{RunFault}
-use Rattle.dag_texts.specs.declared.fault.RunFault.TheVariants.{InManager, Memory}
-use Rattle.splices.specs.FileSet.{entries_of}
-use Rattle.splices.specs.declared.file_set.FileSet.{FileSet}
+use Rattle.recovery_manager.specs.declared.fault.ManagerFault.TheVariants as manager
+use Rattle.dag_main_check.specs.declared.fault.RunFault.{RunFault}
+use Rattle.dag_main_check.specs.declared.fault.RunFault.TheVariants.{InManager, Memory}
+use Rattle.splices_flat.specs.FileSet.{entries_of}
+use Rattle.splices_flat.specs.declared.file_set.FileSet.{FileSet}
 use Rattle.salvage.specs.Round.{IsSame}
 use Rattle.salvage.specs.Salvaged.{HasRecords}
-use Rattle.dag_files.specs.Journals.{read_fault}
+use Rattle.dag_main_files.specs.Journals.{read_fault}
 use Rattle.salvage.specs.Refused.{IsNoNumber, IsNotCutShort, has_ended, no_such_number, IsOtherFile, IsFirstOther, IsUnsalvaged, no_records, of_other_flag, foreign_record, salvaging_had_no_memory}
 use Rattle.salvage.specs.declared.inputs.Listed.{Listed}
 use Rattle.salvage.specs.declared.fault.SalvageFault.{SalvageFault}

@@ -1,27 +1,27 @@
 -- Why a round is not salvaged.
 use Rattle.std.specs.Prelude.{◌≡◌, ◌≢◌, ◌<◌, ◌≤◌, ℕ, Bool, true, false, List, [], ◌∷◌, ◌++◌, Option, Some, None, Ok, Err, All, codes}
 use Rattle.sha2.specs.Sha256.{sha256}
-use Rattle.splices.specs.Opening.{Files}
-use Rattle.splices.specs.FileSet.{bytes_of, entries_of}
-use Rattle.splices.specs.declared.file_set.FileSet.{FileSet}
+use Rattle.splices_flat.specs.Opening.{Files}
+use Rattle.splices_flat.specs.FileSet.{bytes_of, entries_of}
+use Rattle.splices_flat.specs.declared.file_set.FileSet.{FileSet}
 use Rattle.rescue_file.specs.Numbered.{rescue_name_of}
 use Rattle.dag_graph.specs.Graph.{Network}
 use Rattle.run_plan.specs.Digest.{digest_of}
 use Rattle.run_plan.specs.Plan.{Plan}
 use Rattle.run_plan.specs.Submitted.{plan_at}
 use Rattle.run_plan.specs.declared.fault.PlanFault.{PlanFault}
-use Rattle.event_journal.specs.declared.fault.JournalFault.{JournalFault}
-use Rattle.event_journal.specs.declared.fault.JournalFault.TheVariants as journals
-use Rattle.event_journal.specs.Image.{Found, replay_of, groups_in, IsRescueNumber}
-use Rattle.event_journal.specs.Peeks.{is_finished}
-use Rattle.event_journal.specs.Reading.{has_other_flag}
+use Rattle.event_journal_log.specs.declared.fault.JournalFault.{JournalFault}
+use Rattle.event_journal_log.specs.declared.fault.JournalFault.TheVariants as journals
+use Rattle.event_journal_log.specs.Image.{Found, replay_of, groups_in, IsRescueNumber}
+use Rattle.event_journal_log.specs.Peeks.{is_finished}
+use Rattle.event_journal_log.specs.Reading.{has_other_flag}
 use Rattle.recovery.specs.Replay.{IsForeignSlot}
-use Rattle.run_manager.specs.declared.fault.ManagerFault.TheVariants as manager
-use Rattle.dag_texts.specs.declared.fault.RunFault.{RunFault}
-use Rattle.dag_texts.specs.declared.fault.RunFault.TheVariants.{InPlan, NotThere, InManager, Memory}
-use Rattle.dag_texts.specs.Planned.{IsGraphOf, IsGraphFault, rescue_line, named_by}
-use Rattle.dag_files.specs.Beside.{journal_name_of, IsFileFault}
-use Rattle.dag_files.specs.Journals.{IsUnread}
+use Rattle.recovery_manager.specs.declared.fault.ManagerFault.TheVariants as manager
+use Rattle.dag_main_check.specs.declared.fault.RunFault.{RunFault}
+use Rattle.dag_main_check.specs.declared.fault.RunFault.TheVariants.{InPlan, NotThere, InManager, Memory}
+use Rattle.dag_main_check.specs.Planned.{IsGraphOf, IsGraphFault, rescue_line, named_by}
+use Rattle.dag_main_files.specs.Beside.{journal_name_of, IsFileFault}
+use Rattle.dag_main_files.specs.Journals.{IsUnread}
 use Rattle.salvage.specs.Inputs.{inputs_name_of, inputs_text_of}
 use Rattle.salvage.specs.Round.{IsCutShort, sum_in, IsSame, IsSameRescue}
 use Rattle.salvage.specs.Salvaged.{IsBarePlan}

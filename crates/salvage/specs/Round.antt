@@ -4,8 +4,8 @@ use Rattle.std.specs.Option.{option_map}
 use Rattle.std.specs.Str.{bytes_eq}
 use Rattle.sha2.specs.Sha256.{sha256}
 use Rattle.rescue_file.specs.Numbered.{rescue_name_of}
-use Rattle.event_journal.specs.Image.{Found, replay_of, IsRescueNumber}
-use Rattle.event_journal.specs.Peeks.{is_finished}
+use Rattle.event_journal_log.specs.Image.{Found, replay_of, IsRescueNumber}
+use Rattle.event_journal_log.specs.Peeks.{is_finished}
 use Rattle.salvage.specs.declared.inputs.Listed.{Listed}
 
 -- A journal of these bytes is that of a round which has not ended, and its header has the digest of the round's plan, the number of the

@@ -3,9 +3,9 @@ use Rattle.std.specs.Prelude.{◌≡◌, ◌⊎◌, ℕ, List, [], ◌∷◌, �
 use Rattle.std.specs.Str.{bytes_eq}
 use Rattle.sha2.specs.Sha256.{sha256}
 use Rattle.std.specs.List.{count_by}
-use Rattle.splices.specs.Opening.{Files}
-use Rattle.splices.specs.FileSet.{bytes_of, entries_of}
-use Rattle.splices.specs.declared.file_set.FileSet.{FileSet}
+use Rattle.splices_flat.specs.Opening.{Files}
+use Rattle.splices_flat.specs.FileSet.{bytes_of, entries_of}
+use Rattle.splices_flat.specs.declared.file_set.FileSet.{FileSet}
 use Rattle.rescue_file.specs.Numbered.{rescue_name_of}
 use Rattle.dag_graph.specs.Graph.{Network}
 use Rattle.run_plan.specs.Digest.{digest_of}
@@ -13,14 +13,14 @@ use Rattle.run_plan.specs.Plan.{Plan, count_of}
 use Rattle.run_plan.specs.Submitted.{plan_at}
 use Rattle.node_machine.specs.declared.Record.{Record}
 use Rattle.sched_core.specs.Run.{written, is_lawful}
-use Rattle.event_journal.specs.declared.fault.JournalFault.{JournalFault}
-use Rattle.event_journal.specs.Image.{Found, replay_of}
-use Rattle.run_manager.specs.Rescue.{marks_of, rescue_text_for}
-use Rattle.dag_texts.specs.Planned.{IsGraphOf}
-use Rattle.dag_files.specs.Beside.{journal_name_of}
-use Rattle.dag_files.specs.Folder.{IsReadFrom, rescue_in}
+use Rattle.event_journal_log.specs.declared.fault.JournalFault.{JournalFault}
+use Rattle.event_journal_log.specs.Image.{Found, replay_of}
+use Rattle.recovery_manager.specs.Rescue.{marks_of, rescue_text_for}
+use Rattle.dag_main_check.specs.Planned.{IsGraphOf}
+use Rattle.dag_main_files.specs.Beside.{journal_name_of}
+use Rattle.dag_main_files.specs.Folder.{IsReadFrom, rescue_in}
 use Rattle.salvage.specs.Inputs.{inputs_name_of, inputs_text_of}
-use Rattle.dag_texts.specs.Warnings.{warning_lines}
+use Rattle.dag_main_check.specs.Warnings.{warning_lines}
 use Rattle.salvage.specs.Round.{IsCutShort, IsSame, IsSameRescue}
 use Rattle.salvage.specs.declared.inputs.Listed.{Listed}
 use Rattle.salvage.specs.declared.here.Change.{Change}

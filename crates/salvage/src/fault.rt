@@ -1,12 +1,12 @@
 //! Why a round is not salvaged.
 
 ghost use Rattle.std.specs.Prelude.{◌≡◌};
-ghost use Rattle.dag_texts.specs.declared.fault.RunFault.TheVariants.{Memory};
+ghost use Rattle.dag_main_check.specs.declared.fault.RunFault.TheVariants.{Memory};
 ghost use Rattle.salvage.specs.Faults.{fault_text};
 ghost use Rattle.salvage.specs.declared.fault.SalvageFault.TheVariants.{Refused};
 
+use dag_main_check::RunFault;
 use dag_reader::Text;
-use dag_texts::RunFault;
 use std::alloc::{AllocError, AllocFailed};
 use std::error::Error;
 use std::fmt;

@@ -3,13 +3,13 @@
 ghost use Rattle.std.specs.Str.{bytes_eq};
 ghost use Rattle.sha2.specs.Sha256.{sha256};
 ghost use Rattle.std.specs.Prelude.{◌≡◌, ◌++◌, ◌≤◌, ℕ, List, Option, IfOk, IfErr, OnOk, string_bytes, option_map};
-ghost use Rattle.splices.specs.FileSet.{bytes_of};
+ghost use Rattle.splices_flat.specs.FileSet.{bytes_of};
 ghost use Rattle.rescue_file.specs.Numbered.{IsNumber, rescue_name_of};
 ghost use Rattle.run_plan.specs.Plan.{count_of};
-ghost use Rattle.dag_texts.specs.declared.fault.RunFault.TheVariants.{Memory};
-ghost use Rattle.dag_texts.specs.Warnings.{warning_lines};
-ghost use Rattle.dag_files.specs.Beside.{IsFileFault};
-ghost use Rattle.splices.specs.declared.file_set.FileSet.{FileSet};
+ghost use Rattle.dag_main_check.specs.declared.fault.RunFault.TheVariants.{Memory};
+ghost use Rattle.dag_main_check.specs.Warnings.{warning_lines};
+ghost use Rattle.dag_main_files.specs.Beside.{IsFileFault};
+ghost use Rattle.splices_flat.specs.declared.file_set.FileSet.{FileSet};
 ghost use Rattle.salvage.specs.Salvaged.{IsBarePlan, IsReadRound, IsHeldRound, change_line, IsChangeFrom, any_change, AreChanges, report_line, IsSalvageOf, IsSalvageFrom};
 ghost use Rattle.salvage.specs.Refused.{IsBarePlanFault, IsSalvageFault};
 
@@ -17,14 +17,14 @@ use crate::fault::SalvageFault;
 use crate::inputs::{Inputs, Listed};
 use crate::rescue::{Salvaged, salvage_text};
 use crate::rounds::{CutShort, check_files, cut_short, inputs_with, rescue_in};
-use dag_files::{
+use dag_main_check::{Answer, RunFault, graph_of, warning_text};
+use dag_main_files::{
     Folder, Place, Reading, bytes_of, files_of, journal_path, named, rescue_disk, rescue_path,
 };
-use dag_texts::{Answer, RunFault, graph_of, warning_text};
-use event_journal::put_bytes;
+use event_journal_log::put_bytes;
 use run_plan::Plan;
 use sha2::{Digest, Sha256};
-use splices::FileSet;
+use splices_flat::FileSet;
 use std::alloc::{AllocError, Global};
 use std::fs::File;
 use std::rt::Files;

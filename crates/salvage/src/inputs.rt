@@ -4,12 +4,12 @@ ghost use Rattle.std.specs.Prelude.{◌≡◌, ◌++◌, ◌∷◌, [], map, IfO
 ghost use Rattle.std.specs.List.{list_any, flat_map};
 ghost use Rattle.std.specs.Option.{option_map};
 ghost use Rattle.hex.specs.Hex.{encode_lower};
-ghost use Rattle.splices.specs.FileSet.{entries_of};
+ghost use Rattle.splices_flat.specs.FileSet.{entries_of};
 ghost use Rattle.salvage.specs.Inputs.{listed_of, rescue_entry, needs_escape, escape_mark, escaped_byte, escaped, listed_line, head_line, inputs_text_of};
 
 use dag_reader::Text;
 use sha2::{Digest, Sha256};
-use splices::FileSet;
+use splices_flat::FileSet;
 use std::alloc::{AllocError, Global};
 
 /// A file and its SHA-256 sum.

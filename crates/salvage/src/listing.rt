@@ -1,16 +1,16 @@
 //! The file that says what a round was begun with, as it is written.
 
 ghost use Rattle.std.specs.Prelude.{◌≡◌, ◌++◌, codes, IfOk, IfErr};
-ghost use Rattle.dag_texts.specs.declared.fault.RunFault.TheVariants.{Memory};
-ghost use Rattle.dag_files.specs.Beside.{IsFileFault};
+ghost use Rattle.dag_main_check.specs.declared.fault.RunFault.TheVariants.{Memory};
+ghost use Rattle.dag_main_files.specs.Beside.{IsFileFault};
 
 use crate::inputs::{Inputs, inputs_of, inputs_text};
-use dag_files::{LAST_NUMBER, Place, rescue_path};
+use dag_main_check::RunFault;
+use dag_main_files::{LAST_NUMBER, Place, rescue_path};
 use dag_reader::Text;
-use dag_texts::RunFault;
-use event_journal::put_bytes;
-use journal_disks::FileDisk;
-use splices::FileSet;
+use event_journal::FileDisk;
+use event_journal_log::put_bytes;
+use splices_flat::FileSet;
 use std::alloc::{AllocError, Global};
 use std::fs::File;
 use std::rt::Files;

@@ -2,21 +2,21 @@
 
 ghost use Rattle.std.specs.Prelude.{◌≡◌, IfOk, IfErr, string_bytes};
 ghost use Rattle.std.specs.List.{count_by};
-ghost use Rattle.event_journal.specs.Image.{replay_of};
+ghost use Rattle.event_journal_log.specs.Image.{replay_of};
 ghost use Rattle.sched_core.specs.Run.{written};
-ghost use Rattle.run_manager.specs.Rescue.{marks_of, rescue_text_for};
-ghost use Rattle.dag_texts.specs.declared.fault.RunFault.TheVariants.{Memory};
+ghost use Rattle.recovery_manager.specs.Rescue.{marks_of, rescue_text_for};
+ghost use Rattle.dag_main_check.specs.declared.fault.RunFault.TheVariants.{Memory};
 ghost use Rattle.salvage.specs.Salvaged.{HasRecords, IsSalvaged};
 ghost use Rattle.salvage.specs.Refused.{IsUnsalvaged};
 
 use crate::rounds::digest_in;
-use dag_files::read_fault;
-use dag_texts::RunFault;
-use event_journal::{read_journal, slot_of};
+use dag_main_check::RunFault;
+use dag_main_files::read_fault;
+use event_journal_log::{read_journal, slot_of};
 use node_machine::Record;
 use recovery::replay;
+use recovery_manager::ManagerFault;
 use rescue_file::rescue_text;
-use run_manager::ManagerFault;
 use run_plan::Plan;
 use sched_core::Core;
 use std::alloc::Global;

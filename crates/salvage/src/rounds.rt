@@ -1,11 +1,11 @@
 //! Rounds that were cut short, and what they were begun with.
 
 ghost use Rattle.std.specs.Prelude.{◌≡◌, ◌≤◌, ◌↔◌, Some, All, IsTrue, IfOk, IfErr, OnOk, is_some, length, slice_range, option_map};
-ghost use Rattle.splices.specs.FileSet.{entries_of};
-ghost use Rattle.event_journal.specs.Image.{IsRescueNumber};
+ghost use Rattle.splices_flat.specs.FileSet.{entries_of};
+ghost use Rattle.event_journal_log.specs.Image.{IsRescueNumber};
 ghost use Rattle.salvage.specs.Round.{IsCutShort, sum_in, IsSame, IsSameRescue};
-ghost use Rattle.dag_files.specs.Beside.{journal_name_of};
-ghost use Rattle.dag_files.specs.Folder as held;
+ghost use Rattle.dag_main_files.specs.Beside.{journal_name_of};
+ghost use Rattle.dag_main_files.specs.Folder as held;
 ghost use Rattle.salvage.specs.Inputs.{inputs_name_of, inputs_text_of};
 ghost use Rattle.salvage.specs.Refused.{IsNoNumber, IsNotCutShort, IsNoRound, IsNoInputs, IsOtherFile, IsFirstOther, IsOtherRescue};
 
@@ -13,12 +13,12 @@ use crate::fault::SalvageFault;
 use crate::inputs::Inputs;
 use crate::listing::inputs_path;
 use crate::reading::{BadInputs, inputs_in};
-use dag_files::{Folder, LAST_NUMBER, journal_path, peek_in, rescue_path};
+use dag_main_check::RunFault;
+use dag_main_files::{Folder, LAST_NUMBER, journal_path, peek_in, rescue_path};
 use dag_reader::Text;
-use dag_texts::RunFault;
-use event_journal::Peek;
+use event_journal_log::Peek;
 use sha2::{Digest, Sha256};
-use splices::FileSet;
+use splices_flat::FileSet;
 use std::alloc::Global;
 
 /// A round that was cut short, as its journal says.

@@ -5,7 +5,7 @@ use Rattle.node_machine.specs.declared.Stand.{Stand}
 use Rattle.node_machine.specs.declared.Phase.{Phase}
 use Rattle.node_machine.specs.Story.{next_after}
 use Rattle.node_machine.specs.Stand.{next_of, ended_by}
-use Rattle.node_specs.specs.Node.{NodeSpec}
+use Rattle.run_plan_node.specs.Node.{NodeSpec}
 use Rattle.run_plan.specs.Plan.{Plan, node_at, count_of}
 use Rattle.node_machine.specs.NodeProgress.{NodeProgress}
 use Rattle.node_machine.specs.declared.Record.{Record}

@@ -12,11 +12,11 @@ use Rattle.node_machine.specs.Story.{Table, value_of, ends_with, outcome_in, has
 use Rattle.node_machine.specs.declared.State.TheVariants.{Done, NotRun}
 use Rattle.node_machine.proofs.Trees.{Told}
 use Rattle.node_machine.proofs.Beginnings.{masked, next-some}
-use Rattle.node_specs.specs.declared.command.PhaseFacts.{PhaseFacts}
-use Rattle.node_specs.specs.Node.{NodeSpec}
+use Rattle.run_plan_node.specs.declared.command.PhaseFacts.{PhaseFacts}
+use Rattle.run_plan_node.specs.Node.{NodeSpec}
 use Rattle.run_plan.specs.Plan.{Plan, node_at, count_of, IsRankedBy, at}
-use Rattle.node_specs.specs.Commands.{command_of, starts_child, is_sound, uses_whole_run, HaveSameEnds}
-use Rattle.node_specs.proofs.PlainCommands.{plain_command_same}
+use Rattle.run_plan_node.specs.Commands.{command_of, starts_child, is_sound, uses_whole_run, HaveSameEnds}
+use Rattle.run_plan_node.proofs.PlainCommands.{plain_command_same}
 use Rattle.node_machine.specs.declared.Record.{Record}
 use Rattle.node_machine.specs.declared.Record.TheVariants.{Launch}
 use Rattle.sched_core.specs.Run.{history, is_lawful, may_follow}

@@ -4,7 +4,7 @@ use Rattle.std.specs.Prelude.{IfSome}
 use Rattle.std.proofs.lemmas.Bool.{and_parts, false≢true, false_from_ne_true}
 use Rattle.std.proofs.lemmas.List.{length-map}
 use Rattle.node_machine.specs.declared.Key.{Key}
-use Rattle.splices.specs.declared.flat.CategoryLimit.{CategoryLimit}
+use Rattle.splices_flat.specs.declared.flat.CategoryLimit.{CategoryLimit}
 use Rattle.throttles.specs.declared.Limits.{Limits}
 use Rattle.throttles.specs.Throttled.{Throttled, Running, none_running, with_one, without_one, such_in, all_in, IsPlace}
 use Rattle.throttles.proofs.Counts.{with-length, none-length, undo, one-there, still-there, swap-one, with-all, none-all}

@@ -7,9 +7,9 @@ use Rattle.node_machine.specs.declared.Key.{Key}
 use Rattle.node_machine.specs.declared.Ended.{Ended}
 use Rattle.node_machine.specs.declared.Course.{Course}
 use Rattle.node_machine.specs.Story.{Table, value_of, ends_with, is_exit_0}
-use Rattle.node_specs.specs.declared.command.PhaseFacts.{PhaseFacts}
+use Rattle.run_plan_node.specs.declared.command.PhaseFacts.{PhaseFacts}
 use Rattle.run_plan.specs.Plan.{Plan, node_at, count_of}
-use Rattle.node_specs.specs.Commands.{CommandOrFault, command_of, starts_child}
+use Rattle.run_plan_node.specs.Commands.{CommandOrFault, command_of, starts_child}
 use Rattle.node_machine.specs.declared.Record.{Record}
 use Rattle.node_machine.specs.declared.Record.TheVariants.{Life, Launch, End, Finish}
 use Rattle.sched_core.specs.Run.{table_of, is_in_error, is_aborted, is_same}

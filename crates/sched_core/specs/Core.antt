@@ -7,7 +7,7 @@ use Rattle.node_machine.specs.NodeRun.{started, stopped, ended_with}
 use Rattle.throttles.specs.declared.Limits.{Limits}
 use Rattle.sched_core.specs.Limits.{IsBetter}
 use Rattle.sched_core.specs.Choices.{startable}
-use Rattle.node_specs.specs.Node.{no_node}
+use Rattle.run_plan_node.specs.Node.{no_node}
 use Rattle.run_plan.specs.Plan.{Plan, node_at, count_of, all_below}
 use Rattle.node_machine.specs.NodeProgress.{NodeProgress}
 use Rattle.sched_core.specs.declared.CoreFault.{CoreFault}

@@ -10,7 +10,7 @@ use Rattle.node_machine.specs.Story.{Table}
 use Rattle.node_machine.specs.declared.Record.{Record}
 use Rattle.node_machine.specs.declared.Record.TheVariants.{Life, Launch, End, Finish}
 use Rattle.dag_graph.specs.Graph.{Network}
-use Rattle.node_specs.specs.Node.{NodeSpec, Program, no_orders}
+use Rattle.run_plan_node.specs.Node.{NodeSpec, Program, no_orders}
 use Rattle.run_plan.specs.Plan.{Plan}
 use Rattle.sched_core.specs.Run.{written}
 use Rattle.sched_core.specs.Rounds.{Round}

@@ -3,7 +3,7 @@ use Rattle.std.specs.Prelude.{◌≡◌, ◌<◌, ◌≤◌, ℕ, Bool, List, []
 use Rattle.node_machine.specs.declared.Key.{Key}
 use Rattle.throttles.specs.declared.Limits.{Limits}
 use Rattle.throttles.specs.Throttled.{Throttled, Running, none_running, with_one, without_one, such_in, may_start}
-use Rattle.splices.specs.declared.flat.CategoryLimit.{CategoryLimit}
+use Rattle.splices_flat.specs.declared.flat.CategoryLimit.{CategoryLimit}
 use Rattle.ready_queue.specs.declared.Member.{Member}
 use Rattle.ready_queue.specs.Queue.{ComesBefore}
 use Rattle.run_plan.specs.Plan.{Plan, node_at, count_of}

@@ -7,7 +7,7 @@ use Rattle.node_machine.specs.declared.Key.{Key}
 use Rattle.node_machine.specs.declared.Outcome.TheVariants.{Exit}
 use Rattle.node_machine.specs.declared.Course.{Course}
 use Rattle.node_machine.specs.Story.{phase_number}
-use Rattle.node_specs.specs.declared.command.PhaseFacts.{PhaseFacts}
+use Rattle.run_plan_node.specs.declared.command.PhaseFacts.{PhaseFacts}
 use Rattle.run_plan.specs.Plan.{Plan, count_of}
 use Rattle.node_machine.specs.declared.Record.{Record}
 use Rattle.node_machine.specs.declared.Record.TheVariants.{Life, Launch, End, Finish}

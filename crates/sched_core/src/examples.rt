@@ -13,7 +13,7 @@ ghost use Rattle.node_machine.specs.declared.Phase.TheVariants.{Pre, Job, Post};
 ghost use Rattle.node_machine.specs.declared.Outcome.TheVariants.{Exit, Signal};
 ghost use Rattle.node_machine.specs.declared.State.TheVariants.{Done, Error, NotRun};
 ghost use Rattle.run_plan.specs.Plan.{Plan, node_at, count_of, IsRankedBy};
-ghost use Rattle.node_specs.specs.Commands.{bare_command, command_of, is_sound, uses_whole_run};
+ghost use Rattle.run_plan_node.specs.Commands.{bare_command, command_of, is_sound, uses_whole_run};
 ghost use Rattle.sched_core.specs.Run.{table_of, history, is_done, is_lawful, is_finished, is_aborted, is_launched, may_follow};
 ghost use Rattle.sched_core.specs.Fate.{Fate, AreFates, shown, is_done_state};
 ghost use Rattle.sched_core.specs.Bound.{all_phases};

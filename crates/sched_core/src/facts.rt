@@ -7,7 +7,7 @@ ghost use Rattle.sched_core.specs.Notes.{noted_facts};
 
 use crate::notes::AttemptNotes;
 use node_machine::{Outcome, value_of};
-use node_specs::{NodeSpec, PhaseFacts};
+use run_plan_node::{NodeSpec, PhaseFacts};
 
 /// The outcome of a phase; Exit 0 where it did not end.
 fn outcome_of(ended: Option<Outcome>) -> Outcome

@@ -16,7 +16,7 @@ ghost use Rattle.node_machine.specs.declared.Phase.TheVariants.{Job};
 ghost use Rattle.node_machine.specs.declared.Outcome.TheVariants.{Exit};
 ghost use Rattle.node_machine.specs.declared.State.TheVariants.{Done, Error, NotRun};
 ghost use Rattle.run_plan.specs.Plan.{Plan, node_at, count_of, IsRankedBy};
-ghost use Rattle.node_specs.specs.Commands.{command_of, is_sound, uses_whole_run};
+ghost use Rattle.run_plan_node.specs.Commands.{command_of, is_sound, uses_whole_run};
 ghost use Rattle.sched_core.specs.Run.{written, table_of, history, is_done, is_lawful, is_finished, is_aborted, is_launched, is_open, launch_number, may_follow};
 ghost use Rattle.sched_core.specs.Fate.{Fate, AreFates, final_fate, shown, is_done_state};
 ghost use Rattle.sched_core.specs.Agree.{AgreeOnFates, Agree};

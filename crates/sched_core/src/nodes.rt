@@ -7,7 +7,7 @@ ghost use Rattle.run_plan.specs.Plan.{node_at, count_of};
 ghost use Rattle.sched_core.specs.Ahead.{ended_in};
 ghost use Rattle.sched_core.specs.declared.CoreFault.TheVariants.{NotLawful, Finished};
 ghost use Rattle.sched_core.specs.Run.{written, history, key_at, is_next, is_among, is_same, is_met, is_over, is_open, abort_status};
-ghost use Rattle.splices.specs.declared.flat.CategoryLimit.{CategoryLimit};
+ghost use Rattle.splices_flat.specs.declared.flat.CategoryLimit.{CategoryLimit};
 ghost use Rattle.throttles.specs.Throttled.{all_in};
 ghost use Rattle.sched_core.specs.Limits.{limits_of, throttled_in, throttled_after, IsOfNode, IsCounted};
 ghost use Rattle.sched_core.specs.Core.{AreFresh, run_at, jobs_after};
@@ -16,9 +16,9 @@ ghost use Rattle.sched_core.specs.Bound.{sum_below};
 
 use crate::CoreFault;
 use node_machine::{Ended, Key, NodeRun, Outcome, Phase, Record, State};
-use node_specs::NodeSpec;
 use run_plan::Plan;
-use splices::CategoryLimit;
+use run_plan_node::NodeSpec;
+use splices_flat::CategoryLimit;
 use std::alloc::{AllocError, Global};
 use throttles::{Limits, Throttles};
 

@@ -1,28 +1,22 @@
-//! What the files of a DAG with their splices say: nodes in plan order, edges and settings, and the rules by which files are
-//! opened. `dag_opener` opens them.
+//! Opens the files of a DAG with their splices, as the rules of `splices` say.
 #![tactic(auto)]
 
-mod fault;
-mod file_set;
-mod flat;
-pub mod laws;
-mod name_table;
-mod part;
-mod paths;
-mod settings;
-mod shared;
-mod used;
+mod acting;
+mod check;
+mod declare;
+mod edges;
+mod library;
+mod lines;
+mod names;
+mod nodes;
+mod notices;
+mod open;
+mod own_nodes;
+mod told;
 
-pub use fault::{DagFault, SpliceFault};
-pub use file_set::FileSet;
-pub use flat::{
-    AbortSetting, CategoryLimit, CategorySetting, DagWarning, Edge, EdgeGroup, FlatDag, FlatNode,
-    MacroSetting, MacroSettings, PreSkipSetting, PrioritySetting, RetrySetting, ScriptSetting,
-    Settings, Side,
+pub use open::open_dag;
+pub use splices_flat::{
+    AbortSetting, CategoryLimit, CategorySetting, DagFault, DagWarning, Edge, EdgeGroup, FileSet,
+    FlatDag, FlatNode, MacroSetting, MacroSettings, NameTable, PreSkipSetting, PrioritySetting,
+    RetrySetting, ScriptSetting, Settings, Side, SpliceFault, path_in,
 };
-pub use name_table::NameTable;
-pub use part::{Numbers, Part};
-pub use paths::path_in;
-pub use settings::{full_category, target_line};
-pub use shared::SharedTexts;
-pub use used::Used;

@@ -1,7 +1,7 @@
 use Rattle.std.proofs.Common.{◌≡◌, ◌≢◌, ◌⊎◌, List, ℕ, ◌∙◌, ap, sym, subst, map, length, string_bytes}
-use Rattle.splices.specs.Dag.{Dag}
+use Rattle.splices_flat.specs.Dag.{Dag}
 use Rattle.dag_graph.specs.Graph.{Network}
-use Rattle.dag_texts.specs.Warnings.{warning_lines}
+use Rattle.dag_main_check.specs.Warnings.{warning_lines}
 use Rattle.failure_report.specs.Told.{IsWhyOfAll}
 use Rattle.failure_report.specs.Named.{IsWhyOfNamed}
 use Rattle.failure_answers.specs.Answered.{IsAnswerOf}

@@ -1,9 +1,9 @@
 use Rattle.std.proofs.Common.{sym, subst}
-use Rattle.dag_files.specs.Beside.{folder_not_read}
-use Rattle.run_answers.specs.Asked.{IsToldFault, no_last_round, not_told}
-use Rattle.run_answers.specs.declared.by_journal.Question.TheVariants.{Status}
-use Rattle.dag_files.proofs.RunFaults.{by-fault, input-is-file}
-use Rattle.run_answers.proofs.Rounds.{same-round}
+use Rattle.dag_main_files.specs.Beside.{folder_not_read}
+use Rattle.dag_main_inspect.specs.Asked.{IsToldFault, no_last_round, not_told}
+use Rattle.dag_main_inspect.specs.declared.by_journal.Question.TheVariants.{Status}
+use Rattle.dag_main_files.proofs.RunFaults.{by-fault, input-is-file}
+use Rattle.dag_main_inspect.proofs.Rounds.{same-round}
 use Rattle.failure_answers.proofs.why_here.Goals as goal
 
 pub returns-in-Ok-clause-answered : goal.returns-in-Ok-clause-answered

@@ -1,8 +1,8 @@
 use Rattle.std.proofs.Common.{subst, sym}
 use Rattle.std.specs.Option.{option_map}
-use Rattle.splices.specs.FileSet.{bytes_of, entries_of}
-use Rattle.run_answers.specs.Statused.{IsStatusFault, no_plan, no_records, IsRecordsFault, reading_had_no_memory}
-use Rattle.dag_texts.proofs.Refusals.{handed-on, weaker}
+use Rattle.splices_flat.specs.FileSet.{bytes_of, entries_of}
+use Rattle.dag_main_inspect.specs.Statused.{IsStatusFault, no_plan, no_records, IsRecordsFault, reading_had_no_memory}
+use Rattle.dag_main_check.proofs.Refusals.{handed-on, weaker}
 use Rattle.failure_answers.proofs.why_of.Goals as goal
 
 pub returns-in_err-plan-clause-refused : goal.returns-in_err-plan-clause-refused

@@ -1,5 +1,5 @@
-use Rattle.splices.specs.FileSet.{bytes_of}
-use Rattle.dag_files.proofs.RunFaults.{by-fault}
+use Rattle.splices_flat.specs.FileSet.{bytes_of}
+use Rattle.dag_main_files.proofs.RunFaults.{by-fault}
 use Rattle.folder_answers.specs.Answered.{IsCheckRefusal, check_not_read, IsCheckRefusalFrom, held_not_read}
 use Rattle.folder_answers.proofs.Held.{checked, by-some, by-held}
 use Rattle.folder_answers.proofs.check_here.Goals as goal

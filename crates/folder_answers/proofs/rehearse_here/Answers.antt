@@ -1,7 +1,7 @@
 use Rattle.std.proofs.lemmas.Result.{IfOk-weaker}
-use Rattle.dag_texts.proofs.Refusals.{weaker}
-use Rattle.dag_files.proofs.RunFaults.{by-fault}
-use Rattle.splices.specs.FileSet.{bytes_of}
+use Rattle.dag_main_check.proofs.Refusals.{weaker}
+use Rattle.dag_main_files.proofs.RunFaults.{by-fault}
+use Rattle.splices_flat.specs.FileSet.{bytes_of}
 use Rattle.folder_answers.specs.Answered.{IsRehearsalRefusal, input_not_read, not_rehearsed}
 use Rattle.folder_answers.proofs.Held.{rehearsed}
 use Rattle.folder_answers.proofs.rehearse_here.Goals as goal

@@ -5,8 +5,7 @@ use crate::journals::runs::{
     DIGEST, FAILS_ONCE, JOB, RECORDS, SIZE, begin_with, read_and_add, records_on, written,
 };
 use crate::same::same;
-use event_journal::{Journal, JournalFault, Peek, decode_record, encode_record, has_slot};
-use journal_disks::MemDisk;
+use event_journal::{Journal, JournalFault, MemDisk, Peek, decode_record, encode_record, has_slot};
 use node_machine::{Outcome, Record};
 use std::alloc::{AllocError, Global};
 use std::process::Abort;

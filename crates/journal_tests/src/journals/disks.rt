@@ -5,8 +5,9 @@ use crate::journals::runs::{
     FAILS_ONCE, RECORDS, add, add_and_fail, add_many, begin, records_on, written,
 };
 use crate::same::same;
-use event_journal::{Disk, DiskFault, Journal, JournalFault, ReadFault};
-use journal_disks::{FileDisk, Fuse, FuseDisk, MemDisk};
+use event_journal::{
+    Disk, DiskFault, FileDisk, Fuse, FuseDisk, Journal, JournalFault, MemDisk, ReadFault,
+};
 use node_machine::Record;
 use std::alloc::Global;
 use std::fs;

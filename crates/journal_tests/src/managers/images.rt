@@ -2,10 +2,9 @@
 use crate::managers::lives::{given, life};
 use crate::managers::plans::{ROOM, SLOTS, job, plan_of};
 use crate::same::same;
-use event_journal::JournalFault;
-use journal_disks::MemDisk;
+use event_journal::{JournalFault, MemDisk};
 use node_machine::{Key, Outcome, Phase, Record};
-use run_manager::ManagerFault;
+use recovery::ManagerFault;
 use run_plan::Plan;
 use std::alloc::Global;
 use std::process::Abort;

@@ -3,11 +3,9 @@ ghost use Rattle.std.specs.Prelude.{◌≡◌, Ok};
 
 use crate::managers::plans::{NO_LIMITS, ROOM, SLOTS};
 use crate::same::same;
-use event_journal::{Journal, JournalFault, Opened};
-use journal_disks::MemDisk;
+use event_journal::{Journal, JournalFault, MemDisk, Opened};
 use node_machine::{Key, Record, Table};
-use recovery::{begin, recover};
-use run_manager::{Manager, ManagerFault, Sealed};
+use recovery::{Manager, ManagerFault, Sealed, begin, recover};
 use run_plan::Plan;
 use sched_core::{Choice, Core};
 use std::alloc::Global;

@@ -1,9 +1,8 @@
 // Plans of the tests, and what they share.
 use dag_graph::Graph;
-use dag_opener::open_dag;
 use node_machine::{Key, Phase};
 use run_plan::{Plan, PlanFault};
-use splices::FileSet;
+use splices::{FileSet, open_dag};
 use std::alloc::Global;
 use std::test::Fail;
 use throttles::Limits;

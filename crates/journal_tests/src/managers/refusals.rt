@@ -1,16 +1,14 @@
 // Refusals of a manager.
 ghost use Rattle.std.specs.Prelude.{◌≡◌, length};
-ghost use Rattle.run_manager.specs.Managed.{past_of};
-ghost use Rattle.run_manager.specs.Seal.{sealed_count};
+ghost use Rattle.recovery_manager.specs.Managed.{past_of};
+ghost use Rattle.recovery_manager.specs.Seal.{sealed_count};
 
 use crate::managers::lives::{given, life, records_on, refused};
 use crate::managers::plans::{DIAMOND, ROOM, SLOTS, job, plan_of};
 use crate::same::same;
-use event_journal::JournalFault;
-use journal_disks::MemDisk;
+use event_journal::{JournalFault, MemDisk};
 use node_machine::{Outcome, Record};
-use recovery::replay;
-use run_manager::{Manager, ManagerFault, Sealed};
+use recovery::{Manager, ManagerFault, Sealed, replay};
 use run_plan::Plan;
 use std::alloc::Global;
 use std::process::Abort;

@@ -5,9 +5,8 @@ use crate::dags::lines::{limits, settings};
 use crate::dags::views::{ancestors, links, names, options, plan_text};
 use crate::same::same_text;
 use dag_graph::Graph;
-use dag_opener::open_dag;
 use run_plan::Plan;
-use splices::{FileSet, FlatDag};
+use splices::{FileSet, FlatDag, open_dag};
 use std::alloc::{AllocError, Global};
 use std::process::Abort;
 

@@ -4,8 +4,8 @@ ghost use Rattle.std.specs.Prelude.{◌<◌};
 ghost use Rattle.run_plan.specs.Plan.{count_of};
 
 use dag_graph::Graph;
-use node_specs::NodeSpec;
 use run_plan::Plan;
+use run_plan_node::NodeSpec;
 use splices::{FlatDag, FlatNode};
 use std::alloc::{AllocError, Global};
 

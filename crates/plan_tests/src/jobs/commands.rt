@@ -1,14 +1,14 @@
 //! The commands of plans, as texts.
 
 ghost use Rattle.std.specs.Prelude.{◌≡◌, ◌≤◌, IfOk};
-ghost use Rattle.node_specs.specs.Commands.{starts_child};
+ghost use Rattle.run_plan_node.specs.Commands.{starts_child};
 ghost use Rattle.run_plan.specs.Plan.{count_of};
 
 use crate::jobs::words::barred;
 use dag_reader::Text;
 use node_machine::{Key, Phase};
-use node_specs::{ChildCommand, NodeSpec, PhaseFacts};
 use run_plan::Plan;
+use run_plan_node::{ChildCommand, NodeSpec, PhaseFacts};
 use std::alloc::{AllocError, Global};
 use std::test::Fail;
 

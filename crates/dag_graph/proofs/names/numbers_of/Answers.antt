@@ -1,7 +1,7 @@
 use Rattle.std.proofs.Common.{◌≡◌, ◌≤◌, List, length, map, sym, ap, subst, arith}
 use Rattle.std.specs.HashMap.{get_by_text}
 use Rattle.std.proofs.lemmas.List.{take_all}
-use Rattle.splices.specs.declared.flat.FlatNode.{FlatNode}
+use Rattle.splices_flat.specs.declared.flat.FlatNode.{FlatNode}
 use Rattle.dag_graph.specs.Names.{GivesPlaces}
 use Rattle.dag_graph.proofs.NamePlaces.{node_more, final_more}
 use Rattle.dag_graph.proofs.names.numbers_of.Goals as goal

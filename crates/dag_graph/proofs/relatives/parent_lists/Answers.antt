@@ -2,10 +2,10 @@ use Rattle.std.proofs.Common.{◌≡◌, ◌∙◌, ℕ, List, length, map, refl
 use Rattle.std.proofs.lemmas.List.{length-map}
 use Rattle.std.proofs.lemmas.List.FromFn.{length-map-range_with_len}
 use Rattle.std.specs.List.{All, range_with_len}
-use Rattle.splices.specs.declared.flat.FlatNode.{FlatNode}
-use Rattle.splices.specs.declared.flat.Side.TheVariants.{Parent, Child}
-use Rattle.splices.specs.Dag.{IsGroupBelow}
-use Rattle.splices.specs.Places.{edges_of, ends_of}
+use Rattle.splices_flat.specs.declared.flat.FlatNode.{FlatNode}
+use Rattle.splices_flat.specs.declared.flat.Side.TheVariants.{Parent, Child}
+use Rattle.splices_flat.specs.Dag.{IsGroupBelow}
+use Rattle.splices_flat.specs.Places.{edges_of, ends_of}
 use Rattle.dag_graph.specs.Numbers.{AreBelow, all_named, holders_of, named}
 use Rattle.dag_graph.proofs.Families.{parents_listed}
 use Rattle.dag_graph.proofs.Groups.{homes_below, named_edges, sides_below}

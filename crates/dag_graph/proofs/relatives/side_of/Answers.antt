@@ -1,6 +1,6 @@
 use Rattle.std.proofs.Common.{ℕ, ◌<◌, List, subst, sym}
 use Rattle.std.specs.List.{All}
-use Rattle.splices.specs.Dag.{IsGroupBelow}
+use Rattle.splices_flat.specs.Dag.{IsGroupBelow}
 use Rattle.dag_graph.proofs.Groups.{side_below}
 use Rattle.dag_graph.proofs.relatives.side_of.Goals as goal
 

@@ -1,5 +1,5 @@
 use Rattle.std.proofs.Common.{◌≡◌, map, take}
-use Rattle.splices.specs.Places.{ends_of}
+use Rattle.splices_flat.specs.Places.{ends_of}
 use Rattle.dag_graph.proofs.relatives.side_of.Given as goal
 
 abbrev pub invariant-loop-group : goal.invariant-loop-group

@@ -1,7 +1,7 @@
 use Rattle.std.proofs.Common.{map, sym, subst}
 use Rattle.std.specs.Prelude.{IfErr}
-use Rattle.command_line.specs.Requests.{asked_by, tells_status, audits, draws, asks_why, times}
-use Rattle.dag_texts.proofs.Refusals.{weaker}
+use Rattle.dag_main_args.specs.Requests.{asked_by, tells_status, audits, draws, asks_why, times}
+use Rattle.dag_main_check.proofs.Refusals.{weaker}
 use Rattle.dagrun.specs.Answered.{IsRefusal, no_status, not_audited, not_drawn, not_why, not_timed}
 use Rattle.dagrun.proofs.answers.answer_in.Goals as goal
 

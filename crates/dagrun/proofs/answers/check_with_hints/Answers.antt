@@ -1,5 +1,5 @@
-use Rattle.splices.specs.FileSet.{bytes_of}
-use Rattle.dag_files.proofs.RunFaults.{by-fault}
+use Rattle.splices_flat.specs.FileSet.{bytes_of}
+use Rattle.dag_main_files.proofs.RunFaults.{by-fault}
 use Rattle.folder_answers.specs.Answered.{IsCheckRefusal, check_not_read}
 use Rattle.folder_answers.proofs.Held.{checked}
 use Rattle.dagrun.proofs.Checks.{hints_behind}

@@ -1,7 +1,7 @@
 use Rattle.std.proofs.Common.{ap, ◌∙◌, is_some}
 use Rattle.std.proofs.lemmas.Result.{IfOk-weaker}
-use Rattle.dag_texts.proofs.Refusals.{weaker}
-use Rattle.dag_files.proofs.RunFaults.{by-fault}
+use Rattle.dag_main_check.proofs.Refusals.{weaker}
+use Rattle.dag_main_files.proofs.RunFaults.{by-fault}
 use Rattle.dagrun.specs.Answered.{IsRefusal, not_read, not_rehearsed}
 use Rattle.dagrun.proofs.answers.rehearse.Goals as goal
 

@@ -1,9 +1,9 @@
 use Rattle.std.proofs.Common.{◌≡◌, Option, Some, subst}
 use Rattle.std.specs.Prelude.{IfSome}
-use Rattle.dag_texts.proofs.Refusals.{weaker}
+use Rattle.dag_main_check.proofs.Refusals.{weaker}
 use Rattle.std.proofs.lemmas.Result.{IfOk-weaker}
-use Rattle.dag_files.proofs.RunFaults.{by-fault}
-use Rattle.command_line.specs.Requests.{runs}
+use Rattle.dag_main_files.proofs.RunFaults.{by-fault}
+use Rattle.dag_main_args.specs.Requests.{runs}
 use Rattle.dagrun.specs.Answered.{IsRefusal, not_run, not_told_again, led, told_again}
 use Rattle.dagrun.proofs.answers.run_in.Goals as goal
 

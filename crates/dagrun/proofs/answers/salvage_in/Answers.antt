@@ -1,7 +1,7 @@
 use Rattle.std.proofs.Common.{sym, subst}
-use Rattle.dag_files.specs.Beside.{IsFileFault, reading_had_no_memory}
-use Rattle.dag_texts.proofs.Refusals.{weaker}
-use Rattle.command_line.specs.Requests.{salvages}
+use Rattle.dag_main_files.specs.Beside.{IsFileFault, reading_had_no_memory}
+use Rattle.dag_main_check.proofs.Refusals.{weaker}
+use Rattle.dag_main_args.specs.Requests.{salvages}
 use Rattle.dagrun.specs.Answered.{IsRefusal, not_read, salvaged, not_salvaged_as_run}
 use Rattle.salvage.specs.Refused.{IsSalvageFault}
 use Rattle.dagrun.proofs.Salvages.{line-told}

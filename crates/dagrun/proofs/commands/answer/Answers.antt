@@ -1,5 +1,5 @@
-use Rattle.dag_files.proofs.RunFaults.{by-fault}
-use Rattle.command_line.specs.Requests.{asked_by}
+use Rattle.dag_main_files.proofs.RunFaults.{by-fault}
+use Rattle.dag_main_args.specs.Requests.{asked_by}
 use Rattle.dagrun.specs.Answered.{IsRefusal, not_read}
 use Rattle.dagrun.proofs.commands.answer.Goals as goal
 

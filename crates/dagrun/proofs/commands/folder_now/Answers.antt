@@ -1,6 +1,6 @@
-use Rattle.dag_files.specs.Beside.{IsFileFault, reading_had_no_memory}
-use Rattle.dag_texts.specs.declared.fault.RunFault.TheVariants.{Memory}
-use Rattle.dag_files.proofs.RunFaults.{by-fault}
+use Rattle.dag_main_files.specs.Beside.{IsFileFault, reading_had_no_memory}
+use Rattle.dag_main_check.specs.declared.fault.RunFault.TheVariants.{Memory}
+use Rattle.dag_main_files.proofs.RunFaults.{by-fault}
 use Rattle.dagrun.proofs.commands.folder_now.Goals as goal
 
 pub returns-in_err-from_str-in-Ok : goal.returns-in_err-from_str-in-Ok

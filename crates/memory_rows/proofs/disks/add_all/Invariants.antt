@@ -1,5 +1,5 @@
 use Rattle.std.proofs.Common.{IsFalse}
-use Rattle.event_journal.specs.Journal.{journal_disk, is_broken, IsSettled}
+use Rattle.event_journal_log.specs.Journal.{journal_disk, is_broken, IsSettled}
 use Rattle.memory_rows.proofs.disks.add_all.Given as goal
 
 abbrev pub invariant-loop-record : goal.invariant-loop-record

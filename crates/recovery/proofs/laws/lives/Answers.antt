@@ -1,7 +1,7 @@
 use Rattle.sched_core.proofs.Finished.{state-done}
 use Rattle.sched_core.proofs.LivesLemmas.{table-fates}
 use Rattle.std.proofs.Common.{sym}
-use Rattle.run_manager.proofs.Chains.{lives-by-records, lives-grow, lives-left, handed-over}
+use Rattle.recovery_manager.proofs.Chains.{lives-by-records, lives-grow, lives-left, handed-over}
 use Rattle.recovery.proofs.laws.lives.Goals as goal
 
 pub returns-clause-by_records : goal.returns-clause-by_records

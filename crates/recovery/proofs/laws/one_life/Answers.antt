@@ -2,8 +2,8 @@ use Rattle.std.proofs.Common.{◌≡◌, ◌∙◌, List, ◌∷◌, ◌++◌, i
 use Rattle.run_plan.specs.Plan.{Plan}
 use Rattle.node_machine.specs.declared.Record.{Record}
 use Rattle.node_machine.specs.declared.Record.TheVariants.{Life}
-use Rattle.run_manager.specs.Managed.{Reads}
-use Rattle.run_manager.specs.Inputs.{IsHeaderOf}
+use Rattle.recovery_manager.specs.Managed.{Reads}
+use Rattle.recovery_manager.specs.Inputs.{IsHeaderOf}
 use Rattle.recovery.proofs.laws.one_life.Goals as goal
 
 pub returns-clause-begun : goal.returns-clause-begun

@@ -4,10 +4,10 @@ use Rattle.run_plan.specs.Plan.{Plan}
 use Rattle.node_machine.specs.declared.Record.{Record}
 use Rattle.node_machine.specs.declared.Record.TheVariants.{Life}
 use Rattle.sched_core.specs.Run.{is_lawful}
-use Rattle.event_journal.specs.Journal.{with_record}
-use Rattle.run_manager.specs.Lives.{LifeRecords, GoesOn}
-use Rattle.run_manager.specs.Chain.{IsLifeOf, Leaves, ReadsForInputs, commands_in, life_of, life_records}
-use Rattle.run_manager.specs.Inputs.{header_for}
+use Rattle.event_journal_log.specs.Journal.{with_record}
+use Rattle.recovery_manager.specs.Lives.{LifeRecords, GoesOn}
+use Rattle.recovery_manager.specs.Chain.{IsLifeOf, Leaves, ReadsForInputs, commands_in, life_of, life_records}
+use Rattle.recovery_manager.specs.Inputs.{header_for}
 use Rattle.std.proofs.lemmas.Bool.{and_parts}
 use Rattle.recovery.proofs.Lives.{with_life, life_lawful}
 use Rattle.recovery.proofs.laws.stops.Goals as goal

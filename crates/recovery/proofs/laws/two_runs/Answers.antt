@@ -4,8 +4,8 @@ use Rattle.sched_core.proofs.Finished.{state-done}
 use Rattle.sched_core.proofs.LivesLemmas.{table-fates}
 use Rattle.sched_core.proofs.Matching.{fates-agree}
 use Rattle.sched_core.proofs.RunCommands.{same-commands}
-use Rattle.run_manager.specs.Chain.{key_of}
-use Rattle.run_manager.proofs.Chains.{handed-over, same-handed}
+use Rattle.recovery_manager.specs.Chain.{key_of}
+use Rattle.recovery_manager.proofs.Chains.{handed-over, same-handed}
 use Rattle.recovery.proofs.laws.two_runs.Goals as goal
 
 pub returns-clause-fates : goal.returns-clause-fates

@@ -1,6 +1,6 @@
 use Rattle.std.proofs.Common.{◌∙◌, sym, ap, ℕ, List, ◌++◌, length}
 use Rattle.std.proofs.lemmas.List.{length-map}
-use Rattle.splices.specs.declared.flat.FlatNode.{FlatNode}
+use Rattle.splices_flat.specs.declared.flat.FlatNode.{FlatNode}
 use Rattle.rescue_file.specs.Written.{head_text}
 use Rattle.rescue_file.proofs.DoneLines.{node_names, lines_of, marked_count}
 use Rattle.rescue_file.proofs.text.text_of_nodes.Goals as goal

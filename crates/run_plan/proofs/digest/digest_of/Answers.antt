@@ -2,8 +2,8 @@ use Rattle.std.proofs.Common.{◌++◌, List, [], Bor, subst, sym, append-nil, �
 use Rattle.std.specs.Option.{option_map_or}
 use Rattle.std.specs.List.{flat_map}
 use Rattle.sha2.specs.Hashers.{Holds256}
-use Rattle.splices.specs.FileSet.{entries_of}
-use Rattle.splices.specs.declared.file_set.FileSet.{FileSet}
+use Rattle.splices_flat.specs.FileSet.{entries_of}
+use Rattle.splices_flat.specs.declared.file_set.FileSet.{FileSet}
 use Rattle.run_plan.specs.Digest.{digest_of, digest_text, sized, sized_file}
 use Rattle.run_plan.proofs.digest.digest_of.Goals as goal
 use Rattle.run_plan.proofs.digest.digest_of.Goals.{in-Some, in_default}

@@ -1,9 +1,9 @@
 use Rattle.std.proofs.Common.{rules, Bool, Result, Vec, Global, IfOk, ◌≡◌, ◌∙◌, ◌<◌, ℕ, List, Bor, sym, ap, subst, length, false}
 use Rattle.std.specs.Prelude.{slice_index_or, option_map}
-use Rattle.splices.specs.Dag.{Dag}
-use Rattle.splices.specs.FileSet.{bytes_of}
-use Rattle.splices.specs.declared.file_set.FileSet.{FileSet}
-use Rattle.splices.specs.declared.flat.FlatNode.{FlatNode}
+use Rattle.splices_flat.specs.Dag.{Dag}
+use Rattle.splices_flat.specs.FileSet.{bytes_of}
+use Rattle.splices_flat.specs.declared.file_set.FileSet.{FileSet}
+use Rattle.splices_flat.specs.declared.flat.FlatNode.{FlatNode}
 use Rattle.run_plan.specs.Specs.{is_listed}
 use Rattle.run_plan.specs.declared.fault.PlanFault.{PlanFault}
 use Rattle.run_plan.proofs.PlanMade.{fails_nodes, fails_final, fails_rescue, planned_at}

@@ -1,12 +1,12 @@
 use Rattle.std.proofs.Common.{rules, ◌≡◌, ◌∙◌, ◌<◌, List, Ok, Bor, ap, sym, subst, length, get_or}
 use Rattle.std.specs.Prelude.{option_map}
 use Rattle.std.proofs.lemmas.Result.{err_from_is_err_and}
-use Rattle.splices.specs.Dag.{Dag}
-use Rattle.splices.specs.FileSet.{bytes_of}
-use Rattle.splices.specs.declared.file_set.FileSet.{FileSet}
-use Rattle.splices.specs.declared.flat.FlatNode.{FlatNode}
-use Rattle.splices.specs.declared.flat.CategoryLimit.{CategoryLimit}
-use Rattle.node_specs.specs.Specs.{spec_of}
+use Rattle.splices_flat.specs.Dag.{Dag}
+use Rattle.splices_flat.specs.FileSet.{bytes_of}
+use Rattle.splices_flat.specs.declared.file_set.FileSet.{FileSet}
+use Rattle.splices_flat.specs.declared.flat.FlatNode.{FlatNode}
+use Rattle.splices_flat.specs.declared.flat.CategoryLimit.{CategoryLimit}
+use Rattle.run_plan_node.specs.Specs.{spec_of}
 use Rattle.run_plan.specs.PlanAnswers.{Fails}
 use Rattle.run_plan.specs.Planned.{marked_sources}
 use Rattle.run_plan.specs.Submitted.{job_at, job_or_program, first_fault}

@@ -1,6 +1,6 @@
 use Rattle.std.proofs.Common.{◌≡◌, take, Ok}
 use Rattle.std.specs.Prelude.{option_map}
-use Rattle.splices.specs.FileSet.{bytes_of}
+use Rattle.splices_flat.specs.FileSet.{bytes_of}
 use Rattle.run_plan.specs.Planned.{marked_sources}
 use Rattle.run_plan.specs.Specs.{specs_from}
 use Rattle.run_plan.specs.Submitted.{first_fault}

@@ -1,5 +1,5 @@
 use Rattle.std.proofs.Common.{ap}
-use Rattle.event_journal.specs.Image.{replay_of}
+use Rattle.event_journal_log.specs.Image.{replay_of}
 use Rattle.run_tests.proofs.plans.driven.Goals as goal
 
 pub begin-requires : goal.begin-requires

@@ -1,8 +1,8 @@
 use Rattle.std.proofs.Common.{◌∙◌, ap, sym}
 use Rattle.std.specs.Option.{option_map}
-use Rattle.dag_files.specs.Beside.{IsFileFault, file_refused, reading_had_no_memory}
-use Rattle.dag_texts.specs.declared.fault.RunFault.TheVariants.{Memory}
-use Rattle.dag_files.proofs.RunFaults.{by-fault}
+use Rattle.dag_main_files.specs.Beside.{IsFileFault, file_refused, reading_had_no_memory}
+use Rattle.dag_main_check.specs.declared.fault.RunFault.TheVariants.{Memory}
+use Rattle.dag_main_files.proofs.RunFaults.{by-fault}
 use Rattle.run_times.proofs.here.log_of.Goals as goal
 
 pub returns-in_err-path-clause-refused : goal.returns-in_err-path-clause-refused

@@ -1,9 +1,9 @@
 use Rattle.std.proofs.Common.{◌∙◌, ap, refl}
-use Rattle.splices.specs.Dag.{Dag}
-use Rattle.dag_files.specs.Beside.{reading_had_no_memory}
-use Rattle.dag_texts.specs.Warnings.{warning_lines}
-use Rattle.dag_texts.specs.declared.fault.RunFault.TheVariants.{Memory}
-use Rattle.dag_files.proofs.RunFaults.{by-fault, input-is-file}
+use Rattle.splices_flat.specs.Dag.{Dag}
+use Rattle.dag_main_files.specs.Beside.{reading_had_no_memory}
+use Rattle.dag_main_check.specs.Warnings.{warning_lines}
+use Rattle.dag_main_check.specs.declared.fault.RunFault.TheVariants.{Memory}
+use Rattle.dag_main_files.proofs.RunFaults.{by-fault, input-is-file}
 use Rattle.run_times.specs.Told.{IsTimesFault, no_graph, no_log}
 use Rattle.run_times.proofs.here.times_here.Goals as goal
 

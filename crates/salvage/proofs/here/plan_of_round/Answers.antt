@@ -1,9 +1,9 @@
 use Rattle.std.proofs.Common.{◌∙◌, Bor, Some, List, ℕ, sym, subst, ap}
 use Rattle.std.specs.Option.{option_map}
-use Rattle.splices.specs.FileSet.{bytes_of}
-use Rattle.dag_texts.specs.declared.fault.RunFault.TheVariants.{Memory, InPlan}
-use Rattle.dag_texts.specs.Planned.{rescue_line, named_by}
-use Rattle.dag_files.proofs.RunFaults.{by-fault}
+use Rattle.splices_flat.specs.FileSet.{bytes_of}
+use Rattle.dag_main_check.specs.declared.fault.RunFault.TheVariants.{Memory, InPlan}
+use Rattle.dag_main_check.specs.Planned.{rescue_line, named_by}
+use Rattle.dag_main_files.proofs.RunFaults.{by-fault}
 use Rattle.salvage.specs.Refused.{IsBarePlanFault, has_no_graph, not_planned, not_marked, planning_had_no_memory}
 use Rattle.salvage.proofs.Refusals.{plan-fault}
 use Rattle.salvage.proofs.here.plan_of_round.Goals as goal

@@ -1,6 +1,6 @@
 use Rattle.std.proofs.Common.{List, ℕ, sym, subst}
-use Rattle.dag_texts.specs.declared.fault.RunFault.TheVariants.{Memory}
-use Rattle.dag_files.specs.Beside.{IsFileFault, reading_had_no_memory}
+use Rattle.dag_main_check.specs.declared.fault.RunFault.TheVariants.{Memory}
+use Rattle.dag_main_files.specs.Beside.{IsFileFault, reading_had_no_memory}
 use Rattle.salvage.specs.declared.fault.SalvageFault.TheVariants.{Refused, NoJournal}
 use Rattle.salvage.specs.Refused.{IsSalvageFault, no_round, has_no_journal, system_refuses}
 use Rattle.salvage.proofs.Refusals.{told-as}

@@ -1,5 +1,5 @@
 use Rattle.std.proofs.Common.{◌∙◌, ◌++◌, ℕ, List, ap, sym, subst, string_bytes}
-use Rattle.dag_files.specs.Beside.{IsFileFault, reading_had_no_memory}
+use Rattle.dag_main_files.specs.Beside.{IsFileFault, reading_had_no_memory}
 use Rattle.run_plan.specs.Plan.{count_of}
 use Rattle.rescue_file.specs.Numbered.{rescue_name_of}
 use Rattle.salvage.specs.Salvaged.{report_line}

@@ -1,7 +1,7 @@
 use Rattle.std.proofs.Common.{sym, subst}
-use Rattle.dag_texts.specs.declared.fault.RunFault.TheVariants.{Memory}
-use Rattle.dag_files.specs.Beside.{IsFileFault, file_refused, reading_had_no_memory}
-use Rattle.dag_files.proofs.RunFaults.{by-fault}
+use Rattle.dag_main_check.specs.declared.fault.RunFault.TheVariants.{Memory}
+use Rattle.dag_main_files.specs.Beside.{IsFileFault, file_refused, reading_had_no_memory}
+use Rattle.dag_main_files.proofs.RunFaults.{by-fault}
 use Rattle.salvage.proofs.here.write_rescue.Goals as goal
 
 pub returns-in_err-disk : goal.returns-in_err-disk

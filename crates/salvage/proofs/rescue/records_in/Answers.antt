@@ -1,8 +1,8 @@
 use Rattle.std.proofs.Common.{◌≡◌, ℕ, List, [], Option, Some, None, Vec, Global, ap, subst, sym}
 use Rattle.std.specs.Option.{option_map}
 use Rattle.node_machine.specs.declared.Record.{Record}
-use Rattle.event_journal.specs.Image.{replay_of}
-use Rattle.event_journal.specs.Reading.{ReadsRecords, replay_for}
+use Rattle.event_journal_log.specs.Image.{replay_of}
+use Rattle.event_journal_log.specs.Reading.{ReadsRecords, replay_for}
 use Rattle.salvage.specs.Salvaged.{HasRecords}
 use Rattle.salvage.specs.Refused.{IsUnsalvaged}
 use Rattle.salvage.proofs.Records.{records-read}

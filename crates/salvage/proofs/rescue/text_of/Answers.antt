@@ -3,7 +3,7 @@ use Rattle.std.specs.List.{count_by}
 use Rattle.dag_graph.specs.Graph.{Network}
 use Rattle.run_plan.specs.Plan.{Plan}
 use Rattle.rescue_file.specs.Written.{ordinary_names, rescue_text_of}
-use Rattle.run_manager.proofs.Marks.{marks-are}
+use Rattle.recovery_manager.proofs.Marks.{marks-are}
 use Rattle.salvage.proofs.rescue.text_of.Goals as goal
 
 pub returns-in-Ok-rescue_text-clause-text : goal.returns-in-Ok-rescue_text-clause-text

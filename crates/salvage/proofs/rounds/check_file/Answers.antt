@@ -1,5 +1,5 @@
 use Rattle.std.proofs.Common.{◌≡◌, ◌∙◌, Some, None, List, ℕ, sym, subst}
-use Rattle.dag_texts.specs.declared.fault.RunFault.TheVariants.{Memory}
+use Rattle.dag_main_check.specs.declared.fault.RunFault.TheVariants.{Memory}
 use Rattle.salvage.specs.declared.fault.SalvageFault.TheVariants.{Refused, NotListed, Changed}
 use Rattle.salvage.specs.Refused.{IsOtherFile, not_listed, changed, comparing_had_no_memory}
 use Rattle.salvage.proofs.Refusals.{told-as, differ}

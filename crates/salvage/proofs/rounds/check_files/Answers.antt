@@ -2,7 +2,7 @@ use Rattle.std.proofs.Common.{rules, ◌≡◌, ◌∙◌, sym, ◌++◌, ◌∷
 use Rattle.std.specs.Map.Iter.{deref_pair}
 use Rattle.std.proofs.lemmas.Map.Iter.{iter_end, rest_so_far, rest_more}
 use Rattle.std.proofs.lemmas.List.Elements.{All-nil, All-push}
-use Rattle.splices.specs.FileSet.{entries_of}
+use Rattle.splices_flat.specs.FileSet.{entries_of}
 use Rattle.salvage.specs.Round.{IsSame}
 use Rattle.salvage.specs.Refused.{IsFirstOther, IsOtherFile}
 use Rattle.salvage.proofs.Listings.{lent_file, entries_all}

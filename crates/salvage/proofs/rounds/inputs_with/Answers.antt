@@ -1,7 +1,7 @@
 use Rattle.std.proofs.Common.{◌∙◌, List, ℕ, Some, ap, sym, subst}
 use Rattle.std.specs.Option.{option_map}
-use Rattle.dag_texts.specs.declared.fault.RunFault.TheVariants.{Memory}
-use Rattle.dag_files.specs.Beside.{reading_had_no_memory}
+use Rattle.dag_main_check.specs.declared.fault.RunFault.TheVariants.{Memory}
+use Rattle.dag_main_files.specs.Beside.{reading_had_no_memory}
 use Rattle.salvage.specs.declared.fault.SalvageFault.TheVariants.{Refused, NoInputs, BadInputs, OtherRound}
 use Rattle.salvage.specs.Refused.{IsNoInputs, has_no_inputs, inputs_refused, not_spelled, of_another_round}
 use Rattle.salvage.proofs.Refusals.{told-as}

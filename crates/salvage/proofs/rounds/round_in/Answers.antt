@@ -1,10 +1,10 @@
 use Rattle.std.proofs.Common.{◌≡◌, ◌≤◌, ℕ, List, Option, Some, Ok, None, length, subst}
 use Rattle.std.specs.Prelude.{slice_range}
-use Rattle.event_journal.specs.declared.journal.Peek.{Peek}
-use Rattle.event_journal.specs.Image.{replay_of}
-use Rattle.event_journal.specs.Peeks.{ReadsPeek}
+use Rattle.event_journal_log.specs.declared.journal.Peek.{Peek}
+use Rattle.event_journal_log.specs.Image.{replay_of}
+use Rattle.event_journal_log.specs.Peeks.{ReadsPeek}
 use Rattle.salvage.specs.declared.fault.SalvageFault.TheVariants.{Refused}
-use Rattle.dag_files.specs.Journals.{IsUnread}
+use Rattle.dag_main_files.specs.Journals.{IsUnread}
 use Rattle.salvage.specs.Refused.{IsNotCutShort, not_begun, not_read}
 use Rattle.salvage.proofs.CutShort.{cut-short}
 use Rattle.salvage.proofs.Refusals.{told-as, over, bad-number}

@@ -8,7 +8,7 @@ use Rattle.node_machine.specs.Story.{story, attempts_after, next_after, is_good_
 use Rattle.sched_core.specs.Run.{is_aborted, is_ready, is_final_ready, may_launch, may_follow}
 use Rattle.std.specs.Fmt.{digits}
 use Rattle.vars_macros.specs.Script.{script_word, is_exactly}
-use Rattle.node_specs.specs.Commands.{command_of, is_sound, uses_whole_run}
+use Rattle.run_plan_node.specs.Commands.{command_of, is_sound, uses_whole_run}
 use Rattle.sched_core.proofs.Namesakes.{b-agrees, told-agrees}
 use Rattle.sched_core.proofs.examples.examples.Goals as goal
 

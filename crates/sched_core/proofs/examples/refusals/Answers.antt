@@ -1,7 +1,7 @@
 use Rattle.std.proofs.Common.{◌≡◌, ◌∙◌, true, refl, sym}
 use Rattle.std.proofs.lemmas.Bool.{true≢false}
 use Rattle.run_plan.specs.Plan.{node_at}
-use Rattle.node_specs.specs.Commands.{command_of, uses_whole_run}
+use Rattle.run_plan_node.specs.Commands.{command_of, uses_whole_run}
 use Rattle.std.specs.Fmt.{digits}
 use Rattle.vars_macros.specs.Script.{script_word, is_whole_run, is_exactly}
 use Rattle.sched_core.specs.Example.{told_failed}

@@ -1,6 +1,6 @@
 use Rattle.std.proofs.Common.{◌≡◌, ◌∙◌, false, get_or, sym, ap, arith}
 use Rattle.run_plan.specs.Plan.{node_at}
-use Rattle.node_specs.specs.declared.spec.NodeSpec.{NodeSpec}
+use Rattle.run_plan_node.specs.declared.spec.NodeSpec.{NodeSpec}
 use Rattle.sched_core.proofs.Undone.{undone-bound}
 use Rattle.sched_core.proofs.states.count_undone.Goals as goal
 

@@ -1,5 +1,5 @@
 use Rattle.std.proofs.Common.{◌≡◌, ◌+◌, ◌∙◌, ◌<◌, length, length-append, List, ◌++◌, ◌∷◌, [], ℕ, ap, sym, subst, arith}
-use Rattle.node_specs.specs.declared.spec.NodeSpec.{NodeSpec}
+use Rattle.run_plan_node.specs.declared.spec.NodeSpec.{NodeSpec}
 use Rattle.run_plan.specs.Plan.{node_at, count_of}
 use Rattle.sched_core.specs.States.{left_at, undone_in}
 use Rattle.sched_core.proofs.Undone.{parents-few}

@@ -1,5 +1,5 @@
 use Rattle.std.proofs.Common.{◌≡◌, ◌<◌, ◌≤◌, List, ℕ, get_or, length, sym, subst, ap, ◌∙◌, arith}
-use Rattle.splices.specs.Dag.{Dag}
+use Rattle.splices_flat.specs.Dag.{Dag}
 use Rattle.dag_graph.specs.Graph.{Network, parents_of}
 use Rattle.dag_graph.proofs.Families.{parents_len, parents_read, no_parents}
 use Rattle.dag_graph.proofs.graph.Graph.parents.Goals as goal

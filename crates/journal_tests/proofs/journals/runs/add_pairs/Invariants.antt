@@ -1,5 +1,5 @@
 use Rattle.std.proofs.Common.{IsFalse}
-use Rattle.event_journal.specs.Journal.{journal_disk, is_broken, IsSettled}
+use Rattle.event_journal_log.specs.Journal.{journal_disk, is_broken, IsSettled}
 use Rattle.journal_tests.proofs.journals.runs.add_pairs.Given as goal
 
 abbrev pub invariant-loop-node : goal.invariant-loop-node

@@ -1,8 +1,8 @@
 use Rattle.std.proofs.Common.{◌∙◌, ap}
 use Rattle.sched_core.specs.Core.{Progress}
 use Rattle.sched_core.specs.Run.{written}
-use Rattle.run_manager.specs.Managed.{past_of}
-use Rattle.run_manager.proofs.Sealing.{counted}
+use Rattle.recovery_manager.specs.Managed.{past_of}
+use Rattle.recovery_manager.proofs.Sealing.{counted}
 use Rattle.journal_tests.proofs.managers.refusals.count_of.Goals as goal
 
 pub returns : goal.returns

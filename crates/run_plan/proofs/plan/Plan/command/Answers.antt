@@ -1,6 +1,6 @@
 use Rattle.std.proofs.Common.{◌≤◌, arith}
-use Rattle.node_specs.specs.Commands.{greatest}
-use Rattle.node_specs.proofs.CommandsExist.{each_command_exists}
+use Rattle.run_plan_node.specs.Commands.{greatest}
+use Rattle.run_plan_node.proofs.CommandsExist.{each_command_exists}
 use Rattle.run_plan.proofs.PlanCommands.{only_memory}
 use Rattle.run_plan.proofs.plan.Plan.command.Goals as goal
 

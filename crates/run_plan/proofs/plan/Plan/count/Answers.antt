@@ -1,5 +1,5 @@
 use Rattle.std.proofs.Common.{◌≡◌, ◌≤◌, length, subst, arith}
-use Rattle.splices.specs.Dag.{Dag}
+use Rattle.splices_flat.specs.Dag.{Dag}
 use Rattle.run_plan.proofs.PlanFacts.{planned-count}
 use Rattle.run_plan.proofs.plan.Plan.count.Goals as goal
 

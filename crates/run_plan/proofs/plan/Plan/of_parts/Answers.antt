@@ -1,9 +1,9 @@
 use Rattle.std.proofs.Common.{◌≡◌, ◌∙◌, ℕ, List, [], Bor, Ok, ap, subst, refl}
 use Rattle.std.specs.Prelude.{option_map}
 use Rattle.std.specs.Option.{option_map_or}
-use Rattle.splices.specs.Dag.{Dag}
-use Rattle.splices.specs.FileSet.{bytes_of, entries_of}
-use Rattle.splices.specs.declared.file_set.FileSet.{FileSet}
+use Rattle.splices_flat.specs.Dag.{Dag}
+use Rattle.splices_flat.specs.FileSet.{bytes_of, entries_of}
+use Rattle.splices_flat.specs.declared.file_set.FileSet.{FileSet}
 use Rattle.run_plan.specs.Digest.{digest_of}
 use Rattle.run_plan.specs.PlanAnswers.{Fails}
 use Rattle.run_plan.specs.Submitted.{plan_at}

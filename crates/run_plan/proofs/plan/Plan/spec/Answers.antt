@@ -1,5 +1,5 @@
 use Rattle.std.proofs.Common.{◌∙◌, ◌≤◌, length, sym, ap, arith, unwrap_or, Option}
-use Rattle.node_specs.specs.Node.{NodeSpec, no_node}
+use Rattle.run_plan_node.specs.Node.{NodeSpec, no_node}
 use Rattle.run_plan.proofs.PlanFacts.{parents-below, category-placed, node-past}
 use Rattle.run_plan.proofs.plan.Plan.spec.Goals as goal
 

@@ -1,9 +1,0 @@
-//! The command line of dagrun: what its words ask for.
-#![tactic(auto)]
-
-mod commands;
-mod launchers;
-mod pages;
-mod request;
-
-pub use request::{OrphanRule, ProgressRule, Request, RunOptions, WordsFault, read_words};

@@ -1,7 +1,0 @@
-use Rattle.dag_files.specs.Beside.{IsFileFault, reading_had_no_memory}
-use Rattle.dag_texts.specs.declared.fault.RunFault.TheVariants.{Memory}
-use Rattle.dag_files.proofs.RunFaults.{by-fault}
-use Rattle.dag_files.proofs.beside.Place.names.Goals as goal
-
-pub returns-in_err-place : goal.returns-in_err-place
-returns-in_err-place g c = by-fault IsFileFault Memory reading_had_no_memory c.from_residual.result c.from_residual.ensures.1

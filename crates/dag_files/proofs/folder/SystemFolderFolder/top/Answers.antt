@@ -1,6 +1,0 @@
-use Rattle.dag_files.specs.Beside.{IsInputFault, input_had_no_memory}
-use Rattle.dag_files.proofs.RunFaults.{memory-alone}
-use Rattle.dag_files.proofs.folder.SystemFolderFolder.top.Goals as goal
-
-pub returns-clause-refused : goal.returns-clause-refused
-returns-clause-refused g c = memory-alone (IsInputFault c.args.path.now) input_had_no_memory c.read_named.result c.read_named.ensures

@@ -1,0 +1,6 @@
+mod Explained
+mod Readings
+mod Tables
+mod Answering
+mod Helped
+mod Worked

@@ -1,0 +1,253 @@
+-- What words ask for, worked out.
+use Rattle.std.proofs.Common.{Bool, ◌≡◌, ◌∙◌, ◌∷◌, [], ℕ, List, Option, Some, None, true, false, refl, sym, ap, ap₂, subst, codes, Bor, inl, inr}
+use Rattle.std.specs.Str.{bytes_eq}
+use Rattle.std.proofs.lemmas.Slice.Eq.{bytes_eq-Decides}
+use Rattle.clap.specs.Words.{App, Row, Text, first_of, subcommand_of, takes}
+use Rattle.throttles.specs.declared.Limits.{Limits}
+use Rattle.clap.proofs.OnLiterals.{clap_on_literals}
+use Rattle.dag_main_args.specs.declared.request.RunOptions.{RunOptions}
+use Rattle.dag_main_args.specs.declared.request.Request.{Request}
+use Rattle.dag_main_args.specs.declared.request.Request.TheVariants.{Check, Run, Status, Audit, Rehearse, Graph, Why, Times, Salvage, Page}
+use Rattle.dag_main_args.specs.Launchers.{IsLauncherOf, given, not_given}
+use Rattle.dag_main_args.specs.Requests.{Asked, asked_by, asks_why, no_limits, rehearses, runs, shows}
+use Rattle.dag_main_args.specs.Matched.{AreOptionsOf, AsksFor, IsRequestOf, dag_of, is_on, is_set, limits_of, nodes_of, number_of, orphan_rule_of, progress_of, version_text}
+use Rattle.dag_main_args.specs.Table.{dagrun_app}
+use Rattle.dag_main_args.specs.Answered.{clashes}
+use Rattle.dag_main_args.specs.Examples.{AskFor, AskInVain, plain_options}
+
+differ : (a b : Text) → bytes_eq a b ≡ false → a ≡ b → ⊥
+differ a b unlike e =
+    let like = (bytes_eq-Decides a b).1 e in
+    cc
+
+unlaunched : (text : Option (List ℕ)) (words : List (List ℕ)) → IsLauncherOf text words → text ≡ None → words ≡ []
+unlaunched None words not_given e = refl
+unlaunched (Some text) words (given t ws spelled named) e = cc
+
+-- rows that ask for a run with these options, and for no launcher
+record AsksRun (rows : List Row) (options : RunOptions) : Type 0 where
+  limits : limits_of rows ≡ options.limits
+  autorescue : is_on (codes "autorescue") rows ≡ options.autorescue
+  dorescuefrom : number_of 16 (codes "dorescuefrom") rows ≡ options.dorescuefrom
+  orphans : orphan_rule_of rows ≡ options.orphans
+  always_post : is_set (codes "always-run-post") rows ≡ options.always_post
+  sync_output : is_on (codes "sync-output") rows ≡ options.sync_output
+  launcher : first_of (codes "launcher") rows ≡ None
+  none : options.launcher ≡ []
+  launcher_final : is_set (codes "launcher-final") rows ≡ options.launcher_final
+  progress : progress_of rows ≡ options.progress
+  resume : is_set (codes "resume") rows ≡ options.resume
+  trust_owner : is_set (codes "trust-owner") rows ≡ options.trust_owner
+
+same_options : (rows : List Row) (options plain : RunOptions) → AreOptionsOf rows options → AsksRun rows plain → options ≡ plain
+same_options rows options plain a b = λ i. record {
+  limits = (a.limits ∙ b.limits) i;
+  autorescue = (a.autorescue ∙ b.autorescue) i;
+  dorescuefrom = (a.dorescuefrom ∙ b.dorescuefrom) i;
+  orphans = (a.orphans ∙ b.orphans) i;
+  always_post = (a.always_post ∙ b.always_post) i;
+  sync_output = (a.sync_output ∙ b.sync_output) i;
+  launcher = (unlaunched _ _ a.launcher b.launcher ∙ sym b.none) i;
+  launcher_final = (a.launcher_final ∙ b.launcher_final) i;
+  progress = (a.progress ∙ b.progress) i;
+  resume = (a.resume ∙ b.resume) i;
+  trust_owner = (a.trust_owner ∙ b.trust_owner) i;
+}
+
+run_alone : (rows : List Row) (dag : Text) (plain : RunOptions) (request : Request) → IsRequestOf (codes "run") rows request → dag_of rows ≡ dag
+    → AsksRun rows plain → asked_by request ≡ runs dag plain
+run_alone rows dag plain (Run path options) h is asks = ap₂ runs (h.1 ∙ is) (same_options rows options plain h.2 asks)
+run_alone rows dag plain (Check path hints condor) h is asks = absurd (differ _ _ refl h.0)
+run_alone rows dag plain (Status path) h is asks = absurd (differ _ _ refl h.0)
+run_alone rows dag plain (Audit path) h is asks = absurd (differ _ _ refl h.0)
+run_alone rows dag plain (Rehearse path outcomes limits always_post) h is asks = absurd (differ _ _ refl h.0)
+run_alone rows dag plain (Graph path) h is asks = absurd (differ _ _ refl h.0)
+run_alone rows dag plain (Why path nodes) h is asks = absurd (differ _ _ refl h.0)
+run_alone rows dag plain (Times path svg) h is asks = absurd (differ _ _ refl h.0)
+run_alone rows dag plain (Salvage path) h is asks = absurd (differ _ _ refl h.0)
+run_alone rows dag plain (Page text) (inl h) is asks = absurd (differ _ _ refl h.0)
+run_alone rows dag plain (Page text) (inr (inl h)) is asks = absurd (differ _ _ refl h)
+run_alone rows dag plain (Page text) (inr (inr h)) is asks = absurd (differ _ _ refl h.0)
+
+why_alone : (rows : List Row) (dag : Text) (nodes : List Text) (request : Request) → IsRequestOf (codes "why") rows request → dag_of rows ≡ dag
+    → nodes_of rows ≡ nodes → asked_by request ≡ asks_why dag nodes
+why_alone rows dag nodes (Why path names) h is asks = ap₂ asks_why (h.1 ∙ is) (h.2 ∙ asks)
+why_alone rows dag nodes (Run path options) h is asks = absurd (differ _ _ refl h.0)
+why_alone rows dag nodes (Check path hints condor) h is asks = absurd (differ _ _ refl h.0)
+why_alone rows dag nodes (Status path) h is asks = absurd (differ _ _ refl h.0)
+why_alone rows dag nodes (Audit path) h is asks = absurd (differ _ _ refl h.0)
+why_alone rows dag nodes (Rehearse path outcomes limits always_post) h is asks = absurd (differ _ _ refl h.0)
+why_alone rows dag nodes (Graph path) h is asks = absurd (differ _ _ refl h.0)
+why_alone rows dag nodes (Times path svg) h is asks = absurd (differ _ _ refl h.0)
+why_alone rows dag nodes (Salvage path) h is asks = absurd (differ _ _ refl h.0)
+why_alone rows dag nodes (Page text) (inl h) is asks = absurd (differ _ _ refl h.0)
+why_alone rows dag nodes (Page text) (inr (inl h)) is asks = absurd (differ _ _ refl h)
+why_alone rows dag nodes (Page text) (inr (inr h)) is asks = absurd (differ _ _ refl h.0)
+
+rehearsal_alone : (rows : List Row) (dag : Text) (outcomes : Option Text) (plain : Limits) (post : Bool) (request : Request)
+    → IsRequestOf (codes "rehearse") rows request → dag_of rows ≡ dag → first_of (codes "OUTCOMES") rows ≡ outcomes → limits_of rows ≡ plain
+    → is_set (codes "always-run-post") rows ≡ post → asked_by request ≡ rehearses dag outcomes plain post
+rehearsal_alone rows dag outcomes plain post (Rehearse path table limits always_post) h is asks most posts = λ i.
+    rehearses ((h.1 ∙ is) i) ((h.2 ∙ asks) i) ((h.3 ∙ most) i) ((h.4 ∙ posts) i)
+rehearsal_alone rows dag outcomes plain post (Run path options) h is asks most posts = absurd (differ _ _ refl h.0)
+rehearsal_alone rows dag outcomes plain post (Check path hints condor) h is asks most posts = absurd (differ _ _ refl h.0)
+rehearsal_alone rows dag outcomes plain post (Status path) h is asks most posts = absurd (differ _ _ refl h.0)
+rehearsal_alone rows dag outcomes plain post (Audit path) h is asks most posts = absurd (differ _ _ refl h.0)
+rehearsal_alone rows dag outcomes plain post (Graph path) h is asks most posts = absurd (differ _ _ refl h.0)
+rehearsal_alone rows dag outcomes plain post (Why path names) h is asks most posts = absurd (differ _ _ refl h.0)
+rehearsal_alone rows dag outcomes plain post (Times path svg) h is asks most posts = absurd (differ _ _ refl h.0)
+rehearsal_alone rows dag outcomes plain post (Salvage path) h is asks most posts = absurd (differ _ _ refl h.0)
+rehearsal_alone rows dag outcomes plain post (Page text) (inl h) is asks most posts = absurd (differ _ _ refl h.0)
+rehearsal_alone rows dag outcomes plain post (Page text) (inr (inl h)) is asks most posts = absurd (differ _ _ refl h)
+rehearsal_alone rows dag outcomes plain post (Page text) (inr (inr h)) is asks most posts = absurd (differ _ _ refl h.0)
+
+version_alone : (rows : List Row) (request : Request) → IsRequestOf (codes "version") rows request → asked_by request ≡ shows version_text
+version_alone rows (Run path options) h = absurd (differ _ _ refl h.0)
+version_alone rows (Check path hints condor) h = absurd (differ _ _ refl h.0)
+version_alone rows (Status path) h = absurd (differ _ _ refl h.0)
+version_alone rows (Audit path) h = absurd (differ _ _ refl h.0)
+version_alone rows (Rehearse path outcomes limits always_post) h = absurd (differ _ _ refl h.0)
+version_alone rows (Graph path) h = absurd (differ _ _ refl h.0)
+version_alone rows (Why path names) h = absurd (differ _ _ refl h.0)
+version_alone rows (Times path svg) h = absurd (differ _ _ refl h.0)
+version_alone rows (Salvage path) h = absurd (differ _ _ refl h.0)
+version_alone rows (Page text) (inl h) = absurd (differ _ _ refl h.0)
+version_alone rows (Page text) (inr (inl h)) = absurd (differ _ _ refl h)
+version_alone rows (Page text) (inr (inr h)) = ap shows h.1
+
+abbrev rows_in : Option (Text × List Row) → List Row
+rows_in None = []
+rows_in (Some matched) = matched.1
+
+-- what holds by the table as it is written out holds by the program's
+by_table : (words : List Text) (asked : Asked) → ((orphans progress : Bor (List (Bor Text))) → takes (dagrun_app false orphans progress) words ≡ true)
+    → ((orphans progress : Bor (List (Bor Text))) (request : Request) → AsksFor (subcommand_of (dagrun_app false orphans progress) words) request
+    → asked_by request ≡ asked) → AskFor words asked
+by_table words asked taken only = record {
+  taken = λ app t. ap (λ (a : App). takes a words) t.table ∙ taken t.orphans t.progress;
+  only = λ request is. only is.table.orphans is.table.progress request
+      (subst (λ (a : App). AsksFor (subcommand_of a words) request) is.table.table
+      (subst (λ (o : Option (Text × List Row)). AsksFor o request) (sym is.matches) is.asked));
+}
+
+abbrev four_words : List Text
+four_words = codes "dagrun" ∷ codes "run" ∷ codes "--maxjobs" ∷ codes "4" ∷ codes "x.dag" ∷ []
+
+four_taken : (orphans progress : Bor (List (Bor Text))) → takes (dagrun_app false orphans progress) four_words ≡ true
+unfolding clap_on_literals
+four_taken orphans progress = refl
+
+four_only : (orphans progress : Bor (List (Bor Text))) (request : Request) → AsksFor (subcommand_of (dagrun_app false orphans progress) four_words) request
+    → asked_by request ≡ runs (codes "x.dag") (record plain_options { limits = record no_limits { jobs = 4 } })
+unfolding clap_on_literals
+four_only orphans progress request h = run_alone (rows_in (subcommand_of (dagrun_app false orphans progress) four_words)) (codes "x.dag") _ request h refl (record {
+  limits = refl;
+  autorescue = refl;
+  dorescuefrom = refl;
+  orphans = refl;
+  always_post = refl;
+  sync_output = refl;
+  launcher = refl;
+  none = refl;
+  launcher_final = refl;
+  progress = refl;
+  resume = refl;
+  trust_owner = refl;
+})
+
+pub four_jobs : AskFor four_words (runs (codes "x.dag") (record plain_options { limits = record no_limits { jobs = 4 } }))
+four_jobs = by_table four_words _ four_taken four_only
+
+abbrev fresh_words : List Text
+fresh_words = codes "dagrun" ∷ codes "run" ∷ codes "--autorescue" ∷ codes "0" ∷ codes "x.dag" ∷ []
+
+fresh_taken : (orphans progress : Bor (List (Bor Text))) → takes (dagrun_app false orphans progress) fresh_words ≡ true
+unfolding clap_on_literals
+fresh_taken orphans progress = refl
+
+fresh_only : (orphans progress : Bor (List (Bor Text))) (request : Request) → AsksFor (subcommand_of (dagrun_app false orphans progress) fresh_words) request
+    → asked_by request ≡ runs (codes "x.dag") (record plain_options { autorescue = false })
+unfolding clap_on_literals
+fresh_only orphans progress request h = run_alone (rows_in (subcommand_of (dagrun_app false orphans progress) fresh_words)) (codes "x.dag") _ request h refl (record {
+  limits = refl;
+  autorescue = refl;
+  dorescuefrom = refl;
+  orphans = refl;
+  always_post = refl;
+  sync_output = refl;
+  launcher = refl;
+  none = refl;
+  launcher_final = refl;
+  progress = refl;
+  resume = refl;
+  trust_owner = refl;
+})
+
+pub no_rescue_file : AskFor fresh_words (runs (codes "x.dag") (record plain_options { autorescue = false }))
+no_rescue_file = by_table fresh_words _ fresh_taken fresh_only
+
+abbrev why_words : List Text
+why_words = codes "dagrun" ∷ codes "why" ∷ codes "x.dag" ∷ codes "B" ∷ codes "A" ∷ []
+
+why_taken : (orphans progress : Bor (List (Bor Text))) → takes (dagrun_app false orphans progress) why_words ≡ true
+unfolding clap_on_literals
+why_taken orphans progress = refl
+
+why_only : (orphans progress : Bor (List (Bor Text))) (request : Request) → AsksFor (subcommand_of (dagrun_app false orphans progress) why_words) request
+    → asked_by request ≡ asks_why (codes "x.dag") (codes "B" ∷ codes "A" ∷ [])
+unfolding clap_on_literals
+why_only orphans progress request h = why_alone (rows_in (subcommand_of (dagrun_app false orphans progress) why_words)) (codes "x.dag") _ request h refl refl
+
+pub nodes_in_order : AskFor why_words (asks_why (codes "x.dag") (codes "B" ∷ codes "A" ∷ []))
+nodes_in_order = by_table why_words _ why_taken why_only
+
+abbrev clash_words : List Text
+clash_words = codes "dagrun" ∷ codes "run" ∷ codes "--resume" ∷ codes "--dorescuefrom" ∷ codes "2" ∷ codes "x.dag" ∷ []
+
+clash_taken : (orphans progress : Bor (List (Bor Text))) → takes (dagrun_app false orphans progress) clash_words ≡ true
+unfolding clap_on_literals
+clash_taken orphans progress = refl
+
+clash_found : (orphans progress : Bor (List (Bor Text))) → clashes (subcommand_of (dagrun_app false orphans progress) clash_words) ≡ true
+unfolding clap_on_literals
+clash_found orphans progress = refl
+
+pub in_vain : AskInVain clash_words
+in_vain = record {
+  taken = λ app t. ap (λ (a : App). takes a clash_words) t.table ∙ clash_taken t.orphans t.progress;
+  none = λ request is.
+      let clash = ap (λ (a : App). clashes (subcommand_of a clash_words)) is.table.table ∙ clash_found is.table.orphans is.table.progress in
+      let alone = ap clashes is.matches ∙ is.alone in
+      cc;
+}
+
+abbrev rehearsal_words : List Text
+rehearsal_words = codes "dagrun" ∷ codes "rehearse" ∷ codes "--maxpre" ∷ codes "2" ∷ codes "--maxpost=3" ∷ codes "x.dag" ∷ codes "table" ∷ []
+
+rehearsal_taken : (orphans progress : Bor (List (Bor Text))) → takes (dagrun_app false orphans progress) rehearsal_words ≡ true
+unfolding clap_on_literals
+rehearsal_taken orphans progress = refl
+
+rehearsal_only : (orphans progress : Bor (List (Bor Text))) (request : Request) → AsksFor (subcommand_of (dagrun_app false orphans progress) rehearsal_words) request
+    → asked_by request ≡ rehearses (codes "x.dag") (Some (codes "table")) (record no_limits { pre = 2; post = 3 }) false
+unfolding clap_on_literals
+rehearsal_only orphans progress request h =
+    rehearsal_alone (rows_in (subcommand_of (dagrun_app false orphans progress) rehearsal_words)) (codes "x.dag") (Some (codes "table")) _ false request h refl refl refl refl
+
+pub limits_apart : AskFor rehearsal_words (rehearses (codes "x.dag") (Some (codes "table")) (record no_limits { pre = 2; post = 3 }) false)
+limits_apart = by_table rehearsal_words _ rehearsal_taken rehearsal_only
+
+abbrev version_words : List Text
+version_words = codes "dagrun" ∷ codes "version" ∷ []
+
+version_taken : (orphans progress : Bor (List (Bor Text))) → takes (dagrun_app false orphans progress) version_words ≡ true
+unfolding clap_on_literals
+version_taken orphans progress = refl
+
+version_only : (orphans progress : Bor (List (Bor Text))) (request : Request) → AsksFor (subcommand_of (dagrun_app false orphans progress) version_words) request
+    → asked_by request ≡ shows version_text
+unfolding clap_on_literals
+version_only orphans progress request h = version_alone (rows_in (subcommand_of (dagrun_app false orphans progress) version_words)) request h
+
+pub version_alone_shown : AskFor version_words (shows version_text)
+version_alone_shown = by_table version_words _ version_taken version_only

@@ -1,0 +1,133 @@
+-- What the rows that `clap` matched to words ask for, by the rules of the manual, "The command line".
+use Rattle.std.specs.Prelude.{◌≡◌, ◌⊎◌, ◌==◌, ◌^◌, ◌&&◌, not, ℕ, Bool, false, List, [], ◌∷◌, Option, Some, None, map, codes, nat_lt, unwrap_or, option_map, option_and_then, if◌then◌else◌, string_bytes}
+use Rattle.std.specs.List.{list_any}
+use Rattle.std.specs.Option.{option_map_or}
+use Rattle.std.specs.Str.{bytes_eq}
+use Rattle.std.specs.Str.Parse.{digits_value, true_text, without_leading_plus}
+use Rattle.clap.specs.Walk.{Row, Text, all_of, first_of, one_of}
+use Rattle.clap.specs.ValueTests.{is_numeral}
+use Rattle.throttles.specs.declared.Limits.{Limits}
+use Rattle.dag_main_args.specs.declared.request.RunOptions.{RunOptions}
+use Rattle.dag_main_args.specs.declared.request.OrphanRule.{OrphanRule}
+use Rattle.dag_main_args.specs.declared.request.OrphanRule.TheVariants.{Kill, Wait, Leave}
+use Rattle.dag_main_args.specs.declared.request.ProgressRule.{ProgressRule}
+use Rattle.dag_main_args.specs.declared.request.ProgressRule.TheVariants.{Auto, Always, Never}
+use Rattle.dag_main_args.specs.declared.request.Request.{Request}
+use Rattle.dag_main_args.specs.declared.request.Request.TheVariants.{Check, Run, Status, Audit, Rehearse, Graph, Why, Times, Salvage, Page}
+use Rattle.dag_main_args.specs.Launchers.{IsLauncherOf}
+use Rattle.dag_main_args.specs.Pages.{IsExplained}
+use Rattle.dag_main_args.specs.Requests.{asked_by, no_limits, rehearses}
+
+-- the number that a text writes in decimal digits, a plus before them or none, where `bits` bits hold it
+abbrev pub number_in : (bits : ℕ) → Text → Option ℕ
+number_in bits text =
+    let number = digits_value 10 (without_leading_plus text) in
+    if is_numeral (without_leading_plus text) && nat_lt number (2 ^ bits) then Some number else None
+
+-- the number that an option has
+abbrev pub number_of : (bits : ℕ) → Text → List Row → Option ℕ
+number_of bits name rows = option_and_then (number_in bits) (one_of name rows)
+
+-- a limit is the number of its own option; 0, which is none, where that is not given
+abbrev pub limit_of : Text → List Row → ℕ
+limit_of name rows = unwrap_or (number_of 16 name rows) 0
+
+-- how many jobs, PRE scripts and POST scripts may run at once; of all together no more than 1,024 ever do
+abbrev pub limits_of : List Row → Limits
+limits_of rows = record {
+  jobs = limit_of (codes "maxjobs") rows;
+  pre = limit_of (codes "maxpre") rows;
+  post = limit_of (codes "maxpost") rows;
+  children = 1024;
+}
+
+-- what is on is on until it is given as 0
+abbrev pub is_on : Text → List Row → Bool
+is_on name rows = not (option_map_or (λ n. n == 0) (number_of 8 name rows) false)
+
+-- what is off is off until it is given
+abbrev pub is_set : Text → List Row → Bool
+is_set name rows = option_map_or (λ text. bytes_eq text true_text) (one_of name rows) false
+
+-- the first value of an option is this word
+abbrev pub is_given_as : Text → Text → List Row → Bool
+is_given_as name word rows = option_map_or (λ text. bytes_eq text word) (first_of name rows) false
+
+-- processes that were left running are waited for or left, where that is asked for, and else killed
+abbrev pub orphan_rule_of : List Row → OrphanRule
+orphan_rule_of rows =
+    if is_given_as (codes "orphans") (codes "wait") rows then Wait
+    else (if is_given_as (codes "orphans") (codes "leave") rows then Leave else Kill)
+
+-- how far the run is shows always or never, where that is asked for, and else on a terminal
+abbrev pub progress_of : List Row → ProgressRule
+progress_of rows =
+    if is_given_as (codes "progress") (codes "always") rows then Always
+    else (if is_given_as (codes "progress") (codes "never") rows then Never else Auto)
+
+-- how a run is asked for to be done, option by option
+pub record AreOptionsOf (rows : List Row) (options : RunOptions) : Type 0 where
+  pub limits : options.limits ≡ limits_of rows
+  -- rescue files are read, but under `--autorescue 0`
+  pub autorescue : options.autorescue ≡ is_on (codes "autorescue") rows
+  -- a round goes back to the rescue file of a number only where that number is given
+  pub dorescuefrom : options.dorescuefrom ≡ number_of 16 (codes "dorescuefrom") rows
+  pub orphans : options.orphans ≡ orphan_rule_of rows
+  pub always_post : options.always_post ≡ is_set (codes "always-run-post") rows
+  -- files of output and error are brought to the disk, but under `--sync-output 0`
+  pub sync_output : options.sync_output ≡ is_on (codes "sync-output") rows
+  -- the launcher is split into words as a submit file's arguments are
+  pub launcher : IsLauncherOf (first_of (codes "launcher") rows) options.launcher
+  pub launcher_final : options.launcher_final ≡ is_set (codes "launcher-final") rows
+  pub progress : options.progress ≡ progress_of rows
+  pub resume : options.resume ≡ is_set (codes "resume") rows
+  pub trust_owner : options.trust_owner ≡ is_set (codes "trust-owner") rows
+
+-- the path of the DAG file, which each command has that reads one
+abbrev pub dag_of : List Row → Text
+dag_of rows = unwrap_or (first_of (codes "DAG") rows) (codes "-")
+
+-- the names of nodes, all of them in the order of the words
+abbrev pub nodes_of : List Row → List Text
+nodes_of rows = unwrap_or (all_of (codes "NODE") rows) []
+
+-- what `version` prints
+abbrev pub version_text : Text
+version_text = codes "dagrun 0.1.0\n"
+
+-- the commands whose answer is a page, and all commands
+abbrev pub page_names : List Text
+page_names = codes "explain" ∷ codes "help" ∷ codes "version" ∷ []
+
+abbrev pub command_names : List Text
+command_names = codes "run" ∷ codes "status" ∷ codes "audit" ∷ codes "check" ∷ codes "rehearse" ∷ codes "graph" ∷ codes "why"
+    ∷ codes "times" ∷ codes "salvage" ∷ page_names
+
+abbrev pub is_among : List Text → Text → Bool
+is_among names command = list_any (bytes_eq command) names
+
+-- the page that a command asks for: that of a code, or of all where none is given; a page of help; the version
+abbrev pub IsPageOf : Text → List Row → Text → Type 0
+IsPageOf command rows page = ((command ≡ codes "explain") × IsExplained (first_of (codes "CODE") rows) page)
+    ⊎ ((command ≡ codes "help") ⊎ ((command ≡ codes "version") × (page ≡ version_text)))
+
+-- the request that a command asks for by what was matched to it: each kind of request by one command alone
+abbrev pub IsRequestOf : Text → List Row → Request → Type 0
+IsRequestOf command rows (Check dag hints condor) = (command ≡ codes "check") × (dag.now ≡ dag_of rows)
+    × (hints ≡ is_set (codes "hints") rows) × (condor ≡ is_set (codes "condor") rows)
+IsRequestOf command rows (Run dag options) = (command ≡ codes "run") × (dag.now ≡ dag_of rows) × AreOptionsOf rows options
+IsRequestOf command rows (Status dag) = (command ≡ codes "status") × (dag.now ≡ dag_of rows)
+IsRequestOf command rows (Audit dag) = (command ≡ codes "audit") × (dag.now ≡ dag_of rows)
+IsRequestOf command rows (Rehearse dag outcomes limits always_post) = (command ≡ codes "rehearse") × (dag.now ≡ dag_of rows)
+    × (option_map (λ t. t.now) outcomes ≡ first_of (codes "OUTCOMES") rows) × (limits ≡ limits_of rows)
+    × (always_post ≡ is_set (codes "always-run-post") rows)
+IsRequestOf command rows (Graph dag) = (command ≡ codes "graph") × (dag.now ≡ dag_of rows)
+IsRequestOf command rows (Why dag nodes) = (command ≡ codes "why") × (dag.now ≡ dag_of rows) × (map (λ n. n.now) nodes.items ≡ nodes_of rows)
+IsRequestOf command rows (Times dag svg) = (command ≡ codes "times") × (dag.now ≡ dag_of rows) × (svg ≡ is_set (codes "svg") rows)
+IsRequestOf command rows (Salvage dag) = (command ≡ codes "salvage") × (dag.now ≡ dag_of rows)
+IsRequestOf command rows (Page text) = IsPageOf command rows (string_bytes text)
+
+-- what the command asks for that was matched to words; where none was, a rehearsal of standard input
+abbrev pub AsksFor : Option (Text × List Row) → Request → Type 0
+AsksFor None request = asked_by request ≡ rehearses (codes "-") None no_limits false
+AsksFor (Some matched) request = IsRequestOf matched.0 matched.1 request

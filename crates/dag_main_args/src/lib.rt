@@ -1,0 +1,10 @@
+//! The command line of dagrun: what its words ask for.
+#![tactic(auto)]
+
+mod commands;
+pub mod examples;
+mod launchers;
+mod pages;
+mod request;
+
+pub use request::{OrphanRule, ProgressRule, Request, RunOptions, WordsFault, read_words};

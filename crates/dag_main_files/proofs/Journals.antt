@@ -1,0 +1,65 @@
+-- Which round a journal makes of a run.
+use Rattle.std.proofs.Common.{◌≡◌, ℕ, List, Bool, true, false, Option, Some, None, Result, Ok, Err, IfOk, refl, sym, subst, ◌∙◌}
+use Rattle.event_journal_log.specs.declared.fault.JournalFault.{JournalFault}
+use Rattle.event_journal_log.specs.declared.fault.JournalFault.TheVariants as faults
+use Rattle.event_journal_log.specs.declared.journal.Peek.{Peek}
+use Rattle.event_journal_log.specs.Image.{Found, replay_of}
+use Rattle.event_journal_log.specs.Journal.{IsReadFault}
+use Rattle.event_journal_log.specs.Peeks.{ReadsPeek}
+use Rattle.event_journal_log.specs.Reading.{RefusedAs}
+use Rattle.dag_main_files.specs.declared.rounds.Journaled.TheVariants as journals
+use Rattle.dag_main_files.specs.declared.rounds.Round.{Round}
+use Rattle.splices_flat.specs.Opening.{Files}
+use Rattle.dag_main_check.specs.declared.fault.RunFault.{RunFault}
+use Rattle.dag_main_files.specs.Folder.{journal_in, IsRoundFrom}
+use Rattle.dag_main_files.specs.Beside.{goes_on, GoesOnBy, HasFound, HasJournal, IsJournalFault, journal_refused, peeking_had_no_memory}
+use Rattle.dag_main_files.specs.Journals.{read_fault, IsUnread, bad_journal, reading_had_no_memory}
+
+module _ (read : Result (Option Found) JournalFault) (round : Round) where
+  pub of-none : ReadsPeek None read → round.journal ≡ journals.Nothing → HasJournal read round
+  of-none is nothing = subst (λ r. HasJournal r round) (sym is) nothing
+
+  pub of-finished : (peek : Peek) → ReadsPeek (Some peek) read → peek.finished ≡ true → round.journal ≡ journals.Finished → HasJournal read round
+  of-finished peek (found, is, used, next, flag, ended) over finished =
+      subst (λ r. HasJournal r round) (sym is) (subst (λ b. HasFound b found round) (sym (ended ∙ over)) finished)
+
+  pub of-unfinished : (peek : Peek) → ReadsPeek (Some peek) read → peek.finished ≡ false → GoesOnBy peek.used peek.next peek.always_post round → HasJournal read round
+  of-unfinished peek (found, is, used, next, flag, ended) unended header =
+      subst (λ r. HasJournal r round) (sym is) (subst (λ b. HasFound b found round) (sym (ended ∙ unended))
+      (record { goes_on_is = header.goes_on_is; used_is = header.used_is ∙ sym used; next_is = header.next_is ∙ sym next; flag_is = header.flag_is ∙ sym flag }))
+
+-- a journal that can't be read
+pub unread : (journal : List ℕ) (fault : JournalFault) → RefusedAs fault (replay_of journal) → IsUnread journal (read_fault fault)
+unread journal faults.Memory is = reading_had_no_memory
+unread journal faults.Device is = reading_had_no_memory
+unread journal faults.DiskFull is = absurd is
+unread journal faults.NotAJournal is = bad_journal faults.NotAJournal is
+unread journal (faults.Version v) is = bad_journal (faults.Version v) is
+unread journal faults.OtherInputs is = bad_journal faults.OtherInputs is
+unread journal faults.OtherFlag is = bad_journal faults.OtherFlag is
+unread journal faults.SlotsFull is = absurd is
+unread journal faults.Broken is = absurd is
+unread journal (faults.BadSlot slot) is = bad_journal (faults.BadSlot slot) is
+
+-- its fault is one of a journal, or memory ran out
+pub of-journal : (fault : JournalFault) → IsReadFault fault → IsJournalFault (read_fault fault)
+of-journal faults.Memory is = peeking_had_no_memory
+of-journal faults.Device is = peeking_had_no_memory
+of-journal faults.DiskFull is = absurd is
+of-journal faults.NotAJournal is = journal_refused faults.NotAJournal is
+of-journal (faults.Version v) is = journal_refused (faults.Version v) is
+of-journal faults.OtherInputs is = journal_refused faults.OtherInputs is
+of-journal faults.OtherFlag is = journal_refused faults.OtherFlag is
+of-journal faults.SlotsFull is = absurd is
+of-journal faults.Broken is = absurd is
+of-journal (faults.BadSlot slot) is = journal_refused (faults.BadSlot slot) is
+
+-- a round that goes on is the one that is found where a journal is held that has not ended
+pub goes-on : (holds : Files) (has : List ℕ → Bool) (top : List ℕ) (autorescue always_post : Bool) (peek : Peek) (result : Result Round RunFault)
+    → ReadsPeek (Some peek) (journal_in holds top) → peek.finished ≡ false → IfOk result (GoesOnBy peek.used peek.next peek.always_post)
+    → IfOk result (λ round. round.goes_back ≡ false) → IfOk result (IsRoundFrom holds has top autorescue None always_post)
+goes-on holds has top autorescue always_post peek (Ok round) reads unended header ahead = record {
+  by_highest = goes_on refl header.goes_on_is ahead;
+  by_journal = of-unfinished (journal_in holds top) round peek reads unended header;
+}
+goes-on holds has top autorescue always_post peek (Err fault) reads unended header ahead = tt

@@ -1,0 +1,13 @@
+use Rattle.std.proofs.Common.{sym, subst}
+use Rattle.dag_main_files.specs.Beside.{IsJournalFault, peeking_had_no_memory}
+use Rattle.dag_main_check.specs.declared.fault.RunFault.TheVariants.{Memory}
+use Rattle.dag_main_files.proofs.RunFaults.{by-fault}
+use Rattle.dag_main_files.proofs.folder.SystemFolderFolder.journal.Goals as goal
+
+pub returns-in_err-path-clause-refused : goal.returns-in_err-path-clause-refused
+returns-in_err-path-clause-refused g c = by-fault IsJournalFault Memory peeking_had_no_memory c.from_residual.result c.from_residual.ensures.1
+
+pub returns-in_err-disk-clause-refused : goal.returns-in_err-disk-clause-refused
+returns-in_err-disk-clause-refused g c =
+    by-fault IsJournalFault c.in_err-disk.field-0.0 (subst IsJournalFault (sym c.in_err-disk.ensures) peeking_had_no_memory)
+    c.from_residual-in_err-disk.result c.from_residual-in_err-disk.ensures.1

@@ -1,0 +1,94 @@
+-- What a graph answers, and why there is none.
+use Rattle.std.proofs.Common.{◌≡◌, ◌⊎◌, inl, inr, ℕ, List, Option, Some, None, Result, Ok, Err, IfOk, IfErr, string_bytes, true, false, ◌∙◌, refl, sym, ap, subst}
+use Rattle.std.proofs.lemmas.Bool.{false≢true}
+use Rattle.splices_flat.specs.Opening.{Files}
+use Rattle.run_plan.specs.Plan.{Plan}
+use Rattle.node_machine.specs.declared.Record.{Record}
+use Rattle.sched_core.specs.Core.{Progress}
+use Rattle.sched_core.specs.Run.{written, is_lawful}
+use Rattle.event_journal_log.specs.declared.fault.JournalFault.TheVariants as journal
+use Rattle.recovery_manager.specs.Inputs.{replay_by}
+use Rattle.graph_text.specs.Picture.{unknown, known, dot_text_of}
+use Rattle.dag_main_check.specs.Planned.{IsGraphFault, opening_had_no_memory, IsPlanOf, IsPlanWith}
+use Rattle.dag_main_check.specs.Warnings.{warning_lines}
+use Rattle.dag_main_check.specs.declared.fault.RunFault.{RunFault}
+use Rattle.dag_main_check.specs.declared.fault.RunFault.TheVariants.{Memory}
+use Rattle.dag_main_check.specs.declared.warnings.Answer.{Answer}
+use Rattle.dag_main_inspect.specs.Statused.{flag_by, records_read, records_at, IsRecordsFault, no_journal, foreign_record, reading_had_no_memory}
+use Rattle.dag_main_inspect.specs.Drawn.{IsPicture, of_run, of_others, of_other_flag, IsBarePicture, IsDrawnOf, tells_of_others, IsJournalDrawnFault, no_records, drawing_had_no_memory}
+
+-- the picture of the DAG files alone
+pub bare-picture : (files : Files) (path : List ℕ) (plan : Plan) → IsPlanOf false files path plan → (answer : Result Answer RunFault)
+    → IfOk answer (λ (a : Answer). string_bytes a.text ≡ dot_text_of plan unknown)
+    → IfOk answer (λ (a : Answer). string_bytes a.warnings ≡ warning_lines plan.graph.dag.warnings)
+    → IfOk answer (λ (a : Answer). IsBarePicture files path (string_bytes a.text) (string_bytes a.warnings))
+bare-picture files path plan planned (Ok a) text warnings = (plan, planned, text, warnings)
+bare-picture files path plan planned (Err fault) text warnings = tt
+
+pub bare-memory : (files : Files) (path : List ℕ) (fault : RunFault) → fault ≡ Memory → IsGraphFault files path fault
+bare-memory files path fault is = subst (IsGraphFault files path) (sym is) opening_had_no_memory
+
+-- the answer
+module _ (files : Files) (entries : List (List ℕ × List ℕ)) (path : List ℕ) (rescue : Option (List ℕ)) where
+  pub bare-drawn : (answer : Result Answer RunFault)
+      → IfOk answer (λ (a : Answer). IsBarePicture files path (string_bytes a.text) (string_bytes a.warnings))
+      → IfOk answer (λ (a : Answer). a.status ≡ 0)
+      → IfOk answer (λ (a : Answer). IsDrawnOf files entries path rescue None (string_bytes a.text) (string_bytes a.warnings) a.status)
+  bare-drawn (Ok a) is status = (is, status)
+  bare-drawn (Err fault) is status = tt
+
+  pub drawn-by : (bytes : List ℕ) (plan : Plan) → IsPlanWith (flag_by (Some bytes)) files entries path rescue plan → (answer : Result Answer RunFault)
+      → IfOk answer (λ (a : Answer). IsPicture plan bytes (string_bytes a.text))
+      → IfOk answer (λ (a : Answer). string_bytes a.warnings ≡ warning_lines plan.graph.dag.warnings)
+      → IfOk answer (λ (a : Answer). a.status ≡ 0)
+      → IfOk answer (λ (a : Answer). IsDrawnOf files entries path rescue (Some bytes) (string_bytes a.text) (string_bytes a.warnings) a.status)
+  drawn-by bytes plan planned (Ok a) is warnings status = (record { plan = plan; planned = planned; told = is; warnings_are = warnings }, status)
+  drawn-by bytes plan planned (Err fault) is warnings status = tt
+
+-- the picture by a journal
+module _ (plan : Plan) (bytes : List ℕ) where
+  pub drawn-memory : (fault : RunFault) → fault ≡ Memory → IsJournalDrawnFault plan bytes fault
+  drawn-memory fault is = subst (IsJournalDrawnFault plan bytes) (sym is) drawing_had_no_memory
+
+  pub others : (fault : RunFault) → IsRecordsFault plan bytes fault → tells_of_others fault ≡ true
+      → (replay_by plan bytes ≡ Err journal.OtherInputs) ⊎ (replay_by plan bytes ≡ Err journal.OtherFlag)
+  others _ (no_journal journal.Memory is) told = absurd (false≢true told)
+  others _ (no_journal journal.Device is) told = absurd (false≢true told)
+  others _ (no_journal journal.DiskFull is) told = absurd (false≢true told)
+  others _ (no_journal journal.NotAJournal is) told = absurd (false≢true told)
+  others _ (no_journal (journal.Version v) is) told = absurd (false≢true told)
+  others _ (no_journal journal.OtherInputs is) told = inl is
+  others _ (no_journal journal.OtherFlag is) told = inr is
+  others _ (no_journal journal.SlotsFull is) told = absurd (false≢true told)
+  others _ (no_journal journal.Broken is) told = absurd (false≢true told)
+  others _ (no_journal (journal.BadSlot slot) is) told = absurd (false≢true told)
+  others _ (foreign_record slot first) told = absurd (false≢true told)
+  others _ reading_had_no_memory told = absurd (false≢true told)
+
+  pub other-picture : (replay_by plan bytes ≡ Err journal.OtherInputs) ⊎ (replay_by plan bytes ≡ Err journal.OtherFlag) → (answer : Result Answer RunFault)
+      → IfOk answer (λ (a : Answer). string_bytes a.text ≡ dot_text_of plan unknown) → IfOk answer (λ (a : Answer). IsPicture plan bytes (string_bytes a.text))
+  other-picture (inl other) (Ok a) text = subst (IsPicture plan bytes) (sym text) (of_others other)
+  other-picture (inr other) (Ok a) text = subst (IsPicture plan bytes) (sym text) (of_other_flag other)
+  other-picture other (Err fault) text = tt
+
+  pub run-picture : (records : List Record) (core : Progress) → records_at plan bytes ≡ Some records → core.plan ≡ plan → records ≡ written core.past
+      → is_lawful core.plan core.past ≡ true → (answer : Result Answer RunFault)
+      → IfOk answer (λ (a : Answer). string_bytes a.text ≡ dot_text_of core.plan (known core.plan core.past))
+      → IfOk answer (λ (a : Answer). IsPicture plan bytes (string_bytes a.text))
+  run-picture records core are p r lawful (Ok a) text =
+      subst (IsPicture plan bytes) (sym (text ∙ (λ j. dot_text_of (p j) (known (p j) core.past))))
+      (of_run core.past (are ∙ ap (λ (rs : List Record). Some rs) r) (subst (λ (q : Plan). is_lawful q core.past ≡ true) p lawful))
+  run-picture records core are p r lawful (Err fault) text = tt
+
+  pub run-warnings : (core : Progress) → core.plan ≡ plan → (answer : Result Answer RunFault)
+      → IfOk answer (λ (a : Answer). string_bytes a.warnings ≡ warning_lines core.plan.graph.dag.warnings)
+      → IfOk answer (λ (a : Answer). string_bytes a.warnings ≡ warning_lines plan.graph.dag.warnings)
+  run-warnings core p (Ok a) warnings = warnings ∙ (λ j. warning_lines (p j).graph.dag.warnings)
+  run-warnings core p (Err fault) warnings = tt
+
+  -- bytes that have records are no journal of other files
+  pub records-refused : (records : List Record) → records_at plan bytes ≡ Some records → (fault : RunFault) → IsRecordsFault plan bytes fault
+      → IsJournalDrawnFault plan bytes fault
+  records-refused records are _ (no_journal fault is) = let none : None ≡ Some records = sym (ap records_read is) ∙ are in absurd cc
+  records-refused records are _ (foreign_record slot first) = no_records _ refl (foreign_record slot first)
+  records-refused records are _ reading_had_no_memory = drawing_had_no_memory

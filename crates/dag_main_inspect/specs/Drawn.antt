@@ -1,0 +1,86 @@
+-- What `graph` prints.
+use Rattle.std.specs.Prelude.{◌≡◌, ℕ, Bool, true, false, List, Option, Some, None, Err, IsTrue}
+use Rattle.splices_flat.specs.Opening.{Files}
+use Rattle.run_plan.specs.Plan.{Plan}
+use Rattle.node_machine.specs.declared.Record.{Record}
+use Rattle.sched_core.specs.Run.{written, is_lawful}
+use Rattle.event_journal_log.specs.declared.fault.JournalFault.{JournalFault}
+use Rattle.event_journal_log.specs.declared.fault.JournalFault.TheVariants as journal
+use Rattle.recovery_manager.specs.declared.fault.ManagerFault.{ManagerFault}
+use Rattle.recovery_manager.specs.declared.fault.ManagerFault.TheVariants as manager
+use Rattle.recovery_manager.specs.Inputs.{replay_by}
+use Rattle.graph_text.specs.Picture.{unknown, known, dot_text_of}
+use Rattle.dag_main_check.specs.Planned.{IsGraphFault, IsPlanOf, IsPlanWith, IsPlanWithFault}
+use Rattle.dag_main_check.specs.Told.{IsToldOf}
+use Rattle.dag_main_check.specs.Warnings.{warning_lines}
+use Rattle.dag_main_check.specs.declared.fault.RunFault.{RunFault}
+use Rattle.dag_main_check.specs.declared.fault.RunFault.TheVariants.{InFiles, Cycle, InPlan, InTable, InRescue, NotThere, Unfinished, InManager, StartMemory, WaitFault, FileRefused, Memory}
+use Rattle.dag_main_inspect.specs.Statused.{flag_by, records_at, IsRecordsFault}
+
+-- The picture of a plan that has a journal of these bytes: its nodes stand as the records say; or the journal is that of other files, or of a
+-- run with the other flag, and says nothing of them.
+pub data IsPicture (plan : Plan) (bytes : List ℕ) : List ℕ → Type 0 where
+  of_run : (past : List Record) → records_at plan bytes ≡ Some (written past) → IsTrue (is_lawful plan past) →
+      IsPicture plan bytes (dot_text_of plan (known plan past))
+  of_others : replay_by plan bytes ≡ Err journal.OtherInputs → IsPicture plan bytes (dot_text_of plan unknown)
+  of_other_flag : replay_by plan bytes ≡ Err journal.OtherFlag → IsPicture plan bytes (dot_text_of plan unknown)
+
+-- the picture of the DAG files of a path alone
+abbrev pub IsBarePicture : Files → List ℕ → List ℕ → List ℕ → Type 0
+IsBarePicture files path text warnings =
+    (plan : Plan) × IsPlanOf false files path plan × (text ≡ dot_text_of plan unknown) × (warnings ≡ warning_lines plan.graph.dag.warnings)
+
+-- the picture of the files of a path: by the journal, where there is one
+abbrev pub IsPictureOf : Files → List (List ℕ × List ℕ) → List ℕ → Option (List ℕ) → Option (List ℕ) → List ℕ → List ℕ → Type 0
+IsPictureOf files entries path rescue None text warnings = IsBarePicture files path text warnings
+IsPictureOf files entries path rescue (Some bytes) text warnings = IsToldOf (flag_by (Some bytes)) files entries path rescue (λ plan. IsPicture plan bytes text) warnings
+
+-- that is the answer, and the exit status is 0
+abbrev pub IsDrawnOf : Files → List (List ℕ × List ℕ) → List ℕ → Option (List ℕ) → Option (List ℕ) → List ℕ → List ℕ → ℕ → Type 0
+IsDrawnOf files entries path rescue journal text warnings status = IsPictureOf files entries path rescue journal text warnings × (status ≡ 0)
+
+-- a fault tells that a journal is that of other files (J5), or of a run with the other flag (J10)
+abbrev pub is_of_others : JournalFault → Bool
+is_of_others journal.Memory = false
+is_of_others journal.Device = false
+is_of_others journal.DiskFull = false
+is_of_others journal.NotAJournal = false
+is_of_others (journal.Version v) = false
+is_of_others journal.OtherInputs = true
+is_of_others journal.OtherFlag = true
+is_of_others journal.SlotsFull = false
+is_of_others journal.Broken = false
+is_of_others (journal.BadSlot slot) = false
+
+abbrev pub in_manager : ManagerFault → Bool
+in_manager (manager.Journal fault) = is_of_others fault
+in_manager (manager.Foreign slot) = false
+in_manager manager.NotLawful = false
+in_manager manager.Memory = false
+in_manager manager.AlreadyFinished = false
+
+abbrev pub tells_of_others : RunFault → Bool
+tells_of_others (InFiles fault) = false
+tells_of_others (Cycle names) = false
+tells_of_others (InPlan fault) = false
+tells_of_others (InTable fault) = false
+tells_of_others (InRescue file fault) = false
+tells_of_others (NotThere number) = false
+tells_of_others Unfinished = false
+tells_of_others (InManager fault) = in_manager fault
+tells_of_others StartMemory = false
+tells_of_others WaitFault = false
+tells_of_others (FileRefused file) = false
+tells_of_others Memory = false
+
+-- Why a plan with a journal of these bytes is not drawn: they have no records of a run, and are not the journal of other files; memory ran out.
+pub data IsJournalDrawnFault (plan : Plan) (bytes : List ℕ) : RunFault → Type 0 where
+  no_records : (fault : RunFault) → tells_of_others fault ≡ false → IsRecordsFault plan bytes fault → IsJournalDrawnFault plan bytes fault
+  drawing_had_no_memory : IsJournalDrawnFault plan bytes Memory
+
+-- Why there is no picture. Where there is no journal: the DAG files make no graph. Where there is one: there is no plan, or it is not drawn.
+pub data IsDrawnFault (files : Files) (entries : List (List ℕ × List ℕ)) (path : List ℕ) (rescue : Option (List ℕ)) : Option (List ℕ) → RunFault → Type 0 where
+  no_graph : (fault : RunFault) → IsGraphFault files path fault → IsDrawnFault files entries path rescue None fault
+  no_plan : (bytes : List ℕ) (fault : RunFault) → IsPlanWithFault files entries path rescue fault → IsDrawnFault files entries path rescue (Some bytes) fault
+  not_drawn : (plan : Plan) (bytes : List ℕ) (fault : RunFault) → IsPlanWith (flag_by (Some bytes)) files entries path rescue plan → IsJournalDrawnFault plan bytes fault →
+      IsDrawnFault files entries path rescue (Some bytes) fault

@@ -1,0 +1,76 @@
+-- What `status` prints.
+use Rattle.std.specs.Prelude.{◌≡◌, ℕ, Bool, List, [], Option, Some, None, Result, Ok, Err, IsTrue}
+use Rattle.splices_flat.specs.Opening.{Files}
+use Rattle.run_plan.specs.Plan.{Plan}
+use Rattle.node_machine.specs.declared.Record.{Record}
+use Rattle.sched_core.specs.Run.{written, is_lawful}
+use Rattle.event_journal_log.specs.declared.fault.JournalFault.{JournalFault}
+use Rattle.event_journal_log.specs.declared.fault.JournalFault.TheVariants as journal
+use Rattle.event_journal_log.specs.Image.{Found, replay_of, groups_in}
+use Rattle.event_journal_log.specs.Peeks.{flag_read}
+use Rattle.recovery.specs.Replay.{IsForeignSlot}
+use Rattle.recovery_manager.specs.declared.fault.ManagerFault.TheVariants as manager
+use Rattle.recovery_manager.specs.Inputs.{replay_by}
+use Rattle.status_report.specs.Text.{status_text_of}
+use Rattle.dag_main_check.specs.Planned.{IsPlanWith, IsPlanWithFault}
+use Rattle.dag_main_check.specs.Told.{IsToldOf}
+use Rattle.dag_main_check.specs.declared.fault.RunFault.{RunFault}
+use Rattle.dag_main_check.specs.declared.fault.RunFault.TheVariants.{InManager, Memory}
+
+-- a journal that is not there has no bytes
+abbrev pub journal_bytes : Option (List ℕ) → List ℕ
+journal_bytes None = []
+journal_bytes (Some bytes) = bytes
+
+-- whether POST runs behind a failed PRE in the run of a journal, as its header says
+abbrev pub flag_by : Option (List ℕ) → Bool
+flag_by journal = flag_read (replay_of (journal_bytes journal))
+
+-- the records that reading gives, the oldest first; a Fresh place has none
+abbrev pub records_read : Result (Option Found) JournalFault → Option (List Record)
+records_read (Ok None) = Some []
+records_read (Ok (Some found)) = Some found.records
+records_read (Err fault) = None
+
+-- the records of a journal of this plan that has these bytes
+abbrev pub records_at : Plan → List ℕ → Option (List Record)
+records_at plan bytes = records_read (replay_by plan bytes)
+
+-- what is told of bytes that can't be read
+abbrev pub read_fault : JournalFault → RunFault
+read_fault journal.Memory = Memory
+read_fault journal.Device = InManager (manager.Journal journal.Device)
+read_fault journal.DiskFull = InManager (manager.Journal journal.DiskFull)
+read_fault journal.NotAJournal = InManager (manager.Journal journal.NotAJournal)
+read_fault (journal.Version v) = InManager (manager.Journal (journal.Version v))
+read_fault journal.OtherInputs = InManager (manager.Journal journal.OtherInputs)
+read_fault journal.OtherFlag = InManager (manager.Journal journal.OtherFlag)
+read_fault journal.SlotsFull = InManager (manager.Journal journal.SlotsFull)
+read_fault journal.Broken = InManager (manager.Journal journal.Broken)
+read_fault (journal.BadSlot slot) = InManager (manager.Journal (journal.BadSlot slot))
+
+-- The status text of the records of a journal that has these bytes, which are lawful; and the exit status.
+pub record IsStatusText (plan : Plan) (bytes text : List ℕ) (status : ℕ) : Type 0 where
+  pub past : List Record
+  pub are_records : records_at plan bytes ≡ Some (written past)
+  pub lawful : IsTrue (is_lawful plan past)
+  pub text_is : text ≡ status_text_of plan past
+  pub status_is : status ≡ 0
+
+-- Why there is none: the bytes are no journal of this plan; a record may not follow those before it; memory ran out.
+pub data IsRecordsFault (plan : Plan) (bytes : List ℕ) : RunFault → Type 0 where
+  no_journal : (fault : JournalFault) → replay_by plan bytes ≡ Err fault → IsRecordsFault plan bytes (InManager (manager.Journal fault))
+  foreign_record : (slot : ℕ) → IsForeignSlot plan (replay_by plan bytes) (groups_in bytes) slot →
+      IsRecordsFault plan bytes (InManager (manager.Foreign slot))
+  reading_had_no_memory : IsRecordsFault plan bytes Memory
+
+-- the status text of the plan of these files, at the records of the journal
+abbrev pub IsStatusOf : Files → List (List ℕ × List ℕ) → List ℕ → Option (List ℕ) → Option (List ℕ) → List ℕ → List ℕ → ℕ → Type 0
+IsStatusOf files entries path rescue journal text warnings status =
+    IsToldOf (flag_by journal) files entries path rescue (λ plan. IsStatusText plan (journal_bytes journal) text status) warnings
+
+-- why it is refused: there is no plan, or its journal has no records of a run
+pub data IsStatusFault (files : Files) (entries : List (List ℕ × List ℕ)) (path : List ℕ) (rescue journal : Option (List ℕ)) : RunFault → Type 0 where
+  no_plan : (fault : RunFault) → IsPlanWithFault files entries path rescue fault → IsStatusFault files entries path rescue journal fault
+  no_records : (plan : Plan) (fault : RunFault) → IsPlanWith (flag_by journal) files entries path rescue plan → IsRecordsFault plan (journal_bytes journal) fault →
+      IsStatusFault files entries path rescue journal fault

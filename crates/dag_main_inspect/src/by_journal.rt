@@ -1,0 +1,273 @@
+//! What is told of a run by its journal, from the files that stand beside its DAG file.
+
+ghost use Rattle.std.specs.Prelude.{◌≡◌, ◌≤◌, false, None, IfOk, IfErr, IfSome, IfNone, option_map, string_bytes};
+ghost use Rattle.event_journal.specs.Memory.{disk_bytes};
+ghost use Rattle.splices_flat.specs.FileSet.{bytes_of, entries_of};
+ghost use Rattle.event_journal_log.specs.Image.{replay_of};
+ghost use Rattle.dag_main_check.specs.declared.fault.RunFault.TheVariants.{Memory};
+ghost use Rattle.dag_main_files.specs.Beside.{IsRoundFault, journal_name_of};
+ghost use Rattle.dag_main_inspect.specs.Statused.{journal_bytes};
+ghost use Rattle.dag_main_inspect.specs.LastRound.{used_read, used_by, finished_read, has_ended_by, used_name, IsLastRound};
+ghost use Rattle.dag_main_inspect.specs.Asked.{IsTold, IsRefused, IsToldOfRun, IsToldFrom, IsToldFault};
+ghost use Rattle.dag_main_inspect.specs.Reported.{IsReportHere, IsReportFrom, IsNoReportFrom};
+ghost use Rattle.dag_main_inspect.specs.declared.by_journal.Question.TheVariants.{Status};
+
+use crate::audits::audit_of;
+use crate::graphs::graph_of;
+use crate::reports::report_of;
+use crate::statuses::{bytes_in, status_of};
+use dag_main_check::{Answer, RunFault};
+use dag_main_files::{
+    Folder, LAST_NUMBER, Reading, bytes_of, files_of, journal_path, named, rescue_path,
+};
+use dag_reader::Text;
+use event_journal::MemDisk;
+use event_journal_log::{Journal, JournalFault, Peek};
+use splices_flat::FileSet;
+use std::alloc::{AllocError, Global};
+
+/// A disk in memory of these bytes.
+fn disk_of(alloc: Global, bytes: &[u8]) -> Result<MemDisk, AllocError>
+    ensures { IfOk result (λ disk. disk_bytes disk ≡ bytes.now) }
+{
+    let mut copy = Vec::new(alloc);
+    copy.extend_from_slice(bytes)?;
+    Ok(MemDisk::of(alloc, copy, bytes.len()))
+}
+
+/// What the header of a journal says, and whether it has ended: nothing where none was begun, and where its
+/// bytes are none.
+fn peek_in(alloc: Global, bytes: &[u8]) -> Result<Option<Peek>, RunFault>
+    ensures used { IfOk result (λ peek. IfSome peek (λ peek. used_read (replay_of bytes.now) ≡ peek.used)) }
+    ensures finished { IfOk result (λ peek. IfSome peek (λ peek. finished_read (replay_of bytes.now) ≡ peek.finished)) }
+    ensures none { IfOk result (λ peek. IfNone peek ((used_read (replay_of bytes.now) ≡ 0) × (finished_read (replay_of bytes.now) ≡ false))) }
+    ensures err { IfErr result (λ fault. fault ≡ Memory) }
+{
+    let mut disk = disk_of(alloc, bytes)?;
+    match Journal::peek(alloc, &mut disk) {
+        Ok(peek) => Ok(peek),
+        // A disk in memory tells that it was refused memory as a failure.
+        Err(JournalFault::Memory) => Err(RunFault::Memory),
+        Err(JournalFault::Device) => Err(RunFault::Memory),
+        Err(_) => Ok(None),
+    }
+}
+
+/// The number of the rescue file that the run of a journal read: 0 for none, where there is no
+/// journal, and where its bytes are none.
+fn used_in(alloc: Global, journal: Option<&[u8]>) -> Result<u16, RunFault>
+    ensures used { IfOk result (λ used. used ≡ used_by (option_map (λ b. b.now) journal.entry)) }
+    ensures err { IfErr result (λ fault. fault ≡ Memory) }
+{
+    match peek_in(alloc, bytes_in(journal))? {
+        Some(peek) => Ok(peek.used),
+        None => Ok(0),
+    }
+}
+
+/// Whether a journal is that of a run which has ended.
+fn has_ended(alloc: Global, journal: Option<&[u8]>) -> Result<bool, RunFault>
+    ensures ended { IfOk result (λ ended. ended ≡ has_ended_by (option_map (λ b. b.now) journal.entry)) }
+    ensures err { IfErr result (λ fault. fault ≡ Memory) }
+{
+    match peek_in(alloc, bytes_in(journal))? {
+        Some(peek) => Ok(peek.finished),
+        None => Ok(false),
+    }
+}
+
+/// The path of the rescue file that a run read, if it read one.
+fn used_path(alloc: Global, top: &str, used: u16) -> Result<Option<Text>, RunFault>
+    ensures name { IfOk result (λ name. name ≡ used_name top.now used) }
+    ensures refused { IfErr result (IsRoundFault None) }
+{
+    if used == 0 {
+        return Ok(None);
+    }
+    if used > LAST_NUMBER {
+        return Err(RunFault::NotThere(used));
+    }
+    Ok(Some(rescue_path(alloc, top, used)?))
+}
+
+/// How often a journal that can't be read is looked at again, at most.
+const MOST_LOOKS: usize = 100;
+
+/// The bytes of the journal beside a DAG file; none where it is missing. Those of a journal that can't be read may be
+/// those of one that a manager writes just then: as long as it grows, it is looked at again.
+///
+/// # Errors
+/// `FileRefused` with the path of a journal that the system refuses to read, or that is no regular file;
+/// `Memory`.
+fn journal_of<F: Folder>(alloc: Global, folder: &F, top: &str) -> Result<Option<Vec<u8>>, RunFault>
+    ensures journal { F.honest folder.now
+        → IfOk result (λ bytes. option_map (λ b. b.items) bytes ≡ F.holds folder.now (journal_name_of top.now)) }
+    ensures refused { IfErr result (IsRoundFault None) }
+{
+    let path = journal_path(alloc, top)?;
+    let mut found = folder.beside(alloc, path.as_str())?;
+    for _ in 0..MOST_LOOKS {
+        if can_be_read(alloc, bytes_in(bytes_of(&found)))? {
+            break;
+        }
+        let again = folder.beside(alloc, path.as_str())?;
+        let same = bytes_in(bytes_of(&again)).len() == bytes_in(bytes_of(&found)).len();
+        found = again;
+        if same {
+            break;
+        }
+    }
+    Ok(found)
+}
+
+/// Whether the bytes of a journal can be read, whatever run it is of.
+///
+/// # Errors
+/// `Memory` alone.
+fn can_be_read(alloc: Global, bytes: &[u8]) -> Result<bool, RunFault>
+    ensures { IfErr result (λ fault. fault ≡ Memory) }
+{
+    let mut disk = disk_of(alloc, bytes)?;
+    match Journal::peek(alloc, &mut disk) {
+        Ok(_) => Ok(true),
+        Err(JournalFault::Memory) => Err(RunFault::Memory),
+        Err(JournalFault::Device) => Err(RunFault::Memory),
+        Err(_) => Ok(false),
+    }
+}
+
+/// What stands beside a DAG file of its last round.
+#[derive(Drop)]
+pub struct LastRound {
+    /// The bytes of the journal; none where there is no journal.
+    pub journal: Option<Vec<u8>>,
+    /// The path of the rescue file that the journal names; none where it names none.
+    pub name: Option<Text>,
+    /// The bytes of that file; none where it is missing.
+    pub rescue: Option<Vec<u8>>,
+}
+
+/// The last round of a DAG file.
+///
+/// # Errors
+/// In this order: a journal that the system refuses to read, a number of a rescue file above 999 in
+/// its header, a rescue file that the system refuses to read. Where the header can't be read, no
+/// rescue file is.
+pub fn last_round<F: Folder>(alloc: Global, folder: &F, top: &str) -> Result<LastRound, RunFault>
+    // The journal and the rescue file that its header names are those that the folder holds.
+    ensures round { F.honest folder.now → IfOk result (λ round. IsLastRound (F.holds folder.now) top.now
+        (option_map (λ b. b.items) round.journal) (option_map (λ b. b.items) round.rescue)) }
+    ensures name { IfOk result (λ round. round.name ≡ used_name top.now (used_by (option_map (λ b. b.items) round.journal))) }
+    ensures refused { IfErr result (IsRoundFault None) }
+{
+    let journal = journal_of(alloc, folder, top)?;
+    let used = used_in(alloc, bytes_of(&journal))?;
+    let name = used_path(alloc, top, used)?;
+    let rescue = match &name {
+        Some(name) => folder.beside(alloc, name.as_str())?,
+        None => None,
+    };
+    Ok(LastRound {
+        journal,
+        name,
+        rescue,
+    })
+}
+
+/// What is asked of a run's journal.
+#[derive(Clone, Copy, Debug, PartialEq, Eq)]
+pub enum Question {
+    /// Where each node stands.
+    Status,
+    /// Whether it is that of a finished run, and what its nodes came to.
+    Audit,
+    /// A picture of the graph, with where each node stands.
+    Graph,
+}
+
+/// What these files, bytes of a rescue file and bytes of a journal answer.
+///
+/// # Errors
+/// As `status_of`, `audit_of` or `graph_of`.
+fn asked(
+    alloc: Global,
+    files: &FileSet,
+    top: &str,
+    rescue: Option<&[u8]>,
+    journal: Option<&[u8]>,
+    question: Question,
+) -> Result<Answer, RunFault>
+    ensures told { IfOk result (λ answer. IsTold question (bytes_of files.now) (entries_of files.now) top.now
+        (option_map (λ b. b.now) rescue.entry) (option_map (λ b. b.now) journal.entry)
+        (string_bytes answer.text) (string_bytes answer.warnings) answer.status) }
+    ensures refused { IfErr result (IsRefused question (bytes_of files.now) (entries_of files.now) top.now
+        (option_map (λ b. b.now) rescue.entry) (option_map (λ b. b.now) journal.entry)) }
+{
+    match question {
+        Question::Status => status_of(alloc, files, top, rescue, journal),
+        Question::Audit => audit_of(alloc, files, top, rescue, journal),
+        Question::Graph => graph_of(alloc, files, top, rescue, journal),
+    }
+}
+
+/// The answer for the DAG file of this path, by its journal and the rescue file that the journal names.
+///
+/// # Errors
+/// In this order: a journal that the system refuses to read, a number of a rescue file above 999 in
+/// its header, a rescue file that the system refuses to read; then as `status_of`, `audit_of` or
+/// `graph_of`, a fault in a line of the rescue file with its path. Where the header can't be read, no rescue file
+/// is. Want of memory may stand before any.
+pub fn told_here<F: Folder>(
+    alloc: Global,
+    folder: &F,
+    top: &str,
+    question: Question,
+) -> Result<Answer, RunFault>
+    ensures told { IfOk result (λ answer.
+        IsToldOfRun question top.now (string_bytes answer.text) (string_bytes answer.warnings) answer.status) }
+    // It is that of the files that the folder holds.
+    ensures held { F.honest folder.now → IfOk result (λ answer. IsToldFrom (F.holds folder.now) question top.now
+        (string_bytes answer.text) (string_bytes answer.warnings) answer.status) }
+    ensures refused { IfErr result (IsToldFault question top.now) }
+{
+    let round = last_round(alloc, folder, top)?;
+    let files = files_of(alloc, folder, top, Reading::SubmitFilesToo)?;
+    let rescue = bytes_of(&round.rescue);
+    let journal = bytes_of(&round.journal);
+    match asked(alloc, &files, top, rescue, journal, question) {
+        Ok(answer) => Ok(answer),
+        Err(fault) => Err(named(fault, round.name)),
+    }
+}
+
+/// What `run` printed at the end of the last round of the DAG file of this path, and its exit status; none where
+/// there is no journal, where it is not that of a run which has ended, and where it can't be read.
+///
+/// # Errors
+/// Those of `told_here` for the status.
+pub fn report_here<F: Folder>(
+    alloc: Global,
+    folder: &F,
+    top: &str,
+) -> Result<Option<Answer>, RunFault>
+    ensures report { IfOk result (λ answer. IfSome answer (λ answer.
+        IsReportHere top.now (string_bytes answer.text) (string_bytes answer.warnings) answer.status)) }
+    // It is that of the files that the folder holds; and by these there is none.
+    ensures held { F.honest folder.now → IfOk result (λ answer. IfSome answer (λ answer.
+        IsReportFrom (F.holds folder.now) top.now (string_bytes answer.text) (string_bytes answer.warnings) answer.status)) }
+    ensures none { F.honest folder.now → IfOk result (λ answer. IfNone answer (IsNoReportFrom (F.holds folder.now) top.now)) }
+    ensures refused { IfErr result (IsToldFault Status top.now) }
+{
+    let round = last_round(alloc, folder, top)?;
+    let Some(journal) = bytes_of(&round.journal) else {
+        return Ok(None);
+    };
+    if !has_ended(alloc, Some(journal))? {
+        return Ok(None);
+    }
+    let files = files_of(alloc, folder, top, Reading::SubmitFilesToo)?;
+    match report_of(alloc, &files, top, bytes_of(&round.rescue), journal) {
+        Ok(answer) => Ok(answer),
+        Err(fault) => Err(named(fault, round.name)),
+    }
+}

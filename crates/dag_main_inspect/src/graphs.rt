@@ -1,0 +1,158 @@
+//! The picture of a DAG, with where the nodes of its last round stand.
+
+ghost use Rattle.std.specs.Prelude.{◌≡◌, Some, None, IfOk, IfErr, string_bytes};
+ghost use Rattle.std.specs.Option.{option_map};
+ghost use Rattle.splices_flat.specs.FileSet.{bytes_of, entries_of};
+ghost use Rattle.dag_main_check.specs.declared.fault.RunFault.TheVariants.{Memory};
+ghost use Rattle.dag_main_check.specs.Planned.{IsGraphFault};
+ghost use Rattle.dag_main_check.specs.Warnings.{warning_lines};
+ghost use Rattle.graph_text.specs.Picture.{plan_of, states_of, dot_text_of};
+ghost use Rattle.dag_main_inspect.specs.Statused.{records_at, IsRecordsFault};
+ghost use Rattle.dag_main_inspect.specs.Drawn.{IsPicture, IsBarePicture, IsDrawnOf, IsDrawnFault, IsJournalDrawnFault, tells_of_others};
+
+use crate::statuses::{core_of, plan_by, records_of};
+use dag_main_check::{Answer, RunFault, plan_of, warning_text};
+use event_journal_log::JournalFault;
+use graph_text::{Drawn, dot_text};
+use node_machine::Record;
+use recovery_manager::ManagerFault;
+use run_plan::Plan;
+use splices_flat::FileSet;
+use std::alloc::Global;
+
+/// The picture of the DAG of the file of this path, as a graph in DOT. Where there is a journal of a
+/// run of these files, its nodes have the colours of where they stand in it; the submit files stand in
+/// the file set then, and `rescue` is the rescue file that the run read, if it read one. A journal of
+/// other files says nothing of the nodes. Without a journal the DAG files alone are looked at.
+///
+/// # Errors
+/// The first fault that opening the files meets (`InFiles`), a cycle (`Cycle`), and want of memory;
+/// where there is a journal, also the first fault of the submit files, the texts of jobs and the
+/// rescue file (`InPlan`), and that of the journal, unless it is of other files, or its first record
+/// that may not follow (`InManager`).
+pub fn graph_of(
+    alloc: Global,
+    files: &FileSet,
+    path: &str,
+    rescue: Option<&[u8]>,
+    journal: Option<&[u8]>,
+) -> Result<Answer, RunFault>
+    ensures drawn { IfOk result (λ answer. IsDrawnOf (bytes_of files.now) (entries_of files.now) path.now
+        (option_map (λ b. b.now) rescue.entry) (option_map (λ b. b.now) journal.entry)
+        (string_bytes answer.text) (string_bytes answer.warnings) answer.status) }
+    ensures refused { IfErr result (IsDrawnFault (bytes_of files.now) (entries_of files.now) path.now
+        (option_map (λ b. b.now) rescue.entry) (option_map (λ b. b.now) journal.entry)) }
+{
+    match journal {
+        Some(bytes) => graph_by(alloc, files, path, rescue, bytes),
+        None => bare_graph(alloc, files, path),
+    }
+}
+
+/// The picture of a plan, and the warnings of its files.
+fn answer_for(alloc: Global, drawn: &Drawn<'_>) -> Result<Answer, RunFault>
+    ensures text { IfOk result (λ answer. string_bytes answer.text ≡ dot_text_of (plan_of drawn.now) (states_of drawn.now)) }
+    ensures warnings { IfOk result (λ answer. string_bytes answer.warnings ≡ warning_lines (plan_of drawn.now).graph.dag.warnings) }
+    ensures status { IfOk result (λ answer. answer.status ≡ 0) }
+    ensures err { IfErr result (λ fault. fault ≡ Memory) }
+{
+    let plan = drawn.plan();
+    Ok(Answer {
+        text: dot_text(alloc, drawn)?,
+        warnings: warning_text(alloc, plan.graph().flat().warnings())?,
+        status: 0,
+    })
+}
+
+/// The picture of the DAG files alone.
+fn bare_graph(alloc: Global, files: &FileSet, path: &str) -> Result<Answer, RunFault>
+    ensures drawn { IfOk result (λ answer.
+        IsBarePicture (bytes_of files.now) path.now (string_bytes answer.text) (string_bytes answer.warnings)) }
+    ensures status { IfOk result (λ answer. answer.status ≡ 0) }
+    ensures refused { IfErr result (IsGraphFault (bytes_of files.now) path.now) }
+{
+    let plan = plan_of(alloc, files, path, false)?;
+    answer_for(alloc, &Drawn::Bare(&plan))
+}
+
+/// The picture of the plan of these files, by a journal of these bytes.
+fn graph_by(
+    alloc: Global,
+    files: &FileSet,
+    path: &str,
+    rescue: Option<&[u8]>,
+    bytes: &[u8],
+) -> Result<Answer, RunFault>
+    ensures drawn { IfOk result (λ answer. IsDrawnOf (bytes_of files.now) (entries_of files.now) path.now
+        (option_map (λ b. b.now) rescue.entry) (Some bytes.now)
+        (string_bytes answer.text) (string_bytes answer.warnings) answer.status) }
+    ensures refused { IfErr result (IsDrawnFault (bytes_of files.now) (entries_of files.now) path.now
+        (option_map (λ b. b.now) rescue.entry) (Some bytes.now)) }
+{
+    let plan = plan_by(alloc, files, path, rescue, Some(bytes))?;
+    graph_plan(alloc, &plan, bytes)
+}
+
+/// The picture of a plan that has a journal of these bytes.
+fn graph_plan(alloc: Global, plan: &Plan, bytes: &[u8]) -> Result<Answer, RunFault>
+    ensures drawn { IfOk result (λ answer. IsPicture plan.now bytes.now (string_bytes answer.text)) }
+    ensures warnings { IfOk result (λ answer. string_bytes answer.warnings ≡ warning_lines plan.now.graph.dag.warnings) }
+    ensures status { IfOk result (λ answer. answer.status ≡ 0) }
+    ensures refused { IfErr result (IsJournalDrawnFault plan.now bytes.now) }
+{
+    match records_of(alloc, plan, bytes) {
+        Ok(records) => graph_run(alloc, plan, bytes, &records),
+        Err(fault) => graph_unless(alloc, plan, bytes, fault),
+    }
+}
+
+/// Whether a fault tells that a journal is that of other files, or of a run with the other flag.
+fn tells_of_others(fault: &RunFault) -> bool
+    ensures { result ≡ tells_of_others fault.now }
+{
+    match fault {
+        RunFault::InManager(
+            ManagerFault::Journal(JournalFault::OtherInputs | JournalFault::OtherFlag),
+        ) => true,
+        _ => false,
+    }
+}
+
+/// The picture of a plan whose journal is that of other files or of a run with the other flag, or
+/// why there is none: this fault.
+fn graph_unless(
+    alloc: Global,
+    plan: &Plan,
+    bytes: &[u8],
+    fault: RunFault,
+) -> Result<Answer, RunFault>
+    requires { IsRecordsFault plan.now bytes.now fault }
+    ensures drawn { IfOk result (λ answer. IsPicture plan.now bytes.now (string_bytes answer.text)) }
+    ensures warnings { IfOk result (λ answer. string_bytes answer.warnings ≡ warning_lines plan.now.graph.dag.warnings) }
+    ensures status { IfOk result (λ answer. answer.status ≡ 0) }
+    ensures refused { IfErr result (IsJournalDrawnFault plan.now bytes.now) }
+{
+    let _bytes = bytes;
+    if tells_of_others(&fault) {
+        return answer_for(alloc, &Drawn::Bare(plan));
+    }
+    Err(fault)
+}
+
+/// The picture of a plan whose journal has these records.
+fn graph_run(
+    alloc: Global,
+    plan: &Plan,
+    bytes: &[u8],
+    records: &[Record],
+) -> Result<Answer, RunFault>
+    requires { records_at plan.now bytes.now ≡ Some records.now }
+    ensures drawn { IfOk result (λ answer. IsPicture plan.now bytes.now (string_bytes answer.text)) }
+    ensures warnings { IfOk result (λ answer. string_bytes answer.warnings ≡ warning_lines plan.now.graph.dag.warnings) }
+    ensures status { IfOk result (λ answer. answer.status ≡ 0) }
+    ensures refused { IfErr result (IsJournalDrawnFault plan.now bytes.now) }
+{
+    let core = core_of(alloc, plan, bytes, records)?;
+    core.keeps_the_law();
+    answer_for(alloc, &Drawn::Run(&core))
+}

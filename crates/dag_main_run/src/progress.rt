@@ -1,0 +1,128 @@
+//! How it is shown how far a run is.
+
+use dag_main_args::RunOptions;
+use dag_main_check::RunFault;
+use dag_main_files::{Journaled, LAST_NUMBER, Place, Round, journal_path, rescue_path};
+use dag_reader::Text;
+use event_journal_log::read_journal;
+use job_starter_drive::Killed;
+use job_starter_local::{ChildWatcher, CommandPart};
+use node_machine::{Key, Outcome, Record};
+use run_log::RunWatcher;
+use run_plan::Plan;
+use run_plan_node::ChildCommand;
+use run_progress::{ProgressWatcher, Screen, Watched, way_of};
+use std::alloc::Global;
+use std::fs::File;
+use std::io;
+use std::process::Processes;
+use std::rt::Files;
+use std::time::Clock;
+
+/// The records of the earlier managers of a round of this plan; none where they can't be read, of which the manager tells.
+fn records_before<R: Files + AllocGlobal>(
+    rt: &R,
+    place: &Place<'_>,
+    plan: &Plan,
+    round: &Round,
+) -> Option<Vec<Record>> {
+    if round.journal != Journaled::Unfinished {
+        return None;
+    }
+    let alloc = rt.alloc();
+    let path = journal_path(alloc, place.top).ok()?;
+    let bytes = place.read(rt, path.as_str()).ok()??;
+    read_journal(alloc, &bytes, plan.digest(), plan.always_post()).ok()?
+}
+
+/// The path of the rescue file that a round reads; none where it reads none.
+fn rescue_read(alloc: Global, place: &Place<'_>, round: &Round) -> Result<Option<Text>, RunFault> {
+    if round.used == 0 || round.used > LAST_NUMBER {
+        return Ok(None);
+    }
+    Ok(Some(rescue_path(alloc, place.top, round.used)?))
+}
+
+/// It shows as the options say how far a round of a plan is.
+pub(crate) fn progress_of<
+    'a,
+    R: Processes + Files<File = File> + Clock + Screen + AllocGlobal + Copy + Drop,
+>(
+    rt: R,
+    place: &Place<'a>,
+    plan: &'a Plan,
+    round: &Round,
+    options: &RunOptions,
+) -> ProgressWatcher<'a, R> {
+    let Some(way) = way_of(&rt, options.progress) else {
+        return ProgressWatcher::hidden();
+    };
+    let alloc = rt.alloc();
+    let run = Watched {
+        plan,
+        folder: place.folder,
+        limits: options.limits,
+        way,
+    };
+    let records = records_before(&rt, place, plan, round);
+    let before = records.as_ref().map(|records| records.as_slice());
+    let mut progress = ProgressWatcher::new(rt, run, before.unwrap_or(&[]));
+    if round.journal != Journaled::Unfinished {
+        if let Ok(rescue) = rescue_read(alloc, place, round) {
+            let path = rescue.as_ref().map(|path| path.as_str());
+            progress.begins(place.top, path);
+        }
+    }
+    progress
+}
+
+/// Who is told of the children of a round: first its log, then who shows how far it is.
+#[derive(Drop)]
+pub(crate) struct RoundWatcher<'a, R: Files<File = File> + Clock + AllocGlobal + Drop> {
+    pub(crate) log: RunWatcher<'a, R>,
+    pub(crate) progress: ProgressWatcher<'a, R>,
+}
+
+impl<R: Screen + Processes + Files<File = File> + Clock + AllocGlobal + Copy + Drop> ChildWatcher
+    for RoundWatcher<'_, R> {
+    fn launching(&mut self, key: &Key, command: &ChildCommand) {
+        self.log.launching(key, command);
+        self.progress.launching(key, command);
+    }
+
+    fn launched(&mut self, key: &Key, process: u32, command: &ChildCommand) {
+        self.log.launched(key, process, command);
+        self.progress.launched(key, process, command);
+    }
+
+    fn held(&mut self, key: &Key, error: &io::Error) {
+        self.log.held(key, error);
+        self.progress.held(key, error);
+    }
+
+    fn not_started(
+        &mut self,
+        key: &Key,
+        command: &ChildCommand,
+        part: CommandPart,
+        error: &io::Error,
+    ) {
+        self.log.not_started(key, command, part, error);
+        self.progress.not_started(key, command, part, error);
+    }
+
+    fn ended(&mut self, key: &Key, outcome: Outcome) {
+        self.log.ended(key, outcome);
+        self.progress.ended(key, outcome);
+    }
+
+    fn killed(&mut self, key: &Key, answer: Killed) {
+        self.log.killed(key, answer);
+        self.progress.killed(key, answer);
+    }
+
+    fn waits(&mut self) {
+        self.log.waits();
+        self.progress.waits();
+    }
+}

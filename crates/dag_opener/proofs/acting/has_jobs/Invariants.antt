@@ -1,6 +1,0 @@
-use Rattle.std.proofs.Common.{◌≡◌, drop}
-use Rattle.splices.specs.Nodes.{jobs_in}
-use Rattle.dag_opener.proofs.acting.has_jobs.Given as goal
-
-abbrev pub invariant-loop-command : goal.invariant-loop-command
-invariant-loop-command l = jobs_in l.commands ≡ jobs_in (drop l.command-index l.commands)

@@ -1,7 +1,0 @@
-use Rattle.std.proofs.Common.{◌≡◌, drop}
-use Rattle.splices.specs.Faults.{first_some, edge_fault}
-use Rattle.dag_opener.specs.NameCheck.{checked_by}
-use Rattle.dag_opener.proofs.check.NameCheck.ends.Given as goal
-
-abbrev pub invariant-loop-word : goal.invariant-loop-word
-invariant-loop-word l = first_some (edge_fault (checked_by l.self)) l.words ≡ first_some (edge_fault (checked_by l.self)) (drop l.word-index l.words)

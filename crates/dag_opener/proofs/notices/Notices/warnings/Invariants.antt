@@ -1,7 +1,0 @@
-use Rattle.std.proofs.Common.{◌≡◌, map, take}
-use Rattle.splices.specs.Notices.{warning_of}
-use Rattle.dag_opener.specs.NoticeSets.{notice_of}
-use Rattle.dag_opener.proofs.notices.Notices.warnings.Given as goal
-
-abbrev pub invariant-loop-notice : goal.invariant-loop-notice
-invariant-loop-notice l = l.warnings.items ≡ map (λ n. warning_of (notice_of n)) (take l.notice-index l.notice-items)

@@ -1,5 +1,0 @@
-use Rattle.std.proofs.Common.{refl}
-use Rattle.job_starter.proofs.laws.begins.Goals as goal
-
-pub returns : goal.returns
-returns c plan past told none = record { same = none; children = refl }

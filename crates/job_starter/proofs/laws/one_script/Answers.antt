@@ -1,5 +1,0 @@
-use Rattle.job_starter.proofs.Scripts.{one-script}
-use Rattle.job_starter.proofs.laws.one_script.Goals as goal
-
-pub returns : goal.returns
-returns c = one-script

@@ -1,6 +1,0 @@
-use Rattle.std.proofs.Common.{rules}
-use Rattle.job_starter.proofs.Steps.{open-begun}
-use Rattle.job_starter.proofs.records.goes_on.Goals as goal
-
-pub returns : goal.returns
-returns g c = open-begun _ (search rules) (search rules)

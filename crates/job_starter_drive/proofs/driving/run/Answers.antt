@@ -1,0 +1,126 @@
+use Rattle.std.proofs.Common.{rules, ◌∙◌, refl, sym, subst, IfNone}
+use Rattle.throttles.specs.declared.Limits.{Limits}
+use Rattle.run_plan.specs.Plan.{Plan}
+use Rattle.sched_core.specs.Run.{outstanding}
+use Rattle.sched_core.specs.declared.Choice.TheVariants as choices
+use Rattle.sched_core.specs.Choices.{IsChoice}
+use Rattle.recovery_manager.specs.Managed.{plan_of, past_of}
+use Rattle.job_starter_drive.specs.Drives.{at_rest, limits_of, AreInStep, IsNearerEnd, no_step}
+use Rattle.job_starter_drive.proofs.Stretches.{stretch-still, stretch-on, cut-on}
+use Rattle.job_starter_drive.proofs.Walks.{no_child}
+use Rattle.job_starter_drive.proofs.driving.run.Goals as goal
+
+pub loop-verdict-init : goal.loop-verdict-init
+loop-verdict-init g c = (
+  stretch-still g.D.Disk.honest g.D.Disk.seen g.D.Disk.may_leave g.D.Disk.moment g.D.Disk.left_since g.D.Disk.faults g.D.Disk.capacity g.met.D.Disk.only_now (limits_of c.args.manager.now) (plan_of c.args.manager.now) (g.S.Starter.may_tell c.args.starter.now) (g.S.Starter.may_tell c.args.starter.now) (g.S.Starter.faults c.args.starter.now) (g.S.Starter.faults c.args.starter.now) c.args.manager.now
+      (at_rest (past_of c.args.manager.now) (g.S.Starter.told c.args.starter.now)) refl refl c.keeps_the_law.ensures (λ heard key outcome is. is) (at_rest (past_of c.args.manager.now) (g.S.Starter.told c.args.starter.now)) refl no_step refl,
+  c.requires.in_step,
+  c.requires.going,
+)
+
+pub turn-requires-clause-own : goal.turn-requires-clause-own
+turn-requires-clause-own g c = c.requires.own ∙ sym c.loop-verdict.invariant.0.plan_is
+
+pub turn-requires-clause-in_step : goal.turn-requires-clause-in_step
+turn-requires-clause-in_step g c =
+    let plan = plan_of c.args.manager.now in
+    let past = past_of c.args.manager.now in
+    let limits = limits_of c.args.manager.now in
+    let may = g.S.Starter.may_tell in
+    let count = g.S.Starter.faults in
+    let told = g.S.Starter.told in
+    let old = c.args.manager.now in
+    let from = at_rest past (told c.args.starter.now) in
+    let i = c.loop-verdict.invariant in
+    let mid = c.loop-verdict.manager in
+    subst (λ (p : Plan). AreInStep p (past_of mid) (told c.loop-verdict.starter)) (sym i.0.plan_is) i.1
+
+pub returns-in-Ok-Some-clause-went : goal.returns-in-Ok-Some-clause-went
+returns-in-Ok-Some-clause-went g c =
+    let plan = plan_of c.args.manager.now in
+    let past = past_of c.args.manager.now in
+    let limits = limits_of c.args.manager.now in
+    let may = g.S.Starter.may_tell in
+    let count = g.S.Starter.faults in
+    let told = g.S.Starter.told in
+    let old = c.args.manager.now in
+    let from = at_rest past (told c.args.starter.now) in
+    let i = c.loop-verdict.invariant in
+    let mid = c.loop-verdict.manager in
+    let new = c.turn.new.manager in
+    let via = at_rest (past_of mid) (told c.loop-verdict.starter) in
+    stretch-on g.D.Disk.honest g.D.Disk.seen g.D.Disk.may_leave g.D.Disk.moment g.D.Disk.left_since g.D.Disk.faults g.D.Disk.capacity limits plan (may c.args.starter.now) (may c.loop-verdict.starter) (may c.turn.new.starter) (count c.args.starter.now) (count c.loop-verdict.starter) (count c.turn.new.starter) old mid new from via i.0
+    (at_rest (past_of new) (told c.turn.new.starter)) c.in-Ok-Some.ensures.went
+
+pub returns-in-Ok-Some-clause-over : goal.returns-in-Ok-Some-clause-over
+returns-in-Ok-Some-clause-over g c =
+    let plan = plan_of c.args.manager.now in
+    let past = past_of c.args.manager.now in
+    let limits = limits_of c.args.manager.now in
+    let may = g.S.Starter.may_tell in
+    let count = g.S.Starter.faults in
+    let told = g.S.Starter.told in
+    let old = c.args.manager.now in
+    let from = at_rest past (told c.args.starter.now) in
+    let i = c.loop-verdict.invariant in
+    let mid = c.loop-verdict.manager in
+    let new = c.turn.new.manager in
+    let via = at_rest (past_of mid) (told c.loop-verdict.starter) in
+    let over : IsChoice (limits_of mid) (plan_of mid) (past_of new) (choices.Finish c.in-Ok-Some.verdict) = search rules in
+    subst (λ (l : Limits). IsChoice l plan (past_of new) (choices.Finish c.in-Ok-Some.verdict)) i.0.limits_are (subst (λ (p : Plan). IsChoice (limits_of mid) p (past_of new) (choices.Finish c.in-Ok-Some.verdict)) i.0.plan_is over)
+
+pub returns-in-Ok-Some-clause-none_left : goal.returns-in-Ok-Some-clause-none_left
+returns-in-Ok-Some-clause-none_left g c =
+    let plan = plan_of c.args.manager.now in
+    let past = past_of c.args.manager.now in
+    let limits = limits_of c.args.manager.now in
+    let may = g.S.Starter.may_tell in
+    let count = g.S.Starter.faults in
+    let told = g.S.Starter.told in
+    let old = c.args.manager.now in
+    let from = at_rest past (told c.args.starter.now) in
+    let i = c.loop-verdict.invariant in
+    let mid = c.loop-verdict.manager in
+    let new = c.turn.new.manager in
+    let via = at_rest (past_of mid) (told c.loop-verdict.starter) in
+    let over : IsChoice (limits_of mid) (plan_of mid) (past_of new) (choices.Finish c.in-Ok-Some.verdict) = search rules in
+    c.in-Ok-Some.ensures.in_step.same ∙ no_child (outstanding (plan_of mid) (past_of new)) over.1
+
+pub loop-verdict-preserved : goal.loop-verdict-preserved
+loop-verdict-preserved g c =
+    let plan = plan_of c.args.manager.now in
+    let past = past_of c.args.manager.now in
+    let limits = limits_of c.args.manager.now in
+    let may = g.S.Starter.may_tell in
+    let count = g.S.Starter.faults in
+    let told = g.S.Starter.told in
+    let old = c.args.manager.now in
+    let from = at_rest past (told c.args.starter.now) in
+    let i = c.loop-verdict.invariant in
+    let mid = c.loop-verdict.manager in
+    let new = c.turn.new.manager in
+    let via = at_rest (past_of mid) (told c.loop-verdict.starter) in
+    let e = c.in-Ok-None.ensures in
+    let nearer : IsNearerEnd (plan_of mid) (past_of mid) (past_of new) = subst (λ o. IfNone o (IsNearerEnd (plan_of mid) (past_of mid) (past_of new))) c.in-Ok-None.field-0-is e.nearer in (
+      stretch-on g.D.Disk.honest g.D.Disk.seen g.D.Disk.may_leave g.D.Disk.moment g.D.Disk.left_since g.D.Disk.faults g.D.Disk.capacity limits plan (may c.args.starter.now) (may c.loop-verdict.starter) (may c.turn.new.starter) (count c.args.starter.now) (count c.loop-verdict.starter) (count c.turn.new.starter) old mid new from via i.0
+          (at_rest (past_of new) (told c.turn.new.starter)) c.in-Ok-None.ensures.went,
+      subst (λ (p : Plan). AreInStep p (past_of new) (told c.turn.new.starter)) i.0.plan_is e.in_step,
+      nearer.going,
+    )
+
+pub returns-in-Err-clause-cut : goal.returns-in-Err-clause-cut
+returns-in-Err-clause-cut g c =
+    let plan = plan_of c.args.manager.now in
+    let past = past_of c.args.manager.now in
+    let limits = limits_of c.args.manager.now in
+    let may = g.S.Starter.may_tell in
+    let count = g.S.Starter.faults in
+    let told = g.S.Starter.told in
+    let old = c.args.manager.now in
+    let from = at_rest past (told c.args.starter.now) in
+    let i = c.loop-verdict.invariant in
+    let mid = c.loop-verdict.manager in
+    let new = c.turn.new.manager in
+    let via = at_rest (past_of mid) (told c.loop-verdict.starter) in
+    cut-on g.D.Disk.honest g.D.Disk.seen g.D.Disk.may_leave g.D.Disk.moment g.D.Disk.left_since g.D.Disk.faults g.D.Disk.capacity limits plan (may c.args.starter.now) (may c.loop-verdict.starter) (may c.turn.new.starter) (count c.args.starter.now) (count c.loop-verdict.starter) (count c.turn.new.starter) old mid new from via i.0
+    (told c.turn.new.starter) c.in-Err.fault c.in-Err.ensures.cut

@@ -1,0 +1,75 @@
+-- Why a starter refuses a call, and why a run is stopped before its end.
+use Rattle.std.specs.Prelude.{◌≡◌, ℕ, List, [], IsTrue}
+use Rattle.std.specs.List.{All}
+use Rattle.node_machine.specs.declared.Record.{Record}
+use Rattle.node_machine.specs.declared.Record.TheVariants.{Life, Launch, End, Finish}
+use Rattle.sched_core.specs.Ahead.{may_follow_all}
+use Rattle.event_journal_log.specs.Disk.{IsOneMore}
+use Rattle.recovery_manager.specs.Managed.{Managed, plan_of, past_of}
+use Rattle.recovery_manager.specs.Batched.{IsUnwritten}
+use Rattle.recovery_manager.specs.declared.fault.ManagerFault.{ManagerFault}
+use Rattle.recovery_manager.specs.declared.fault.ManagerFault.TheVariants as faults
+use Rattle.job_starter_drive.specs.declared.Call.{Call}
+use Rattle.job_starter_drive.specs.declared.StartFault.{StartFault}
+use Rattle.job_starter_drive.specs.declared.StartFault.TheVariants as starts
+use Rattle.job_starter_drive.specs.declared.driving.DriveFault.{DriveFault}
+use Rattle.job_starter_drive.specs.declared.driving.DriveFault.TheVariants as drives
+use Rattle.job_starter_drive.specs.Calls.{running}
+use Rattle.job_starter_drive.specs.Moments.{KeepsDisk, CountsOn}
+
+-- Why a child is neither started nor answered as not started, by the system's counts of refusals before and after: memory, which is
+-- one refusal.
+pub data IsStartFault (before now : ℕ) : StartFault → Type 0 where
+  start_had_no_memory : IsOneMore before now → IsStartFault before now starts.StartMemory
+
+-- Why a system doesn't say how a child does: it refused the question or the wait.
+pub data IsAskFault (before now : ℕ) : StartFault → Type 0 where
+  asking_refused : IsOneMore before now → IsAskFault before now starts.WaitFault
+
+-- Why a starter tells no ending: the system refused a question or a wait, once; or no child runs, which counts as no refusal.
+pub data IsWaitFault (before now : ℕ) (told : List Call) : StartFault → Type 0 where
+  waiting_refused : IsOneMore before now → IsWaitFault before now told starts.WaitFault
+  no_child_runs : running told ≡ [] → now ≡ before → IsWaitFault before now told starts.NoChild
+
+-- a run records launches and endings
+abbrev pub IsOfRun : Record → Type 0
+IsOfRun (Launch key number) = Unit {0}
+IsOfRun (End key outcome) = Unit {0}
+IsOfRun Life = ⊥
+IsOfRun (Finish status) = ⊥
+
+-- A manager refused records that may follow: the disk or memory is the cause, by what it was at that call. Then it had the records
+-- that are left, and its journal had counted each since the call began; its disk had the same bounds, and had failed no less often.
+pub record AreRefused {D : Type 0} (honest : D → Type 0) (failures capacity : D → ℕ) (is_own : Record → Type 0) (old manager : Managed D) (fault : ManagerFault) : Type 0 where
+  pub entries : List Record
+  pub own : All is_own entries
+  pub then_was : Managed D
+  pub same : past_of then_was ≡ past_of manager
+  pub disk : KeepsDisk honest failures capacity old then_was
+  pub counts : CountsOn old then_was
+  pub lawful : IsTrue (may_follow_all (plan_of manager) (past_of manager) entries)
+  pub cause : IsUnwritten failures capacity entries then_was.journal manager.journal fault
+
+-- Why a run is stopped, by the starter's counts of refusals and by the manager that was there and that is left: the starter refused,
+-- once; or, where it refused nothing, there was no memory for a command or for the list of a round, or the manager refused records.
+pub data IsDriveFault {D : Type 0} (honest : D → Type 0) (failures capacity : D → ℕ) (before now : ℕ) (old manager : Managed D) : DriveFault → Type 0 where
+  no_memory_for_child : IsOneMore before now → IsDriveFault honest failures capacity before now old manager drives.StartMemory
+  no_ending_told : IsOneMore before now → IsDriveFault honest failures capacity before now old manager drives.WaitFault
+  no_memory_for_command : now ≡ before → IsDriveFault honest failures capacity before now old manager drives.Memory
+  no_memory_for_round : now ≡ before → IsDriveFault honest failures capacity before now old manager (drives.Manager faults.Memory)
+  records_refused : {fault : ManagerFault} → now ≡ before → AreRefused honest failures capacity IsOfRun old manager fault
+      → IsDriveFault honest failures capacity before now old manager (drives.Manager fault)
+
+-- the manager refused
+abbrev pub IsOfManager : DriveFault → Type 0
+IsOfManager (drives.Manager fault) = Unit {0}
+IsOfManager drives.StartMemory = ⊥
+IsOfManager drives.WaitFault = ⊥
+IsOfManager drives.Memory = ⊥
+
+-- memory was refused for a child or for its command
+abbrev pub IsUnhanded : DriveFault → Type 0
+IsUnhanded drives.StartMemory = Unit {0}
+IsUnhanded drives.Memory = Unit {0}
+IsUnhanded drives.WaitFault = ⊥
+IsUnhanded (drives.Manager fault) = ⊥

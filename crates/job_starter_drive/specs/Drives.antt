@@ -1,0 +1,221 @@
+-- What a run hands over to a starter, and what it records of the answers. Records and calls stand the newest first, what is launched
+-- or ended together the oldest first.
+use Rattle.std.specs.Prelude.{◌≡◌, ◌<◌, ◌≤◌, ◌+◌, ◌⊎◌, ℕ, Bool, not, ◌&&◌, List, [], ◌∷◌, ◌++◌, length, Option, Some, None, Ok, IsTrue, IsFalse}
+use Rattle.std.specs.List.{list_all}
+use Rattle.std.specs.declared.snapshot.Snapshot.{Snapshot}
+use Rattle.node_machine.specs.declared.Key.{Key}
+use Rattle.node_machine.specs.declared.Outcome.{Outcome}
+use Rattle.node_machine.specs.declared.Outcome.TheVariants.{Exit, NoStart}
+use Rattle.node_machine.specs.Story.{is_noop_job, is_possible, may_end_with}
+use Rattle.throttles.specs.declared.Limits.{Limits}
+use Rattle.run_plan_node.specs.declared.command.ChildCommand.{ChildCommand}
+use Rattle.run_plan.specs.Plan.{Plan, node_at}
+use Rattle.run_plan_node.specs.Commands.{command_of, starts_child}
+use Rattle.sched_core.specs.declared.Choice.{Choice}
+use Rattle.sched_core.specs.declared.Choice.TheVariants as choices
+use Rattle.node_machine.specs.declared.Record.{Record}
+use Rattle.sched_core.specs.Run.{outstanding, is_among, is_nothing, is_aborted, is_open, is_lawful, without}
+use Rattle.sched_core.specs.Bound.{records_left}
+use Rattle.sched_core.specs.Ahead.{launched, AreChosen, NothingToStart, added, up_to_abort, ends_of, ended_in}
+use Rattle.sched_core.specs.Commands.{facts_in}
+use Rattle.recovery_manager.specs.Managed.{Managed}
+use Rattle.recovery_manager.specs.declared.fault.ManagerFault.{ManagerFault}
+use Rattle.recovery_manager.specs.declared.fault.ManagerFault.TheVariants as faults
+use Rattle.job_starter_drive.specs.declared.Call.{Call}
+use Rattle.job_starter_drive.specs.declared.Call.TheVariants as calls
+use Rattle.job_starter_drive.specs.declared.Started.{Started}
+use Rattle.job_starter_drive.specs.declared.Started.TheVariants.{Running, NotStarted}
+use Rattle.job_starter_drive.specs.declared.driving.DriveFault.{DriveFault}
+use Rattle.job_starter_drive.specs.declared.driving.DriveFault.TheVariants as drives
+use Rattle.job_starter_drive.specs.Calls.{running, snapshot_of, MayRun}
+
+-- the limits that a manager keeps to
+abbrev pub limits_of : {D : Type 0} → Managed D → Limits
+limits_of manager = manager.core.limits
+
+-- the command of a phase by what the records say, its launch among them
+abbrev pub IsCommandIn : Plan → List Record → Key → ChildCommand → Type 0
+IsCommandIn plan records key command =
+    command_of (node_at plan key.node) key.attempt key.phase (facts_in plan records key) ≡ Ok command
+
+-- the children that run are the outstanding phases, and each of these starts a child
+pub record AreInStep (plan : Plan) (past : List Record) (told : List Call) : Type 0 where
+  pub same : running told ≡ outstanding plan past
+  pub children : IsTrue (list_all (λ key. starts_child (node_at plan key.node) key.phase) (outstanding plan past))
+
+-- keys with those that were launched behind them, the first of these first
+abbrev pub with_launched : List Key → List Key → List Key
+with_launched [] keys = keys
+with_launched (key ∷ launched) keys = with_launched launched (key ∷ keys)
+
+-- keys without all of these
+abbrev pub without_all : List Key → List Key → List Key
+without_all [] keys = keys
+without_all (gone ∷ more) keys = without_all more (without gone keys)
+
+-- each of these phases is outstanding once those before it ended, and may end so
+abbrev pub MayEndAll : Plan → List Key → List (Key × Outcome) → Type 0
+MayEndAll plan keys [] = Unit {0}
+MayEndAll plan keys (end ∷ ends) =
+    IsTrue (is_among end.0 keys) × IsTrue (is_possible end.1) × IsTrue (may_end_with (node_at plan end.0.node).course end.0.phase end.1)
+    × MayEndAll plan (without end.0 keys) ends
+
+-- a round launches no more phases than this
+abbrev pub most_at_once : ℕ
+most_at_once = 64
+
+-- Within a round the outstanding phases, but for those whose ends are owed, are the children that run and what is not yet handed over.
+pub record AreUnderWay (plan : Plan) (past : List Record) (told : List Call) (keys : List Key) (owed : List (Key × Outcome)) : Type 0 where
+  pub same : without_all (ended_in owed) (outstanding plan past) ≡ with_launched keys (running told)
+  pub children : IsTrue (list_all (λ key. starts_child (node_at plan key.node) key.phase) (running told))
+  pub ends : MayEndAll plan (outstanding plan past) owed
+  pub few : length keys + length owed ≤ most_at_once
+
+-- the run goes on, and fewer records are to come
+pub record IsNearerEnd (plan : Plan) (before past : List Record) : Type 0 where
+  pub going : IsTrue (is_open past)
+  pub fewer : records_left plan past < records_left plan before
+
+-- a phase that was launched was handed over with its command, and this was the answer
+pub record IsHandedOver (plan : Plan) (records : List Record) (key : Key) (answer : Started) (told heard : List Call) : Type 0 where
+  pub command : ChildCommand
+  pub is : IsCommandIn plan records key command
+  pub entry : heard ≡ calls.Started key (snapshot_of command) answer ∷ told
+
+-- A round: phases that are launched together, each what is chosen once those before it are launched; fewer than may be only where
+-- nothing more may be launched behind them.
+pub record IsRoundOf (limits : Limits) (plan : Plan) (past : List Record) (keys : List Key) : Type 0 where
+  pub some : 0 < length keys
+  pub few : length keys ≤ most_at_once
+  pub chosen : AreChosen limits plan past keys
+  pub full : length keys < most_at_once → NothingToStart limits plan (launched past keys)
+
+-- Where a run stands: its records, and the calls that its starter answered; of a round the phases that are launched and not yet handed
+-- over; and the endings that are known and not yet recorded.
+pub data Standing : Type 0 where
+  At : List Record → List Call → List Key → List (Key × Outcome) → Standing
+
+-- between two rounds
+abbrev pub at_rest : List Record → List Call → Standing
+at_rest past told = At past told [] []
+
+abbrev pub records_of : Standing → List Record
+records_of (At past told keys owed) = past
+
+abbrev pub calls_of : Standing → List Call
+calls_of (At past told keys owed) = told
+
+-- One step of a run. A round is launched, while the run goes on and the children that run are the outstanding phases. Of its phases the
+-- first is handed over with its command, and its child starts, or doesn't: then its end with NoStart is owed; the job of a NOOP is not
+-- handed over, and its end with Exit 0 is owed. Once all are handed over, what is owed is recorded together, up to the first that aborts
+-- the run. Where nothing may be launched, a child is told to have ended, which is owed then. Or a child is killed whose phase is not
+-- outstanding.
+pub data IsStep (limits : Limits) (plan : Plan) (may : List Call → Key → Outcome → Type 0) : Standing → Standing → Type 0 where
+  launches : {past : List Record} {told : List Call} {keys : List Key} → IsTrue (is_lawful plan past) → IsTrue (is_open past)
+      → AreInStep plan past told → IsRoundOf limits plan past keys
+      → IsStep limits plan may (At past told [] []) (At (launched past keys) told keys [])
+  passes : {past : List Record} {told : List Call} {key : Key} {keys : List Key} {owed : List (Key × Outcome)}
+      → IsTrue (is_noop_job (node_at plan key.node).course key.phase)
+      → IsStep limits plan may (At past told (key ∷ keys) owed) (At past told keys (owed ++ (key, Exit 0) ∷ []))
+  starts : {past : List Record} {told : List Call} {key : Key} {keys : List Key} {owed : List (Key × Outcome)} {command : ChildCommand}
+      → IsTrue (starts_child (node_at plan key.node) key.phase) → IsCommandIn plan past key command → MayRun may told key
+      → IsStep limits plan may (At past told (key ∷ keys) owed) (At past (calls.Started key (snapshot_of command) Running ∷ told) keys owed)
+  fails : {past : List Record} {told : List Call} {key : Key} {keys : List Key} {owed : List (Key × Outcome)} {command : ChildCommand}
+      → IsTrue (starts_child (node_at plan key.node) key.phase) → IsCommandIn plan past key command → may told key NoStart
+      → IsStep limits plan may (At past told (key ∷ keys) owed)
+      (At past (calls.Started key (snapshot_of command) NotStarted ∷ told) keys (owed ++ (key, NoStart) ∷ []))
+  ends : {past : List Record} {told : List Call} {key : Key} {outcome : Outcome} → AreInStep plan past told → NothingToStart limits plan past
+      → IsTrue (is_among key (running told)) → may told key outcome
+      → IsStep limits plan may (At past told [] []) (At past (calls.Ended key outcome ∷ told) [] ((key, outcome) ∷ []))
+  settles : {past : List Record} {told : List Call} {end : Key × Outcome} {owed : List (Key × Outcome)}
+      → IsStep limits plan may (At past told [] (end ∷ owed)) (At (added past (up_to_abort plan past (ends_of (end ∷ owed)))) told [] [])
+  kills : {past : List Record} {told : List Call} {key : Key} → IsTrue (is_among key (running told)) → IsFalse (is_among key (outstanding plan past))
+      → IsStep limits plan may (At past told [] []) (At past (calls.Killed key ∷ told) [] [])
+
+-- any number of steps
+pub data Goes (limits : Limits) (plan : Plan) (may : List Call → Key → Outcome → Type 0) (from : Standing) : Standing → Type 0 where
+  no_step : Goes limits plan may from from
+  one_more : {between to : Standing} → Goes limits plan may from between → IsStep limits plan may between to → Goes limits plan may from to
+
+-- any number of steps from rest to rest
+abbrev pub Drives : Limits → Plan → (List Call → Key → Outcome → Type 0) → List Record → List Call → List Record → List Call → Type 0
+Drives limits plan may past told after last = Goes limits plan may (at_rest past told) (at_rest after last)
+
+-- the verdict of a choice to finish
+abbrev pub final_verdict : Choice → Option ℕ
+final_verdict (choices.Start key) = None
+final_verdict choices.Wait = None
+final_verdict (choices.Finish verdict) = Some verdict
+
+-- Where each fault stops a run. Memory was refused for a child, or for its command: it and those behind it in its round are launched
+-- and not handed over. Memory was refused for the list of a round, or for that of the endings that it may owe: nothing of it is launched.
+-- Where no ending was told, nothing more may be launched and some phase is outstanding. The manager refused to record a round, or what
+-- is owed.
+pub data IsStoppedAt (limits : Limits) (plan : Plan) : DriveFault → Standing → Type 0 where
+  child_refused : {past : List Record} {told : List Call} {key : Key} {keys : List Key} {owed : List (Key × Outcome)}
+      → IsTrue (starts_child (node_at plan key.node) key.phase) → IsStoppedAt limits plan drives.StartMemory (At past told (key ∷ keys) owed)
+  command_refused : {past : List Record} {told : List Call} {key : Key} {keys : List Key} {owed : List (Key × Outcome)}
+      → IsTrue (starts_child (node_at plan key.node) key.phase) → IsStoppedAt limits plan drives.Memory (At past told (key ∷ keys) owed)
+  list_refused : {past : List Record} {told : List Call} → IsStoppedAt limits plan drives.Memory (At past told [] [])
+  round_refused : {past : List Record} {told : List Call} → IsStoppedAt limits plan (drives.Manager faults.Memory) (At past told [] [])
+  launch_refused : {past : List Record} {told : List Call} {keys : List Key} {fault : ManagerFault} → IsRoundOf limits plan past keys
+      → IsStoppedAt limits plan (drives.Manager fault) (At past told [] [])
+  end_refused : {past : List Record} {told : List Call} {end : Key × Outcome} {owed : List (Key × Outcome)} {fault : ManagerFault}
+      → IsStoppedAt limits plan (drives.Manager fault) (At past told [] (end ∷ owed))
+  none_told : {past : List Record} {told : List Call} → NothingToStart limits plan past → IsFalse (is_nothing (outstanding plan past))
+      → IsStoppedAt limits plan drives.WaitFault (At past told [] [])
+
+-- children were to be started; none ended and none was killed
+pub data Starts (told : List Call) : List Call → Type 0 where
+  none_started : Starts told told
+  one_start : {heard : List Call} {key : Key} {command : Snapshot ChildCommand} {answer : Started} → Starts told heard
+      → Starts told (calls.Started key command answer ∷ heard)
+
+-- running children are killed one after another
+pub data Kills (told : List Call) : List Call → Type 0 where
+  nobody : Kills told told
+  one_killed : {heard : List Call} {key : Key} → Kills told heard → IsTrue (is_among key (running heard)) → Kills told (calls.Killed key ∷ heard)
+
+-- the newest record aborted the run
+abbrev pub AbortsAtLast : Plan → List Record → Type 0
+AbortsAtLast plan [] = ⊥
+AbortsAtLast plan (newest ∷ past) = IsFalse (is_aborted plan past) × IsTrue (is_aborted plan (newest ∷ past))
+
+-- nothing more is to be launched; or the newest record aborted the run, which was not aborted before
+abbrev pub IsLaunched : Limits → Plan → List Record → List Record → Type 0
+IsLaunched limits plan before past = NothingToStart limits plan past ⊎ (IsFalse (is_aborted plan before) × AbortsAtLast plan past)
+
+-- Behind a crash: any number of steps. Of a round phases may be launched and not handed over, and endings known and not recorded.
+pub record IsHaltedFrom (limits : Limits) (plan : Plan) (may : List Call → Key → Outcome → Type 0) (from : Standing) (after : List Record) (last : List Call) : Type 0 where
+  pub keys : List Key
+  pub owed : List (Key × Outcome)
+  pub steps : Goes limits plan may from (At after last keys owed)
+
+abbrev pub IsHalted : Limits → Plan → (List Call → Key → Outcome → Type 0) → List Record → List Call → List Record → List Call → Type 0
+IsHalted limits plan may past told after last = IsHaltedFrom limits plan may (at_rest past told) after last
+
+-- the run was aborted between these records and those
+abbrev pub is_aborted_between : Plan → List Record → List Record → Bool
+is_aborted_between plan past after = not (is_aborted plan past) && is_aborted plan after
+
+-- What a round, or an ending, makes of a run: it goes on. Where that didn't abort it, the children that run are the outstanding phases
+-- again; where it did, the newest record did, and no phase is outstanding. What was aborted stays so.
+pub record IsTurn (plan : Plan) (past after : List Record) (last : List Call) : Type 0 where
+  pub going : IsTrue (is_open after)
+  pub in_step : IsFalse (is_aborted_between plan past after) → AreInStep plan after last
+  pub at_last : IsTrue (is_aborted_between plan past after) → AbortsAtLast plan after
+  pub empty : IsTrue (is_aborted_between plan past after) → outstanding plan after ≡ []
+  pub stays : IsTrue (is_aborted plan past) → IsTrue (is_aborted plan after)
+
+-- behind a fault: any number of steps, to where that fault stops a run
+pub record IsHaltedBy (limits : Limits) (plan : Plan) (may : List Call → Key → Outcome → Type 0) (past : List Record) (told : List Call) (fault : DriveFault) (after : List Record) (last : List Call) : Type 0 where
+  pub keys : List Key
+  pub owed : List (Key × Outcome)
+  pub steps : Goes limits plan may (at_rest past told) (At after last keys owed)
+  pub stop : IsStoppedAt limits plan fault (At after last keys owed)
+
+-- behind a fault: the same, and all children that still ran are killed
+pub record IsStopped (limits : Limits) (plan : Plan) (may : List Call → Key → Outcome → Type 0) (past : List Record) (told : List Call) (fault : DriveFault) (after : List Record) (last : List Call) : Type 0 where
+  pub rest : List Call
+  pub halted : IsHaltedBy limits plan may past told fault after rest
+  pub kills : Kills rest last

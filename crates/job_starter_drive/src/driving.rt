@@ -1,0 +1,285 @@
+//! A run: each launch is handed over to a starter, and each ending recorded as it was told.
+ghost use Rattle.std.specs.Prelude.{◌≡◌, [], ◌∷◌, ◌≤◌, not, ◌&&◌, None, IsTrue, IsFalse, IfOk, IfErr, IfSome, IfNone, OnOk, OnErr};
+ghost use Rattle.sched_core.specs.Run.{is_aborted, is_over, is_open, is_nothing, outstanding, may_follow, table_of};
+ghost use Rattle.sched_core.specs.Fate.{AreFates, shown};
+ghost use Rattle.sched_core.specs.Choices.{IsChoice};
+ghost use Rattle.sched_core.specs.Ahead.{NothingToStart};
+ghost use Rattle.recovery_manager.specs.Managed.{Managed, plan_of, past_of};
+ghost use Rattle.job_starter_drive.specs.Calls.{running, TellsNoMore};
+ghost use Rattle.job_starter_drive.specs.Drives.{limits_of, at_rest, AreInStep, IsNearerEnd, IsTurn, final_verdict, Drives, Kills, IsStopped};
+ghost use Rattle.job_starter_drive.specs.Causes.{IsDriveFault};
+ghost use Rattle.job_starter_drive.specs.Moments.{fault_in, IsMomentOfRun, IsLastMoment, AtAnyMoment, AtTheEnd, UnlessDiskFault, StaysAcknowledged, KeepsDisk, CountsOn};
+ghost use Rattle.job_starter_drive.specs.Stretches.{IsStretch, IsCutShort};
+
+use crate::Starter;
+use crate::keys::key_at;
+use crate::records::{chosen, goes_on, is_aborted, keeps_the_law, record_ends};
+use crate::rounds::{is_new, launch_round};
+use event_journal_log::Disk;
+use node_machine::{Record, Verdict};
+use recovery_manager::{Manager, ManagerFault};
+use run_plan::Plan;
+use sched_core::Choice;
+use std::alloc::Global;
+use thiserror::Error;
+
+/// Why a run stopped before its end.
+#[derive(Clone, Copy, Debug, PartialEq, Eq, Error)]
+pub enum DriveFault {
+    /// The starter was refused memory for a child, whose phase is outstanding.
+    #[error("A1 StartMemory")]
+    StartMemory,
+    /// The system refused the question or the wait.
+    #[error("A2 WaitFault")]
+    WaitFault,
+    /// The manager refused.
+    #[error("{0}")]
+    Manager(ManagerFault),
+    /// Memory was refused for a command, or for a list.
+    #[error("A5 Memory")]
+    Memory,
+}
+
+/// How a run ended: nothing is outstanding and nothing can be launched.
+#[derive(Clone, Copy, Debug, PartialEq, Eq)]
+pub struct RunEnd {
+    /// The exit status.
+    pub verdict: Verdict,
+    /// Whether an abort ended it.
+    pub aborted: bool,
+}
+
+/// Kills each running child, the oldest first.
+#[tactic(auto, using(crate::proofs::Running::fewer_left))]
+fn kill_all<S: Starter>(starter: &mut S)
+    ensures none_left { running (S.told starter.new) ≡ [] }
+    ensures kills { Kills (S.told starter.old) (S.told starter.new) }
+    ensures unrefused { S.faults starter.new ≡ S.faults starter.old }
+    ensures may { TellsNoMore (S.may_tell starter.old) (S.may_tell starter.new) }
+{
+    while !starter.running().is_empty() {
+        let oldest = key_at(starter.running(), 0);
+        let _ = starter.kill(oldest);
+    }
+}
+
+/// Waits until a child ends, and records it.
+fn end_one<D: Disk + Drop, S: Starter>(
+    alloc: Global,
+    manager: &mut Manager<'_, D>,
+    starter: &mut S,
+) -> Result<(), DriveFault>
+    requires in_step { AreInStep (plan_of manager.old) (past_of manager.old) (S.told starter.old) }
+    requires held { NothingToStart (limits_of manager.old) (plan_of manager.old) (past_of manager.old) }
+    requires some { IsFalse (is_nothing (outstanding (plan_of manager.old) (past_of manager.old))) }
+    requires going { IsTrue (is_open (past_of manager.old)) }
+    ensures nearer { OnOk result (IsNearerEnd (plan_of manager.old) (past_of manager.old) (past_of manager.new)) }
+    ensures turn { OnOk result (IsTurn (plan_of manager.old) (past_of manager.old) (past_of manager.new) (S.told starter.new)) }
+    ensures went { OnOk result (IsStretch D.honest D.seen D.may_leave D.moment D.left_since D.faults D.capacity
+        (limits_of manager.old) (plan_of manager.old) (S.may_tell starter.old) (S.may_tell starter.new)
+        (S.faults starter.old) (S.faults starter.new) manager.old manager.new
+        (at_rest (past_of manager.old) (S.told starter.old)) (at_rest (past_of manager.new) (S.told starter.new))) }
+    ensures cut { IfErr result (IsCutShort D.honest D.seen D.may_leave D.moment D.left_since D.faults D.capacity
+        (limits_of manager.old) (plan_of manager.old) (S.may_tell starter.old) (S.may_tell starter.new)
+        (S.faults starter.old) (S.faults starter.new) manager.old manager.new
+        (at_rest (past_of manager.old) (S.told starter.old)) (S.told starter.new)) }
+{
+    keeps_the_law(manager);
+    match starter.wait_any() {
+        Ok(end) => record_ends(alloc, manager, starter, &[end]),
+        Err(_) => Err(DriveFault::WaitFault),
+    }
+}
+
+/// The verdict of a choice to finish.
+fn verdict_of(choice: Choice) -> Option<Verdict>
+    ensures { result ≡ final_verdict choice }
+{
+    match choice {
+        Choice::Finish(verdict) => Some(verdict),
+        _ => None,
+    }
+}
+
+/// Does what is chosen: launches, or waits.
+fn act<D: Disk + Drop, S: Starter>(
+    alloc: Global,
+    manager: &mut Manager<'_, D>,
+    plan: &Plan,
+    starter: &mut S,
+    choice: Choice,
+) -> Result<(), DriveFault>
+    requires own { plan.now ≡ plan_of manager.old }
+    requires in_step { AreInStep (plan_of manager.old) (past_of manager.old) (S.told starter.old) }
+    requires chosen { IsChoice (limits_of manager.old) (plan_of manager.old) (past_of manager.old) choice }
+    requires unending { final_verdict choice ≡ None }
+    requires going { IsTrue (is_open (past_of manager.old)) }
+    ensures nearer { OnOk result (IsNearerEnd (plan_of manager.old) (past_of manager.old) (past_of manager.new)) }
+    ensures turn { OnOk result (IsTurn (plan_of manager.old) (past_of manager.old) (past_of manager.new) (S.told starter.new)) }
+    ensures went { OnOk result (IsStretch D.honest D.seen D.may_leave D.moment D.left_since D.faults D.capacity
+        (limits_of manager.old) (plan_of manager.old) (S.may_tell starter.old) (S.may_tell starter.new)
+        (S.faults starter.old) (S.faults starter.new) manager.old manager.new
+        (at_rest (past_of manager.old) (S.told starter.old)) (at_rest (past_of manager.new) (S.told starter.new))) }
+    ensures cut { IfErr result (IsCutShort D.honest D.seen D.may_leave D.moment D.left_since D.faults D.capacity
+        (limits_of manager.old) (plan_of manager.old) (S.may_tell starter.old) (S.may_tell starter.new)
+        (S.faults starter.old) (S.faults starter.new) manager.old manager.new
+        (at_rest (past_of manager.old) (S.told starter.old)) (S.told starter.new)) }
+{
+    match choice {
+        Choice::Start(_) => launch_round(alloc, manager, plan, starter),
+        Choice::Wait => end_one(alloc, manager, starter),
+        Choice::Finish(_) => unreachable!(),
+    }
+}
+
+/// Does what is chosen; where that ended the run by an abort, each running child is killed. At the end of the run it answers the
+/// verdict.
+fn turn<D: Disk + Drop, S: Starter>(
+    alloc: Global,
+    manager: &mut Manager<'_, D>,
+    plan: &Plan,
+    starter: &mut S,
+) -> Result<Option<Verdict>, DriveFault>
+    requires own { plan.now ≡ plan_of manager.old }
+    requires in_step { AreInStep (plan_of manager.old) (past_of manager.old) (S.told starter.old) }
+    requires going { IsTrue (is_open (past_of manager.old)) }
+    ensures in_step { OnOk result
+        (AreInStep (plan_of manager.old) (past_of manager.new) (S.told starter.new)) }
+    ensures over { IfOk result (λ end. IfSome end (λ verdict.
+        IsChoice (limits_of manager.old) (plan_of manager.old) (past_of manager.new) (Choice.Finish verdict))) }
+    ensures still { IfOk result (λ end. IfSome end (λ verdict. IsTrue (is_open (past_of manager.new)))) }
+    ensures nearer { IfOk result (λ end. IfNone end (
+        IsNearerEnd (plan_of manager.old) (past_of manager.old) (past_of manager.new))) }
+    ensures went { OnOk result (IsStretch D.honest D.seen D.may_leave D.moment D.left_since D.faults D.capacity
+        (limits_of manager.old) (plan_of manager.old) (S.may_tell starter.old) (S.may_tell starter.new)
+        (S.faults starter.old) (S.faults starter.new) manager.old manager.new
+        (at_rest (past_of manager.old) (S.told starter.old)) (at_rest (past_of manager.new) (S.told starter.new))) }
+    ensures cut { IfErr result (IsCutShort D.honest D.seen D.may_leave D.moment D.left_since D.faults D.capacity
+        (limits_of manager.old) (plan_of manager.old) (S.may_tell starter.old) (S.may_tell starter.new)
+        (S.faults starter.old) (S.faults starter.new) manager.old manager.new
+        (at_rest (past_of manager.old) (S.told starter.old)) (S.told starter.new)) }
+{
+    keeps_the_law(manager);
+    let before = is_aborted(manager);
+    let choice = chosen(manager);
+    if let Some(verdict) = verdict_of(choice) {
+        return Ok(Some(verdict));
+    }
+    if let Err(fault) = act(alloc, manager, plan, starter, choice) {
+        return Err(fault);
+    }
+    if is_new(before, is_aborted(manager)) {
+        keeps_the_law(manager);
+        kill_all(starter);
+    }
+    Ok(None)
+}
+
+/// Takes steps until the run ends.
+fn run<D: Disk + Drop, S: Starter>(
+    alloc: Global,
+    manager: &mut Manager<'_, D>,
+    plan: &Plan,
+    starter: &mut S,
+) -> Result<Verdict, DriveFault>
+    requires own { plan.now ≡ plan_of manager.old }
+    requires in_step { AreInStep (plan_of manager.old) (past_of manager.old) (S.told starter.old) }
+    requires going { IsTrue (is_open (past_of manager.old)) }
+    ensures none_left { OnOk result (running (S.told starter.new) ≡ []) }
+    ensures over { IfOk result (λ verdict.
+        IsChoice (limits_of manager.old) (plan_of manager.old) (past_of manager.new) (Choice.Finish verdict)) }
+    ensures still { OnOk result (IsTrue (is_open (past_of manager.new))) }
+    ensures went { OnOk result (IsStretch D.honest D.seen D.may_leave D.moment D.left_since D.faults D.capacity
+        (limits_of manager.old) (plan_of manager.old) (S.may_tell starter.old) (S.may_tell starter.new)
+        (S.faults starter.old) (S.faults starter.new) manager.old manager.new
+        (at_rest (past_of manager.old) (S.told starter.old)) (at_rest (past_of manager.new) (S.told starter.new))) }
+    ensures cut { IfErr result (IsCutShort D.honest D.seen D.may_leave D.moment D.left_since D.faults D.capacity
+        (limits_of manager.old) (plan_of manager.old) (S.may_tell starter.old) (S.may_tell starter.new)
+        (S.faults starter.old) (S.faults starter.new) manager.old manager.new
+        (at_rest (past_of manager.old) (S.told starter.old)) (S.told starter.new)) }
+{
+    keeps_the_law(manager);
+    loop {
+        match turn(alloc, manager, plan, starter) {
+            Ok(Some(verdict)) => return Ok(verdict),
+            Ok(None) => {}
+            Err(fault) => return Err(fault),
+        }
+    }
+}
+
+/// Runs a plan to its end: launches what may be launched, waits where nothing can be, and records
+/// each ending as it was told. At an abort and behind a fault each running child is killed, so that
+/// none runs when the call returns.
+///
+/// # Errors
+/// Those of `launch_round`, and `WaitFault` where the system refuses the question or the wait. What was
+/// recorded stays; behind `StartMemory` and `Memory` the last launch is outstanding though no child
+/// was started, and the next life launches it again.
+pub fn drive<D: Disk + Drop, S: Starter>(
+    alloc: Global,
+    manager: &mut Manager<'_, D>,
+    plan: &Plan,
+    starter: &mut S,
+) -> Result<RunEnd, DriveFault>
+    requires own { plan.now ≡ plan_of manager.old }
+    requires in_step { AreInStep (plan_of manager.old) (past_of manager.old) (S.told starter.old) }
+    requires unfinished { IsFalse (is_over (past_of manager.old)) }
+    ensures plan { plan_of manager.new ≡ plan_of manager.old }
+    ensures limits { limits_of manager.new ≡ limits_of manager.old }
+    // What was recorded and handed over, one step behind another.
+    ensures steps { OnOk result (Drives (limits_of manager.old) (plan_of manager.old) (S.may_tell starter.old)
+        (past_of manager.old) (S.told starter.old) (past_of manager.new) (S.told starter.new)) }
+    // The run's choice is to finish, with this verdict.
+    ensures over { IfOk result (λ end.
+        IsChoice (limits_of manager.old) (plan_of manager.old) (past_of manager.new) (Choice.Finish end.verdict)) }
+    ensures aborted { IfOk result (λ end.
+        end.aborted ≡ is_aborted (plan_of manager.old) (past_of manager.new)) }
+    // The end of the run may be recorded now.
+    ensures ready { IfOk result (λ end. IsTrue (may_follow (plan_of manager.old) (past_of manager.new)
+        (Record.Finish end.verdict))) }
+    // Without abort the run shows the fates that the recursion over parents reads from its endings.
+    ensures fates { IfOk result (λ end. IsFalse end.aborted → AreFates (plan_of manager.old)
+        (table_of (past_of manager.new)) (shown (plan_of manager.old) (past_of manager.new))) }
+    // Behind a fault: steps, what this fault leaves of one, and kills.
+    ensures stopped { IfErr result (λ fault. IsStopped (limits_of manager.old) (plan_of manager.old) (S.may_tell starter.old)
+        (past_of manager.old) (S.told starter.old) fault (past_of manager.new) (S.told starter.new)) }
+    // No child runs, however the call returns.
+    ensures none_left { running (S.told starter.new) ≡ [] }
+    // The starter's refusal alone is counted, once.
+    ensures unrefused { OnOk result (S.faults starter.new ≡ S.faults starter.old) }
+    ensures later { S.faults starter.old ≤ S.faults starter.new }
+    ensures refused { IfErr result (IsDriveFault D.honest D.faults D.capacity
+        (S.faults starter.old) (S.faults starter.new) manager.old manager.new) }
+    // On an honest disk each image that a crash may leave meanwhile has what was recorded until some
+    // moment of the call; where the disk refused a record, perhaps that one too.
+    ensures any_moment { AtAnyMoment D.honest D.seen D.may_leave D.moment D.left_since
+        manager.old manager.new (IsMomentOfRun (limits_of manager.old) (plan_of manager.old)
+        (S.may_tell starter.old) (past_of manager.old) (S.told starter.old) (fault_in result)
+        (past_of manager.new) (S.told starter.new)) }
+    // Behind a fault none of the records is missing in an image.
+    ensures left { OnErr result (AtTheEnd D.honest D.seen D.may_leave manager.old manager.new
+        (IsLastMoment (limits_of manager.old) (plan_of manager.old)
+        (S.may_tell starter.old) (past_of manager.old) (S.told starter.old) (fault_in result)
+        (past_of manager.new) (S.told starter.new))) }
+    // What it recorded is in every later image, unless the disk refused a record.
+    ensures acknowledged { UnlessDiskFault (fault_in result)
+        (StaysAcknowledged D.honest D.seen D.may_leave manager.old manager.new) }
+    ensures disk { KeepsDisk D.honest D.faults D.capacity manager.old manager.new }
+    ensures counts { OnOk result (CountsOn manager.old manager.new) }
+{
+    goes_on(manager);
+    match run(alloc, manager, plan, starter) {
+        Ok(verdict) => {
+            keeps_the_law(manager);
+            Ok(RunEnd {
+                verdict,
+                aborted: is_aborted(manager),
+            })
+        }
+        Err(fault) => {
+            kill_all(starter);
+            Err(fault)
+        }
+    }
+}

@@ -1,0 +1,176 @@
+//! What a starter of children is: what it is asked, and what its answers mean.
+ghost use Rattle.std.specs.Prelude.{◌≡◌, ◌∷◌, [], ◌≤◌, ℕ, List, None, IsTrue, IsFalse, IfOk, IfErr, IfSome, OnOk, OnErr, IsErrOf, reverse};
+ghost use Rattle.node_machine.specs.Story.{is_possible};
+ghost use Rattle.node_machine.specs.declared.Key.{Key};
+ghost use Rattle.node_machine.specs.declared.Outcome.{Outcome};
+ghost use Rattle.sched_core.specs.Run.{is_among};
+ghost use Rattle.job_starter_drive.specs.declared.Call.{Call};
+ghost use Rattle.job_starter_drive.specs.Calls.{running, snapshot_of, MayRun, TellsNoMore};
+ghost use Rattle.job_starter_drive.specs.Causes.{IsStartFault, IsAskFault, IsWaitFault};
+
+use crate::{Call, Killed, StartFault, Started};
+use node_machine::{Key, Outcome};
+use run_plan_node::ChildCommand;
+
+/// Children that are started and waited for, of which whichever ends first is told.
+///
+/// Each call that is answered stands in a list, so that contracts can say what was handed over
+/// and what was told. A child runs from its start until its ending is told or it is killed.
+pub trait Starter {
+    /// The calls that were answered, the newest first.
+    ghost told: { Self → List Call };
+
+    /// How the child of a key may be told to end, behind these calls.
+    ghost may_tell: { Self → List Call → Key → Outcome → Type 0 };
+
+    /// The count of the system's refusals, which stays at 2 ^ 64 - 1: each adds one. That no child runs
+    /// counts as none, and so does a kill.
+    ghost faults: { Self → ℕ };
+
+    /// Starts a child. Room for its ending is taken here.
+    ///
+    /// # Errors
+    /// `StartMemory` where memory for it is refused: none is started. A child that can't be started
+    /// for another reason is an answer, `NotStarted`.
+    fn start(&mut self, key: Key, command: &ChildCommand) -> Result<Started, StartFault>
+        requires { IsFalse (is_among key (running (told self.old))) }
+        ensures ok { IfOk result
+            (λ answer. told self.new ≡ Call.Started key (snapshot_of command.now) answer ∷ told self.old) }
+        ensures not_started { IfOk result (λ answer.
+            answer ≡ Started.NotStarted → may_tell self.old (told self.old) key Outcome.NoStart) }
+        ensures runs { IfOk result (λ answer.
+            answer ≡ Started.Running → MayRun (may_tell self.old) (told self.old) key) }
+        ensures refused { OnErr result (told self.new ≡ told self.old) }
+        ensures err { IfErr result (IsStartFault (faults self.old) (faults self.new)) }
+        ensures counts { OnOk result (faults self.new ≡ faults self.old) }
+        ensures later { faults self.old ≤ faults self.new }
+        ensures may { TellsNoMore (may_tell self.old) (may_tell self.new) };
+
+    /// Waits until some child ends, and tells how. It takes no memory.
+    ///
+    /// # Errors
+    /// `NoChild` exactly where none runs, and `WaitFault` where the system refuses the question or the
+    /// wait: the children stay as they were.
+    fn wait_any(&mut self) -> Result<(Key, Outcome), StartFault>
+        ensures told { IfOk result
+            (λ ended. told self.new ≡ Call.Ended ended.0 ended.1 ∷ told self.old) }
+        ensures ran { IfOk result (λ ended. IsTrue (is_among ended.0 (running (told self.old)))) }
+        ensures may_be { IfOk result (λ ended. may_tell self.old (told self.old) ended.0 ended.1) }
+        ensures possible { IfOk result (λ ended. IsTrue (is_possible ended.1)) }
+        ensures refused { OnErr result (told self.new ≡ told self.old) }
+        ensures err { IfErr result
+            (IsWaitFault (faults self.old) (faults self.new) (told self.old)) }
+        ensures idle { running (told self.old) ≡ [] → IsErrOf result StartFault.NoChild }
+        ensures counts { OnOk result (faults self.new ≡ faults self.old) }
+        ensures later { faults self.old ≤ faults self.new }
+        ensures may { TellsNoMore (may_tell self.old) (may_tell self.new) };
+
+    /// Kills a child, waits for it where the system lets it, and forgets it either way.
+    fn kill(&mut self, key: Key) -> Killed
+        requires { IsTrue (is_among key (running (told self.old))) }
+        ensures told { told self.new ≡ Call.Killed key ∷ told self.old }
+        ensures counts { faults self.new ≡ faults self.old }
+        ensures may { TellsNoMore (may_tell self.old) (may_tell self.new) };
+
+    /// The keys of the children that run, in the order of their starts.
+    fn running(&self) -> &[Key]
+        ensures { reverse result.now ≡ running (told self.now) };
+
+    /// The calls that were answered, in order.
+    fn calls(&self) -> &[Call]
+        ensures { reverse result.now ≡ told self.now };
+
+    /// How often the system refused.
+    fn faults(&self) -> u64
+        ensures { result ≡ faults self.now };
+}
+
+/// Children of the operating system, or of something that stands for it: each is asked for by its
+/// key.
+pub trait System {
+    /// The calls that were answered, the newest first.
+    ghost told: { Self → List Call };
+
+    /// How the child of a key may be told to end, behind these calls.
+    ghost may_tell: { Self → List Call → Key → Outcome → Type 0 };
+
+    /// The count of refusals, which stays at 2 ^ 64 - 1: each adds one. A kill counts as none.
+    ghost faults: { Self → ℕ };
+
+    /// Starts a child. Room for its ending is taken here.
+    ///
+    /// # Errors
+    /// `StartMemory` where memory for it is refused: none is started.
+    fn spawn(&mut self, key: Key, command: &ChildCommand) -> Result<Started, StartFault>
+        requires { IsFalse (is_among key (running (told self.old))) }
+        ensures ok { IfOk result
+            (λ answer. told self.new ≡ Call.Started key (snapshot_of command.now) answer ∷ told self.old) }
+        ensures not_started { IfOk result (λ answer.
+            answer ≡ Started.NotStarted → may_tell self.old (told self.old) key Outcome.NoStart) }
+        ensures runs { IfOk result (λ answer.
+            answer ≡ Started.Running → MayRun (may_tell self.old) (told self.old) key) }
+        ensures refused { OnErr result (told self.new ≡ told self.old) }
+        ensures err { IfErr result (IsStartFault (faults self.old) (faults self.new)) }
+        ensures counts { OnOk result (faults self.new ≡ faults self.old) }
+        ensures later { faults self.old ≤ faults self.new }
+        ensures may { TellsNoMore (may_tell self.old) (may_tell self.new) };
+
+    /// Whether a child has ended, and how. It does not wait.
+    ///
+    /// # Errors
+    /// `WaitFault` where the question is refused.
+    fn ask(&mut self, key: Key) -> Result<Option<Outcome>, StartFault>
+        requires { IsTrue (is_among key (running (told self.old))) }
+        ensures told { IfOk result (λ answer. IfSome answer
+            (λ outcome. told self.new ≡ Call.Ended key outcome ∷ told self.old)) }
+        ensures may_be { IfOk result (λ answer. IfSome answer (may_tell self.old (told self.old) key)) }
+        ensures possible { IfOk result
+            (λ answer. IfSome answer (λ outcome. IsTrue (is_possible outcome))) }
+        ensures runs { IfOk result (λ answer. answer ≡ None → told self.new ≡ told self.old) }
+        ensures refused { OnErr result (told self.new ≡ told self.old) }
+        ensures err { IfErr result (IsAskFault (faults self.old) (faults self.new)) }
+        ensures counts { OnOk result (faults self.new ≡ faults self.old) }
+        ensures later { faults self.old ≤ faults self.new }
+        ensures may { TellsNoMore (may_tell self.old) (may_tell self.new) };
+
+    /// Waits until a child ends, and tells how.
+    ///
+    /// # Errors
+    /// `WaitFault` where the wait is refused.
+    fn wait(&mut self, key: Key) -> Result<Outcome, StartFault>
+        requires { IsTrue (is_among key (running (told self.old))) }
+        ensures told { IfOk result
+            (λ outcome. told self.new ≡ Call.Ended key outcome ∷ told self.old) }
+        ensures may_be { IfOk result (may_tell self.old (told self.old) key) }
+        ensures possible { IfOk result (λ outcome. IsTrue (is_possible outcome)) }
+        ensures refused { OnErr result (told self.new ≡ told self.old) }
+        ensures err { IfErr result (IsAskFault (faults self.old) (faults self.new)) }
+        ensures counts { OnOk result (faults self.new ≡ faults self.old) }
+        ensures later { faults self.old ≤ faults self.new }
+        ensures may { TellsNoMore (may_tell self.old) (may_tell self.new) };
+
+    /// Kills a child, waits for it where that succeeded, and forgets it either way.
+    fn kill(&mut self, key: Key) -> Killed
+        requires { IsTrue (is_among key (running (told self.old))) }
+        ensures told { told self.new ≡ Call.Killed key ∷ told self.old }
+        ensures counts { faults self.new ≡ faults self.old }
+        ensures may { TellsNoMore (may_tell self.old) (may_tell self.new) };
+
+    /// Lets some time pass between two rounds of questions.
+    fn pause(&mut self)
+        ensures told { told self.new ≡ told self.old }
+        ensures counts { faults self.new ≡ faults self.old }
+        ensures may { TellsNoMore (may_tell self.old) (may_tell self.new) };
+
+    /// The keys of the children that run, in the order of their starts.
+    fn running(&self) -> &[Key]
+        ensures { reverse result.now ≡ running (told self.now) };
+
+    /// The calls that were answered, in order.
+    fn calls(&self) -> &[Call]
+        ensures { reverse result.now ≡ told self.now };
+
+    /// How often a call was refused.
+    fn faults(&self) -> u64
+        ensures { result ≡ faults self.now };
+}

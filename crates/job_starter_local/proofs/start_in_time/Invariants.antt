@@ -1,0 +1,7 @@
+use Rattle.std.proofs.Common.{◌≡◌, map, vec_len, vec_capacity}
+use Rattle.job_starter_local.proofs.start_in_time.Given as goal
+
+abbrev pub invariant-loop : goal.invariant-loop
+invariant-loop g l = (map (λ child. child.key) l.children.items ≡ map (λ child. child.key) l.initial.children.items)
+    × (vec_len l.children ≡ vec_len l.initial.children)
+    × (vec_capacity l.children ≡ vec_capacity l.initial.children)

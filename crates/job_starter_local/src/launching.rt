@@ -1,0 +1,155 @@
+//! What stands before the commands of jobs.
+
+ghost use Rattle.std.specs.Prelude.{◌≡◌, ◌∷◌, ◌++◌, None, IfOk, OnOk, unwrap_or};
+ghost use Rattle.splices_flat.specs.Paths.{join};
+ghost use Rattle.job_starter_local.specs.Launching.{is_job, is_spared, is_launched, behind, started_by};
+
+use dag_reader::{Text, Texts};
+use node_machine::{Key, Phase};
+use run_plan_node::ChildCommand;
+use splices_flat::path_in;
+use std::alloc::{AllocError, Global};
+
+/// What stands before the commands of jobs, and of which it doesn't.
+#[derive(Debug)]
+pub struct Launcher {
+    /// The path of its program; none where jobs are started by themselves.
+    pub program: Option<Text>,
+
+    /// The words behind its program.
+    pub words: Texts,
+
+    /// The node whose job is started by itself all the same.
+    pub spared: Option<u32>,
+}
+
+// Each function that lets a value go calls this; a derived drop stands in each, part by part.
+impl Drop for Launcher {
+    fn drop(self) {
+        let Launcher {
+            program: _,
+            words: _,
+            spared: _,
+        } = self;
+    }
+}
+
+impl Launcher {
+    /// No launcher: each job is started by itself.
+    pub fn none(alloc: Global) -> Launcher
+        ensures { result.program ≡ None }
+    {
+        Launcher {
+            program: None,
+            words: Texts::new(alloc),
+            spared: None,
+        }
+    }
+
+    /// Whether it stands before the command of the child of this key: before that of a job, but of the spared
+    /// node's, and of no script.
+    fn launches(&self, key: &Key) -> bool
+        ensures { result ≡ is_launched self.now.spared key.now }
+    {
+        is_job(key.phase) && !self.spares(key.node)
+    }
+
+    /// Whether the job of this node is started by itself all the same.
+    fn spares(&self, node: u32) -> bool
+        ensures { result ≡ is_spared self.now.spared node }
+    {
+        match self.spared {
+            Some(spared) => spared == node,
+            None => false,
+        }
+    }
+
+    /// The command by which the child of this key is started, which has this command of its own; none where it is
+    /// that one. Relative paths are seen from the folder.
+    ///
+    /// # Errors
+    /// Want of memory.
+    pub fn started_by(
+        &self,
+        alloc: Global,
+        folder: &str,
+        key: &Key,
+        command: &ChildCommand,
+    ) -> Result<Option<ChildCommand>, AllocError>
+        ensures { IfOk result (λ launched.
+            unwrap_or launched command.now ≡ started_by self.now folder.now key.now command.now) }
+    {
+        let Some(program) = &self.program else {
+            return Ok(None);
+        };
+        if !self.launches(key) {
+            return Ok(None);
+        }
+        let own = path_in(alloc, folder, command.program.as_str())?;
+        let words = words_behind(alloc, &self.words, own, command.words.as_slice())?;
+        Ok(Some(with_program(alloc, program, words, command)?))
+    }
+}
+
+fn is_job(phase: Phase) -> bool
+    ensures { result ≡ is_job phase }
+{
+    match phase {
+        Phase::Job => true,
+        Phase::Pre | Phase::Post => false,
+    }
+}
+
+/// Adds copies of words behind others.
+fn add_words(alloc: Global, words: &mut Texts, others: &[Text]) -> Result<(), AllocError>
+    ensures { OnOk result (words.new ≡ words.old ++ others.now) }
+{
+    for word in others {
+        words.push(Text::new(alloc, word.as_str())?)?;
+    }
+    Ok(())
+}
+
+/// The words of a launcher, the program behind them, and the words of that.
+fn words_behind(
+    alloc: Global,
+    launcher: &Texts,
+    program: Text,
+    words: &[Text],
+) -> Result<Texts, AllocError>
+    ensures { IfOk result (λ all. all ≡ launcher.now ++ program ∷ words.now) }
+{
+    let mut all = launcher.from_place(alloc, 0)?;
+    all.push(program)?;
+    add_words(alloc, &mut all, words)?;
+    Ok(all)
+}
+
+fn copy_of(alloc: Global, text: &Option<Text>) -> Result<Option<Text>, AllocError>
+    ensures { IfOk result (λ copy. copy ≡ text.now) }
+{
+    match text {
+        Some(text) => Ok(Some(Text::new(alloc, text.as_str())?)),
+        None => Ok(None),
+    }
+}
+
+/// A command with another program and other words.
+fn with_program(
+    alloc: Global,
+    program: &Text,
+    words: Texts,
+    command: &ChildCommand,
+) -> Result<ChildCommand, AllocError>
+    ensures { IfOk result (λ other. other ≡ record command.now { program = program.now; words = words }) }
+{
+    Ok(ChildCommand {
+        program: Text::new(alloc, program.as_str())?,
+        words,
+        folder: Text::new(alloc, command.folder.as_str())?,
+        input: copy_of(alloc, &command.input)?,
+        output: copy_of(alloc, &command.output)?,
+        error: copy_of(alloc, &command.error)?,
+        environment: command.environment.from_place(alloc, 0)?,
+    })
+}

@@ -1,0 +1,451 @@
+//! The children of a run as processes of this machine.
+//!
+//! The rules are those of the HTCondor manual, DAGMan workflows, as docs/MANUAL.md states them.
+#![tactic(auto)]
+
+ghost use Rattle.std.specs.Prelude.{◌≡◌, ◌∷◌, [], ◌≤◌, ◌<◌, None, Some, pos, ℕ, length, map, reverse, slice_index_or, vec_len, vec_capacity, IsTrue, IsFalse, IfOk, IfSome, IfNone, OnOk, OnErr, IfErr};
+ghost use Rattle.std.specs.Process.{exit_code, exit_signal};
+ghost use Rattle.node_machine.specs.Story.{is_possible};
+ghost use Rattle.sched_core.specs.Run.{is_same, is_among, without};
+ghost use Rattle.job_starter_drive.specs.Calls.{running, TellsNoMore};
+ghost use Rattle.job_starter_drive.specs.Causes.{IsStartFault, IsAskFault};
+ghost use Rattle.job_starter_local.specs.Commands.{longest_pause};
+
+mod launching;
+mod starting;
+mod telling;
+mod watching;
+
+use dag_reader::Text;
+use job_starter_drive::{
+    Call, CallLog, Killed, StartFault, Started, System, are_same, no_answer, no_memory,
+};
+pub use launching::Launcher;
+use node_machine::{Key, Outcome};
+use run_plan_node::ChildCommand;
+pub use starting::command_for;
+use starting::{Refusal, start_child};
+use std::alloc::{AllocError, Global};
+use std::fs::File;
+use std::os::unix::process::ExitStatusExt;
+use std::process::{Child, ExitStatus, Processes};
+use std::rt::Files;
+use std::time::{Clock, Duration};
+use std::{io, thread};
+pub use telling::refused_part;
+pub use watching::{ChildWatcher, CommandPart, Unwatched};
+
+/// How a child did when it was looked at last.
+#[derive(Clone, Copy)]
+enum Seen {
+    /// It runs, or was not looked at yet.
+    Runs,
+    /// It ended with this status.
+    Ended(ExitStatus),
+    /// The system refused the question.
+    Refused,
+}
+
+/// A child whose ending was not told yet.
+#[derive(Drop)]
+struct RunningChild<R: Processes> {
+    key: Key,
+    child: Child<R::Started>,
+    seen: Seen,
+}
+
+impl<R: Processes> RunningChild<R> {
+    /// Looks whether it has ended.
+    fn look(&mut self)
+        ensures { self.new.key ≡ self.old.key }
+    {
+        self.seen = match self.child.try_wait() {
+            Ok(None) => Seen::Runs,
+            Ok(Some(status)) => Seen::Ended(status),
+            Err(_) => Seen::Refused,
+        };
+    }
+}
+
+/// The first pause between two rounds of questions, in microseconds. Each further one is twice as
+/// long, up to the longest.
+const FIRST_PAUSE: u64 = 20;
+
+/// The pause before a start is tried again that the system refused for the moment, in microseconds.
+const START_PAUSE: u64 = 10_000;
+
+/// How often it is tried again: for ten seconds.
+const START_TRIES: u32 = 1_000;
+
+/// The longest pause between two rounds of questions to so many children, in microseconds: a round
+/// takes longer the more there are.
+fn longest_pause(children: usize) -> u64
+    ensures { result ≡ longest_pause children }
+{
+    match children {
+        0..=16 => 2_000,
+        17..=64 => 4_000,
+        65..=256 => 10_000,
+        _ => 50_000,
+    }
+}
+
+/// Children of this process. Paths that don't begin with a slash are taken from one folder.
+///
+/// All children are looked at together, once between two pauses, and each question is answered by
+/// what was seen then.
+pub struct LocalSystem<
+    'a,
+    R: Processes + Files<File = File> + Clock + Drop,
+    W: ChildWatcher + Drop,
+> {
+    alloc: Global,
+    rt: R,
+    folder: Text,
+    launcher: &'a Launcher,
+    watcher: W,
+    log: CallLog,
+    children: Vec<RunningChild<R>>,
+    /// whether the children were looked at since the last pause
+    looked: bool,
+    /// where the child stands for which is asked next, as long as they are asked for in turn
+    next: usize,
+    pause: u64,
+    faults: u64,
+    // No pause is longer than the longest.
+    ghost bounded: { pause ≤ 50000 },
+    // Each key that runs has its child.
+    ghost tied: { reverse (map (λ child. child.key) children.items) ≡ running log.calls },
+}
+
+// Each function that lets a value go calls this; a derived drop stands in each, part by part.
+impl<R: Processes + Files<File = File> + Clock + Drop, W: ChildWatcher + Drop> Drop
+    for LocalSystem<'_, R, W> {
+    fn drop(self) {
+        let LocalSystem {
+            alloc: _,
+            rt: _,
+            folder: _,
+            launcher: _,
+            watcher: _,
+            log: _,
+            children: _,
+            looked: _,
+            next: _,
+            pause: _,
+            faults: _,
+        } = self;
+    }
+}
+
+/// What a phase comes to whose child ended with this status.
+pub fn outcome_of(status: ExitStatus) -> Outcome
+    ensures exit { (code : ℕ) → code < 256 → exit_code status ≡ Some (pos code)
+        → result ≡ Outcome.Exit code }
+    ensures signal { (number : ℕ) → number < 128 → exit_signal status ≡ Some (pos number)
+        → result ≡ Outcome.Signal number }
+    ensures untold { exit_code status ≡ None → exit_signal status ≡ None
+        → result ≡ Outcome.Untold }
+    ensures possible { IsTrue (is_possible result) }
+{
+    if let Some(code) = status.code() {
+        match u8::try_from(code) {
+            Ok(code) => Outcome::Exit(code),
+            Err(_) => Outcome::Untold,
+        }
+    } else if let Some(signal) = status.signal() {
+        match u8::try_from(signal) {
+            Ok(number) if 1 <= number && number <= 127 => Outcome::Signal(number),
+            _ => Outcome::Untold,
+        }
+    } else {
+        Outcome::Untold
+    }
+}
+
+/// The place of a key, which may be this one.
+fn place_of(keys: &[Key], key: &Key, likely: usize) -> usize
+    requires { IsTrue (is_among key.now (reverse keys.now)) }
+    ensures { result < length keys.now }
+{
+    if likely < keys.len() && are_same(key, &keys[likely]) {
+        return likely;
+    }
+    for place in 0..keys.len() {
+        if are_same(key, &keys[place]) {
+            return place;
+        }
+    }
+    unreachable!()
+}
+
+/// Lets a child go that ended or was killed.
+fn forget<R: Processes>(children: &mut Vec<RunningChild<R>>, key: &Key)
+    ensures { reverse (map (λ child. child.key) children.new.items)
+        ≡ without key.now (reverse (map (λ child. child.key) children.old.items)) }
+{
+    children.retain(|child| !are_same(key, &child.key));
+}
+
+/// Looks whether the child at a place has ended.
+fn look_at<R: Processes>(children: &mut Vec<RunningChild<R>>, place: usize)
+    requires { place < vec_len children.old }
+    ensures same { map (λ child. child.key) children.new.items
+        ≡ map (λ child. child.key) children.old.items }
+    ensures many { vec_len children.new ≡ vec_len children.old }
+    ensures room { vec_capacity children.new ≡ vec_capacity children.old }
+{
+    children[place].look();
+}
+
+/// Looks which children have ended. What they leave at the system is collected: their numbers are free.
+fn look_at_all<R: Processes>(children: &mut Vec<RunningChild<R>>)
+    ensures same { map (λ child. child.key) children.new.items
+        ≡ map (λ child. child.key) children.old.items }
+    ensures many { vec_len children.new ≡ vec_len children.old }
+    ensures room { vec_capacity children.new ≡ vec_capacity children.old }
+{
+    for place in 0..children.len() {
+        look_at(children, place);
+    }
+}
+
+/// Whether a child runs, by what was seen last.
+fn some_run<R: Processes>(children: &[RunningChild<R>]) -> bool {
+    children
+        .iter()
+        .any(|child| matches!(child.seen, Seen::Runs))
+}
+
+/// Waits for the child at a place.
+fn wait_at<R: Processes>(
+    children: &mut Vec<RunningChild<R>>,
+    place: usize,
+) -> io::Result<ExitStatus>
+    requires { place < vec_len children.old }
+    ensures same { map (λ child. child.key) children.new.items
+        ≡ map (λ child. child.key) children.old.items }
+    ensures many { vec_len children.new ≡ vec_len children.old }
+{
+    children[place].child.wait()
+}
+
+/// Asks that the child at a place be killed.
+fn signal_at<R: Processes>(children: &mut Vec<RunningChild<R>>, place: usize) -> io::Result<()>
+    requires { place < vec_len children.old }
+    ensures same { map (λ child. child.key) children.new.items
+        ≡ map (λ child. child.key) children.old.items }
+    ensures many { vec_len children.new ≡ vec_len children.old }
+{
+    children[place].child.kill()
+}
+
+/// Kills the child at a place, and waits for it where that was not refused.
+fn kill_at<R: Processes>(children: &mut Vec<RunningChild<R>>, place: usize) -> Killed
+    requires { place < vec_len children.old }
+    ensures same { map (λ child. child.key) children.new.items
+        ≡ map (λ child. child.key) children.old.items }
+    ensures many { vec_len children.new ≡ vec_len children.old }
+{
+    if signal_at(children, place).is_err() || wait_at(children, place).is_err() {
+        return Killed::LetGo;
+    }
+    Killed::Ended
+}
+
+/// Looks which children have ended, where they were not looked at since the last pause.
+fn look_where_due<R: Processes>(children: &mut Vec<RunningChild<R>>, looked: &mut bool)
+    ensures same { map (λ child. child.key) children.new.items
+        ≡ map (λ child. child.key) children.old.items }
+    ensures many { vec_len children.new ≡ vec_len children.old }
+{
+    if !*looked {
+        look_at_all(children);
+        *looked = true;
+    }
+}
+
+/// Waits a little where a child runs, so that it may end, and answers whether one does. What those that
+/// have ended leave at the system is collected first.
+fn wait_for_room<R: Processes + Clock>(rt: &R, children: &mut Vec<RunningChild<R>>) -> bool
+    ensures same { map (λ child. child.key) children.new.items
+        ≡ map (λ child. child.key) children.old.items }
+    ensures many { vec_len children.new ≡ vec_len children.old }
+    ensures room { vec_capacity children.new ≡ vec_capacity children.old }
+{
+    look_at_all(children);
+    let runs = some_run(children);
+    if runs {
+        thread::sleep(rt, Duration::from_micros(START_PAUSE));
+    }
+    runs
+}
+
+/// Starts a child, seen from this folder. Where the system has no process or no descriptor to give, those
+/// are collected of the children that have ended, and it is asked again, for ten seconds while a child
+/// runs.
+fn start_in_time<R: Processes + Files<File = File> + Clock, W: ChildWatcher>(
+    alloc: Global,
+    rt: &R,
+    folder: &str,
+    watcher: &mut W,
+    children: &mut Vec<RunningChild<R>>,
+    key: &Key,
+    command: &ChildCommand,
+) -> Result<Child<R::Started>, Refusal>
+    ensures same { map (λ child. child.key) children.new.items
+        ≡ map (λ child. child.key) children.old.items }
+    ensures many { vec_len children.new ≡ vec_len children.old }
+    ensures room { vec_capacity children.new ≡ vec_capacity children.old }
+{
+    for _ in 0..START_TRIES {
+        match start_child(alloc, rt, folder, command) {
+            Err(refusal) if refusal.is_passing() => {
+                watcher.held(key, &refusal.error);
+                if !wait_for_room(rt, children) {
+                    break;
+                }
+            }
+            answer => return answer,
+        }
+    }
+    start_child(alloc, rt, folder, command)
+}
+
+impl<'a, R: Processes + Files<File = File> + Clock + Drop, W: ChildWatcher + Drop> LocalSystem<
+    'a,
+    R,
+    W,
+> {
+    /// A system of no children. The folder is an absolute path; jobs are started by the launcher; the watcher is
+    /// told what is done.
+    pub fn new(
+        alloc: Global,
+        rt: R,
+        folder: &str,
+        launcher: &'a Launcher,
+        watcher: W,
+    ) -> Result<Self, AllocError>
+        ensures { IfOk result (λ system. system.log.calls ≡ []) }
+    {
+        Ok(LocalSystem {
+            alloc,
+            rt,
+            folder: Text::new(alloc, folder)?,
+            launcher,
+            watcher,
+            log: CallLog::new(alloc),
+            children: Vec::new(alloc),
+            looked: false,
+            next: 0,
+            pause: FIRST_PAUSE,
+            faults: 0,
+        })
+    }
+
+    /// A child ended with this status: it is let go, and its outcome told.
+    fn end(&mut self, key: &Key, status: ExitStatus) -> Outcome
+        requires { IsTrue (is_among key.now (running self.old.log.calls)) }
+        ensures told { self.new.log.calls ≡ Call.Ended key.now result ∷ self.old.log.calls }
+        ensures possible { IsTrue (is_possible result) }
+        ensures faults { self.new.faults ≡ self.old.faults }
+    {
+        let outcome = outcome_of(status);
+        forget(&mut self.children, key);
+        self.log.ended(*key, outcome);
+        self.pause = FIRST_PAUSE;
+        self.watcher.ended(key, outcome);
+        outcome
+    }
+}
+
+impl<R: Processes + Files<File = File> + Clock + Drop, W: ChildWatcher + Drop> System
+    for LocalSystem<'_, R, W> {
+    ghost told = { λ s. s.log.calls };
+
+    // A child of the operating system may end in any way.
+    ghost may_tell = { λ _ _ _ _. Unit {0} };
+
+    ghost faults = { λ s. s.faults };
+
+    fn spawn(&mut self, key: Key, command: &ChildCommand) -> Result<Started, StartFault> {
+        if self.log.make_room().is_err() || self.children.reserve(1).is_err() {
+            return Err(no_memory(&mut self.faults));
+        }
+        let folder = self.folder.as_str();
+        let Ok(launched) = self.launcher.started_by(self.alloc, folder, &key, command) else {
+            return Err(no_memory(&mut self.faults));
+        };
+        let started = launched.as_ref().unwrap_or(command);
+        self.watcher.launching(&key, command);
+        let (watcher, children) = (&mut self.watcher, &mut self.children);
+        match start_in_time(
+            self.alloc, &self.rt, folder, watcher, children, &key, started,
+        ) {
+            Ok(child) => {
+                let process = child.id();
+                let seen = Seen::Runs;
+                let _ = self.children.push(RunningChild { key, child, seen });
+                self.log.started(key, command, Started::Running);
+                self.pause = FIRST_PAUSE;
+                self.watcher.launched(&key, process, started);
+                Ok(Started::Running)
+            }
+            Err(refusal) if refusal.is_memory() => Err(no_memory(&mut self.faults)),
+            Err(refusal) => {
+                self.log.started(key, command, Started::NotStarted);
+                self.watcher
+                    .not_started(&key, started, refusal.part, &refusal.error);
+                Ok(Started::NotStarted)
+            }
+        }
+    }
+
+    fn ask(&mut self, key: Key) -> Result<Option<Outcome>, StartFault> {
+        let place = place_of(self.log.running(), &key, self.next);
+        self.next = place + 1;
+        look_where_due(&mut self.children, &mut self.looked);
+        match self.children[place].seen {
+            Seen::Runs => Ok(None),
+            Seen::Ended(status) => Ok(Some(self.end(&key, status))),
+            Seen::Refused => Err(no_answer(&mut self.faults)),
+        }
+    }
+
+    fn wait(&mut self, key: Key) -> Result<Outcome, StartFault> {
+        let place = place_of(self.log.running(), &key, 0);
+        match wait_at(&mut self.children, place) {
+            Ok(status) => Ok(self.end(&key, status)),
+            Err(_) => Err(no_answer(&mut self.faults)),
+        }
+    }
+
+    fn kill(&mut self, key: Key) -> Killed {
+        let place = place_of(self.log.running(), &key, 0);
+        let answer = kill_at(&mut self.children, place);
+        forget(&mut self.children, &key);
+        self.log.killed(key);
+        self.watcher.killed(&key, answer);
+        answer
+    }
+
+    fn pause(&mut self) {
+        self.watcher.waits();
+        thread::sleep(&self.rt, Duration::from_micros(self.pause));
+        self.looked = false;
+        let longest = longest_pause(self.children.len());
+        self.pause = self.pause.saturating_mul(2).min(longest);
+    }
+
+    fn running(&self) -> &[Key] {
+        self.log.running()
+    }
+
+    fn calls(&self) -> &[Call] {
+        self.log.calls()
+    }
+
+    fn faults(&self) -> u64 {
+        self.faults
+    }
+}

@@ -1,0 +1,105 @@
+//! A starter over a system whose children are asked one by one.
+ghost use Rattle.std.specs.Prelude.{◌≡◌, ◌∷◌, ◌≤◌, [], None, IsTrue, IsFalse, IfOk, IfSome, OnOk, OnErr, IfErr, reverse};
+ghost use Rattle.node_machine.specs.Story.{is_possible};
+ghost use Rattle.sched_core.specs.Run.{is_among};
+ghost use Rattle.job_starter_drive.specs.Calls.{running, TellsNoMore};
+ghost use Rattle.job_starter_drive.specs.Causes.{IsAskFault};
+
+use job_starter_drive::{Call, Killed, StartFault, Started, Starter, System, key_at};
+use node_machine::{Key, Outcome};
+use run_plan_node::ChildCommand;
+
+/// Rounds of questions before a blocking wait for the oldest child.
+const ROUNDS: u64 = 1 << 40;
+
+/// A starter over a system: each running child is asked in turn, in the order of the starts, with
+/// a pause between two rounds.
+#[derive(Drop)]
+pub struct ProcessStarter<S: System + Drop> {
+    system: S,
+}
+
+impl<S: System + Drop> ProcessStarter<S> {
+    /// A starter over this system.
+    pub fn new(system: S) -> ProcessStarter<S>
+        ensures { result.system ≡ system }
+    {
+        ProcessStarter { system }
+    }
+
+    /// The first running child that the system tells to have ended, in the order of the starts.
+    fn ask_each(&mut self) -> Result<Option<(Key, Outcome)>, StartFault>
+        ensures told { IfOk result (λ answer. IfSome answer (λ ended.
+            S.told self.new.system ≡ Call.Ended ended.0 ended.1 ∷ S.told self.old.system)) }
+        ensures ran { IfOk result (λ answer. IfSome answer (λ ended.
+            IsTrue (is_among ended.0 (running (S.told self.old.system))))) }
+        ensures may_be { IfOk result (λ answer. IfSome answer (λ ended.
+            S.may_tell self.old.system (S.told self.old.system) ended.0 ended.1)) }
+        ensures possible { IfOk result (λ answer. IfSome answer (λ ended.
+            IsTrue (is_possible ended.1))) }
+        ensures runs { IfOk result (λ answer. answer ≡ None
+            → S.told self.new.system ≡ S.told self.old.system) }
+        ensures refused { OnErr result (S.told self.new.system ≡ S.told self.old.system) }
+        ensures err { IfErr result
+            (IsAskFault (S.faults self.old.system) (S.faults self.new.system)) }
+        ensures counts { OnOk result (S.faults self.new.system ≡ S.faults self.old.system) }
+        ensures later { S.faults self.old.system ≤ S.faults self.new.system }
+        ensures may { TellsNoMore (S.may_tell self.old.system) (S.may_tell self.new.system) }
+    {
+        for place in 0..self.system.running().len() {
+            let key = key_at(self.system.running(), place);
+            match self.system.ask(key) {
+                Ok(Some(outcome)) => return Ok(Some((key, outcome))),
+                Ok(None) => {}
+                Err(fault) => return Err(fault),
+            }
+        }
+        Ok(None)
+    }
+}
+
+impl<S: System + Drop> Starter for ProcessStarter<S> {
+    ghost told = { λ p. S.told p.system };
+
+    ghost may_tell = { λ p. S.may_tell p.system };
+
+    ghost faults = { λ p. S.faults p.system };
+
+    fn start(&mut self, key: Key, command: &ChildCommand) -> Result<Started, StartFault> {
+        self.system.spawn(key, command)
+    }
+
+    fn wait_any(&mut self) -> Result<(Key, Outcome), StartFault> {
+        if self.system.running().is_empty() {
+            return Err(StartFault::NoChild);
+        }
+        for _ in 0..ROUNDS {
+            match self.ask_each() {
+                Ok(Some(ended)) => return Ok(ended),
+                Ok(None) => self.system.pause(),
+                Err(fault) => return Err(fault),
+            }
+        }
+        let oldest = key_at(self.system.running(), 0);
+        match self.system.wait(oldest) {
+            Ok(outcome) => Ok((oldest, outcome)),
+            Err(fault) => Err(fault),
+        }
+    }
+
+    fn kill(&mut self, key: Key) -> Killed {
+        self.system.kill(key)
+    }
+
+    fn running(&self) -> &[Key] {
+        self.system.running()
+    }
+
+    fn calls(&self) -> &[Call] {
+        self.system.calls()
+    }
+
+    fn faults(&self) -> u64 {
+        self.system.faults()
+    }
+}

@@ -1,6 +1,0 @@
-use Rattle.std.proofs.Common.{take, reverse, IsFalse}
-use Rattle.sched_core.specs.Run.{is_among}
-use Rattle.local_system.proofs.place_of.Given as goal
-
-abbrev pub invariant-loop-place : goal.invariant-loop-place
-invariant-loop-place l = IsFalse (is_among l.key (reverse (take l.place l.keys)))

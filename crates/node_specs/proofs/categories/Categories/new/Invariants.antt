@@ -1,6 +1,0 @@
-use Rattle.std.proofs.Common.{take}
-use Rattle.node_specs.specs.Categories.{AreFound}
-use Rattle.node_specs.proofs.categories.Categories.new.Given as goal
-
-abbrev pub invariant-loop-place : goal.invariant-loop-place
-invariant-loop-place l = AreFound (take l.place l.limits) l.names l.places.items

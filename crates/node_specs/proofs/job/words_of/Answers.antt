@@ -1,5 +1,0 @@
-use Rattle.vars_macros.proofs.Splits.{gives_arguments}
-use Rattle.node_specs.proofs.job.words_of.Goals as goal
-
-pub returns : goal.returns
-returns c = gives_arguments c.args.text.now c.split_arguments.result c.split_arguments.ensures.spelled

@@ -1,8 +1,0 @@
--- What a job is started by, as contracts see it.
-use Rattle.node_specs.specs.Node as plans
-use Rattle.node_specs.specs.declared.orders.Source.{Source}
-use Rattle.node_specs.specs.declared.orders.Source.TheVariants.{Program, Described}
-
-abbrev pub job_of : Source → plans.Job
-job_of (Program file) = plans.Program file
-job_of (Described macros) = plans.Described macros.job macros.assigned

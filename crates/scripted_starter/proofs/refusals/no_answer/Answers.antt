@@ -1,8 +1,0 @@
-use Rattle.job_starter.specs.Causes.{asking_refused, waiting_refused}
-use Rattle.scripted_starter.proofs.refusals.no_answer.Goals as goal
-
-pub returns-clause-asked : goal.returns-clause-asked
-returns-clause-asked c = asking_refused c.raise.ensures.one_more
-
-pub returns-clause-waited : goal.returns-clause-waited
-returns-clause-waited c = λ told. waiting_refused c.raise.ensures.one_more

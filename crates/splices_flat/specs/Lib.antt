@@ -1,0 +1,17 @@
+pub mod Paths
+pub mod Places
+pub mod Dag
+pub mod Nodes
+pub mod MacroKeys
+pub mod Settings
+pub mod Notices
+pub mod Warnings
+pub mod FileSet
+pub mod Forest
+pub mod Edges
+pub mod Faults
+pub mod Opening
+pub mod Opened
+pub mod OpenedFiles
+pub mod Regular
+pub mod Displayed
