@@ -39,7 +39,7 @@ pub record IsRehearsalWith (Rehearsed : Option (List ℕ) → Said) (outcomes : 
   pub is_named : is_some table ≡ is_some outcomes
   pub rehearsed : Rehearsed table text warnings status
 
--- `dagrun: CODE Name PATH`, of a cause that no other command has
+-- `dagrun: CODE Name PATH`, of a cause that no other command has; of one that others have, any warning
 abbrev pub IsToldCause : SalvageFault → List ℕ → Type 0
 IsToldCause fault warnings = IfSome (fault_text fault) (λ line. warnings ≡ codes "dagrun: " ++ (line ++ codes "\n"))
 
