@@ -1,7 +1,7 @@
 #!/usr/bin/env python3
 """The first life of a run is a library's manager's over a file, and `run` goes on behind it: first_life.py PROGRAM CALLS
 
-CALLS is crates/memory_rows. The last line is 'N passed, M failed'."""
+CALLS is crates/tests_memory. The last line is 'N passed, M failed'."""
 import os
 import subprocess
 import sys

@@ -6,7 +6,7 @@
 The commands run on tests/every, files with a line of each kind, and on the files of FOLDERS. Each time the command gives its
 answer, or prints nothing but one line that says that memory is out (X1, A1 for a child) and ends with 125; then the same command
 gives the whole answer, and of a journal no acknowledged record is lost. Then the same of a writer of a journal
-(crates/journal_writer), which ends with another status than 0; and of CALLS (crates/memory_rows), which makes calls of the
+(crates/tests_writer), which ends with another status than 0; and of CALLS (crates/tests_memory), which makes calls of the
 libraries: each refused call says so by its own fault, and made once more gives what it gives else."""
 import os
 import re

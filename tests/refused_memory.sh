@@ -1,6 +1,6 @@
 #!/usr/bin/env bash
-# Refuses each allocation of each command in turn, of a writer of a journal (crates/journal_writer), and of calls of the libraries
-# (crates/memory_rows).
+# Refuses each allocation of each command in turn, of a writer of a journal (crates/tests_writer), and of calls of the libraries
+# (crates/tests_memory).
 #
 #   tests/refused_memory.sh PROGRAM WRITER CALLS [STEP]     STEP: every so manieth allocation alone (1)
 set -euo pipefail

@@ -1,7 +1,7 @@
 //! How the result of a request is told.
 
 ghost use Rattle.std.specs.Prelude.{◌≡◌, ◌⊎◌, ◌++◌, Ok};
-ghost use Rattle.answer_console.specs.Telling.{IsTold, IsToldAs, IsStatusOf, refusal_line, no_memory_line};
+ghost use Rattle.answer_console.specs.Telling.{IsDisplayed, IsDisplayedAs, IsExitStatusOf, refusal_line, no_memory_line};
 
 use crate::console::Console;
 use dag_main_check::{Answer, RunFault};
@@ -21,8 +21,8 @@ pub fn tell_answer<C: Console>(
     console: &mut C,
     reply: &Result<Answer, RunFault>,
 ) -> u8
-    ensures status { IsStatusOf reply.now result }
-    ensures told { C.honest console.new → IsToldAs reply.now
+    ensures status { IsExitStatusOf reply.now result }
+    ensures told { C.honest console.new → IsDisplayedAs reply.now
         (C.printed console.old) (C.warned console.old) (C.refuses console.old)
         (C.printed console.new) (C.warned console.new) (C.refuses console.new) result }
     ensures back { C.honest console.new → C.honest console.old }
@@ -35,8 +35,8 @@ pub fn tell_answer<C: Console>(
 
 /// Tells an answer: its warnings, and then its text.
 fn tell<C: Console>(alloc: Global, console: &mut C, answer: &Answer) -> u8
-    ensures status { IsStatusOf (Ok answer.now) result }
-    ensures told { C.honest console.new → IsTold answer.now
+    ensures status { IsExitStatusOf (Ok answer.now) result }
+    ensures told { C.honest console.new → IsDisplayed answer.now
         (C.printed console.old) (C.warned console.old) (C.refuses console.old)
         (C.printed console.new) (C.warned console.new) (C.refuses console.new) result }
     ensures back { C.honest console.new → C.honest console.old }

@@ -8,7 +8,7 @@ use Rattle.std.proofs.Common.{◌≢◌, ◌⊎◌, inl, inr, ⊎_elim, slice_in
 use Rattle.std.specs.List.{Contains, sum_by}
 use Rattle.std.proofs.lemmas.Grind.{common_steps}
 use Rattle.dag_graph.specs.Graph.{rank_in}
-use Rattle.dag_graph.specs.Climb.{Climbing, IsClimb, IsClosed, GoesOn, IsSettled, up, is_entered, is_placed, with_entered, with_passed, with_placed, work_left}
+use Rattle.dag_graph.specs.Climb.{Climbing, IsClimb, IsClosed, ClimbsOn, IsSettled, up, is_entered, is_placed, with_entered, with_passed, with_order_place, work_left}
 use Rattle.dag_graph.specs.Numbers.{AreBelow}
 use Rattle.dag_graph.proofs.Ranks.{rank_kept, rank_new, rank_other, within_push, within_kept, within_pop}
 
@@ -115,7 +115,7 @@ front_last xs v some is =
     sym (take_all (length xs - 1 + 1) xs (omega arith)) ∙ take_more xs (length xs - 1) 0 (omega arith) ∙ ap (λ (n : ℕ). take (length xs - 1) xs ++ n ∷ []) is
 
 -- the last node of the path is placed
-pub places : (parents : List (List ℕ)) (c : Climbing) (v : ℕ) → AreBelow (length parents) parents → IsClimb parents c → 0 < length c.path → slice_index c.path (length c.path - 1) ≡ v → length (up parents v) ≤ slice_index c.next v → IsClimb parents (with_placed c v)
+pub places : (parents : List (List ℕ)) (c : Climbing) (v : ℕ) → AreBelow (length parents) parents → IsClimb parents c → 0 < length c.path → slice_index c.path (length c.path - 1) ≡ v → length (up parents v) ≤ slice_index c.next v → IsClimb parents (with_order_place c v)
 places parents c v below is some last all =
     let end : length c.path - 1 < length c.path = omega arith in
     let small : v < length parents = subst (λ (w : ℕ). w < length parents) last (is.inside (length c.path - 1) end) in
@@ -184,7 +184,7 @@ places parents c v below is some last all =
 pub less_entered : (parents : List (List ℕ)) (c : Climbing) (v : ℕ) → v < length c.entered → is_entered c v ≡ false → work_left parents (with_entered c v) < work_left parents c
 less_entered parents c v small fresh = omega (arith, count_falls c.entered v false small fresh)
 
-pub less_placed : (parents : List (List ℕ)) (c : Climbing) (v : ℕ) → v < length c.placed → is_placed c v ≡ false → work_left parents (with_placed c v) < work_left parents c
+pub less_placed : (parents : List (List ℕ)) (c : Climbing) (v : ℕ) → v < length c.placed → is_placed c v ≡ false → work_left parents (with_order_place c v) < work_left parents c
 less_placed parents c v small free = omega (arith, count_falls c.placed v false small free)
 
 pub less_passed : (parents : List (List ℕ)) (c : Climbing) (v : ℕ) → v < length c.next → v < length parents → slice_index c.next v < length (up parents v) → work_left parents (with_passed c v) < work_left parents c
@@ -207,7 +207,7 @@ last_inside parents c v is last =
     let end : length c.path - 1 < length c.path = (let some = e.0 in omega (arith, some)) in
     subst (λ (w : ℕ). w < length parents) e.1 (is.inside (length c.path - 1) end)
 
-pub goes_passed : (parents : List (List ℕ)) (c : Climbing) (v : ℕ) → IsClimb parents c → slice_get c.path (length c.path - 1) ≡ Some v → slice_index c.next v < length (up parents v) → is_placed c (slice_index (up parents v) (slice_index c.next v)) ≡ true → GoesOn parents c (with_passed c v)
+pub goes_passed : (parents : List (List ℕ)) (c : Climbing) (v : ℕ) → IsClimb parents c → slice_get c.path (length c.path - 1) ≡ Some v → slice_index c.next v < length (up parents v) → is_placed c (slice_index (up parents v) (slice_index c.next v)) ≡ true → ClimbsOn parents c (with_passed c v)
 goes_passed parents c v is last turn done =
     let small : v < length parents = last_inside parents c v is last in
     record {
@@ -216,7 +216,7 @@ goes_passed parents c v is last turn done =
       less = less_passed parents c v (omega (arith, is.next_len)) small turn;
     }
 
-pub goes_entered : (parents : List (List ℕ)) (c : Climbing) (v p : ℕ) → IsClimb parents c → slice_get c.path (length c.path - 1) ≡ Some v → p < length parents → is_entered c p ≡ false → is_placed c p ≡ false → Contains (up parents v) p → GoesOn parents c (with_entered c p)
+pub goes_entered : (parents : List (List ℕ)) (c : Climbing) (v p : ℕ) → IsClimb parents c → slice_get c.path (length c.path - 1) ≡ Some v → p < length parents → is_entered c p ≡ false → is_placed c p ≡ false → Contains (up parents v) p → ClimbsOn parents c (with_entered c p)
 goes_entered parents c v p is last small fresh free parent =
     let e = last_some c.path v last in
     let here : p < length c.entered = omega (arith, is.entered_len) in
@@ -226,7 +226,7 @@ goes_entered parents c v p is last small fresh free parent =
       less = less_entered parents c p here fresh;
     }
 
-pub goes_placed : (parents : List (List ℕ)) (c : Climbing) (v : ℕ) → AreBelow (length parents) parents → IsClimb parents c → slice_get c.path (length c.path - 1) ≡ Some v → length (up parents v) ≤ slice_index c.next v → GoesOn parents c (with_placed c v)
+pub goes_placed : (parents : List (List ℕ)) (c : Climbing) (v : ℕ) → AreBelow (length parents) parents → IsClimb parents c → slice_get c.path (length c.path - 1) ≡ Some v → length (up parents v) ≤ slice_index c.next v → ClimbsOn parents c (with_order_place c v)
 goes_placed parents c v below is last all =
     let e = last_some c.path v last in
     let small : v < length parents = last_inside parents c v is last in

@@ -11,7 +11,7 @@ use Rattle.splices_flat.specs.declared.flat.EdgeGroup.{EdgeGroup}
 use Rattle.splices_flat.specs.declared.flat.Side.{Side}
 use Rattle.splices_flat.specs.declared.flat.Side.TheVariants.{Parent, Child}
 use Rattle.splices_flat.specs.Dag.{IsGroupBelow}
-use Rattle.splices_flat.specs.Places.{edge, pairs, edges_of, ends_of}
+use Rattle.splices_flat.specs.Places.{edge, pairs, edges_of, nodes_on_side}
 use Rattle.dag_graph.specs.Numbers.{has, AreBelow, holders_of, holders_below, named, all_named}
 use Rattle.dag_graph.specs.Graph.{is_edge}
 use Rattle.dag_graph.proofs.Lists.{filter_range_more, range_below}
@@ -59,18 +59,18 @@ one_named lists k c true = ap (λ (ns : List ℕ). has ns c) (append-nil (get_or
 one_named lists k c false = refl
 
 named_upto : (groups : List EdgeGroup) (p c k : ℕ) → k ≤ length groups →
-    has (named (map (ends_of Child) groups) (holders_below k (map (ends_of Parent) groups) p)) c ≡ list_any (is_edge p c) (edges_of (take k groups))
+    has (named (map (nodes_on_side Child) groups) (holders_below k (map (nodes_on_side Parent) groups) p)) c ≡ list_any (is_edge p c) (edges_of (take k groups))
 named_upto groups p c zero le = refl
 named_upto groups p c (suc k) le =
-    let ps = map (ends_of Parent) groups in
-    let cs = map (ends_of Child) groups in
+    let ps = map (nodes_on_side Parent) groups in
+    let cs = map (nodes_on_side Child) groups in
     let lt : k < length groups = omega arith in
     let g = get_or groups k nothing in
     let at : suc k ≡ k + 1 = omega arith in
     let before = holders_below k ps p in
     let here : Bool = has (get_or ps k []) p in
-    let parents : get_or ps k [] ≡ g.parents = get_or-map (ends_of Parent) groups k nothing [] lt in
-    let children : get_or cs k [] ≡ g.children = get_or-map (ends_of Child) groups k nothing [] lt in
+    let parents : get_or ps k [] ≡ g.parents = get_or-map (nodes_on_side Parent) groups k nothing [] lt in
+    let children : get_or cs k [] ≡ g.children = get_or-map (nodes_on_side Child) groups k nothing [] lt in
     ap (λ (n : ℕ). has (named cs (holders_below n ps p)) c) at
     ∙ ap (λ (hs : List ℕ). has (named cs hs) c) (filter_range_more (λ v. has (get_or ps v []) p) k)
     ∙ ap (λ (ns : List ℕ). has ns c) (flat_map-append (λ (place : ℕ). get_or cs place []) before (cond here (k ∷ []) []))
@@ -85,30 +85,30 @@ taken [] = refl
 taken (g ∷ gs) = ap (λ (hs : List EdgeGroup). g ∷ hs) (taken gs)
 
 -- what is named for a node by its groups are its children
-pub named_edges : (groups : List EdgeGroup) (parents children homes : List (List ℕ)) (count p c : ℕ) → parents ≡ map (ends_of Parent) groups → children ≡ map (ends_of Child) groups → homes ≡ map (holders_of parents) (range_with_len 0 count) → p < count
+pub named_edges : (groups : List EdgeGroup) (parents children homes : List (List ℕ)) (count p c : ℕ) → parents ≡ map (nodes_on_side Parent) groups → children ≡ map (nodes_on_side Child) groups → homes ≡ map (holders_of parents) (range_with_len 0 count) → p < count
     → has (get_or (all_named children homes) p []) c ≡ list_any (is_edge p c) (edges_of groups)
 named_edges groups parents children homes count p c ps cs hs lt =
     let len : length homes ≡ count = ap (λ (ls : List (List ℕ)). length ls) hs ∙ length-map-range_with_len (holders_of parents) 0 count in
     let small : p < length homes = omega (arith, len) in
     let home : get_or homes p [] ≡ holders_of parents p = ap (λ (ls : List (List ℕ)). get_or ls p []) hs ∙ get_or-map-range_with_len (holders_of parents) 0 count p p [] lt (omega arith) in
-    let all : length parents ≡ length groups = ap (λ (ls : List (List ℕ)). length ls) ps ∙ length-map groups (ends_of Parent) in
+    let all : length parents ≡ length groups = ap (λ (ls : List (List ℕ)). length ls) ps ∙ length-map groups (nodes_on_side Parent) in
     ap (λ (ns : List ℕ). has ns c) (get_or-map (named children) homes p [] [] small)
     ∙ ap (λ (hs' : List ℕ). has (named children hs') c) (home ∙ ap (λ (n : ℕ). holders_below n parents p) all)
     ∙ ap (λ (ls : List (List ℕ)). has (named ls (holders_below (length groups) parents p)) c) cs
-    ∙ ap (λ (ls : List (List ℕ)). has (named (map (ends_of Child) groups) (holders_below (length groups) ls p)) c) ps
+    ∙ ap (λ (ls : List (List ℕ)). has (named (map (nodes_on_side Child) groups) (holders_below (length groups) ls p)) c) ps
     ∙ named_upto groups p c (length groups) (omega arith)
     ∙ ap (λ (gs : List EdgeGroup). list_any (is_edge p c) (edges_of gs)) (taken groups)
 
 -- the nodes of a group on a side are below the count
-pub side_below : (count : ℕ) (side : Side) (g : EdgeGroup) → IsGroupBelow count g → All (λ n. n < count) (ends_of side g)
+pub side_below : (count : ℕ) (side : Side) (g : EdgeGroup) → IsGroupBelow count g → All (λ n. n < count) (nodes_on_side side g)
 side_below count Parent g is = is.parents
 side_below count Child g is = is.children
 
-pub sides_below : (count : ℕ) (side : Side) (groups : List EdgeGroup) (lists : List (List ℕ)) → lists ≡ map (ends_of side) groups → All (IsGroupBelow count) groups → AreBelow count lists
+pub sides_below : (count : ℕ) (side : Side) (groups : List EdgeGroup) (lists : List (List ℕ)) → lists ≡ map (nodes_on_side side) groups → All (IsGroupBelow count) groups → AreBelow count lists
 sides_below count side groups lists is below = λ v k low lt.
-    let small : v < length groups = omega (arith, ap (λ (ls : List (List ℕ)). length ls) is, length-map groups (ends_of side)) in
-    let at : get_or lists v [] ≡ ends_of side (get_or groups v nothing) = ap (λ (ls : List (List ℕ)). get_or ls v []) is ∙ get_or-map (ends_of side) groups v nothing [] small in
-    let inside : k < length (ends_of side (get_or groups v nothing)) = subst (λ (ns : List ℕ). k < length ns) at lt in
+    let small : v < length groups = omega (arith, ap (λ (ls : List (List ℕ)). length ls) is, length-map groups (nodes_on_side side)) in
+    let at : get_or lists v [] ≡ nodes_on_side side (get_or groups v nothing) = ap (λ (ls : List (List ℕ)). get_or ls v []) is ∙ get_or-map (nodes_on_side side) groups v nothing [] small in
+    let inside : k < length (nodes_on_side side (get_or groups v nothing)) = subst (λ (ns : List ℕ). k < length ns) at lt in
     subst (λ (ns : List ℕ). get_or ns k 0 < count) (sym at) (side_below count side (get_or groups v nothing) (below v nothing small) k 0 inside)
 
 -- the places of groups are below their number

@@ -10,7 +10,7 @@ use Rattle.std.specs.Option.{option_or, is_some}
 use Rattle.std.specs.Str.{bytes_eq}
 use Rattle.splices_flat.specs.declared.flat.FlatNode.{FlatNode}
 use Rattle.splices_flat.specs.Dag.{Dag}
-use Rattle.dag_graph.specs.Graph.{names_of, final_names}
+use Rattle.dag_graph.specs.Graph.{names_of, names_with_final}
 use Rattle.dag_graph.specs.Names.{GivesPlaces, with_name}
 
 none_or : {X : Type 0} (o : Option X) → option_or o None ≡ o
@@ -76,5 +76,5 @@ node_more nodes seen node text i before after same lt read is gives more =
 pub final_more : (dag : Dag) (node : FlatNode) (text : List ℕ) (i : ℕ) (before after : List ℕ → Option ℕ) → dag.final_node ≡ Some node → i ≡ length dag.nodes → text ≡ node.name → GivesPlaces before (map (λ (n : FlatNode). n.name) dag.nodes) → ((name : List ℕ) → after name ≡ with_name before text i name) → GivesPlaces after (names_of dag)
 final_more dag node text i before after final count is gives more =
     let len : i ≡ length (map (λ (n : FlatNode). n.name) dag.nodes) = count ∙ sym (length-map dag.nodes (λ (n : FlatNode). n.name)) in
-    let names : names_of dag ≡ map (λ (n : FlatNode). n.name) dag.nodes ++ text ∷ [] = ap (λ (o : Option FlatNode). map (λ (n : FlatNode). n.name) dag.nodes ++ final_names o) final ∙ ap (λ (t : List ℕ). map (λ (n : FlatNode). n.name) dag.nodes ++ t ∷ []) (sym is) in
+    let names : names_of dag ≡ map (λ (n : FlatNode). n.name) dag.nodes ++ text ∷ [] = ap (λ (o : Option FlatNode). map (λ (n : FlatNode). n.name) dag.nodes ++ names_with_final o) final ∙ ap (λ (t : List ℕ). map (λ (n : FlatNode). n.name) dag.nodes ++ t ∷ []) (sym is) in
     subst (GivesPlaces after) (sym names) (places_push before after (map (λ (n : FlatNode). n.name) dag.nodes) text i len gives more)

@@ -8,8 +8,8 @@ use Rattle.std.proofs.lemmas.List.Elements.{All-append, All-take, All-drop, All-
 use Rattle.std.specs.List.{All}
 use Rattle.splices_flat.specs.declared.flat.Edge.{Edge}
 use Rattle.splices_flat.specs.Dag.{IsBelow}
-use Rattle.dag_graph.specs.Graph.{IsParent, Leads, IsCycle, AreApart, rank_in}
-use Rattle.dag_graph.specs.Cycles.{IsRound, IsClosedBy}
+use Rattle.dag_graph.specs.Graph.{IsParent, Leads, IsCycle, AreDistinct, rank_in}
+use Rattle.dag_graph.specs.Cycles.{IsCycleOf, IsClosedBy}
 use Rattle.dag_graph.proofs.Ranks.{rank_at}
 
 join : (edges : List Edge) (x : ℕ) (xs : List ℕ) (y : ℕ) (ys : List ℕ) (end : ℕ) → Leads edges x xs y → Leads edges y ys end → Leads edges x (xs ++ y ∷ ys) end
@@ -21,24 +21,24 @@ split edges x [] y ys end (is, rest) = (is, rest)
 split edges x (z ∷ zs) y ys end (is, rest) = let both = split edges z zs y ys end rest in ((is, both.0), both.1)
 
 -- a round goes round from each of its nodes
-turn : (edges : List Edge) (front : List ℕ) (y : ℕ) (back : List ℕ) → IsRound edges (front ++ y ∷ back) → IsRound edges (y ∷ back ++ front)
+turn : (edges : List Edge) (front : List ℕ) (y : ℕ) (back : List ℕ) → IsCycleOf edges (front ++ y ∷ back) → IsCycleOf edges (y ∷ back ++ front)
 turn edges [] y back is = subst (λ (xs : List ℕ). Leads edges y xs y) (sym (append-nil back)) is
 turn edges (x ∷ xs) y back is = let both = split edges x xs y back x is in join edges y back x xs y both.1 both.0
 
 -- Nodes that are apart stay so from a place on, backwards, and begun at another place.
-dropped_apart : (xs : List ℕ) (n : ℕ) → AreApart xs → AreApart (drop n xs)
+dropped_apart : (xs : List ℕ) (n : ℕ) → AreDistinct xs → AreDistinct (drop n xs)
 dropped_apart xs n apart = λ i j less below same.
     let len = length-drop n xs in
     apart (n + i) (n + j) (omega arith) (omega (arith, len, below)) (sym (get_or-drop n xs i 0) ∙ same ∙ get_or-drop n xs j 0)
 
-reversed_apart : (xs : List ℕ) → AreApart xs → AreApart (reverse xs)
+reversed_apart : (xs : List ℕ) → AreDistinct xs → AreDistinct (reverse xs)
 reversed_apart xs apart = λ i j less below same.
     let len = length-reverse xs in
     let low : j < length xs = omega (arith, len, below) in
     apart (length xs - 1 - j) (length xs - 1 - i) (omega (arith, less, low)) (omega (arith, less, low))
     (sym (get_or-reverse xs j 0 low) ∙ sym same ∙ get_or-reverse xs i 0 (omega (arith, less, low)))
 
-begun_apart : (r : List ℕ) (m : ℕ) → m < length r → AreApart r → AreApart (drop m r ++ take m r)
+begun_apart : (r : List ℕ) (m : ℕ) → m < length r → AreDistinct r → AreDistinct (drop m r ++ take m r)
 begun_apart r m lt apart = λ i j less below same.
     let n : ℕ = length r - m in
     let whole : length (drop m r ++ take m r) ≡ length r = grind (arith, common_steps) in
@@ -55,14 +55,14 @@ begun_apart r m lt apart = λ i j less below same.
     (cases_lt i (length r - m)))
     (cases_lt j (length r - m))
 
-pub begun_at : (edges : List Edge) (r : List ℕ) (m : ℕ) → m < length r → IsRound edges r → All (λ z. slice_index r m ≤ z) r → AreApart r → IsCycle edges (drop m r ++ take m r)
+pub begun_at : (edges : List Edge) (r : List ℕ) (m : ℕ) → m < length r → IsCycleOf edges r → All (λ z. slice_index r m ≤ z) r → AreDistinct r → IsCycle edges (drop m r ++ take m r)
 begun_at edges r m lt is least apart =
     let y : ℕ = slice_index r m in
     let back : drop m r ≡ slice_index r m ∷ drop (m + 1) r = drop_more r m 0 lt in
     let whole : r ≡ take m r ++ (slice_index r m ∷ drop (m + 1) r) = sym (take-append-drop m r) ∙ ap (λ (xs : List ℕ). take m r ++ xs) back in
-    let round : IsRound edges (slice_index r m ∷ drop (m + 1) r ++ take m r) = turn edges (take m r) (slice_index r m) (drop (m + 1) r) (subst (IsRound edges) whole is) in
+    let round : IsCycleOf edges (slice_index r m ∷ drop (m + 1) r ++ take m r) = turn edges (take m r) (slice_index r m) (drop (m + 1) r) (subst (IsCycleOf edges) whole is) in
     let low : All (λ z. slice_index r m ≤ z) (drop (m + 1) r ++ take m r) = All-append (λ z. slice_index r m ≤ z) (drop (m + 1) r) (take m r) (All-drop (λ z. slice_index r m ≤ z) (m + 1) r least) (All-take (λ z. slice_index r m ≤ z) m r least) in
-    let once : AreApart (slice_index r m ∷ drop (m + 1) r ++ take m r) = subst (λ (xs : List ℕ). AreApart (xs ++ take m r)) back (begun_apart r m lt apart) in
+    let once : AreDistinct (slice_index r m ∷ drop (m + 1) r ++ take m r) = subst (λ (xs : List ℕ). AreDistinct (xs ++ take m r)) back (begun_apart r m lt apart) in
     subst (λ (xs : List ℕ). IsCycle edges (xs ++ take m r)) (sym back) (round, low, once)
 
 -- each of the list is a parent of the next, and the last is one of `end`
@@ -87,12 +87,12 @@ downward edges (x ∷ xs) end chain first =
     (λ some. let e : suc zero ≡ 0 + 1 = omega arith in subst (λ (k : ℕ). IsParent edges (slice_index (x ∷ xs) k) x) (sym e) (chain 0 (omega arith))) in
     subst (λ (ys : List ℕ). LeadsTo edges ys end) (sym (reverse-append (x ∷ []) xs)) (further edges (reverse xs) x end rest (first (omega arith)))
 
-goes_round : (edges : List Edge) (r : List ℕ) (end : ℕ) → 0 < length r → slice_index r 0 ≡ end → LeadsTo edges r end → IsRound edges r
+goes_round : (edges : List Edge) (r : List ℕ) (end : ℕ) → 0 < length r → slice_index r 0 ≡ end → LeadsTo edges r end → IsCycleOf edges r
 goes_round edges [] end some is leads = absurd (omega arith)
 goes_round edges (x ∷ xs) end some is leads = subst (λ (y : ℕ). Leads edges x xs y) (sym is) leads
 
 -- the part of a path on which it comes back, from its end on
-pub round_of : (edges : List Edge) (path : List ℕ) (parent : ℕ) → IsClosedBy edges path parent → IsRound edges (reverse (drop (rank_in path parent) path))
+pub round_of : (edges : List Edge) (path : List ℕ) (parent : ℕ) → IsClosedBy edges path parent → IsCycleOf edges (reverse (drop (rank_in path parent) path))
 round_of edges path parent is =
     let j : ℕ = rank_in path parent in
     let part : List ℕ = drop (rank_in path parent) path in
@@ -126,5 +126,5 @@ cycle_below count edges (x ∷ xs) within (leads, least, apart) = leads_below co
 
 pub cycle_begun : (edges : List Edge) (path : List ℕ) (parent place m : ℕ) (r : List ℕ) → place ≡ rank_in path parent → r ≡ reverse (drop place path) → m < length r → All (λ z. slice_index r m ≤ z) r → IsClosedBy edges path parent → IsCycle edges (drop m r ++ take m r)
 cycle_begun edges path parent place m r at is lt least closed =
-    begun_at edges r m lt (subst (IsRound edges) (sym (is ∙ ap (λ (k : ℕ). reverse (drop k path)) at)) (round_of edges path parent closed)) least
-    (subst AreApart (sym is) (reversed_apart (drop place path) (dropped_apart path place closed.apart)))
+    begun_at edges r m lt (subst (IsCycleOf edges) (sym (is ∙ ap (λ (k : ℕ). reverse (drop k path)) at)) (round_of edges path parent closed)) least
+    (subst AreDistinct (sym is) (reversed_apart (drop place path) (dropped_apart path place closed.apart)))

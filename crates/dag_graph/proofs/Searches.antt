@@ -10,12 +10,12 @@ use Rattle.std.proofs.lemmas.List.{get_or-replicate, length-replicate, get_or_pa
 use Rattle.dag_graph.specs.Climb.{up}
 use Rattle.dag_graph.proofs.Told.{Tells}
 use Rattle.dag_graph.specs.Graph.{IsParent, IsAncestor, direct, through, rank_in}
-use Rattle.dag_graph.specs.Search.{Searched, IsSearch, Meets, IsUpward, is_met, with_met}
+use Rattle.dag_graph.specs.Search.{Searched, IsSearch, MeetsNodes, IsUpward, is_met, with_met}
 use Rattle.dag_graph.proofs.Ranks.{within_push, within_kept, rank_at}
 use Rattle.dag_graph.proofs.Climbs.{count_falls, mark_kept, mark_new}
 
 -- one node more that was met before
-old_more : (nodes : List ℕ) (a b : Searched) (v : ℕ) → is_met b v ≡ true → Meets nodes a b → Meets (nodes ++ v ∷ []) a b
+old_more : (nodes : List ℕ) (a b : Searched) (v : ℕ) → is_met b v ≡ true → MeetsNodes nodes a b → MeetsNodes (nodes ++ v ∷ []) a b
 old_more nodes a b v was is = record {
   search = is.search;
   len = is.len;
@@ -30,7 +30,7 @@ old_more nodes a b v was is = record {
 }
 
 -- one node more that is new
-new_more : (nodes : List ℕ) (a b : Searched) (v : ℕ) → v < length b.met → is_met b v ≡ false → Meets nodes a b → Meets (nodes ++ v ∷ []) a (record { met = set b.met v true; found = b.found ++ v ∷ [] })
+new_more : (nodes : List ℕ) (a b : Searched) (v : ℕ) → v < length b.met → is_met b v ≡ false → MeetsNodes nodes a b → MeetsNodes (nodes ++ v ∷ []) a (record { met = set b.met v true; found = b.found ++ v ∷ [] })
 new_more nodes a b v small new is = record {
   search = record {
     below = λ i lt.
@@ -64,11 +64,11 @@ new_more nodes a b v small new is = record {
 }
 
 -- one node more
-pub meets_more : (nodes : List ℕ) (i : ℕ) (a b : Searched) → i < length nodes → slice_index nodes i < length b.met → Meets (take i nodes) a b → Meets (take (i + 1) nodes) a (with_met b (slice_index nodes i))
+pub meets_more : (nodes : List ℕ) (i : ℕ) (a b : Searched) → i < length nodes → slice_index nodes i < length b.met → MeetsNodes (take i nodes) a b → MeetsNodes (take (i + 1) nodes) a (with_met b (slice_index nodes i))
 meets_more nodes i a b lt small is =
-    subst (λ (xs : List ℕ). Meets xs a (with_met b (slice_index nodes i))) (sym (take_more nodes i 0 lt)) (⊎_elim
-    (λ was. subst (Meets (take i nodes ++ slice_index nodes i ∷ []) a) (sym (cond-true (is_met b (slice_index nodes i)) b (record { met = set b.met (slice_index nodes i) true; found = b.found ++ slice_index nodes i ∷ [] }) was)) (old_more (take i nodes) a b (slice_index nodes i) was is))
-    (λ new. subst (Meets (take i nodes ++ slice_index nodes i ∷ []) a) (sym (cond-false (is_met b (slice_index nodes i)) b (record { met = set b.met (slice_index nodes i) true; found = b.found ++ slice_index nodes i ∷ [] }) new)) (new_more (take i nodes) a b (slice_index nodes i) small new is))
+    subst (λ (xs : List ℕ). MeetsNodes xs a (with_met b (slice_index nodes i))) (sym (take_more nodes i 0 lt)) (⊎_elim
+    (λ was. subst (MeetsNodes (take i nodes ++ slice_index nodes i ∷ []) a) (sym (cond-true (is_met b (slice_index nodes i)) b (record { met = set b.met (slice_index nodes i) true; found = b.found ++ slice_index nodes i ∷ [] }) was)) (old_more (take i nodes) a b (slice_index nodes i) was is))
+    (λ new. subst (MeetsNodes (take i nodes ++ slice_index nodes i ∷ []) a) (sym (cond-false (is_met b (slice_index nodes i)) b (record { met = set b.met (slice_index nodes i) true; found = b.found ++ slice_index nodes i ∷ [] }) new)) (new_more (take i nodes) a b (slice_index nodes i) small new is))
     (cases_Bool (is_met b (slice_index nodes i))))
 
 none_met : (n v : ℕ) → get_or (replicate n false) v false ≡ false
@@ -82,7 +82,7 @@ above : (edges : List Edge) (a p v : ℕ) → IsParent edges a p → IsAncestor 
 above edges a p v first (direct is) = through (direct first) is
 above edges a p v first (through {p = q} more is) = through (above edges a p q first more) is
 
-pub upward_begins : (count : ℕ) (edges : List Edge) (parents : List (List ℕ)) (node : ℕ) (s : Searched) → Tells count edges parents → Meets (up parents node) (record { met = replicate (length parents) false; found = [] }) s → IsUpward edges parents node 0 s
+pub upward_begins : (count : ℕ) (edges : List Edge) (parents : List (List ℕ)) (node : ℕ) (s : Searched) → Tells count edges parents → MeetsNodes (up parents node) (record { met = replicate (length parents) false; found = [] }) s → IsUpward edges parents node 0 s
 upward_begins count edges parents node s told is = record {
   search = is.search;
   len = is.len ∙ length-replicate (length parents) false;
@@ -95,7 +95,7 @@ upward_begins count edges parents node s told is = record {
       (is.only v was);
 }
 
-pub upward_more : (count : ℕ) (edges : List Edge) (parents : List (List ℕ)) (node done : ℕ) (s t : Searched) → Tells count edges parents → IsUpward edges parents node done s → done < length s.found → Meets (up parents (slice_index s.found done)) s t → IsUpward edges parents node (done + 1) t
+pub upward_more : (count : ℕ) (edges : List Edge) (parents : List (List ℕ)) (node done : ℕ) (s t : Searched) → Tells count edges parents → IsUpward edges parents node done s → done < length s.found → MeetsNodes (up parents (slice_index s.found done)) s t → IsUpward edges parents node (done + 1) t
 upward_more count edges parents node done s t told is lt more =
     let met_here : is_met s (slice_index s.found done) ≡ true = is.search.marked done lt in
     record {

@@ -1,7 +1,7 @@
 -- A climb from nodes to their parents, which puts nodes into a topological order.
 use Rattle.std.specs.Prelude.{◌≡◌, ℕ, ◌+◌, ◌-◌, ◌<◌, ◌≤◌, Bool, true, false, not, List, [], ◌∷◌, ◌++◌, length, take, slice_set, slice_index, slice_index_or}
 use Rattle.std.specs.List.{Contains, count_by, sum_by}
-use Rattle.dag_graph.specs.Graph.{AreApart, rank_in}
+use Rattle.dag_graph.specs.Graph.{AreDistinct, rank_in}
 
 -- the nodes that were met, those that have a place in the order, of each node the number of its parents that were
 -- looked at, the order, and the path from a node upward
@@ -31,8 +31,8 @@ abbrev pub with_passed : Climbing → ℕ → Climbing
 with_passed c v = record c { next = slice_set c.next v (slice_index c.next v + 1) }
 
 -- the last node of the path has its place in the order
-abbrev pub with_placed : Climbing → ℕ → Climbing
-with_placed c v = record c { placed = slice_set c.placed v true; order = c.order ++ v ∷ []; path = take (length c.path - 1) c.path }
+abbrev pub with_order_place : Climbing → ℕ → Climbing
+with_order_place c v = record c { placed = slice_set c.placed v true; order = c.order ++ v ∷ []; path = take (length c.path - 1) c.path }
 
 -- what is left to do
 abbrev pub work_left : List (List ℕ) → Climbing → ℕ
@@ -47,7 +47,7 @@ pub record IsClimb (parents : List (List ℕ)) (c : Climbing) : Type 0 where
   pub inside : (i : ℕ) → i < length c.path → slice_index c.path i < length parents
   pub met : (i : ℕ) → i < length c.path → is_entered c (slice_index c.path i) ≡ true
   pub open_yet : (i : ℕ) → i < length c.path → is_placed c (slice_index c.path i) ≡ false
-  pub apart : AreApart c.path
+  pub apart : AreDistinct c.path
   pub chain : (i : ℕ) → i + 1 < length c.path → Contains (up parents (slice_index c.path i)) (slice_index c.path (i + 1))
   pub standing : (v : ℕ) → v < length parents → is_entered c v ≡ true → is_placed c v ≡ false → rank_in c.path v < length c.path
   pub known : (v : ℕ) → v < length parents → is_placed c v ≡ true → is_entered c v ≡ true
@@ -65,10 +65,10 @@ pub record IsClosed (parents : List (List ℕ)) (path : List ℕ) (parent : ℕ)
   pub chain : (i : ℕ) → i + 1 < length path → Contains (up parents (slice_index path i)) (slice_index path (i + 1))
   pub last : Contains (up parents (slice_index path (length path - 1))) parent
   pub there : rank_in path parent < length path
-  pub apart : AreApart path
+  pub apart : AreDistinct path
 
 -- a climb goes on
-pub record GoesOn (parents : List (List ℕ)) (before after : Climbing) : Type 0 where
+pub record ClimbsOn (parents : List (List ℕ)) (before after : Climbing) : Type 0 where
   pub climb : IsClimb parents after
   pub kept : (v : ℕ) → is_entered before v ≡ true → is_entered after v ≡ true
   pub less : work_left parents after < work_left parents before

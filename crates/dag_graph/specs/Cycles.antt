@@ -4,19 +4,19 @@ use Rattle.splices_flat.specs.declared.flat.Edge.{Edge}
 use Rattle.splices_flat.specs.Dag.{Dag}
 use Rattle.dag_graph.specs.declared.fault.GraphFault.{GraphFault}
 use Rattle.dag_graph.specs.declared.fault.GraphFault.TheVariants.{Cycle, Memory}
-use Rattle.dag_graph.specs.Graph.{IsParent, Leads, IsCycle, AreApart, rank_in, name_of}
+use Rattle.dag_graph.specs.Graph.{IsParent, Leads, IsCycle, AreDistinct, rank_in, name_of}
 
 -- each node of a path is followed by one of its parents, one of the parents of the last stands on it, and none comes twice
 pub record IsClosedBy (edges : List Edge) (path : List ℕ) (parent : ℕ) : Type 0 where
   pub chain : (i : ℕ) → i + 1 < length path → IsParent edges (slice_index path (i + 1)) (slice_index path i)
   pub last : IsParent edges parent (slice_index path (length path - 1))
   pub there : rank_in path parent < length path
-  pub apart : AreApart path
+  pub apart : AreDistinct path
 
 -- each is a parent of the next, and the last is one of the first
-abbrev pub IsRound : List Edge → List ℕ → Type 0
-IsRound edges [] = ⊥
-IsRound edges (x ∷ xs) = Leads edges x xs x
+abbrev pub IsCycleOf : List Edge → List ℕ → Type 0
+IsCycleOf edges [] = ⊥
+IsCycleOf edges (x ∷ xs) = Leads edges x xs x
 
 -- the full names of the nodes of a cycle
 pub record NamesCycle (dag : Dag) (names : List (List ℕ)) : Type 0 where

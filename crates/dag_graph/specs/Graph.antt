@@ -24,13 +24,13 @@ Leads edges x [] end = IsParent edges x end
 Leads edges x (y ∷ ys) end = IsParent edges x y × Leads edges y ys end
 
 -- no two of these nodes are one
-abbrev pub AreApart : List ℕ → Type 0
-AreApart nodes = (i j : ℕ) → i < j → j < length nodes → slice_index nodes i ≢ slice_index nodes j
+abbrev pub AreDistinct : List ℕ → Type 0
+AreDistinct nodes = (i j : ℕ) → i < j → j < length nodes → slice_index nodes i ≢ slice_index nodes j
 
 -- each is a parent of the next, the last is one of the first, the first is the least of them, and none comes twice
 abbrev pub IsCycle : List Edge → List ℕ → Type 0
 IsCycle edges [] = ⊥
-IsCycle edges (x ∷ xs) = Leads edges x xs x × All (λ y. x ≤ y) xs × AreApart (x ∷ xs)
+IsCycle edges (x ∷ xs) = Leads edges x xs x × All (λ y. x ≤ y) xs × AreDistinct (x ∷ xs)
 
 -- the edge from the parent to the child, compared
 abbrev pub is_edge : ℕ → ℕ → Edge → Bool
@@ -72,12 +72,12 @@ pub record IsOrderOf (dag : Dag) (order : List ℕ) : Type 0 where
   pub ranked : (parent child : ℕ) → IsParent dag.edges parent child → rank_in order parent < rank_in order child
 
 -- the full names of all nodes by their numbers, that of the FINAL node last
-abbrev pub final_names : Option FlatNode → List (List ℕ)
-final_names None = []
-final_names (Some node) = node.name ∷ []
+abbrev pub names_with_final : Option FlatNode → List (List ℕ)
+names_with_final None = []
+names_with_final (Some node) = node.name ∷ []
 
 abbrev pub names_of : Dag → List (List ℕ)
-names_of dag = map (λ n. n.name) dag.nodes ++ final_names dag.final_node
+names_of dag = map (λ n. n.name) dag.nodes ++ names_with_final dag.final_node
 
 -- the full name of a node
 abbrev pub name_of : Dag → ℕ → List ℕ

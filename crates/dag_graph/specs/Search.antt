@@ -25,7 +25,7 @@ pub record IsSearch (s : Searched) : Type 0 where
   pub count : length s.found + count_by (λ b. not b) s.met ≡ length s.met
 
 -- these nodes were met too, and no others
-pub record Meets (nodes : List ℕ) (before after : Searched) : Type 0 where
+pub record MeetsNodes (nodes : List ℕ) (before after : Searched) : Type 0 where
   pub search : IsSearch after
   pub len : length after.met ≡ length before.met
   pub kept : (v : ℕ) → is_met before v ≡ true → is_met after v ≡ true

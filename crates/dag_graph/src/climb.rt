@@ -8,7 +8,7 @@
 ghost use Rattle.std.specs.Prelude.{◌≡◌, ◌<◌, ◌≤◌, ◌+◌, ◌-◌, ◌^◌, [], true, false, None, Some, IfOk, OnOk, IfNone, length, replicate, slice_get, slice_index};
 ghost use Rattle.std.specs.Option.{MatchOption};
 ghost use Rattle.dag_graph.specs.Numbers.{AreBelow};
-ghost use Rattle.dag_graph.specs.Climb.{IsClimb, IsClosed, GoesOn, IsThrough, IsSettled, up, is_entered, is_placed, with_entered, with_passed, with_placed};
+ghost use Rattle.dag_graph.specs.Climb.{IsClimb, IsClosed, ClimbsOn, IsThrough, IsSettled, up, is_entered, is_placed, with_entered, with_passed, with_order_place};
 
 use crate::numbers::Numbers;
 use std::alloc::{AllocError, Global};
@@ -115,7 +115,7 @@ impl Climb {
     /// The last node of the path gets the next place in the order.
     fn place(&mut self, node: u32) -> Result<(), AllocError>
         requires { node < length self.old.placed }
-        ensures { OnOk result (self.new ≡ with_placed self.old node) }
+        ensures { OnOk result (self.new ≡ with_order_place self.old node) }
     {
         self.placed[node as usize] = true;
         self.order.push(node)?;
@@ -136,7 +136,7 @@ impl Climb {
         requires turn { slice_index self.old.next node < length (up parents.now node) }
         requires parent { parent ≡ slice_index (up parents.now node) (slice_index self.old.next node) }
         requires fits { length (up parents.now node) < 2 ^ 64 }
-        ensures { IfOk result (λ r. MatchOption r (GoesOn parents.now self.old self.new) (λ p. IsClosed parents.now self.new.path p)) }
+        ensures { IfOk result (λ r. MatchOption r (ClimbsOn parents.now self.old self.new) (λ p. IsClosed parents.now self.new.path p)) }
     {
         let _ = parents;
         if self.is_placed(parent) {
@@ -156,7 +156,7 @@ impl Climb {
         requires below { AreBelow (length parents.now) parents.now }
         requires climb { IsClimb parents.now self.old }
         requires last { slice_get self.old.path (length self.old.path - 1) ≡ Some node }
-        ensures { IfOk result (λ r. MatchOption r (GoesOn parents.now self.old self.new) (λ p. IsClosed parents.now self.new.path p)) }
+        ensures { IfOk result (λ r. MatchOption r (ClimbsOn parents.now self.old self.new) (λ p. IsClosed parents.now self.new.path p)) }
     {
         let own = parents[node as usize].as_slice();
         let turn = self.passed(node);

@@ -3,7 +3,7 @@
 ghost use Rattle.std.specs.Prelude.{◌≡◌, ◌<◌, ◌≤◌, IfOk, length, map};
 ghost use Rattle.std.specs.List.{All, flat_map, range_with_len};
 ghost use Rattle.splices_flat.specs.Dag.{IsGroupBelow};
-ghost use Rattle.splices_flat.specs.Places.{ends_of};
+ghost use Rattle.splices_flat.specs.Places.{nodes_on_side};
 ghost use Rattle.dag_graph.specs.Numbers.{AreBelow, holders_of, all_named, named};
 ghost use Rattle.dag_graph.specs.Graph.{all_parents_of, all_children_of};
 
@@ -40,7 +40,7 @@ fn side_of(
 ) -> Result<Vec<Numbers>, AllocError>
     requires few { count ≤ 65536 }
     requires within { All (IsGroupBelow count) groups.now }
-    ensures { IfOk result (λ v. v.items ≡ map (ends_of side) groups.now) }
+    ensures { IfOk result (λ v. v.items ≡ map (nodes_on_side side) groups.now) }
 {
     let mut lists = Vec::new(alloc);
     for group in groups {

@@ -3,7 +3,7 @@
 ghost use Rattle.std.specs.Prelude.{◌≡◌, ◌<◌, ℕ, [], true, false, IfOk, OnOk, IsTrue, ◌↔◌, length, replicate, slice_index, slice_index_or};
 ghost use Rattle.std.specs.List.{All};
 ghost use Rattle.dag_graph.specs.Graph.{IsAncestor, all_parents_of};
-ghost use Rattle.dag_graph.specs.Search.{IsSearch, Meets, with_met};
+ghost use Rattle.dag_graph.specs.Search.{IsSearch, MeetsNodes, with_met};
 
 use crate::numbers::Numbers;
 use splices_flat::FlatDag;
@@ -75,7 +75,7 @@ impl Search {
     fn meet_all(&mut self, nodes: &[u32]) -> Result<(), AllocError>
         requires search { IsSearch self.old }
         requires below { All (λ n. n < length self.old.met) nodes.now }
-        ensures { OnOk result (Meets nodes.now self.old self.new) }
+        ensures { OnOk result (MeetsNodes nodes.now self.old self.new) }
     {
         for node in nodes {
             self.meet(*node)?;

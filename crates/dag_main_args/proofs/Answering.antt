@@ -16,7 +16,7 @@ use Rattle.clap.specs.declared.error.ErrorKind.TheVariants.{OutOfMemory}
 use Rattle.clap.proofs.WalkLemmas.{both}
 use Rattle.clap.proofs.OnLiterals.{clap_on_literals}
 use Rattle.dag_main_args.specs.declared.request.Request.{Request}
-use Rattle.dag_main_args.specs.Matched.{AsksFor, command_names, is_among}
+use Rattle.dag_main_args.specs.Matched.{AsksFor, command_names, is_text_among}
 use Rattle.dag_main_args.specs.Table.{IsDagrunApp, dagrun_app}
 use Rattle.dag_main_args.specs.Answered.{AsksNothing, IsAskedFor, IsInVain, IsRefused, clashes}
 
@@ -35,34 +35,34 @@ pub free_app : (app : App) → IsDagrunApp false app → is_simple_and_free app 
 free_app app t = ap is_simple_and_free t.table ∙ free_table t.orphans t.progress
 
 -- each command of the built program has a name that is known
-known_table : (orphans progress : Bor (List (Bor Text))) → list_all (λ s. is_among command_names s.name) (built (dagrun_app false orphans progress)).subs ≡ true
+known_table : (orphans progress : Bor (List (Bor Text))) → list_all (λ s. is_text_among command_names s.name) (built (dagrun_app false orphans progress)).subs ≡ true
 unfolding clap_on_literals
 known_table orphans progress = refl
 
 abbrev known : Option (Text × List Row) → Bool
-known matched = option_map_or (λ p. is_among command_names p.0) matched true
+known matched = option_map_or (λ p. is_text_among command_names p.0) matched true
 
-found_known : (test : Shape → Bool) (words : List Text) (subs : List Shape) → list_all (λ s. is_among command_names s.name) subs ≡ true
+found_known : (test : Shape → Bool) (words : List Text) (subs : List Shape) → list_all (λ s. is_text_among command_names s.name) subs ≡ true
     → known (option_map (λ s. rows_at s words) (find test subs)) ≡ true
 found_known test words [] e = refl
 found_known test words (s ∷ subs) e = go (test s) refl (λ rest. found_known test words subs rest)
   where
-    parts : (is_among command_names s.name ≡ true) × (list_all (λ s. is_among command_names s.name) subs ≡ true)
+    parts : (is_text_among command_names s.name ≡ true) × (list_all (λ s. is_text_among command_names s.name) subs ≡ true)
     parts = both _ _ e
 
     go : (b : Bool) → test s ≡ b
-        → (list_all (λ s. is_among command_names s.name) subs ≡ true → known (option_map (λ s. rows_at s words) (find test subs)) ≡ true)
+        → (list_all (λ s. is_text_among command_names s.name) subs ≡ true → known (option_map (λ s. rows_at s words) (find test subs)) ≡ true)
         → known (option_map (λ s. rows_at s words) (find test (s ∷ subs))) ≡ true
     go true is rest = rw is parts.0
     go false is rest = rw is (rest parts.1)
 
-entered_known : (app : App) (stop : Option (Text × List Text)) → list_all (λ s. is_among command_names s.name) app.subs ≡ true → known (entered app stop) ≡ true
+entered_known : (app : App) (stop : Option (Text × List Text)) → list_all (λ s. is_text_among command_names s.name) app.subs ≡ true → known (entered app stop) ≡ true
 entered_known app None e = refl
 entered_known app (Some p) e = found_known (λ s. answers_to p.0 (label_of s)) p.1 app.subs e
 
 known_app : (app : App) (words : List Text) → IsDagrunApp false app → known (subcommand_of app words) ≡ true
 known_app app words t =
-    entered_known (built app) _ (ap (λ (a : App). list_all (λ s. is_among command_names s.name) (built a).subs) t.table ∙ known_table t.orphans t.progress)
+    entered_known (built app) _ (ap (λ (a : App). list_all (λ s. is_text_among command_names s.name) (built a).subs) t.table ∙ known_table t.orphans t.progress)
 
 some_mapped : {X Y : Type 0} (f : X → Y) (o : Option X) → is_some (option_map f o) ≡ is_some o
 some_mapped f None = refl

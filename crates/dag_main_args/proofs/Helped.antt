@@ -6,7 +6,7 @@ use Rattle.std.proofs.lemmas.Slice.Eq.{bytes_eq-Decides}
 use Rattle.clap.specs.Words.{App, Text, fault_of}
 use Rattle.clap.specs.declared.error.ErrorKind.TheVariants.{DisplayHelp}
 use Rattle.clap.proofs.OnLiterals.{clap_on_literals}
-use Rattle.dag_main_args.specs.Matched.{command_names, is_among}
+use Rattle.dag_main_args.specs.Matched.{command_names, is_text_among}
 use Rattle.dag_main_args.specs.Table.{dagrun_app}
 use Rattle.dag_main_args.specs.Helps.{IsUnhelpful}
 
@@ -43,10 +43,10 @@ pub no_command_helped : IsUnhelpful (codes "dagrun" ∷ codes "--help" ∷ []) �
 no_command_helped u =
     u.other (ap (λ (a : App). fault_of a (codes "dagrun" ∷ codes "--help" ∷ [])) u.table.table ∙ all_helped u.table.orphans u.table.progress)
 
-pub no_such_command : (name : Text) → IsUnhelpful (asks_help name) → is_among command_names name ≡ false
-no_such_command name u = go (is_among command_names name) refl
+pub no_such_command : (name : Text) → IsUnhelpful (asks_help name) → is_text_among command_names name ≡ false
+no_such_command name u = go (is_text_among command_names name) refl
   where
-    go : (b : Bool) → is_among command_names name ≡ b → is_among command_names name ≡ false
+    go : (b : Bool) → is_text_among command_names name ≡ b → is_text_among command_names name ≡ false
     go false e = e
     go true e = absurd (u.other (ap (λ (a : App). fault_of a (asks_help name)) u.table.table
         ∙ pick (IsHelped u.table.orphans u.table.progress) command_names name (each_helped u.table.orphans u.table.progress) e))

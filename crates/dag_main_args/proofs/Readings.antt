@@ -13,7 +13,7 @@ use Rattle.std.proofs.lemmas.Slice.Eq.{bytes_eq-Decides}
 use Rattle.clap.specs.Words.{ReadsOne, Text}
 use Rattle.clap.specs.ValueTests.{is_numeral}
 use Rattle.clap.proofs.WalkLemmas.{both}
-use Rattle.dag_main_args.specs.Matched.{number_in}
+use Rattle.dag_main_args.specs.Matched.{decimal_in}
 
 -- what `parse` says at an unsigned type of k bits
 abbrev Gives : ℕ → List ℕ → Result ℕ ParseIntError → Type 0
@@ -41,17 +41,17 @@ fits_from k t e =
     let num = both _ _ parts.0 in
     ((ltb-true _ _ num.0, digits_from _ num.1), ltb-true _ _ parts.1)
 
-read_one : (k : ℕ) (t : List ℕ) (r : Option ℕ) → ReadsOne (Gives k) t r → r ≡ number_in k t
+read_one : (k : ℕ) (t : List ℕ) (r : Option ℕ) → ReadsOne (Gives k) t r → r ≡ decimal_in k t
 read_one k t (Some n) h = rw (fits_back k t h.0.0.0 h.0.0.1) (ap Some h.0.1)
 read_one k t None h = go (fits k t) refl
   where
-    go : (b : Bool) → fits k t ≡ b → None ≡ number_in k t
+    go : (b : Bool) → fits k t ≡ b → None ≡ decimal_in k t
     go true e = absurd (h.1.0 (fits_from k t e))
     go false e = rw e refl
 
 -- a number of k bits, as it was read of the text that an option has
 pub number_read : (k : ℕ) (o : Option Text) (r : Option ℕ) → (o ≡ None → r ≡ None) → ((t : Text) → o ≡ Some t → ReadsOne (Gives k) t r)
-    → r ≡ option_and_then (number_in k) o
+    → r ≡ option_and_then (decimal_in k) o
 number_read k None r none some = none refl
 number_read k (Some t) r none some = read_one k t r (some t refl)
 

@@ -10,10 +10,10 @@ use Rattle.dag_main_args.specs.declared.request.Request.{Request}
 use Rattle.dag_main_args.specs.declared.request.Request.TheVariants.{Check, Run, Status, Audit, Rehearse, Graph, Why, Times, Salvage, Page}
 use Rattle.dag_main_args.specs.Launchers.{IsLauncherOf, given, not_given}
 use Rattle.dag_main_args.specs.Requests.{Asked, asked_by, asks_why, no_limits, rehearses, runs, shows}
-use Rattle.dag_main_args.specs.Matched.{AreOptionsOf, AsksFor, IsRequestOf, dag_of, is_on, is_set, limits_of, nodes_of, number_of, orphan_rule_of, progress_of, version_text}
+use Rattle.dag_main_args.specs.Matched.{AreOptionsOf, AsksFor, IsRequestOf, dag_path, is_on, is_set, limits_asked, nodes_asked, number_asked, orphan_rule_of, progress_of, version_text}
 use Rattle.dag_main_args.specs.Table.{dagrun_app}
 use Rattle.dag_main_args.specs.Answered.{clashes}
-use Rattle.dag_main_args.specs.Examples.{AskFor, AskInVain, plain_options}
+use Rattle.dag_main_args.specs.Examples.{AskForAlone, AskInVain, plain_options}
 
 differ : (a b : Text) → bytes_eq a b ≡ false → a ≡ b → ⊥
 differ a b unlike e =
@@ -26,9 +26,9 @@ unlaunched (Some text) words (given t ws spelled named) e = cc
 
 -- rows that ask for a run with these options, and for no launcher
 record AsksRun (rows : List Row) (options : RunOptions) : Type 0 where
-  limits : limits_of rows ≡ options.limits
+  limits : limits_asked rows ≡ options.limits
   autorescue : is_on (codes "autorescue") rows ≡ options.autorescue
-  dorescuefrom : number_of 16 (codes "dorescuefrom") rows ≡ options.dorescuefrom
+  dorescuefrom : number_asked 16 (codes "dorescuefrom") rows ≡ options.dorescuefrom
   orphans : orphan_rule_of rows ≡ options.orphans
   always_post : is_set (codes "always-run-post") rows ≡ options.always_post
   sync_output : is_on (codes "sync-output") rows ≡ options.sync_output
@@ -54,7 +54,7 @@ same_options rows options plain a b = λ i. record {
   trust_owner = (a.trust_owner ∙ b.trust_owner) i;
 }
 
-run_alone : (rows : List Row) (dag : Text) (plain : RunOptions) (request : Request) → IsRequestOf (codes "run") rows request → dag_of rows ≡ dag
+run_alone : (rows : List Row) (dag : Text) (plain : RunOptions) (request : Request) → IsRequestOf (codes "run") rows request → dag_path rows ≡ dag
     → AsksRun rows plain → asked_by request ≡ runs dag plain
 run_alone rows dag plain (Run path options) h is asks = ap₂ runs (h.1 ∙ is) (same_options rows options plain h.2 asks)
 run_alone rows dag plain (Check path hints condor) h is asks = absurd (differ _ _ refl h.0)
@@ -69,8 +69,8 @@ run_alone rows dag plain (Page text) (inl h) is asks = absurd (differ _ _ refl h
 run_alone rows dag plain (Page text) (inr (inl h)) is asks = absurd (differ _ _ refl h)
 run_alone rows dag plain (Page text) (inr (inr h)) is asks = absurd (differ _ _ refl h.0)
 
-why_alone : (rows : List Row) (dag : Text) (nodes : List Text) (request : Request) → IsRequestOf (codes "why") rows request → dag_of rows ≡ dag
-    → nodes_of rows ≡ nodes → asked_by request ≡ asks_why dag nodes
+why_alone : (rows : List Row) (dag : Text) (nodes : List Text) (request : Request) → IsRequestOf (codes "why") rows request → dag_path rows ≡ dag
+    → nodes_asked rows ≡ nodes → asked_by request ≡ asks_why dag nodes
 why_alone rows dag nodes (Why path names) h is asks = ap₂ asks_why (h.1 ∙ is) (h.2 ∙ asks)
 why_alone rows dag nodes (Run path options) h is asks = absurd (differ _ _ refl h.0)
 why_alone rows dag nodes (Check path hints condor) h is asks = absurd (differ _ _ refl h.0)
@@ -85,7 +85,7 @@ why_alone rows dag nodes (Page text) (inr (inl h)) is asks = absurd (differ _ _ 
 why_alone rows dag nodes (Page text) (inr (inr h)) is asks = absurd (differ _ _ refl h.0)
 
 rehearsal_alone : (rows : List Row) (dag : Text) (outcomes : Option Text) (plain : Limits) (post : Bool) (request : Request)
-    → IsRequestOf (codes "rehearse") rows request → dag_of rows ≡ dag → first_of (codes "OUTCOMES") rows ≡ outcomes → limits_of rows ≡ plain
+    → IsRequestOf (codes "rehearse") rows request → dag_path rows ≡ dag → first_of (codes "OUTCOMES") rows ≡ outcomes → limits_asked rows ≡ plain
     → is_set (codes "always-run-post") rows ≡ post → asked_by request ≡ rehearses dag outcomes plain post
 rehearsal_alone rows dag outcomes plain post (Rehearse path table limits always_post) h is asks most posts = λ i.
     rehearses ((h.1 ∙ is) i) ((h.2 ∙ asks) i) ((h.3 ∙ most) i) ((h.4 ∙ posts) i)
@@ -122,7 +122,7 @@ rows_in (Some matched) = matched.1
 -- what holds by the table as it is written out holds by the program's
 by_table : (words : List Text) (asked : Asked) → ((orphans progress : Bor (List (Bor Text))) → takes (dagrun_app false orphans progress) words ≡ true)
     → ((orphans progress : Bor (List (Bor Text))) (request : Request) → AsksFor (subcommand_of (dagrun_app false orphans progress) words) request
-    → asked_by request ≡ asked) → AskFor words asked
+    → asked_by request ≡ asked) → AskForAlone words asked
 by_table words asked taken only = record {
   taken = λ app t. ap (λ (a : App). takes a words) t.table ∙ taken t.orphans t.progress;
   only = λ request is. only is.table.orphans is.table.progress request
@@ -155,7 +155,7 @@ four_only orphans progress request h = run_alone (rows_in (subcommand_of (dagrun
   trust_owner = refl;
 })
 
-pub four_jobs : AskFor four_words (runs (codes "x.dag") (record plain_options { limits = record no_limits { jobs = 4 } }))
+pub four_jobs : AskForAlone four_words (runs (codes "x.dag") (record plain_options { limits = record no_limits { jobs = 4 } }))
 four_jobs = by_table four_words _ four_taken four_only
 
 abbrev fresh_words : List Text
@@ -183,7 +183,7 @@ fresh_only orphans progress request h = run_alone (rows_in (subcommand_of (dagru
   trust_owner = refl;
 })
 
-pub no_rescue_file : AskFor fresh_words (runs (codes "x.dag") (record plain_options { autorescue = false }))
+pub no_rescue_file : AskForAlone fresh_words (runs (codes "x.dag") (record plain_options { autorescue = false }))
 no_rescue_file = by_table fresh_words _ fresh_taken fresh_only
 
 abbrev why_words : List Text
@@ -198,7 +198,7 @@ why_only : (orphans progress : Bor (List (Bor Text))) (request : Request) → As
 unfolding clap_on_literals
 why_only orphans progress request h = why_alone (rows_in (subcommand_of (dagrun_app false orphans progress) why_words)) (codes "x.dag") _ request h refl refl
 
-pub nodes_in_order : AskFor why_words (asks_why (codes "x.dag") (codes "B" ∷ codes "A" ∷ []))
+pub nodes_in_order : AskForAlone why_words (asks_why (codes "x.dag") (codes "B" ∷ codes "A" ∷ []))
 nodes_in_order = by_table why_words _ why_taken why_only
 
 abbrev clash_words : List Text
@@ -234,7 +234,7 @@ unfolding clap_on_literals
 rehearsal_only orphans progress request h =
     rehearsal_alone (rows_in (subcommand_of (dagrun_app false orphans progress) rehearsal_words)) (codes "x.dag") (Some (codes "table")) _ false request h refl refl refl refl
 
-pub limits_apart : AskFor rehearsal_words (rehearses (codes "x.dag") (Some (codes "table")) (record no_limits { pre = 2; post = 3 }) false)
+pub limits_apart : AskForAlone rehearsal_words (rehearses (codes "x.dag") (Some (codes "table")) (record no_limits { pre = 2; post = 3 }) false)
 limits_apart = by_table rehearsal_words _ rehearsal_taken rehearsal_only
 
 abbrev version_words : List Text
@@ -249,5 +249,5 @@ version_only : (orphans progress : Bor (List (Bor Text))) (request : Request) �
 unfolding clap_on_literals
 version_only orphans progress request h = version_alone (rows_in (subcommand_of (dagrun_app false orphans progress) version_words)) request h
 
-pub version_alone_shown : AskFor version_words (shows version_text)
+pub version_alone_shown : AskForAlone version_words (shows version_text)
 version_alone_shown = by_table version_words _ version_taken version_only

@@ -32,7 +32,7 @@ abbrev pub AreTaken : List Text → Type 0
 AreTaken words = (app : App) → IsDagrunApp false app → takes app words ≡ true
 
 -- and they ask for this alone
-pub record AskFor (words : List Text) (asked : Asked) : Type 0 where
+pub record AskForAlone (words : List Text) (asked : Asked) : Type 0 where
   pub taken : AreTaken words
   pub only : (request : Request) → IsAskedFor words request → asked_by request ≡ asked
 

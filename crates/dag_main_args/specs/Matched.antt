@@ -19,31 +19,31 @@ use Rattle.dag_main_args.specs.Pages.{IsExplained}
 use Rattle.dag_main_args.specs.Requests.{asked_by, no_limits, rehearses}
 
 -- the number that a text writes in decimal digits, a plus before them or none, where `bits` bits hold it
-abbrev pub number_in : (bits : ℕ) → Text → Option ℕ
-number_in bits text =
+abbrev pub decimal_in : (bits : ℕ) → Text → Option ℕ
+decimal_in bits text =
     let number = digits_value 10 (without_leading_plus text) in
     if is_numeral (without_leading_plus text) && nat_lt number (2 ^ bits) then Some number else None
 
 -- the number that an option has
-abbrev pub number_of : (bits : ℕ) → Text → List Row → Option ℕ
-number_of bits name rows = option_and_then (number_in bits) (one_of name rows)
+abbrev pub number_asked : (bits : ℕ) → Text → List Row → Option ℕ
+number_asked bits name rows = option_and_then (decimal_in bits) (one_of name rows)
 
 -- a limit is the number of its own option; 0, which is none, where that is not given
-abbrev pub limit_of : Text → List Row → ℕ
-limit_of name rows = unwrap_or (number_of 16 name rows) 0
+abbrev pub limit_option : Text → List Row → ℕ
+limit_option name rows = unwrap_or (number_asked 16 name rows) 0
 
 -- how many jobs, PRE scripts and POST scripts may run at once; of all together no more than 1,024 ever do
-abbrev pub limits_of : List Row → Limits
-limits_of rows = record {
-  jobs = limit_of (codes "maxjobs") rows;
-  pre = limit_of (codes "maxpre") rows;
-  post = limit_of (codes "maxpost") rows;
+abbrev pub limits_asked : List Row → Limits
+limits_asked rows = record {
+  jobs = limit_option (codes "maxjobs") rows;
+  pre = limit_option (codes "maxpre") rows;
+  post = limit_option (codes "maxpost") rows;
   children = 1024;
 }
 
 -- what is on is on until it is given as 0
 abbrev pub is_on : Text → List Row → Bool
-is_on name rows = not (option_map_or (λ n. n == 0) (number_of 8 name rows) false)
+is_on name rows = not (option_map_or (λ n. n == 0) (number_asked 8 name rows) false)
 
 -- what is off is off until it is given
 abbrev pub is_set : Text → List Row → Bool
@@ -67,11 +67,11 @@ progress_of rows =
 
 -- how a run is asked for to be done, option by option
 pub record AreOptionsOf (rows : List Row) (options : RunOptions) : Type 0 where
-  pub limits : options.limits ≡ limits_of rows
+  pub limits : options.limits ≡ limits_asked rows
   -- rescue files are read, but under `--autorescue 0`
   pub autorescue : options.autorescue ≡ is_on (codes "autorescue") rows
   -- a round goes back to the rescue file of a number only where that number is given
-  pub dorescuefrom : options.dorescuefrom ≡ number_of 16 (codes "dorescuefrom") rows
+  pub dorescuefrom : options.dorescuefrom ≡ number_asked 16 (codes "dorescuefrom") rows
   pub orphans : options.orphans ≡ orphan_rule_of rows
   pub always_post : options.always_post ≡ is_set (codes "always-run-post") rows
   -- files of output and error are brought to the disk, but under `--sync-output 0`
@@ -84,12 +84,12 @@ pub record AreOptionsOf (rows : List Row) (options : RunOptions) : Type 0 where
   pub trust_owner : options.trust_owner ≡ is_set (codes "trust-owner") rows
 
 -- the path of the DAG file, which each command has that reads one
-abbrev pub dag_of : List Row → Text
-dag_of rows = unwrap_or (first_of (codes "DAG") rows) (codes "-")
+abbrev pub dag_path : List Row → Text
+dag_path rows = unwrap_or (first_of (codes "DAG") rows) (codes "-")
 
 -- the names of nodes, all of them in the order of the words
-abbrev pub nodes_of : List Row → List Text
-nodes_of rows = unwrap_or (all_of (codes "NODE") rows) []
+abbrev pub nodes_asked : List Row → List Text
+nodes_asked rows = unwrap_or (all_of (codes "NODE") rows) []
 
 -- what `version` prints
 abbrev pub version_text : Text
@@ -103,8 +103,8 @@ abbrev pub command_names : List Text
 command_names = codes "run" ∷ codes "status" ∷ codes "audit" ∷ codes "check" ∷ codes "rehearse" ∷ codes "graph" ∷ codes "why"
     ∷ codes "times" ∷ codes "salvage" ∷ page_names
 
-abbrev pub is_among : List Text → Text → Bool
-is_among names command = list_any (bytes_eq command) names
+abbrev pub is_text_among : List Text → Text → Bool
+is_text_among names command = list_any (bytes_eq command) names
 
 -- the page that a command asks for: that of a code, or of all where none is given; a page of help; the version
 abbrev pub IsPageOf : Text → List Row → Text → Type 0
@@ -113,18 +113,18 @@ IsPageOf command rows page = ((command ≡ codes "explain") × IsExplained (firs
 
 -- the request that a command asks for by what was matched to it: each kind of request by one command alone
 abbrev pub IsRequestOf : Text → List Row → Request → Type 0
-IsRequestOf command rows (Check dag hints condor) = (command ≡ codes "check") × (dag.now ≡ dag_of rows)
+IsRequestOf command rows (Check dag hints condor) = (command ≡ codes "check") × (dag.now ≡ dag_path rows)
     × (hints ≡ is_set (codes "hints") rows) × (condor ≡ is_set (codes "condor") rows)
-IsRequestOf command rows (Run dag options) = (command ≡ codes "run") × (dag.now ≡ dag_of rows) × AreOptionsOf rows options
-IsRequestOf command rows (Status dag) = (command ≡ codes "status") × (dag.now ≡ dag_of rows)
-IsRequestOf command rows (Audit dag) = (command ≡ codes "audit") × (dag.now ≡ dag_of rows)
-IsRequestOf command rows (Rehearse dag outcomes limits always_post) = (command ≡ codes "rehearse") × (dag.now ≡ dag_of rows)
-    × (option_map (λ t. t.now) outcomes ≡ first_of (codes "OUTCOMES") rows) × (limits ≡ limits_of rows)
+IsRequestOf command rows (Run dag options) = (command ≡ codes "run") × (dag.now ≡ dag_path rows) × AreOptionsOf rows options
+IsRequestOf command rows (Status dag) = (command ≡ codes "status") × (dag.now ≡ dag_path rows)
+IsRequestOf command rows (Audit dag) = (command ≡ codes "audit") × (dag.now ≡ dag_path rows)
+IsRequestOf command rows (Rehearse dag outcomes limits always_post) = (command ≡ codes "rehearse") × (dag.now ≡ dag_path rows)
+    × (option_map (λ t. t.now) outcomes ≡ first_of (codes "OUTCOMES") rows) × (limits ≡ limits_asked rows)
     × (always_post ≡ is_set (codes "always-run-post") rows)
-IsRequestOf command rows (Graph dag) = (command ≡ codes "graph") × (dag.now ≡ dag_of rows)
-IsRequestOf command rows (Why dag nodes) = (command ≡ codes "why") × (dag.now ≡ dag_of rows) × (map (λ n. n.now) nodes.items ≡ nodes_of rows)
-IsRequestOf command rows (Times dag svg) = (command ≡ codes "times") × (dag.now ≡ dag_of rows) × (svg ≡ is_set (codes "svg") rows)
-IsRequestOf command rows (Salvage dag) = (command ≡ codes "salvage") × (dag.now ≡ dag_of rows)
+IsRequestOf command rows (Graph dag) = (command ≡ codes "graph") × (dag.now ≡ dag_path rows)
+IsRequestOf command rows (Why dag nodes) = (command ≡ codes "why") × (dag.now ≡ dag_path rows) × (map (λ n. n.now) nodes.items ≡ nodes_asked rows)
+IsRequestOf command rows (Times dag svg) = (command ≡ codes "times") × (dag.now ≡ dag_path rows) × (svg ≡ is_set (codes "svg") rows)
+IsRequestOf command rows (Salvage dag) = (command ≡ codes "salvage") × (dag.now ≡ dag_path rows)
 IsRequestOf command rows (Page text) = IsPageOf command rows (string_bytes text)
 
 -- what the command asks for that was matched to words; where none was, a rehearsal of standard input

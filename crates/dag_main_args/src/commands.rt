@@ -384,7 +384,7 @@ fn examples_of(command: Option<&str>) -> &'static str {
 /// How a command is called, or for no command which there are: clap's help text, and examples.
 ///
 /// # Errors
-/// `Told` with clap's text where there is no such command; `Memory`.
+/// `Refused` with clap's text where there is no such command; `Memory`.
 pub(crate) fn help_text(alloc: Global, command: Option<&str>) -> Result<String, WordsFault>
     ensures { IfErr result (λ fault. (fault ≡ WordsFault.Memory) ⊎ HasNoHelp (option_map (λ c. c.now) command.entry)) }
 {
@@ -411,11 +411,11 @@ fn clap_help(alloc: Global, words: &[&str]) -> Result<String, WordsFault>
     match dagrun_command(alloc, false)?.try_get_matches_from(words) {
         Ok(_) => Ok(String::new(alloc)),
         Err(error) => match told(alloc, &error) {
-            WordsFault::Told(text) => {
+            WordsFault::Refused(text) => {
                 if error.kind() == ErrorKind::DisplayHelp {
                     Ok(text)
                 } else {
-                    Err(WordsFault::Told(text))
+                    Err(WordsFault::Refused(text))
                 }
             }
             WordsFault::Memory => Err(WordsFault::Memory),

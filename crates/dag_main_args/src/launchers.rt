@@ -28,7 +28,7 @@ fn begins_empty(words: &Texts) -> bool
 /// The words of a launcher's text, which are split as the arguments of a submit file are; none where it is not given.
 ///
 /// # Errors
-/// `Told` of a text in new style whose quotes don't go together, or whose first word is empty; `Memory`.
+/// `Refused` of a text in new style whose quotes don't go together, or whose first word is empty; `Memory`.
 pub(crate) fn launcher_in(alloc: Global, text: Option<&str>) -> Result<Texts, WordsFault>
     ensures words { IfOk result (λ words. launching.IsLauncherOf (option_map (λ t. t.now) text.entry) words) }
     ensures refused { IfErr result (λ fault. (fault ≡ WordsFault.Memory) ⊎ launching.HasNoLauncher (option_map (λ t. t.now) text.entry)) }
@@ -38,12 +38,12 @@ pub(crate) fn launcher_in(alloc: Global, text: Option<&str>) -> Result<Texts, Wo
     };
     match split_arguments(alloc, text) {
         Ok(words) if begins_empty(&words) => {
-            Err(WordsFault::Told(refused(alloc, text, "its program has no name")?))
+            Err(WordsFault::Refused(refused(alloc, text, "its program has no name")?))
         }
         Ok(words) => Ok(words),
         Err(fault) => match fault {
             MacroFault::Memory => Err(WordsFault::Memory),
-            _ => Err(WordsFault::Told(refused(alloc, text, "a quote stands alone")?)),
+            _ => Err(WordsFault::Refused(refused(alloc, text, "a quote stands alone")?)),
         },
     }
 }

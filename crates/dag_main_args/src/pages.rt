@@ -18,7 +18,7 @@ fn unknown(alloc: Global, code: &str) -> Result<String, AllocError> {
 /// fault.
 ///
 /// # Errors
-/// `Told` where no fault has this code; `Memory`.
+/// `Refused` where no fault has this code; `Memory`.
 pub(crate) fn explained(alloc: Global, code: Option<&str>) -> Result<String, WordsFault>
     ensures page { IfOk result (λ text. IsExplained (option_map (λ c. c.now) code.entry) (string_bytes text)) }
     ensures refused { IfErr result (λ fault. (fault ≡ WordsFault.Memory) ⊎ IsUnexplained (option_map (λ c. c.now) code.entry)) }
@@ -29,6 +29,6 @@ pub(crate) fn explained(alloc: Global, code: Option<&str>) -> Result<String, Wor
     };
     match fault_of(&faults, code) {
         Some(fault) => Ok(page_text(alloc, fault)?),
-        None => Err(WordsFault::Told(unknown(alloc, code)?)),
+        None => Err(WordsFault::Refused(unknown(alloc, code)?)),
     }
 }

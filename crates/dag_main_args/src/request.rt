@@ -172,7 +172,7 @@ pub enum Request<'a> {
 #[derive(Debug, Drop)]
 pub enum WordsFault {
     /// What is to be printed: how they are wrong, or the help for which they call.
-    Told(String),
+    Refused(String),
     /// Memory was refused.
     Memory,
 }
@@ -193,21 +193,21 @@ pub(crate) fn told(alloc: Global, error: &Error) -> WordsFault
         return WordsFault::Memory;
     }
     match format!(in alloc; "{error}") {
-        Ok(text) => WordsFault::Told(text),
+        Ok(text) => WordsFault::Refused(text),
         Err(_) => WordsFault::Memory,
     }
 }
 
 /// The number of 16 bits that an option has.
 fn number_of(found: &ArgMatches<'_>, name: &str) -> Option<u16>
-    ensures { result ≡ matched.number_of 16 name.now (rows_of (found_of found.now)) }
+    ensures { result ≡ matched.number_asked 16 name.now (rows_of (found_of found.now)) }
 {
     found.get_one::<u16>(name)
 }
 
 /// The number of 8 bits that an option has.
 fn small_number_of(found: &ArgMatches<'_>, name: &str) -> Option<u8>
-    ensures { result ≡ matched.number_of 8 name.now (rows_of (found_of found.now)) }
+    ensures { result ≡ matched.number_asked 8 name.now (rows_of (found_of found.now)) }
 {
     found.get_one::<u8>(name)
 }
@@ -249,7 +249,7 @@ fn is_given_as(found: &ArgMatches<'_>, name: &str, word: &str) -> bool
 /// The limit of this name; 0, which is none, where it is not given.
 fn limit_of(found: &ArgMatches<'_>, name: &str) -> u32
     ensures fits { result < 65536 }
-    ensures value { result ≡ matched.limit_of name.now (rows_of (found_of found.now)) }
+    ensures value { result ≡ matched.limit_option name.now (rows_of (found_of found.now)) }
 {
     match number_of(found, name) {
         Some(limit) => u32::from(limit),
@@ -260,7 +260,7 @@ fn limit_of(found: &ArgMatches<'_>, name: &str) -> u32
 /// The limits of a run.
 fn limits_of(found: &ArgMatches<'_>) -> Limits
     ensures fit { AreLimits result }
-    ensures value { result ≡ matched.limits_of (rows_of (found_of found.now)) }
+    ensures value { result ≡ matched.limits_asked (rows_of (found_of found.now)) }
 {
     Limits {
         jobs: limit_of(found, "maxjobs"),
@@ -299,7 +299,7 @@ fn progress_of(found: &ArgMatches<'_>) -> ProgressRule
 /// The options of a run.
 ///
 /// # Errors
-/// `Told` where the launcher is no words; `Memory`.
+/// `Refused` where the launcher is no words; `Memory`.
 fn options_of(alloc: Global, found: &ArgMatches<'_>) -> Result<RunOptions, WordsFault>
     ensures fit { IfOk result (λ options. AreLimits options.limits) }
     ensures asked { IfOk result (λ options. matched.AreOptionsOf (rows_of (found_of found.now)) options) }
@@ -322,7 +322,7 @@ fn options_of(alloc: Global, found: &ArgMatches<'_>) -> Result<RunOptions, Words
 
 /// The path of the DAG file, which each command has.
 fn dag_of<'a>(found: &ArgMatches<'a>) -> &'a str
-    ensures { result.now ≡ matched.dag_of (rows_of (found_of found.now)) }
+    ensures { result.now ≡ matched.dag_path (rows_of (found_of found.now)) }
 {
     match value_of(found, "DAG") {
         Some(path) => path,
@@ -332,7 +332,7 @@ fn dag_of<'a>(found: &ArgMatches<'a>) -> &'a str
 
 /// The nodes that are asked for, in their order.
 fn nodes_of<'a>(alloc: Global, found: &ArgMatches<'a>) -> Result<Vec<&'a str>, AllocError>
-    ensures { IfOk result (λ nodes. map (λ n. n.now) nodes.items ≡ matched.nodes_of (rows_of (found_of found.now))) }
+    ensures { IfOk result (λ nodes. map (λ n. n.now) nodes.items ≡ matched.nodes_asked (rows_of (found_of found.now))) }
 {
     let mut nodes = Vec::new(alloc);
     match found.get_strs("NODE") {
@@ -370,7 +370,7 @@ fn page_of<'a>(
     found: &ArgMatches<'a>,
 ) -> Result<Request<'a>, WordsFault>
     ensures fit { IfOk result (λ request. IfSome (limits_in (asked_by request)) AreLimits) }
-    ensures asked { IfOk result (λ request. matched.is_among matched.page_names command.now ≡ true
+    ensures asked { IfOk result (λ request. matched.is_text_among matched.page_names command.now ≡ true
         → matched.IsRequestOf command.now (rows_of (found_of found.now)) request) }
     ensures refused { IfErr result (λ fault. (fault ≡ WordsFault.Memory) ⊎ AsksForNone command.now (rows_of (found_of found.now))) }
 {
@@ -401,7 +401,7 @@ fn asked_for<'a>(
     found: &ArgMatches<'a>,
 ) -> Result<Request<'a>, WordsFault>
     ensures fit { IfOk result (λ request. IfSome (limits_in (asked_by request)) AreLimits) }
-    ensures asked { IfOk result (λ request. matched.is_among matched.command_names command.now ≡ true
+    ensures asked { IfOk result (λ request. matched.is_text_among matched.command_names command.now ≡ true
         → matched.IsRequestOf command.now (rows_of (found_of found.now)) request) }
     ensures refused { IfErr result (λ fault. (fault ≡ WordsFault.Memory) ⊎ AsksForNone command.now (rows_of (found_of found.now))) }
 {
@@ -435,7 +435,7 @@ fn asked_for<'a>(
 /// The request that the matches of the words say.
 fn request_of<'a>(alloc: Global, matches: &ArgMatches<'a>) -> Result<Request<'a>, WordsFault>
     ensures fit { IfOk result (λ request. IfSome (limits_in (asked_by request)) AreLimits) }
-    ensures asked { IfOk result (λ request. option_map_or (λ p. matched.is_among matched.command_names p.0) (subcommand_rows_of matches.now) true ≡ true
+    ensures asked { IfOk result (λ request. option_map_or (λ p. matched.is_text_among matched.command_names p.0) (subcommand_rows_of matches.now) true ≡ true
         → matched.AsksFor (subcommand_rows_of matches.now) request) }
     ensures refused { IfErr result (λ fault. (fault ≡ WordsFault.Memory) ⊎ AsksNothing (subcommand_rows_of matches.now)) }
 {
@@ -461,7 +461,7 @@ fn refusal(alloc: Global, words: &[&str]) -> WordsFault {
         return WordsFault::Memory;
     };
     match command.try_get_matches_from(words) {
-        Ok(_) => WordsFault::Told(String::new(alloc)),
+        Ok(_) => WordsFault::Refused(String::new(alloc)),
         Err(error) => told(alloc, &error),
     }
 }
@@ -470,7 +470,7 @@ fn refusal(alloc: Global, words: &[&str]) -> WordsFault {
 /// others, they ask for a rehearsal of standard input.
 ///
 /// # Errors
-/// `Told` with clap's text, where the words are no command as clap reads them, or call for help by an
+/// `Refused` with clap's text, where the words are no command as clap reads them, or call for help by an
 /// option, where a page is asked for that there is not, and where a launcher can't be split into words;
 /// `Memory` where it was refused.
 pub fn read_words<'a>(alloc: Global, words: &'a [&'a str]) -> Result<Request<'a>, WordsFault>

@@ -4,7 +4,7 @@ use Rattle.splices_flat.specs.Dag.{Dag}
 use Rattle.splices_flat.specs.Opening.{Files}
 use Rattle.splices_flat.specs.Opened.{dag_at}
 use Rattle.dag_graph.specs.Graph.{IsAcyclic}
-use Rattle.run_plan.specs.Submitted.{first_fault, all_nodes}
+use Rattle.run_plan.specs.Submitted.{first_plan_fault, all_nodes}
 use Rattle.dag_main_check.specs.Checked.{IsCheckOf, IsCheckFault, checking_had_no_memory, ok_line}
 use Rattle.dag_main_check.specs.Warnings.{warning_lines}
 use Rattle.dag_main_check.specs.declared.fault.RunFault.{RunFault}
@@ -13,7 +13,7 @@ use Rattle.dag_main_check.specs.declared.warnings.Answer.{Answer}
 
 -- the line and the warnings of a sound DAG
 pub is_check : (files : Files) (path : List ℕ) (dag : Dag) (answer : Result Answer RunFault) → dag_at files path ≡ Ok dag → IsAcyclic dag.edges →
-    first_fault (Some files) (all_nodes dag) ≡ Ok tt → IfOk answer (λ (a : Answer). string_bytes a.text ≡ ok_line dag) →
+    first_plan_fault (Some files) (all_nodes dag) ≡ Ok tt → IfOk answer (λ (a : Answer). string_bytes a.text ≡ ok_line dag) →
     IfOk answer (λ (a : Answer). string_bytes a.warnings ≡ warning_lines dag.warnings) → IfOk answer (λ (a : Answer). a.status ≡ 0) →
     IfOk answer (λ (a : Answer). IsCheckOf files path (string_bytes a.text) (string_bytes a.warnings) a.status)
 is_check files path dag (Ok a) opened acyclic sound text warnings status =

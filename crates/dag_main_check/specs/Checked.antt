@@ -7,7 +7,7 @@ use Rattle.splices_flat.specs.Opening.{Files}
 use Rattle.splices_flat.specs.Opened.{dag_at}
 use Rattle.dag_graph.specs.Graph.{IsAcyclic, edge_count_of}
 use Rattle.run_plan.specs.PlanAnswers.{is_memory}
-use Rattle.run_plan.specs.Submitted.{first_fault, all_nodes}
+use Rattle.run_plan.specs.Submitted.{first_plan_fault, all_nodes}
 use Rattle.run_plan.specs.declared.fault.PlanFault.{PlanFault}
 use Rattle.dag_main_check.specs.declared.fault.RunFault.{RunFault}
 use Rattle.dag_main_check.specs.declared.fault.RunFault.TheVariants.{InPlan, Memory}
@@ -29,7 +29,7 @@ pub record IsCheckOf (files : Files) (path text warnings : List ℕ) (status : �
   pub dag : Dag
   pub is_dag : dag_at files path ≡ Ok dag
   pub acyclic : IsAcyclic dag.edges
-  pub sound : first_fault (Some files) (all_nodes dag) ≡ Ok tt
+  pub sound : first_plan_fault (Some files) (all_nodes dag) ≡ Ok tt
   pub text_is : text ≡ ok_line dag
   pub warnings_are : warnings ≡ warning_lines dag.warnings
   pub status_is : status ≡ 0
@@ -39,7 +39,7 @@ pub record IsCheckOf (files : Files) (path text warnings : List ℕ) (status : �
 pub data IsCheckFault (files : Files) (path : List ℕ) : RunFault → Type 0 where
   has_no_graph : (fault : RunFault) → IsGraphFault files path fault → IsCheckFault files path fault
   not_sound : (dag : Dag) (fault : PlanFault) → dag_at files path ≡ Ok dag → IsAcyclic dag.edges →
-      first_fault (Some files) (all_nodes dag) ≡ Err fault → IsCheckFault files path (InPlan fault)
+      first_plan_fault (Some files) (all_nodes dag) ≡ Err fault → IsCheckFault files path (InPlan fault)
   checking_had_no_memory : IsCheckFault files path Memory
 
 -- a fault of the plan, as that of a command

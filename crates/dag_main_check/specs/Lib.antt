@@ -1,5 +1,5 @@
 pub mod Warnings
 pub mod Checked
 pub mod Planned
-pub mod Told
+pub mod ByPlan
 pub mod Displayed

@@ -4,6 +4,10 @@ use Rattle.splices_flat.specs.Dag.{Dag}
 use Rattle.splices_flat.specs.Opening.{Files}
 use Rattle.splices_flat.specs.Opened.{dag_at}
 use Rattle.splices_flat.specs.declared.fault.DagFault.{DagFault}
+use Rattle.splices_flat.specs.declared.fault.SpliceFault.{SpliceFault}
+use Rattle.splices_flat.specs.declared.fault.SpliceFault.TheVariants as splices
+use Rattle.dag_graph.specs.declared.fault.GraphFault.{GraphFault}
+use Rattle.dag_graph.specs.declared.fault.GraphFault.TheVariants as graphs
 use Rattle.dag_graph.specs.Graph.{Network, IsAcyclic, IsOrderOf}
 use Rattle.dag_graph.specs.Cycles.{NamesCycle}
 use Rattle.run_plan.specs.Plan.{Plan}
@@ -19,6 +23,15 @@ use Rattle.dag_main_check.specs.declared.fault.RunFault.TheVariants.{InFiles, Cy
 pub record IsGraphOf (files : Files) (path : List ℕ) (graph : Network) : Type 0 where
   pub is_dag : dag_at files path ≡ Ok graph.dag
   pub acyclic : IsAcyclic graph.dag.edges
+
+-- a fault of opening files and one of a graph, as that of a command
+abbrev pub in_files : SpliceFault → RunFault
+in_files (splices.Dag fault) = InFiles fault
+in_files splices.Memory = Memory
+
+abbrev pub in_graph : GraphFault → RunFault
+in_graph (graphs.Cycle names) = Cycle names
+in_graph graphs.Memory = Memory
 
 -- why the files of a path make no graph: opening them meets a fault; a node is its own ancestor; memory ran out
 pub data IsGraphFault (files : Files) (path : List ℕ) : RunFault → Type 0 where

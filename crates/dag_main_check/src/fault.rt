@@ -2,14 +2,16 @@
 
 ghost use Rattle.std.specs.Prelude.{◌≡◌};
 ghost use Rattle.dag_main_check.specs.Displayed.{line_in};
+ghost use Rattle.dag_main_check.specs.Planned.{in_files, in_graph};
 ghost use Rattle.dag_main_check.specs.declared.fault.RunFault.TheVariants.{Memory};
 
+use dag_graph::GraphFault;
 use dag_reader::{Text, Texts};
 use node_machine::TableFault;
 use recovery_manager::ManagerFault;
 use rescue_file::RescueFault;
 use run_plan::PlanFault;
-use splices_flat::DagFault;
+use splices_flat::{DagFault, SpliceFault};
 use std::alloc::{AllocError, AllocFailed};
 use std::fmt;
 use thiserror::Error;
@@ -88,6 +90,28 @@ impl fmt::Display for RunFault {
 impl fmt::Debug for RunFault {
     fn fmt<W: fmt::Write>(&self, f: &mut fmt::Formatter<W>) -> fmt::Result {
         fmt::Display::fmt(self, f)
+    }
+}
+
+impl From<SpliceFault> for RunFault {
+    ghost from_gives = { λ refusal fault. fault ≡ in_files refusal };
+
+    fn from(refusal: SpliceFault) -> RunFault {
+        match refusal {
+            SpliceFault::Dag(fault) => RunFault::InFiles(fault),
+            SpliceFault::Memory => RunFault::Memory,
+        }
+    }
+}
+
+impl From<GraphFault> for RunFault {
+    ghost from_gives = { λ refusal fault. fault ≡ in_graph refusal };
+
+    fn from(refusal: GraphFault) -> RunFault {
+        match refusal {
+            GraphFault::Cycle(names) => RunFault::Cycle(names),
+            GraphFault::Memory => RunFault::Memory,
+        }
     }
 }
 

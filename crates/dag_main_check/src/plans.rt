@@ -5,39 +5,28 @@ ghost use Rattle.std.specs.Option.{option_map};
 ghost use Rattle.splices_flat.specs.FileSet.{bytes_of, entries_of};
 ghost use Rattle.splices_flat.specs.Opened.{dag_at};
 ghost use Rattle.dag_graph.specs.Graph.{IsAcyclic};
-ghost use Rattle.run_plan.specs.Submitted.{first_fault, all_nodes};
+ghost use Rattle.run_plan.specs.Submitted.{first_plan_fault, all_nodes};
 ghost use Rattle.dag_main_check.specs.Checked.{IsCheckFault, in_plan};
 ghost use Rattle.dag_main_check.specs.Planned.{IsGraphOf, IsGraphFault, IsPlanOf, IsPlanBy, IsPlanByFault, IsPlanWith, IsPlanWithFault};
 
 use crate::fault::RunFault;
-use dag_graph::{Graph, GraphFault};
+use dag_graph::Graph;
 use run_plan::{Plan, PlanFault};
 use splices::open_dag;
-use splices_flat::{FileSet, FlatDag, SpliceFault};
+use splices_flat::FileSet;
 use std::alloc::Global;
 
-fn dag_of(alloc: Global, files: &FileSet, path: &str) -> Result<FlatDag, RunFault>
-    ensures dag { IfOk result (λ dag. dag_at (bytes_of files.now) path.now ≡ Ok dag) }
-    ensures refused { IfErr result (IsGraphFault (bytes_of files.now) path.now) }
-{
-    match open_dag(alloc, files, path) {
-        Ok(dag) => Ok(dag),
-        Err(SpliceFault::Memory) => Err(RunFault::Memory),
-        Err(SpliceFault::Dag(fault)) => Err(RunFault::InFiles(fault)),
-    }
-}
-
 /// The graph of the files of this path.
+///
+/// # Errors
+/// The first fault that opening the files meets, then a cycle; want of memory.
 pub fn graph_of(alloc: Global, files: &FileSet, path: &str) -> Result<Graph, RunFault>
     ensures graph { IfOk result (IsGraphOf (bytes_of files.now) path.now) }
     ensures refused { IfErr result (IsGraphFault (bytes_of files.now) path.now) }
 {
-    let dag = dag_of(alloc, files, path)?;
-    match Graph::build(alloc, dag) {
-        Ok(graph) => Ok(graph),
-        Err(GraphFault::Memory) => Err(RunFault::Memory),
-        Err(GraphFault::Cycle(names)) => Err(RunFault::Cycle(names)),
-    }
+    let dag = open_dag(alloc, files, path)?;
+    let graph = Graph::build(alloc, dag)?;
+    Ok(graph)
 }
 
 /// The plan of the files of this path, with no submit file read. With `always_post` the POST script
@@ -65,7 +54,7 @@ pub fn plan_of(
 pub(crate) fn full_plan_of(alloc: Global, files: &FileSet, path: &str) -> Result<Plan, RunFault>
     ensures dag { IfOk result (λ plan. dag_at (bytes_of files.now) path.now ≡ Ok plan.graph.dag) }
     ensures acyclic { IfOk result (λ plan. IsAcyclic plan.graph.dag.edges) }
-    ensures sound { IfOk result (λ plan. first_fault (Some (bytes_of files.now)) (all_nodes plan.graph.dag) ≡ Ok tt) }
+    ensures sound { IfOk result (λ plan. first_plan_fault (Some (bytes_of files.now)) (all_nodes plan.graph.dag) ≡ Ok tt) }
     ensures refused { IfErr result (IsCheckFault (bytes_of files.now) path.now) }
 {
     let graph = graph_of(alloc, files, path)?;

@@ -4,7 +4,7 @@ use Rattle.std.proofs.lemmas.Bool.{cases_lt}
 use Rattle.std.proofs.lemmas.List.Elements.{All-nil, All-push, Contains-push, Contains-append_left}
 use Rattle.std.proofs.lemmas.List.Quantifiers.{all_pairs_push}
 use Rattle.std.specs.List.{All, Contains}
-use Rattle.rescue_file.specs.Numbered.{IsNumber, rescue_name_of, IsHighest}
+use Rattle.rescue_file.specs.Numbered.{IsFileNumber, rescue_name_of, IsHighest}
 use Rattle.dag_main_files.specs.Rescues.{AreAbove}
 
 -- Those above a number, which are above a bound too.
@@ -19,7 +19,7 @@ none_found names top from highest is = record {
   above = record {
     falling = λ i j d before in'. absurd (omega (arith, in'));
     above = All-nil (λ n. highest < n);
-    named = All-nil IsNumber;
+    named = All-nil IsFileNumber;
     there = All-nil (λ n. Contains names (rescue_name_of top n));
     all = λ n more most has. absurd (is.above n more most has);
   };
@@ -36,7 +36,7 @@ module _ (names : List (List ℕ)) (top : List ℕ) (from number below : ℕ) (n
         above = record {
           falling = all_pairs_push (λ n later. later < n) numbers number so_far.falling (λ k d in'. so_far.above k d in');
           above = All-push (λ n. below < n) numbers number (λ k d in'. let higher = so_far.above k d in' in omega arith) (omega arith);
-          named = All-push IsNumber numbers number so_far.named (let least : 1 ≤ number = omega arith in (least, within));
+          named = All-push IsFileNumber numbers number so_far.named (let least : 1 ≤ number = omega arith in (least, within));
           there = All-push (λ n. Contains names (rescue_name_of top n)) numbers number so_far.there has;
           all = λ n higher most is. ⊎_elim
               (λ (over : number < n). Contains-append_left numbers (number ∷ []) n (so_far.all n over most is))

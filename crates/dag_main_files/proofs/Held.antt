@@ -7,7 +7,7 @@ use Rattle.splices_flat.specs.Opening.{Files}
 use Rattle.splices_flat.specs.FileSet.{bytes_of}
 use Rattle.splices_flat.specs.declared.file_set.FileSet.{FileSet}
 use Rattle.rescue_file.specs.Numbered.{rescue_name_of}
-use Rattle.dag_main_files.specs.Folder.{AreHeld, Keeps, rescue_in}
+use Rattle.dag_main_files.specs.Folder.{AreHeld, KeepsFiles, rescue_in}
 
 module _ (old new : FileSet) (name bytes : List ℕ) (added : bytes_of new name ≡ Some bytes)
     (others : (other : List ℕ) → other ≢ name → bytes_of new other ≡ bytes_of old other) where
@@ -19,7 +19,7 @@ module _ (old new : FileSet) (name bytes : List ℕ) (added : bytes_of new name 
       (λ differs. before path found (sym (others path (λ here. both_ways (bytes_eq path name) differs ((bytes_eq-Decides path name).1 here))) ∙ at))
       (cases_Bool (bytes_eq path name))
 
-  pub kept-added : bytes_of old name ≡ None → Keeps old new
+  pub kept-added : bytes_of old name ≡ None → KeepsFiles old new
   kept-added missing path found at = ⊎_elim
       (λ same.
       let here : path ≡ name = (bytes_eq-Decides path name).0 same in

@@ -4,7 +4,7 @@ use Rattle.event_journal_log.specs.declared.fault.JournalFault.{JournalFault}
 use Rattle.event_journal_log.specs.declared.fault.JournalFault.TheVariants as faults
 use Rattle.event_journal_log.specs.declared.journal.Peek.{Peek}
 use Rattle.event_journal_log.specs.Image.{Found, replay_of}
-use Rattle.event_journal_log.specs.Journal.{IsReadFault}
+use Rattle.event_journal_log.specs.Journal.{IsReadFault, read_failed, read_had_no_memory, reads_no_journal, reads_version, reads_other_inputs, reads_other_flag, reads_bad_slot}
 use Rattle.event_journal_log.specs.Peeks.{ReadsPeek}
 use Rattle.event_journal_log.specs.Reading.{RefusedAs}
 use Rattle.dag_main_files.specs.declared.rounds.Journaled.TheVariants as journals
@@ -12,7 +12,7 @@ use Rattle.dag_main_files.specs.declared.rounds.Round.{Round}
 use Rattle.splices_flat.specs.Opening.{Files}
 use Rattle.dag_main_check.specs.declared.fault.RunFault.{RunFault}
 use Rattle.dag_main_files.specs.Folder.{journal_in, IsRoundFrom}
-use Rattle.dag_main_files.specs.Beside.{goes_on, GoesOnBy, HasFound, HasJournal, IsJournalFault, journal_refused, peeking_had_no_memory}
+use Rattle.dag_main_files.specs.Beside.{goes_on, GoesOnBy, IsRoundFound, HasJournal, IsJournalFault, journal_refused, peeking_had_no_memory}
 use Rattle.dag_main_files.specs.Journals.{read_fault, IsUnread, bad_journal, reading_had_no_memory}
 
 module _ (read : Result (Option Found) JournalFault) (round : Round) where
@@ -21,11 +21,11 @@ module _ (read : Result (Option Found) JournalFault) (round : Round) where
 
   pub of-finished : (peek : Peek) → ReadsPeek (Some peek) read → peek.finished ≡ true → round.journal ≡ journals.Finished → HasJournal read round
   of-finished peek (found, is, used, next, flag, ended) over finished =
-      subst (λ r. HasJournal r round) (sym is) (subst (λ b. HasFound b found round) (sym (ended ∙ over)) finished)
+      subst (λ r. HasJournal r round) (sym is) (subst (λ b. IsRoundFound b found round) (sym (ended ∙ over)) finished)
 
   pub of-unfinished : (peek : Peek) → ReadsPeek (Some peek) read → peek.finished ≡ false → GoesOnBy peek.used peek.next peek.always_post round → HasJournal read round
   of-unfinished peek (found, is, used, next, flag, ended) unended header =
-      subst (λ r. HasJournal r round) (sym is) (subst (λ b. HasFound b found round) (sym (ended ∙ unended))
+      subst (λ r. HasJournal r round) (sym is) (subst (λ b. IsRoundFound b found round) (sym (ended ∙ unended))
       (record { goes_on_is = header.goes_on_is; used_is = header.used_is ∙ sym used; next_is = header.next_is ∙ sym next; flag_is = header.flag_is ∙ sym flag }))
 
 -- a journal that can't be read
@@ -43,16 +43,13 @@ unread journal (faults.BadSlot slot) is = bad_journal (faults.BadSlot slot) is
 
 -- its fault is one of a journal, or memory ran out
 pub of-journal : (fault : JournalFault) → IsReadFault fault → IsJournalFault (read_fault fault)
-of-journal faults.Memory is = peeking_had_no_memory
-of-journal faults.Device is = peeking_had_no_memory
-of-journal faults.DiskFull is = absurd is
-of-journal faults.NotAJournal is = journal_refused faults.NotAJournal is
-of-journal (faults.Version v) is = journal_refused (faults.Version v) is
-of-journal faults.OtherInputs is = journal_refused faults.OtherInputs is
-of-journal faults.OtherFlag is = journal_refused faults.OtherFlag is
-of-journal faults.SlotsFull is = absurd is
-of-journal faults.Broken is = absurd is
-of-journal (faults.BadSlot slot) is = journal_refused (faults.BadSlot slot) is
+of-journal _ read_had_no_memory = peeking_had_no_memory
+of-journal _ read_failed = peeking_had_no_memory
+of-journal _ reads_no_journal = journal_refused faults.NotAJournal reads_no_journal
+of-journal _ (reads_version v) = journal_refused (faults.Version v) (reads_version v)
+of-journal _ reads_other_inputs = journal_refused faults.OtherInputs reads_other_inputs
+of-journal _ reads_other_flag = journal_refused faults.OtherFlag reads_other_flag
+of-journal _ (reads_bad_slot slot) = journal_refused (faults.BadSlot slot) (reads_bad_slot slot)
 
 -- a round that goes on is the one that is found where a journal is held that has not ended
 pub goes-on : (holds : Files) (has : List ℕ → Bool) (top : List ℕ) (autorescue always_post : Bool) (peek : Peek) (result : Result Round RunFault)

@@ -1,11 +1,11 @@
 -- What stands beside a DAG file, and what is told of it.
 use Rattle.std.specs.Prelude.{◌≡◌, ◌≢◌, ◌<◌, ◌≤◌, ◌+◌, ◌-◌, ℕ, Bool, true, false, nat_lt, List, ◌++◌, length, slice_index, Option, Some, None, Result, Ok, Err, is_some, codes, string_bytes, String, if◌then◌else◌}
 use Rattle.std.specs.Global.{Global}
-use Rattle.rescue_file.specs.Numbered.{IsNumber}
+use Rattle.rescue_file.specs.Numbered.{IsFileNumber}
 use Rattle.event_journal_log.specs.declared.fault.JournalFault.{JournalFault}
 use Rattle.event_journal_log.specs.Journal.{IsReadFault}
 use Rattle.event_journal_log.specs.Image.{Found}
-use Rattle.event_journal_log.specs.Peeks.{is_finished}
+use Rattle.event_journal_log.specs.Peeks.{ends_with_finish}
 use Rattle.recovery_manager.specs.declared.fault.ManagerFault.TheVariants as manager
 use Rattle.dag_main_files.specs.declared.rounds.Journaled.{Journaled}
 use Rattle.dag_main_files.specs.declared.rounds.Journaled.TheVariants as journals
@@ -55,7 +55,7 @@ pub data IsJournalFault : RunFault → Type 0 where
 -- where a round is to go back to a rescue file, its number is one that such a file can have
 abbrev pub MayGoBack : Option ℕ → Type 0
 MayGoBack None = Unit {0}
-MayGoBack (Some number) = IsNumber number
+MayGoBack (Some number) = IsFileNumber number
 
 -- Why it is not told which round this is, the first cause first. The rescue file is not there to which the round is to go back, if it is to:
 -- no file has its number, or it is missing; then, the journal can't be read; the run is to go back and has not ended; it is to go on, and the
@@ -63,8 +63,8 @@ MayGoBack (Some number) = IsNumber number
 pub data IsRoundFault (from : Option ℕ) : RunFault → Type 0 where
   not_there : (number : ℕ) → from ≡ Some number → IsRoundFault from (NotThere number)
   journal_not_read : (fault : RunFault) → MayGoBack from → IsJournalFault fault → IsRoundFault from fault
-  not_ended : (number : ℕ) → from ≡ Some number → IsNumber number → IsRoundFault from Unfinished
-  no_such_number : (number : ℕ) → from ≡ None → ¬ (IsNumber number) → IsRoundFault from (NotThere number)
+  not_ended : (number : ℕ) → from ≡ Some number → IsFileNumber number → IsRoundFault from Unfinished
+  no_such_number : (number : ℕ) → from ≡ None → ¬ (IsFileNumber number) → IsRoundFault from (NotThere number)
   folder_not_read : (fault : RunFault) → MayGoBack from → IsFileFault fault → IsRoundFault from fault
 
 -- the number behind the highest; 999 is written again
@@ -83,7 +83,7 @@ BeginsAnew journals.Unfinished = ⊥
 pub data IsRoundWith (Counts : ℕ → Type 0) (autorescue : Bool) (from : Option ℕ) (always_post : Bool) (round : Round) : Type 0 where
   begins_anew : (highest : ℕ) → from ≡ None → Counts highest → BeginsAnew round.journal → round.used ≡ (if autorescue then highest else 0) →
       round.next ≡ number_behind highest → round.goes_back ≡ false → round.always_post ≡ always_post → IsRoundWith Counts autorescue from always_post round
-  goes_back : (number : ℕ) → from ≡ Some number → IsNumber number → BeginsAnew round.journal → round.used ≡ number →
+  goes_back : (number : ℕ) → from ≡ Some number → IsFileNumber number → BeginsAnew round.journal → round.used ≡ number →
       round.next ≡ number_behind number → round.goes_back ≡ true → round.always_post ≡ always_post → IsRoundWith Counts autorescue from always_post round
   goes_on : from ≡ None → round.journal ≡ journals.Unfinished → round.goes_back ≡ false → IsRoundWith Counts autorescue from always_post round
 
@@ -99,15 +99,15 @@ pub record GoesOnBy (used next : ℕ) (always_post : Bool) (round : Round) : Typ
   pub flag_is : round.always_post ≡ always_post
 
 -- what becomes of a journal with this header, by whether its last record is Finish
-abbrev pub HasFound : Bool → Found → Round → Type 0
-HasFound true found round = round.journal ≡ journals.Finished
-HasFound false found round = GoesOnBy found.header.used found.header.next found.header.always_post round
+abbrev pub IsRoundFound : Bool → Found → Round → Type 0
+IsRoundFound true found round = round.journal ≡ journals.Finished
+IsRoundFound false found round = GoesOnBy found.header.used found.header.next found.header.always_post round
 
 -- A round is that of the journal which reading gives: it begins where there is none, or that of a run which has ended; it goes on by the header
 -- of one that has not.
 abbrev pub HasJournal : Result (Option Found) JournalFault → Round → Type 0
 HasJournal (Ok None) round = round.journal ≡ journals.Nothing
-HasJournal (Ok (Some found)) round = HasFound (is_finished found.records) found round
+HasJournal (Ok (Some found)) round = IsRoundFound (ends_with_finish found.records) found round
 HasJournal (Err fault) round = ⊥
 
 -- the bytes of the rescue file of a round: none where it reads none, and some where it goes back
@@ -116,6 +116,6 @@ pub record IsRescueOf (round : Round) (rescue : Option (List ℕ)) : Type 0 wher
   pub one_read : round.goes_back ≡ true → is_some rescue ≡ true
 
 -- Why it is not told which they are: the file is missing to which the round goes back; the system refuses it; memory ran out.
-pub data IsRescueFault (round : Round) : RunFault → Type 0 where
-  missing : round.goes_back ≡ true → IsRescueFault round (NotThere round.used)
-  rescue_not_read : (fault : RunFault) → IsFileFault fault → IsRescueFault round fault
+pub data IsRescueReadFault (round : Round) : RunFault → Type 0 where
+  missing : round.goes_back ≡ true → IsRescueReadFault round (NotThere round.used)
+  rescue_not_read : (fault : RunFault) → IsFileFault fault → IsRescueReadFault round fault

@@ -14,8 +14,8 @@ abbrev pub AreHeld : Files → FileSet → Type 0
 AreHeld holds set = (path bytes : List ℕ) → bytes_of set path ≡ Some bytes → holds path ≡ Some bytes
 
 -- each file of a set stands in another one, too
-abbrev pub Keeps : FileSet → FileSet → Type 0
-Keeps set other = (path bytes : List ℕ) → bytes_of set path ≡ Some bytes → bytes_of other path ≡ Some bytes
+abbrev pub KeepsFiles : FileSet → FileSet → Type 0
+KeepsFiles set other = (path bytes : List ℕ) → bytes_of set path ≡ Some bytes → bytes_of other path ≡ Some bytes
 
 -- A set of files that were read where these are held: it has no others, and the file of this path, if that is held.
 pub record IsReadFrom (holds : Files) (top : List ℕ) (set : FileSet) : Type 0 where

@@ -1,7 +1,7 @@
 //! The files beside a DAG file: its journal, its rescue files and its lock.
 
 ghost use Rattle.std.specs.Prelude.{◌≡◌, ◌≤◌, IfOk, IfErr};
-ghost use Rattle.rescue_file.specs.Numbered.{IsNumber, rescue_name_of};
+ghost use Rattle.rescue_file.specs.Numbered.{IsFileNumber, rescue_name_of};
 ghost use Rattle.splices_flat.specs.Paths.{join};
 ghost use Rattle.dag_main_check.specs.declared.fault.RunFault.TheVariants.{Memory};
 ghost use Rattle.dag_main_files.specs.Beside.{journal_name_of, IsFileFault, IsNameLength, HasRoomForNames, IsRoomFault};
@@ -68,7 +68,7 @@ fn lock_path(alloc: Global, top: &str) -> Result<Text, AllocError> {
 /// # Errors
 /// `Memory` alone.
 pub fn rescue_path(alloc: Global, top: &str, number: u16) -> Result<Text, RunFault>
-    requires { IsNumber number }
+    requires { IsFileNumber number }
     ensures name { IfOk result (λ name. name ≡ rescue_name_of top.now number) }
     ensures err { IfErr result (λ fault. fault ≡ Memory) }
 {
@@ -362,7 +362,7 @@ impl<'a> Place<'a> {
     /// Adds `.old` to the name of the rescue file of this number, from 1 to 999, in place of the file
     /// that has it.
     fn put_rescue_away<R: Files + AllocGlobal>(&self, rt: &R, number: u16) -> Result<(), RunFault>
-        requires { IsNumber number }
+        requires { IsFileNumber number }
         ensures { IfErr result IsFileFault }
     {
         let alloc = rt.alloc();

@@ -19,6 +19,4 @@ pub use inputs::{MOST_BYTES, read_input};
 pub use loading::{Reading, files_of};
 pub use locking::Lock;
 pub use rescues::numbers_above;
-pub use rounds::{
-    Journaled, Round, bytes_of, journal_disk, named, rescue_disk, rescue_of, round_of,
-};
+pub use rounds::{Journaled, Round, journal_disk, named, rescue_disk, rescue_of, round_of};

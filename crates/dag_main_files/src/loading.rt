@@ -5,7 +5,7 @@ ghost use Rattle.std.specs.Option.{option_map};
 ghost use Rattle.splices_flat.specs.FileSet.{bytes_of};
 ghost use Rattle.dag_main_check.specs.declared.fault.RunFault.TheVariants.{Memory};
 ghost use Rattle.dag_main_files.specs.Beside.{IsInputFault};
-ghost use Rattle.dag_main_files.specs.Folder.{AreHeld, Keeps, IsReadFrom};
+ghost use Rattle.dag_main_files.specs.Folder.{AreHeld, KeepsFiles, IsReadFrom};
 
 use crate::folder::Folder;
 use dag_main_check::RunFault;
@@ -91,13 +91,13 @@ fn files_from<F: Folder>(
     let Some(bytes) = bytes else {
         return Ok(files);
     };
-    files.add(alloc, top, bytes.as_slice())?;
     let mut rest = ToRead {
         reading,
         wanted: Vec::new(alloc),
         followed: NameTable::new(alloc),
     };
     rest.want_all(alloc, "", bytes.as_slice(), 0)?;
+    files.add_owned(alloc, top, bytes)?;
     read_rest(alloc, folder, &mut files, &mut rest)?;
     Ok(files)
 }
@@ -110,7 +110,7 @@ fn read_rest<F: Folder>(
     rest: &mut ToRead,
 ) -> Result<(), RunFault>
     ensures held { F.honest folder.now → AreHeld (F.holds folder.now) files.old → OnOk result (AreHeld (F.holds folder.now) files.new) }
-    ensures kept { OnOk result (Keeps files.old files.new) }
+    ensures kept { OnOk result (KeepsFiles files.old files.new) }
     ensures err { IfErr result (λ fault. fault ≡ Memory) }
 {
     for _ in 0..MOST_WANTED {
@@ -134,7 +134,7 @@ fn read_next<F: Folder>(
     rest: &mut ToRead,
 ) -> Result<(), RunFault>
     ensures held { F.honest folder.now → AreHeld (F.holds folder.now) files.old → OnOk result (AreHeld (F.holds folder.now) files.new) }
-    ensures kept { OnOk result (Keeps files.old files.new) }
+    ensures kept { OnOk result (KeepsFiles files.old files.new) }
     ensures err { IfErr result (λ fault. fault ≡ Memory) }
 {
     match next {
@@ -161,14 +161,14 @@ fn read_file<F: Folder>(
     path: &str,
 ) -> Result<(), RunFault>
     ensures held { F.honest folder.now → AreHeld (F.holds folder.now) files.old → OnOk result (AreHeld (F.holds folder.now) files.new) }
-    ensures kept { OnOk result (Keeps files.old files.new) }
+    ensures kept { OnOk result (KeepsFiles files.old files.new) }
     ensures err { IfErr result (λ fault. fault ≡ Memory) }
 {
     if files.get(path).is_some() {
         return Ok(());
     }
     if let Some(bytes) = folder.input(alloc, path)? {
-        files.add(alloc, path, bytes.as_slice())?;
+        files.add_owned(alloc, path, bytes)?;
     }
     Ok(())
 }

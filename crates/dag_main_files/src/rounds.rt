@@ -2,10 +2,10 @@
 
 ghost use Rattle.std.specs.Prelude.{◌≡◌, ◌≤◌, Bool, true, false, None, Some, IfOk, IfErr, option_map, if◌then◌else◌};
 ghost use Rattle.event_journal_log.specs.Image.{IsRescueNumber};
-ghost use Rattle.rescue_file.specs.Numbered.{IsNumber};
+ghost use Rattle.rescue_file.specs.Numbered.{IsFileNumber};
 ghost use Rattle.dag_main_check.specs.Planned.{in_line, named_by};
 ghost use Rattle.dag_main_check.specs.declared.fault.RunFault.TheVariants.{Memory};
-ghost use Rattle.dag_main_files.specs.Beside.{IsRoundFault, IsRoundBy, GoesOnBy, IsRescueOf, IsRescueFault, number_behind};
+ghost use Rattle.dag_main_files.specs.Beside.{IsRoundFault, IsRoundBy, GoesOnBy, IsRescueOf, IsRescueReadFault, number_behind};
 ghost use Rattle.dag_main_files.specs.Folder.{IsRoundFrom, rescue_in};
 
 use crate::beside::{LAST_NUMBER, Place, journal_path, rescue_path};
@@ -108,7 +108,7 @@ pub fn rescue_disk<R: Files<File = File> + AllocGlobal + Copy + Drop>(
     place: &Place<'_>,
     number: u16,
 ) -> Result<FileDisk<R>, RunFault>
-    requires { IsNumber number }
+    requires { IsFileNumber number }
     ensures { IfErr result (λ fault. fault ≡ Memory) }
 {
     let alloc = rt.alloc();
@@ -142,7 +142,7 @@ pub fn round_of<F: Folder>(
     ensures held { F.honest folder.now → IfOk result
         (IsRoundFrom (F.holds folder.now) (F.has folder.now) top.now autorescue from always_post) }
     ensures numbers { IfOk result (λ round. IsRescueNumber round.next × (round.used ≤ 999)) }
-    ensures back { IfOk result (λ round. round.goes_back ≡ true → IsNumber round.used) }
+    ensures back { IfOk result (λ round. round.goes_back ≡ true → IsFileNumber round.used) }
     ensures by { IfOk result (IsRoundBy autorescue from always_post) }
     ensures refused { IfErr result (IsRoundFault from) }
 {
@@ -172,7 +172,7 @@ fn next_round<F: Folder>(
     ensures held { F.honest folder.now → IfOk result
         (IsRoundFrom (F.holds folder.now) (F.has folder.now) top.now autorescue None always_post) }
     ensures numbers { IfOk result (λ round. IsRescueNumber round.next × (round.used ≤ 999)) }
-    ensures back { IfOk result (λ round. round.goes_back ≡ true → IsNumber round.used) }
+    ensures back { IfOk result (λ round. round.goes_back ≡ true → IsFileNumber round.used) }
     ensures by { IfOk result (IsRoundBy autorescue None always_post) }
     ensures refused { IfErr result (IsRoundFault None) }
 {
@@ -203,11 +203,11 @@ fn round_behind<F: Folder>(
     number: u16,
     always_post: bool,
 ) -> Result<Round, RunFault>
-    requires { IsNumber number }
+    requires { IsFileNumber number }
     ensures held { (autorescue : Bool) → F.honest folder.now → IfOk result
         (IsRoundFrom (F.holds folder.now) (F.has folder.now) top.now autorescue (Some number) always_post) }
     ensures numbers { IfOk result (λ round. IsRescueNumber round.next × (round.used ≤ 999)) }
-    ensures back { IfOk result (λ round. round.goes_back ≡ true → IsNumber round.used) }
+    ensures back { IfOk result (λ round. round.goes_back ≡ true → IsFileNumber round.used) }
     ensures by { (autorescue : Bool) → IfOk result (IsRoundBy autorescue (Some number) always_post) }
     ensures refused { IfErr result (IsRoundFault (Some number)) }
 {
@@ -234,7 +234,7 @@ fn round_behind<F: Folder>(
 /// The round of an unfinished journal, whose header has the numbers and says whether POST always runs.
 fn unfinished(peek: &Peek) -> Result<Round, RunFault>
     ensures numbers { IfOk result (λ round. IsRescueNumber round.next × (round.used ≤ 999)) }
-    ensures back { IfOk result (λ round. round.goes_back ≡ true → IsNumber round.used) }
+    ensures back { IfOk result (λ round. round.goes_back ≡ true → IsFileNumber round.used) }
     ensures by { (autorescue asked : Bool) → IfOk result (IsRoundBy autorescue None asked) }
     ensures ahead { IfOk result (λ round. round.goes_back ≡ false) }
     ensures header { IfOk result (GoesOnBy peek.now.used peek.now.next peek.now.always_post) }
@@ -270,12 +270,12 @@ pub fn rescue_of<R: Files + AllocGlobal, F: Folder>(
     trust_owner: bool,
 ) -> Result<Option<Vec<u8>>, RunFault>
     requires used { round.now.used ≤ 999 }
-    requires back { round.now.goes_back ≡ true → IsNumber round.now.used }
+    requires back { round.now.goes_back ≡ true → IsFileNumber round.now.used }
     // It is the one that the folder holds.
     ensures held { F.honest folder.now → IfOk result (λ bytes.
         option_map (λ b. b.items) bytes ≡ rescue_in (F.holds folder.now) place.now.top.now round.now.used) }
     ensures read { IfOk result (λ bytes. IsRescueOf round.now (option_map (λ b. b.items) bytes)) }
-    ensures refused { IfErr result (IsRescueFault round.now) }
+    ensures refused { IfErr result (IsRescueReadFault round.now) }
 {
     if round.used == 0 {
         return Ok(None);
@@ -288,16 +288,6 @@ pub fn rescue_of<R: Files + AllocGlobal, F: Folder>(
         return Err(RunFault::NotThere(round.used));
     }
     Ok(bytes)
-}
-
-/// The bytes, where there are some.
-pub fn bytes_of(bytes: &Option<Vec<u8>>) -> Option<&[u8]>
-    ensures { option_map (λ b. b.now) result ≡ option_map (λ v. v.items) bytes.now }
-{
-    match bytes {
-        Some(bytes) => Some(bytes.as_slice()),
-        None => None,
-    }
 }
 
 /// A fault of a plan, with the path of the rescue file where it is that of a line there.

@@ -5,7 +5,7 @@ use Rattle.splices_flat.specs.Opening.{Files}
 use Rattle.run_plan.specs.Plan.{Plan}
 use Rattle.node_machine.specs.declared.Record.{Record}
 use Rattle.sched_core.specs.Core.{Progress}
-use Rattle.sched_core.specs.Run.{written, is_lawful}
+use Rattle.sched_core.specs.Run.{chronological, is_lawful}
 use Rattle.event_journal_log.specs.declared.fault.JournalFault.TheVariants as journal
 use Rattle.recovery_manager.specs.Inputs.{replay_by}
 use Rattle.graph_text.specs.Picture.{unknown, known, dot_text_of}
@@ -14,7 +14,7 @@ use Rattle.dag_main_check.specs.Warnings.{warning_lines}
 use Rattle.dag_main_check.specs.declared.fault.RunFault.{RunFault}
 use Rattle.dag_main_check.specs.declared.fault.RunFault.TheVariants.{Memory}
 use Rattle.dag_main_check.specs.declared.warnings.Answer.{Answer}
-use Rattle.dag_main_inspect.specs.Statused.{flag_by, records_read, records_at, IsRecordsFault, no_journal, foreign_record, reading_had_no_memory}
+use Rattle.dag_main_inspect.specs.Statused.{flag_by, records_read, records_in_bytes, IsRecordsFault, no_journal, foreign_record, reading_had_no_memory}
 use Rattle.dag_main_inspect.specs.Drawn.{IsPicture, of_run, of_others, of_other_flag, IsBarePicture, IsDrawnOf, tells_of_others, IsJournalDrawnFault, no_records, drawing_had_no_memory}
 
 -- the picture of the DAG files alone
@@ -42,7 +42,7 @@ module _ (files : Files) (entries : List (List ℕ × List ℕ)) (path : List �
       → IfOk answer (λ (a : Answer). string_bytes a.warnings ≡ warning_lines plan.graph.dag.warnings)
       → IfOk answer (λ (a : Answer). a.status ≡ 0)
       → IfOk answer (λ (a : Answer). IsDrawnOf files entries path rescue (Some bytes) (string_bytes a.text) (string_bytes a.warnings) a.status)
-  drawn-by bytes plan planned (Ok a) is warnings status = (record { plan = plan; planned = planned; told = is; warnings_are = warnings }, status)
+  drawn-by bytes plan planned (Ok a) is warnings status = (record { plan = plan; planned = planned; answered = is; warnings_are = warnings }, status)
   drawn-by bytes plan planned (Err fault) is warnings status = tt
 
 -- the picture by a journal
@@ -52,18 +52,18 @@ module _ (plan : Plan) (bytes : List ℕ) where
 
   pub others : (fault : RunFault) → IsRecordsFault plan bytes fault → tells_of_others fault ≡ true
       → (replay_by plan bytes ≡ Err journal.OtherInputs) ⊎ (replay_by plan bytes ≡ Err journal.OtherFlag)
-  others _ (no_journal journal.Memory is) told = absurd (false≢true told)
-  others _ (no_journal journal.Device is) told = absurd (false≢true told)
-  others _ (no_journal journal.DiskFull is) told = absurd (false≢true told)
-  others _ (no_journal journal.NotAJournal is) told = absurd (false≢true told)
-  others _ (no_journal (journal.Version v) is) told = absurd (false≢true told)
-  others _ (no_journal journal.OtherInputs is) told = inl is
-  others _ (no_journal journal.OtherFlag is) told = inr is
-  others _ (no_journal journal.SlotsFull is) told = absurd (false≢true told)
-  others _ (no_journal journal.Broken is) told = absurd (false≢true told)
-  others _ (no_journal (journal.BadSlot slot) is) told = absurd (false≢true told)
-  others _ (foreign_record slot first) told = absurd (false≢true told)
-  others _ reading_had_no_memory told = absurd (false≢true told)
+  others _ (no_journal journal.Memory is) answered = absurd (false≢true answered)
+  others _ (no_journal journal.Device is) answered = absurd (false≢true answered)
+  others _ (no_journal journal.DiskFull is) answered = absurd (false≢true answered)
+  others _ (no_journal journal.NotAJournal is) answered = absurd (false≢true answered)
+  others _ (no_journal (journal.Version v) is) answered = absurd (false≢true answered)
+  others _ (no_journal journal.OtherInputs is) answered = inl is
+  others _ (no_journal journal.OtherFlag is) answered = inr is
+  others _ (no_journal journal.SlotsFull is) answered = absurd (false≢true answered)
+  others _ (no_journal journal.Broken is) answered = absurd (false≢true answered)
+  others _ (no_journal (journal.BadSlot slot) is) answered = absurd (false≢true answered)
+  others _ (foreign_record slot first) answered = absurd (false≢true answered)
+  others _ reading_had_no_memory answered = absurd (false≢true answered)
 
   pub other-picture : (replay_by plan bytes ≡ Err journal.OtherInputs) ⊎ (replay_by plan bytes ≡ Err journal.OtherFlag) → (answer : Result Answer RunFault)
       → IfOk answer (λ (a : Answer). string_bytes a.text ≡ dot_text_of plan unknown) → IfOk answer (λ (a : Answer). IsPicture plan bytes (string_bytes a.text))
@@ -71,7 +71,7 @@ module _ (plan : Plan) (bytes : List ℕ) where
   other-picture (inr other) (Ok a) text = subst (IsPicture plan bytes) (sym text) (of_other_flag other)
   other-picture other (Err fault) text = tt
 
-  pub run-picture : (records : List Record) (core : Progress) → records_at plan bytes ≡ Some records → core.plan ≡ plan → records ≡ written core.past
+  pub run-picture : (records : List Record) (core : Progress) → records_in_bytes plan bytes ≡ Some records → core.plan ≡ plan → records ≡ chronological core.past
       → is_lawful core.plan core.past ≡ true → (answer : Result Answer RunFault)
       → IfOk answer (λ (a : Answer). string_bytes a.text ≡ dot_text_of core.plan (known core.plan core.past))
       → IfOk answer (λ (a : Answer). IsPicture plan bytes (string_bytes a.text))
@@ -87,7 +87,7 @@ module _ (plan : Plan) (bytes : List ℕ) where
   run-warnings core p (Err fault) warnings = tt
 
   -- bytes that have records are no journal of other files
-  pub records-refused : (records : List Record) → records_at plan bytes ≡ Some records → (fault : RunFault) → IsRecordsFault plan bytes fault
+  pub records-refused : (records : List Record) → records_in_bytes plan bytes ≡ Some records → (fault : RunFault) → IsRecordsFault plan bytes fault
       → IsJournalDrawnFault plan bytes fault
   records-refused records are _ (no_journal fault is) = let none : None ≡ Some records = sym (ap records_read is) ∙ are in absurd cc
   records-refused records are _ (foreign_record slot first) = no_records _ refl (foreign_record slot first)

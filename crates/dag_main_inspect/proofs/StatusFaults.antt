@@ -4,7 +4,7 @@ use Rattle.std.specs.Prelude.{slice_get}
 use Rattle.run_plan.specs.Plan.{Plan}
 use Rattle.node_machine.specs.declared.Record.{Record}
 use Rattle.sched_core.specs.Core.{Progress}
-use Rattle.sched_core.specs.Run.{written, is_lawful}
+use Rattle.sched_core.specs.Run.{chronological, is_lawful}
 use Rattle.status_report.specs.Text.{status_text_of}
 use Rattle.event_journal_log.specs.declared.fault.JournalFault.{JournalFault}
 use Rattle.event_journal_log.specs.declared.fault.JournalFault.TheVariants as journal
@@ -18,13 +18,13 @@ use Rattle.recovery_manager.specs.declared.fault.ManagerFault.TheVariants as man
 use Rattle.recovery_manager.specs.Inputs.{replay_by}
 use Rattle.dag_main_check.specs.declared.fault.RunFault.{RunFault}
 use Rattle.dag_main_check.specs.declared.fault.RunFault.TheVariants.{InManager, Memory}
-use Rattle.dag_main_inspect.specs.Statused.{records_read, records_at, read_fault, IsStatusText, IsRecordsFault, no_journal, foreign_record, reading_had_no_memory}
+use Rattle.dag_main_inspect.specs.Statused.{records_read, records_in_bytes, bytes_fault, IsStatusText, IsRecordsFault, no_journal, foreign_record, reading_had_no_memory}
 
 -- the records of a journal
 pub owed-memory : (plan : Plan) (bytes : List ℕ) (fault : RunFault) → fault ≡ Memory → IsRecordsFault plan bytes fault
 owed-memory plan bytes fault is = subst (IsRecordsFault plan bytes) (sym is) reading_had_no_memory
 
-pub read-fault : (plan : Plan) (bytes : List ℕ) (fault : JournalFault) → FailsAs fault (replay_by plan bytes) → IsRecordsFault plan bytes (read_fault fault)
+pub read-fault : (plan : Plan) (bytes : List ℕ) (fault : JournalFault) → FailsAs fault (replay_by plan bytes) → IsRecordsFault plan bytes (bytes_fault fault)
 read-fault plan bytes journal.Memory is = reading_had_no_memory
 read-fault plan bytes journal.Device is = absurd is
 read-fault plan bytes journal.DiskFull is = absurd is
@@ -38,12 +38,12 @@ read-fault plan bytes (journal.BadSlot slot) is = no_journal (journal.BadSlot sl
 
 -- the records that were read
 records-read : (plan : Plan) (bytes : List ℕ) (read : Option (List Record)) → ReadsRecords read (replay_by plan bytes)
-    → records_at plan bytes ≡ Some (unwrap_or read [])
+    → records_in_bytes plan bytes ≡ Some (unwrap_or read [])
 records-read plan bytes None is = ap records_read is
 records-read plan bytes (Some records) (found, is, same) = ap records_read is ∙ ap (λ (rs : List Record). Some rs) (sym same)
 
 pub read-records : (plan : Plan) (bytes : List ℕ) (o read : Option (List Record)) (digest : List ℕ) → digest ≡ plan.digest → (flag : Bool) → flag ≡ plan.always_post
-    → ReadsRecords o (replay_for digest flag bytes) → o ≡ read → records_at plan bytes ≡ Some (unwrap_or read [])
+    → ReadsRecords o (replay_for digest flag bytes) → o ≡ read → records_in_bytes plan bytes ≡ Some (unwrap_or read [])
 read-records plan bytes o read digest same flag same_flag reads is =
     records-read plan bytes read
     (subst (λ (x : Option (List Record)). ReadsRecords x (replay_by plan bytes)) is
@@ -61,7 +61,7 @@ found-at (Ok (Some found)) records place entry is at = (found, refl, cc)
 found-at (Err fault) records place entry is at = absurd cc
 
 -- the slot of the first record that may not follow
-pub foreign-fault : (plan : Plan) (bytes : List ℕ) (records : List Record) (place slot : ℕ) → records_at plan bytes ≡ Some records
+pub foreign-fault : (plan : Plan) (bytes : List ℕ) (records : List Record) (place slot : ℕ) → records_in_bytes plan bytes ≡ Some records
     → IsReplayFault plan records (manager.Foreign place) → IsSlotAt (groups_in bytes) place slot → IsRecordsFault plan bytes (InManager (manager.Foreign slot))
 foreign-fault plan bytes records place slot is why at =
     let first = first_at plan records place why in
@@ -69,8 +69,8 @@ foreign-fault plan bytes records place slot is why at =
     foreign_record slot (foreign_in plan bytes f.0 place slot f.1 (subst (λ (l : List Record). IsFirstForeign plan l place) f.2 first) at)
 
 -- the status text of a core of these records
-pub status-text : (plan : Plan) (bytes : List ℕ) (records : List Record) (core : Progress) → records_at plan bytes ≡ Some records → core.plan ≡ plan
-    → records ≡ written core.past → is_lawful core.plan core.past ≡ true → (text : List ℕ) → text ≡ status_text_of core.plan core.past → IsStatusText plan bytes text 0
+pub status-text : (plan : Plan) (bytes : List ℕ) (records : List Record) (core : Progress) → records_in_bytes plan bytes ≡ Some records → core.plan ≡ plan
+    → records ≡ chronological core.past → is_lawful core.plan core.past ≡ true → (text : List ℕ) → text ≡ status_text_of core.plan core.past → IsStatusText plan bytes text 0
 status-text plan bytes records core are p r lawful text is = record {
   past = core.past;
   are_records = are ∙ ap (λ (rs : List Record). Some rs) r;

@@ -4,7 +4,7 @@ use Rattle.splices_flat.specs.Opening.{Files}
 use Rattle.splices_flat.specs.FileSet.{bytes_of, entries_of}
 use Rattle.splices_flat.specs.declared.file_set.FileSet.{FileSet}
 use Rattle.dag_main_check.specs.Planned.{in_line, named_by}
-use Rattle.dag_main_inspect.specs.Statused.{IsStatusOf, IsStatusFault}
+use Rattle.dag_main_inspect.specs.Statused.{IsStatusTextOf, IsStatusFault}
 use Rattle.dag_main_inspect.specs.Audited.{IsAuditedAs, IsAuditFault}
 use Rattle.dag_main_inspect.specs.Drawn.{IsDrawnOf, IsDrawnFault}
 use Rattle.dag_main_check.specs.declared.fault.RunFault.{RunFault}
@@ -15,38 +15,38 @@ use Rattle.dag_main_inspect.specs.declared.by_journal.Question.{Question}
 use Rattle.dag_main_inspect.specs.declared.by_journal.Question.TheVariants.{Status, Audit, Graph}
 
 -- the answer to a question, by the files of a path, a rescue file and a journal
-abbrev pub IsTold : Question → Files → List (List ℕ × List ℕ) → List ℕ → Option (List ℕ) → Option (List ℕ) → List ℕ → List ℕ → ℕ → Type 0
-IsTold Status files entries path rescue journal text warnings status = IsStatusOf files entries path rescue journal text warnings status
-IsTold Audit files entries path rescue journal text warnings status = IsAuditedAs files entries path rescue journal text warnings status
-IsTold Graph files entries path rescue journal text warnings status = IsDrawnOf files entries path rescue journal text warnings status
+abbrev pub IsAskAnswered : Question → Files → List (List ℕ × List ℕ) → List ℕ → Option (List ℕ) → Option (List ℕ) → List ℕ → List ℕ → ℕ → Type 0
+IsAskAnswered Status files entries path rescue journal text warnings status = IsStatusTextOf files entries path rescue journal text warnings status
+IsAskAnswered Audit files entries path rescue journal text warnings status = IsAuditedAs files entries path rescue journal text warnings status
+IsAskAnswered Graph files entries path rescue journal text warnings status = IsDrawnOf files entries path rescue journal text warnings status
 
 -- why there is none
-abbrev pub IsRefused : Question → Files → List (List ℕ × List ℕ) → List ℕ → Option (List ℕ) → Option (List ℕ) → RunFault → Type 0
-IsRefused Status files entries path rescue journal fault = IsStatusFault files entries path rescue journal fault
-IsRefused Audit files entries path rescue journal fault = IsAuditFault files entries path rescue fault
-IsRefused Graph files entries path rescue journal fault = IsDrawnFault files entries path rescue journal fault
+abbrev pub IsNotAnswered : Question → Files → List (List ℕ × List ℕ) → List ℕ → Option (List ℕ) → Option (List ℕ) → RunFault → Type 0
+IsNotAnswered Status files entries path rescue journal fault = IsStatusFault files entries path rescue journal fault
+IsNotAnswered Audit files entries path rescue journal fault = IsAuditFault files entries path rescue fault
+IsNotAnswered Graph files entries path rescue journal fault = IsDrawnFault files entries path rescue journal fault
 
 -- this is the answer to a question, by files of this path, a rescue file or none and a journal or none
-pub record IsToldOfRun (question : Question) (path text warnings : List ℕ) (status : ℕ) : Type 0 where
+pub record IsAnswerOfRun (question : Question) (path text warnings : List ℕ) (status : ℕ) : Type 0 where
   pub files : FileSet
   pub rescue : Option (List ℕ)
   pub journal : Option (List ℕ)
-  pub told : IsTold question (bytes_of files) (entries_of files) path rescue journal text warnings status
+  pub answered : IsAskAnswered question (bytes_of files) (entries_of files) path rescue journal text warnings status
 
 -- The same where these files are held: of the DAG file and those that were read with it, the journal, and the rescue file that the journal's
 -- header names.
-pub record IsToldFrom (holds : Files) (question : Question) (path text warnings : List ℕ) (status : ℕ) : Type 0 where
+pub record IsAnswerHeld (holds : Files) (question : Question) (path text warnings : List ℕ) (status : ℕ) : Type 0 where
   pub files : FileSet
   pub rescue : Option (List ℕ)
   pub journal : Option (List ℕ)
   pub read : IsReadFrom holds path files
   pub beside : IsLastRound holds path journal rescue
-  pub told : IsTold question (bytes_of files) (entries_of files) path rescue journal text warnings status
+  pub answered : IsAskAnswered question (bytes_of files) (entries_of files) path rescue journal text warnings status
 
 -- Why there is no answer: it is not told which round is the last one, or memory runs out as the files are read; or what they and the
 -- journal say is refused, the fault of a line of the rescue file told with that file's name.
-pub data IsToldFault (question : Question) (path : List ℕ) : RunFault → Type 0 where
-  no_last_round : (fault : RunFault) → IsRoundFault None fault → IsToldFault question path fault
+pub data IsAnswerFault (question : Question) (path : List ℕ) : RunFault → Type 0 where
+  no_last_round : (fault : RunFault) → IsRoundFault None fault → IsAnswerFault question path fault
   not_told : (files : FileSet) (rescue journal name : Option (List ℕ)) (fault : RunFault) →
-      IsRefused question (bytes_of files) (entries_of files) path rescue journal fault →
-      IsToldFault question path (named_by (in_line fault) name fault)
+      IsNotAnswered question (bytes_of files) (entries_of files) path rescue journal fault →
+      IsAnswerFault question path (named_by (in_line fault) name fault)

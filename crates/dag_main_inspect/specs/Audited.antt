@@ -9,7 +9,7 @@ use Rattle.fate_audit.specs.Audit.{IsAuditOf, IsAuditNo, no_text}
 use Rattle.fate_audit.specs.declared.fault.AuditNo.{AuditNo}
 use Rattle.fate_audit.specs.declared.fault.AuditNo.TheVariants as audit_no
 use Rattle.dag_main_check.specs.Planned.{IsPlanWithFault}
-use Rattle.dag_main_check.specs.Told.{IsToldOf}
+use Rattle.dag_main_check.specs.ByPlan.{IsAnswerByPlan}
 use Rattle.dag_main_inspect.specs.Statused.{journal_bytes, flag_by}
 use Rattle.dag_main_check.specs.declared.fault.RunFault.{RunFault}
 use Rattle.dag_main_check.specs.declared.fault.RunFault.TheVariants.{Memory}
@@ -30,7 +30,7 @@ pub data IsAuditText (plan : Plan) (bytes : List ℕ) : List ℕ → ℕ → Typ
 -- The audit of a journal, by the plan of these files. One that is not there has no bytes, so none was begun.
 abbrev pub IsAuditedAs : Files → List (List ℕ × List ℕ) → List ℕ → Option (List ℕ) → Option (List ℕ) → List ℕ → List ℕ → ℕ → Type 0
 IsAuditedAs files entries path rescue journal text warnings status =
-    IsToldOf (flag_by journal) files entries path rescue (λ plan. IsAuditText plan (journal_bytes journal) text status) warnings
+    IsAnswerByPlan (flag_by journal) files entries path rescue (λ plan. IsAuditText plan (journal_bytes journal) text status) warnings
 
 -- why there is none: there is no plan, or memory ran out; a journal is no cause
 pub data IsAuditFault (files : Files) (entries : List (List ℕ × List ℕ)) (path : List ℕ) (rescue : Option (List ℕ)) : RunFault → Type 0 where

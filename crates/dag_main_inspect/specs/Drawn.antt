@@ -3,7 +3,7 @@ use Rattle.std.specs.Prelude.{◌≡◌, ℕ, Bool, true, false, List, Option, S
 use Rattle.splices_flat.specs.Opening.{Files}
 use Rattle.run_plan.specs.Plan.{Plan}
 use Rattle.node_machine.specs.declared.Record.{Record}
-use Rattle.sched_core.specs.Run.{written, is_lawful}
+use Rattle.sched_core.specs.Run.{chronological, is_lawful}
 use Rattle.event_journal_log.specs.declared.fault.JournalFault.{JournalFault}
 use Rattle.event_journal_log.specs.declared.fault.JournalFault.TheVariants as journal
 use Rattle.recovery_manager.specs.declared.fault.ManagerFault.{ManagerFault}
@@ -11,16 +11,16 @@ use Rattle.recovery_manager.specs.declared.fault.ManagerFault.TheVariants as man
 use Rattle.recovery_manager.specs.Inputs.{replay_by}
 use Rattle.graph_text.specs.Picture.{unknown, known, dot_text_of}
 use Rattle.dag_main_check.specs.Planned.{IsGraphFault, IsPlanOf, IsPlanWith, IsPlanWithFault}
-use Rattle.dag_main_check.specs.Told.{IsToldOf}
+use Rattle.dag_main_check.specs.ByPlan.{IsAnswerByPlan}
 use Rattle.dag_main_check.specs.Warnings.{warning_lines}
 use Rattle.dag_main_check.specs.declared.fault.RunFault.{RunFault}
 use Rattle.dag_main_check.specs.declared.fault.RunFault.TheVariants.{InFiles, Cycle, InPlan, InTable, InRescue, NotThere, Unfinished, InManager, StartMemory, WaitFault, FileRefused, Memory}
-use Rattle.dag_main_inspect.specs.Statused.{flag_by, records_at, IsRecordsFault}
+use Rattle.dag_main_inspect.specs.Statused.{flag_by, records_in_bytes, IsRecordsFault}
 
 -- The picture of a plan that has a journal of these bytes: its nodes stand as the records say; or the journal is that of other files, or of a
 -- run with the other flag, and says nothing of them.
 pub data IsPicture (plan : Plan) (bytes : List ℕ) : List ℕ → Type 0 where
-  of_run : (past : List Record) → records_at plan bytes ≡ Some (written past) → IsTrue (is_lawful plan past) →
+  of_run : (past : List Record) → records_in_bytes plan bytes ≡ Some (chronological past) → IsTrue (is_lawful plan past) →
       IsPicture plan bytes (dot_text_of plan (known plan past))
   of_others : replay_by plan bytes ≡ Err journal.OtherInputs → IsPicture plan bytes (dot_text_of plan unknown)
   of_other_flag : replay_by plan bytes ≡ Err journal.OtherFlag → IsPicture plan bytes (dot_text_of plan unknown)
@@ -33,7 +33,7 @@ IsBarePicture files path text warnings =
 -- the picture of the files of a path: by the journal, where there is one
 abbrev pub IsPictureOf : Files → List (List ℕ × List ℕ) → List ℕ → Option (List ℕ) → Option (List ℕ) → List ℕ → List ℕ → Type 0
 IsPictureOf files entries path rescue None text warnings = IsBarePicture files path text warnings
-IsPictureOf files entries path rescue (Some bytes) text warnings = IsToldOf (flag_by (Some bytes)) files entries path rescue (λ plan. IsPicture plan bytes text) warnings
+IsPictureOf files entries path rescue (Some bytes) text warnings = IsAnswerByPlan (flag_by (Some bytes)) files entries path rescue (λ plan. IsPicture plan bytes text) warnings
 
 -- that is the answer, and the exit status is 0
 abbrev pub IsDrawnOf : Files → List (List ℕ × List ℕ) → List ℕ → Option (List ℕ) → Option (List ℕ) → List ℕ → List ℕ → ℕ → Type 0

@@ -4,7 +4,7 @@ use Rattle.splices_flat.specs.Opening.{Files}
 use Rattle.rescue_file.specs.Numbered.{rescue_name_of}
 use Rattle.event_journal_log.specs.declared.fault.JournalFault.{JournalFault}
 use Rattle.event_journal_log.specs.Image.{Found, replay_of}
-use Rattle.event_journal_log.specs.Peeks.{is_finished}
+use Rattle.event_journal_log.specs.Peeks.{ends_with_finish}
 use Rattle.dag_main_files.specs.Beside.{journal_name_of}
 use Rattle.dag_main_inspect.specs.Statused.{journal_bytes}
 
@@ -20,7 +20,7 @@ used_by journal = used_read (replay_of (journal_bytes journal))
 -- whether the last record of a journal is Finish
 abbrev pub finished_read : Result (Option Found) JournalFault → Bool
 finished_read (Ok None) = false
-finished_read (Ok (Some found)) = is_finished found.records
+finished_read (Ok (Some found)) = ends_with_finish found.records
 finished_read (Err fault) = false
 
 abbrev pub has_ended_by : Option (List ℕ) → Bool

@@ -3,7 +3,7 @@ use Rattle.std.specs.Prelude.{◌≡◌, ℕ, Bool, List, [], Option, Some, None
 use Rattle.splices_flat.specs.Opening.{Files}
 use Rattle.run_plan.specs.Plan.{Plan}
 use Rattle.node_machine.specs.declared.Record.{Record}
-use Rattle.sched_core.specs.Run.{written, is_lawful}
+use Rattle.sched_core.specs.Run.{chronological, is_lawful}
 use Rattle.event_journal_log.specs.declared.fault.JournalFault.{JournalFault}
 use Rattle.event_journal_log.specs.declared.fault.JournalFault.TheVariants as journal
 use Rattle.event_journal_log.specs.Image.{Found, replay_of, groups_in}
@@ -13,7 +13,7 @@ use Rattle.recovery_manager.specs.declared.fault.ManagerFault.TheVariants as man
 use Rattle.recovery_manager.specs.Inputs.{replay_by}
 use Rattle.status_report.specs.Text.{status_text_of}
 use Rattle.dag_main_check.specs.Planned.{IsPlanWith, IsPlanWithFault}
-use Rattle.dag_main_check.specs.Told.{IsToldOf}
+use Rattle.dag_main_check.specs.ByPlan.{IsAnswerByPlan}
 use Rattle.dag_main_check.specs.declared.fault.RunFault.{RunFault}
 use Rattle.dag_main_check.specs.declared.fault.RunFault.TheVariants.{InManager, Memory}
 
@@ -33,26 +33,26 @@ records_read (Ok (Some found)) = Some found.records
 records_read (Err fault) = None
 
 -- the records of a journal of this plan that has these bytes
-abbrev pub records_at : Plan → List ℕ → Option (List Record)
-records_at plan bytes = records_read (replay_by plan bytes)
+abbrev pub records_in_bytes : Plan → List ℕ → Option (List Record)
+records_in_bytes plan bytes = records_read (replay_by plan bytes)
 
 -- what is told of bytes that can't be read
-abbrev pub read_fault : JournalFault → RunFault
-read_fault journal.Memory = Memory
-read_fault journal.Device = InManager (manager.Journal journal.Device)
-read_fault journal.DiskFull = InManager (manager.Journal journal.DiskFull)
-read_fault journal.NotAJournal = InManager (manager.Journal journal.NotAJournal)
-read_fault (journal.Version v) = InManager (manager.Journal (journal.Version v))
-read_fault journal.OtherInputs = InManager (manager.Journal journal.OtherInputs)
-read_fault journal.OtherFlag = InManager (manager.Journal journal.OtherFlag)
-read_fault journal.SlotsFull = InManager (manager.Journal journal.SlotsFull)
-read_fault journal.Broken = InManager (manager.Journal journal.Broken)
-read_fault (journal.BadSlot slot) = InManager (manager.Journal (journal.BadSlot slot))
+abbrev pub bytes_fault : JournalFault → RunFault
+bytes_fault journal.Memory = Memory
+bytes_fault journal.Device = InManager (manager.Journal journal.Device)
+bytes_fault journal.DiskFull = InManager (manager.Journal journal.DiskFull)
+bytes_fault journal.NotAJournal = InManager (manager.Journal journal.NotAJournal)
+bytes_fault (journal.Version v) = InManager (manager.Journal (journal.Version v))
+bytes_fault journal.OtherInputs = InManager (manager.Journal journal.OtherInputs)
+bytes_fault journal.OtherFlag = InManager (manager.Journal journal.OtherFlag)
+bytes_fault journal.SlotsFull = InManager (manager.Journal journal.SlotsFull)
+bytes_fault journal.Broken = InManager (manager.Journal journal.Broken)
+bytes_fault (journal.BadSlot slot) = InManager (manager.Journal (journal.BadSlot slot))
 
 -- The status text of the records of a journal that has these bytes, which are lawful; and the exit status.
 pub record IsStatusText (plan : Plan) (bytes text : List ℕ) (status : ℕ) : Type 0 where
   pub past : List Record
-  pub are_records : records_at plan bytes ≡ Some (written past)
+  pub are_records : records_in_bytes plan bytes ≡ Some (chronological past)
   pub lawful : IsTrue (is_lawful plan past)
   pub text_is : text ≡ status_text_of plan past
   pub status_is : status ≡ 0
@@ -65,9 +65,9 @@ pub data IsRecordsFault (plan : Plan) (bytes : List ℕ) : RunFault → Type 0 w
   reading_had_no_memory : IsRecordsFault plan bytes Memory
 
 -- the status text of the plan of these files, at the records of the journal
-abbrev pub IsStatusOf : Files → List (List ℕ × List ℕ) → List ℕ → Option (List ℕ) → Option (List ℕ) → List ℕ → List ℕ → ℕ → Type 0
-IsStatusOf files entries path rescue journal text warnings status =
-    IsToldOf (flag_by journal) files entries path rescue (λ plan. IsStatusText plan (journal_bytes journal) text status) warnings
+abbrev pub IsStatusTextOf : Files → List (List ℕ × List ℕ) → List ℕ → Option (List ℕ) → Option (List ℕ) → List ℕ → List ℕ → ℕ → Type 0
+IsStatusTextOf files entries path rescue journal text warnings status =
+    IsAnswerByPlan (flag_by journal) files entries path rescue (λ plan. IsStatusText plan (journal_bytes journal) text status) warnings
 
 -- why it is refused: there is no plan, or its journal has no records of a run
 pub data IsStatusFault (files : Files) (entries : List (List ℕ × List ℕ)) (path : List ℕ) (rescue journal : Option (List ℕ)) : RunFault → Type 0 where

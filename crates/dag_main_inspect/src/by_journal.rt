@@ -8,7 +8,7 @@ ghost use Rattle.dag_main_check.specs.declared.fault.RunFault.TheVariants.{Memor
 ghost use Rattle.dag_main_files.specs.Beside.{IsRoundFault, journal_name_of};
 ghost use Rattle.dag_main_inspect.specs.Statused.{journal_bytes};
 ghost use Rattle.dag_main_inspect.specs.LastRound.{used_read, used_by, finished_read, has_ended_by, used_name, IsLastRound};
-ghost use Rattle.dag_main_inspect.specs.Asked.{IsTold, IsRefused, IsToldOfRun, IsToldFrom, IsToldFault};
+ghost use Rattle.dag_main_inspect.specs.Asked.{IsAskAnswered, IsNotAnswered, IsAnswerOfRun, IsAnswerHeld, IsAnswerFault};
 ghost use Rattle.dag_main_inspect.specs.Reported.{IsReportHere, IsReportFrom, IsNoReportFrom};
 ghost use Rattle.dag_main_inspect.specs.declared.by_journal.Question.TheVariants.{Status};
 
@@ -17,9 +17,7 @@ use crate::graphs::graph_of;
 use crate::reports::report_of;
 use crate::statuses::{bytes_in, status_of};
 use dag_main_check::{Answer, RunFault};
-use dag_main_files::{
-    Folder, LAST_NUMBER, Reading, bytes_of, files_of, journal_path, named, rescue_path,
-};
+use dag_main_files::{Folder, LAST_NUMBER, Reading, files_of, journal_path, named, rescue_path};
 use dag_reader::Text;
 use event_journal::MemDisk;
 use event_journal_log::{Journal, JournalFault, Peek};
@@ -107,11 +105,11 @@ fn journal_of<F: Folder>(alloc: Global, folder: &F, top: &str) -> Result<Option<
     let path = journal_path(alloc, top)?;
     let mut found = folder.beside(alloc, path.as_str())?;
     for _ in 0..MOST_LOOKS {
-        if can_be_read(alloc, bytes_in(bytes_of(&found)))? {
+        if can_be_read(alloc, bytes_in(found.as_deref()))? {
             break;
         }
         let again = folder.beside(alloc, path.as_str())?;
-        let same = bytes_in(bytes_of(&again)).len() == bytes_in(bytes_of(&found)).len();
+        let same = bytes_in(again.as_deref()).len() == bytes_in(found.as_deref()).len();
         found = again;
         if same {
             break;
@@ -161,7 +159,7 @@ pub fn last_round<F: Folder>(alloc: Global, folder: &F, top: &str) -> Result<Las
     ensures refused { IfErr result (IsRoundFault None) }
 {
     let journal = journal_of(alloc, folder, top)?;
-    let used = used_in(alloc, bytes_of(&journal))?;
+    let used = used_in(alloc, journal.as_deref())?;
     let name = used_path(alloc, top, used)?;
     let rescue = match &name {
         Some(name) => folder.beside(alloc, name.as_str())?,
@@ -197,10 +195,10 @@ fn asked(
     journal: Option<&[u8]>,
     question: Question,
 ) -> Result<Answer, RunFault>
-    ensures told { IfOk result (λ answer. IsTold question (bytes_of files.now) (entries_of files.now) top.now
+    ensures answered { IfOk result (λ answer. IsAskAnswered question (bytes_of files.now) (entries_of files.now) top.now
         (option_map (λ b. b.now) rescue.entry) (option_map (λ b. b.now) journal.entry)
         (string_bytes answer.text) (string_bytes answer.warnings) answer.status) }
-    ensures refused { IfErr result (IsRefused question (bytes_of files.now) (entries_of files.now) top.now
+    ensures refused { IfErr result (IsNotAnswered question (bytes_of files.now) (entries_of files.now) top.now
         (option_map (λ b. b.now) rescue.entry) (option_map (λ b. b.now) journal.entry)) }
 {
     match question {
@@ -217,23 +215,23 @@ fn asked(
 /// its header, a rescue file that the system refuses to read; then as `status_of`, `audit_of` or
 /// `graph_of`, a fault in a line of the rescue file with its path. Where the header can't be read, no rescue file
 /// is. Want of memory may stand before any.
-pub fn told_here<F: Folder>(
+pub fn answer_here<F: Folder>(
     alloc: Global,
     folder: &F,
     top: &str,
     question: Question,
 ) -> Result<Answer, RunFault>
-    ensures told { IfOk result (λ answer.
-        IsToldOfRun question top.now (string_bytes answer.text) (string_bytes answer.warnings) answer.status) }
+    ensures answered { IfOk result (λ answer.
+        IsAnswerOfRun question top.now (string_bytes answer.text) (string_bytes answer.warnings) answer.status) }
     // It is that of the files that the folder holds.
-    ensures held { F.honest folder.now → IfOk result (λ answer. IsToldFrom (F.holds folder.now) question top.now
+    ensures held { F.honest folder.now → IfOk result (λ answer. IsAnswerHeld (F.holds folder.now) question top.now
         (string_bytes answer.text) (string_bytes answer.warnings) answer.status) }
-    ensures refused { IfErr result (IsToldFault question top.now) }
+    ensures refused { IfErr result (IsAnswerFault question top.now) }
 {
     let round = last_round(alloc, folder, top)?;
     let files = files_of(alloc, folder, top, Reading::SubmitFilesToo)?;
-    let rescue = bytes_of(&round.rescue);
-    let journal = bytes_of(&round.journal);
+    let rescue = round.rescue.as_deref();
+    let journal = round.journal.as_deref();
     match asked(alloc, &files, top, rescue, journal, question) {
         Ok(answer) => Ok(answer),
         Err(fault) => Err(named(fault, round.name)),
@@ -244,7 +242,7 @@ pub fn told_here<F: Folder>(
 /// there is no journal, where it is not that of a run which has ended, and where it can't be read.
 ///
 /// # Errors
-/// Those of `told_here` for the status.
+/// Those of `answer_here` for the status.
 pub fn report_here<F: Folder>(
     alloc: Global,
     folder: &F,
@@ -256,17 +254,17 @@ pub fn report_here<F: Folder>(
     ensures held { F.honest folder.now → IfOk result (λ answer. IfSome answer (λ answer.
         IsReportFrom (F.holds folder.now) top.now (string_bytes answer.text) (string_bytes answer.warnings) answer.status)) }
     ensures none { F.honest folder.now → IfOk result (λ answer. IfNone answer (IsNoReportFrom (F.holds folder.now) top.now)) }
-    ensures refused { IfErr result (IsToldFault Status top.now) }
+    ensures refused { IfErr result (IsAnswerFault Status top.now) }
 {
     let round = last_round(alloc, folder, top)?;
-    let Some(journal) = bytes_of(&round.journal) else {
+    let Some(journal) = round.journal.as_deref() else {
         return Ok(None);
     };
     if !has_ended(alloc, Some(journal))? {
         return Ok(None);
     }
     let files = files_of(alloc, folder, top, Reading::SubmitFilesToo)?;
-    match report_of(alloc, &files, top, bytes_of(&round.rescue), journal) {
+    match report_of(alloc, &files, top, round.rescue.as_deref(), journal) {
         Ok(answer) => Ok(answer),
         Err(fault) => Err(named(fault, round.name)),
     }

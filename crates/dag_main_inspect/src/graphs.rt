@@ -6,8 +6,8 @@ ghost use Rattle.splices_flat.specs.FileSet.{bytes_of, entries_of};
 ghost use Rattle.dag_main_check.specs.declared.fault.RunFault.TheVariants.{Memory};
 ghost use Rattle.dag_main_check.specs.Planned.{IsGraphFault};
 ghost use Rattle.dag_main_check.specs.Warnings.{warning_lines};
-ghost use Rattle.graph_text.specs.Picture.{plan_of, states_of, dot_text_of};
-ghost use Rattle.dag_main_inspect.specs.Statused.{records_at, IsRecordsFault};
+ghost use Rattle.graph_text.specs.Picture.{drawn_plan, states_of, dot_text_of};
+ghost use Rattle.dag_main_inspect.specs.Statused.{records_in_bytes, IsRecordsFault};
 ghost use Rattle.dag_main_inspect.specs.Drawn.{IsPicture, IsBarePicture, IsDrawnOf, IsDrawnFault, IsJournalDrawnFault, tells_of_others};
 
 use crate::statuses::{core_of, plan_by, records_of};
@@ -51,8 +51,8 @@ pub fn graph_of(
 
 /// The picture of a plan, and the warnings of its files.
 fn answer_for(alloc: Global, drawn: &Drawn<'_>) -> Result<Answer, RunFault>
-    ensures text { IfOk result (λ answer. string_bytes answer.text ≡ dot_text_of (plan_of drawn.now) (states_of drawn.now)) }
-    ensures warnings { IfOk result (λ answer. string_bytes answer.warnings ≡ warning_lines (plan_of drawn.now).graph.dag.warnings) }
+    ensures text { IfOk result (λ answer. string_bytes answer.text ≡ dot_text_of (drawn_plan drawn.now) (states_of drawn.now)) }
+    ensures warnings { IfOk result (λ answer. string_bytes answer.warnings ≡ warning_lines (drawn_plan drawn.now).graph.dag.warnings) }
     ensures status { IfOk result (λ answer. answer.status ≡ 0) }
     ensures err { IfErr result (λ fault. fault ≡ Memory) }
 {
@@ -146,7 +146,7 @@ fn graph_run(
     bytes: &[u8],
     records: &[Record],
 ) -> Result<Answer, RunFault>
-    requires { records_at plan.now bytes.now ≡ Some records.now }
+    requires { records_in_bytes plan.now bytes.now ≡ Some records.now }
     ensures drawn { IfOk result (λ answer. IsPicture plan.now bytes.now (string_bytes answer.text)) }
     ensures warnings { IfOk result (λ answer. string_bytes answer.warnings ≡ warning_lines plan.now.graph.dag.warnings) }
     ensures status { IfOk result (λ answer. answer.status ≡ 0) }

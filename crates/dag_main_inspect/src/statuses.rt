@@ -3,11 +3,11 @@
 ghost use Rattle.std.specs.Prelude.{◌≡◌, Some, IfOk, IfErr, string_bytes};
 ghost use Rattle.std.specs.Option.{option_map};
 ghost use Rattle.splices_flat.specs.FileSet.{bytes_of, entries_of};
-ghost use Rattle.sched_core.specs.Run.{written};
+ghost use Rattle.sched_core.specs.Run.{chronological};
 ghost use Rattle.dag_main_check.specs.Planned.{IsPlanWith, IsPlanWithFault};
 ghost use Rattle.dag_main_check.specs.declared.fault.RunFault.TheVariants.{Memory};
 ghost use Rattle.dag_main_check.specs.Warnings.{warning_lines};
-ghost use Rattle.dag_main_inspect.specs.Statused.{journal_bytes, flag_by, records_at, read_fault, IsStatusText, IsRecordsFault, IsStatusOf, IsStatusFault};
+ghost use Rattle.dag_main_inspect.specs.Statused.{journal_bytes, flag_by, records_in_bytes, bytes_fault, IsStatusText, IsRecordsFault, IsStatusTextOf, IsStatusFault};
 
 use dag_main_check::{Answer, RunFault, plan_with, warning_text};
 use event_journal_log::{JournalFault, flag_in, read_journal, slot_of};
@@ -37,7 +37,7 @@ pub fn status_of(
     rescue: Option<&[u8]>,
     journal: Option<&[u8]>,
 ) -> Result<Answer, RunFault>
-    ensures status { IfOk result (λ answer. IsStatusOf (bytes_of files.now) (entries_of files.now) path.now
+    ensures status { IfOk result (λ answer. IsStatusTextOf (bytes_of files.now) (entries_of files.now) path.now
         (option_map (λ b. b.now) rescue.entry) (option_map (λ b. b.now) journal.entry)
         (string_bytes answer.text) (string_bytes answer.warnings) answer.status) }
     ensures refused { IfErr result (IsStatusFault (bytes_of files.now) (entries_of files.now) path.now
@@ -110,7 +110,7 @@ fn status_plan(alloc: Global, plan: &Plan, bytes: &[u8]) -> Result<Answer, RunFa
 
 /// Why bytes that can't be read are refused.
 fn in_journal(fault: JournalFault) -> RunFault
-    ensures { result ≡ read_fault fault }
+    ensures { result ≡ bytes_fault fault }
 {
     match fault {
         JournalFault::Memory => RunFault::Memory,
@@ -124,7 +124,7 @@ fn in_journal(fault: JournalFault) -> RunFault
 /// # Errors
 /// The fault of the journal (`InManager`), or `Memory`.
 pub fn records_of(alloc: Global, plan: &Plan, bytes: &[u8]) -> Result<Vec<Record>, RunFault>
-    ensures ok { IfOk result (λ records. records_at plan.now bytes.now ≡ Some records.items) }
+    ensures ok { IfOk result (λ records. records_in_bytes plan.now bytes.now ≡ Some records.items) }
     ensures refused { IfErr result (IsRecordsFault plan.now bytes.now) }
 {
     match read_journal(alloc, bytes, plan.digest(), plan.always_post()) {
@@ -145,9 +145,9 @@ pub fn core_of<'a>(
     bytes: &[u8],
     records: &[Record],
 ) -> Result<Core<'a>, RunFault>
-    requires { records_at plan.now bytes.now ≡ Some records.now }
+    requires { records_in_bytes plan.now bytes.now ≡ Some records.now }
     ensures plan { IfOk result (λ core. core.plan ≡ plan.now) }
-    ensures records { IfOk result (λ core. records.now ≡ written core.past) }
+    ensures records { IfOk result (λ core. records.now ≡ chronological core.past) }
     ensures refused { IfErr result (IsRecordsFault plan.now bytes.now) }
 {
     match replay(alloc, plan, records) {

@@ -14,21 +14,21 @@ use Rattle.status_report.specs.Text.{result_line}
 use Rattle.dag_main_rehearse.specs.Report.{fated_rescue_text, report_of, fates_need_rescue, fated_report}
 use Rattle.dag_main_rehearse.specs.Rehearsed.{fated_status}
 
-module _ (plan : Plan) (past : List Record) (finished : is_finished plan past ≡ true) (calm : is_aborted plan past ≡ false) where
+module _ (plan : Plan) (past : List Record) (finished : is_finished plan past ≡ true) (abort_free : is_aborted plan past ≡ false) where
   ordinary-done : all_below (is_done plan past) (count_of plan) ≡ all_below (λ node. is_done_state (shown plan past node).state) (count_of plan)
   ordinary-done = all_below-same (is_done plan past) (λ node. is_done_state (shown plan past node).state) (count_of plan) (λ node lt. sym (state-done plan past node))
 
   pub status-is : exit_status plan past ≡ fated_status plan (shown plan past)
   status-is =
       (λ j. if is_some plan.final_node then (if is_done plan past (count_of plan) then 0 else 1)
-      else if calm j then status_of_abort plan past (count_of plan)
+      else if abort_free j then status_of_abort plan past (count_of plan)
       else if all_below (is_done plan past) (count_of plan) then 0 else 1)
       ∙ (λ j. if is_some plan.final_node then (if sym (state-done plan past (count_of plan)) j then 0 else 1)
       else if ordinary-done j then 0 else 1)
 
   need-is : needs_rescue plan past ≡ fates_need_rescue plan (shown plan past)
   need-is =
-      (λ j. (calm j || not (ordinary-done j)) || final-need (is_some plan.final_node) refl j)
+      (λ j. (abort_free j || not (ordinary-done j)) || final-need (is_some plan.final_node) refl j)
     where
       final-need : (b : Bool) → is_some plan.final_node ≡ b
           → (is_some plan.final_node && is_in_error plan past (count_of plan)) ≡ (is_some plan.final_node && not (is_done_state (shown plan past (count_of plan)).state))
@@ -43,4 +43,4 @@ module _ (plan : Plan) (past : List Record) (finished : is_finished plan past �
 
   pub report-is : (status : ℕ) → report_of plan past status ≡ fated_report plan (shown plan past) status
   report-is status =
-      λ j. all-lines plan past finished calm j ++ (result_line status ++ (if need-is j then same-rescue j else []))
+      λ j. all-lines plan past finished abort_free j ++ (result_line status ++ (if need-is j then same-rescue j else []))

@@ -19,7 +19,7 @@ use Rattle.rescue_file.specs.Written.{ordinary_names, rescue_text_of}
 use Rattle.sched_core.specs.Fate.{Fate, AreFates, final_fate, shown, is_done_state}
 use Rattle.sched_core.proofs.LivesLemmas.{table-fates, table-final}
 use Rattle.sched_core.proofs.Finished.{lawful_part}
-use Rattle.sched_core.proofs.Aborts.{has_abort_fate, calm-fates, calm-shown}
+use Rattle.sched_core.proofs.Aborts.{has_abort_fate, abort_free-fates, abort_free-shown}
 use Rattle.dag_main_rehearse.proofs.CalmReports.{report-is, status-is}
 use Rattle.sched_core.proofs.Matching.{fates-unique}
 use Rattle.sched_core.proofs.Sweeps.{all_below-same}
@@ -49,9 +49,9 @@ same-marks fates other number (suc n) same =
     λ j. is_done_state (same number (omega arith) j).state ∷ same-marks fates other (number + 1) n (λ node lt. same node (omega arith)) j
 
 -- a run without abort reports the fates
-pub calm-report : (always_post : Bool) (files : Files) (path : List ℕ) (outcomes : Option (List ℕ)) (limits : Limits) (text warnings : List ℕ) (status : ℕ)
+pub abort_free-report : (always_post : Bool) (files : Files) (path : List ℕ) (outcomes : Option (List ℕ)) (limits : Limits) (text warnings : List ℕ) (status : ℕ)
     (r : IsRehearsalOf always_post files path outcomes limits text warnings status) → MeetsNoAbort always_post files path outcomes limits text warnings status r → IsFatedReport always_post files path outcomes text status
-calm-report always_post files path outcomes limits text warnings status r calm =
+abort_free-report always_post files path outcomes limits text warnings status r abort_free =
     let plan = bare_plan_by always_post r.dag r.order in
     let table = table_by plan r.entries in
     record {
@@ -62,10 +62,10 @@ calm-report always_post files path outcomes limits text warnings status r calm =
       is_dag = r.is_dag;
       is_order = r.is_order;
       has_entries = r.has_entries;
-      are_fates = table-fates plan table r.past (record { finished = r.run.finished; calm = calm; outcomes = r.run.outcomes });
+      are_fates = table-fates plan table r.past (record { finished = r.run.finished; abort_free = abort_free; outcomes = r.run.outcomes });
       final_fate = λ some. table-final plan table r.past r.run.finished r.run.outcomes (some-final (r.dag.final_node) some);
-      text_is = r.text_is ∙ report-is plan r.past r.run.finished calm status;
-      status_is = r.status_is ∙ status-is plan r.past r.run.finished calm;
+      text_is = r.text_is ∙ report-is plan r.past r.run.finished abort_free status;
+      status_is = r.status_is ∙ status-is plan r.past r.run.finished abort_free;
     }
   where
     some-final : (final_node : Option FlatNode) → is_some final_node ≡ true → is_some (option_map (final_spec (sources_of always_post None [])) final_node) ≡ true
@@ -166,13 +166,13 @@ one-warnings always_post files path outcomes limits bounds text other warnings n
     a.warnings_are ∙ ap (λ (d : Dag). warning_lines d.warnings) (sym (ap (dag_or a.dag) (sym b.is_dag ∙ a.is_dag))) ∙ sym b.warnings_are
 
 -- where one run meets no abort, neither does the other
-pub one-calm : (always_post : Bool) (files : Files) (path : List ℕ) (outcomes : Option (List ℕ)) (limits bounds : Limits) (text other warnings notes : List ℕ) (status verdict : ℕ)
+pub one-abort_free : (always_post : Bool) (files : Files) (path : List ℕ) (outcomes : Option (List ℕ)) (limits bounds : Limits) (text other warnings notes : List ℕ) (status verdict : ℕ)
     (a : IsRehearsalOf always_post files path outcomes limits text warnings status) (b : IsRehearsalOf always_post files path outcomes bounds other notes verdict)
     → MeetsNoAbort always_post files path outcomes limits text warnings status a → MeetsNoAbort always_post files path outcomes bounds other notes verdict b
-one-calm always_post files path outcomes limits bounds text other warnings notes status verdict a b calm =
-    calm-fates (bare_plan_by always_post b.dag b.order) (table_by (bare_plan_by always_post b.dag b.order) b.entries) (rank_in b.order)
+one-abort_free always_post files path outcomes limits bounds text other warnings notes status verdict a b abort_free =
+    abort_free-fates (bare_plan_by always_post b.dag b.order) (table_by (bare_plan_by always_post b.dag b.order) b.entries) (rank_in b.order)
     (made-ranked (record { dag = b.dag; order = b.order }) (sources_of always_post None []) (digest_of b.dag.top [] None) b.is_order)
-    (shown (bare_plan_by always_post a.dag a.order) a.past) fates-too calm-too b.past (lawful_part (bare_plan_by always_post b.dag b.order) b.past b.run.finished) b.run.outcomes
+    (shown (bare_plan_by always_post a.dag a.order) a.past) fates-too abort_free-too b.past (lawful_part (bare_plan_by always_post b.dag b.order) b.past b.run.finished) b.run.outcomes
   where
     same : a.dag ≡ b.dag
     same = ap (dag_or b.dag) (sym a.is_dag ∙ b.is_dag)
@@ -181,14 +181,14 @@ one-calm always_post files path outcomes limits bounds text other warnings notes
     entries = one-list outcomes a.entries b.entries a.has_entries b.has_entries
 
     fates : AreFates (bare_plan_by always_post a.dag a.order) (table_by (bare_plan_by always_post a.dag a.order) a.entries) (shown (bare_plan_by always_post a.dag a.order) a.past)
-    fates = table-fates (bare_plan_by always_post a.dag a.order) (table_by (bare_plan_by always_post a.dag a.order) a.entries) a.past (record { finished = a.run.finished; calm = calm; outcomes = a.run.outcomes })
+    fates = table-fates (bare_plan_by always_post a.dag a.order) (table_by (bare_plan_by always_post a.dag a.order) a.entries) a.past (record { finished = a.run.finished; abort_free = abort_free; outcomes = a.run.outcomes })
 
     fates-too : AreFates (bare_plan_by always_post b.dag b.order) (table_by (bare_plan_by always_post b.dag b.order) b.entries) (shown (bare_plan_by always_post a.dag a.order) a.past)
     fates-too =
         subst (λ (d : Dag). AreFates (bare_plan_by always_post d b.order) (table_by (bare_plan_by always_post d b.order) b.entries) (shown (bare_plan_by always_post a.dag a.order) a.past)) same
         (subst (λ (es : List Entry). AreFates (bare_plan_by always_post a.dag b.order) (table_by (bare_plan_by always_post a.dag b.order) es) (shown (bare_plan_by always_post a.dag a.order) a.past)) entries fates)
 
-    calm-too : (node : ℕ) → node < count_of (bare_plan_by always_post b.dag b.order) → has_abort_fate (bare_plan_by always_post b.dag b.order) (shown (bare_plan_by always_post a.dag a.order) a.past) node ≡ false
-    calm-too =
+    abort_free-too : (node : ℕ) → node < count_of (bare_plan_by always_post b.dag b.order) → has_abort_fate (bare_plan_by always_post b.dag b.order) (shown (bare_plan_by always_post a.dag a.order) a.past) node ≡ false
+    abort_free-too =
         subst (λ (d : Dag). (node : ℕ) → node < count_of (bare_plan_by always_post d b.order) → has_abort_fate (bare_plan_by always_post d b.order) (shown (bare_plan_by always_post a.dag a.order) a.past) node ≡ false) same
-        (calm-shown (bare_plan_by always_post a.dag a.order) a.past calm)
+        (abort_free-shown (bare_plan_by always_post a.dag a.order) a.past abort_free)

@@ -17,12 +17,12 @@ use Rattle.sched_core.proofs.Finished.{lawful_part}
 use Rattle.sched_core.proofs.Held.{end-within}
 use Rattle.sched_core.proofs.LivesLemmas.{table-fates}
 use Rattle.job_starter_drive.specs.declared.Call.{Call}
-use Rattle.job_starter_drive.specs.Calls.{TellsNoMore}
+use Rattle.job_starter_drive.specs.Calls.{AllowsNoMore}
 use Rattle.job_starter_drive.specs.Drives.{at_rest, no_step}
 use Rattle.job_starter_drive.specs.Scripts.{scripted_outcome, IsScripted}
 use Rattle.job_starter_drive.proofs.Outcomes.{drives-outcomes}
 use Rattle.job_starter_drive.proofs.Walks.{goes-then}
-use Rattle.run_round.specs.Led.{DrivesToEnd}
+use Rattle.run_round.specs.RunToEnd.{DrivesToEnd}
 use Rattle.fate_audit.specs.Fates.{table_by}
 use Rattle.dag_main_rehearse.specs.Rehearsal.{IsRehearsed}
 
@@ -65,7 +65,7 @@ whole limits plan entries past calls d finished =
       steps = d;
       finished = finished;
       outcomes = outcomes;
-      fates = λ calm. table-fates plan (table_by plan entries) past (record { finished = finished; calm = calm; outcomes = outcomes });
+      fates = λ abort_free. table-fates plan (table_by plan entries) past (record { finished = finished; abort_free = abort_free; outcomes = outcomes });
     }
 
 -- the same in the words of the calls
@@ -89,7 +89,7 @@ module _ (plan : Plan) (table entries : List Entry) (same : SameOutcomes table e
   same-outcome : (key : Key) → scripted_outcome plan table key ≡ scripted_outcome plan entries key
   same-outcome key = λ j. if nat_le key.node (count_of plan) then same (node_at plan key.node).name key.attempt key.phase j else Exit 0
 
-  same-script : TellsNoMore (IsScripted plan entries []) (IsScripted plan table [])
+  same-script : AllowsNoMore (IsScripted plan entries []) (IsScripted plan table [])
   same-script told key outcome is = record { by_table = is.by_table ∙ same-outcome key; oldest_first = is.oldest_first }
 
   pub same-run : (limits : Limits) (past : List Record) → IsRehearsed limits plan table past → IsRehearsed limits plan entries past

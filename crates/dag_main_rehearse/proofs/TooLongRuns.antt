@@ -1,6 +1,7 @@
 -- A rehearsal that is stopped for want of slots has too many records.
 use Rattle.std.proofs.Common.{◌≡◌, ◌∙◌, ◌⊎◌, ℕ, ◌+◌, ◌<◌, List, [], ◌∷◌, Option, sym, ap, subst, inl, inr, arith}
 use Rattle.std.specs.Prelude.{IsTrue}
+use Rattle.event_journal_log.specs.declared.disk.Disk.{Ghosts}
 use Rattle.node_machine.specs.declared.Key.{Key}
 use Rattle.node_machine.specs.declared.Outcome.{Outcome}
 use Rattle.node_machine.specs.declared.Record.{Record}
@@ -18,8 +19,8 @@ use Rattle.recovery_manager.specs.Managed.{Managed, plan_of, past_of}
 use Rattle.job_starter_drive.specs.declared.Call.{Call}
 use Rattle.job_starter_drive.specs.declared.driving.DriveFault.{DriveFault}
 use Rattle.job_starter_drive.specs.declared.driving.DriveFault.TheVariants as drives
-use Rattle.job_starter_drive.specs.Causes.{AreRefused, IsOfRun, IsDriveFault, no_memory_for_child, no_ending_told, no_memory_for_command, no_memory_for_round, records_refused}
-use Rattle.run_round.specs.Causes.{IsEndOf, IsSealFault, text_had_no_memory, rescue_failed, rescue_had_no_room, IsLeadFault, stopped, not_sealed, end_refused, no_memory_for_report}
+use Rattle.job_starter_drive.specs.Causes.{AreRefused, IsOfRun, IsDriveFault, no_memory_for_child, no_ending_logged, no_memory_for_command, no_memory_for_round, records_refused}
+use Rattle.run_round.specs.Causes.{IsEndOf, IsSealFault, text_had_no_memory, rescue_failed, rescue_had_no_room, IsRunToEndFault, stopped, not_sealed, end_refused, no_memory_for_report}
 use Rattle.dag_main_check.specs.declared.fault.RunFault.{RunFault}
 use Rattle.dag_main_check.specs.declared.fault.RunFault.TheVariants.{InManager, Memory}
 use Rattle.dag_main_rehearse.specs.TooLong.{most_slots, no_slot, IsTooLong, IsTableRunFault, has_too_many_records, running_had_no_memory}
@@ -64,14 +65,14 @@ StopMeans P drives.StartMemory = Unit {0}
 StopMeans P drives.WaitFault = Unit {0}
 StopMeans P drives.Memory = Unit {0}
 
-seal-full : {R : Type 0} (P : Type 0) (failures capacity : R → ℕ) (plan : Plan) (past : List Record) (disk left : R) (fault : ManagerFault)
-    → IsSealFault failures capacity plan past disk left fault → FullMeans P fault
-seal-full P failures capacity plan past disk left _ (text_had_no_memory same) = tt
-seal-full P failures capacity plan past disk left _ (rescue_failed rises) = tt
-seal-full P failures capacity plan past disk left _ (rescue_had_no_room small) = tt
+seal-full : {R : Type 0} (P : Type 0) (disks : Ghosts R) (plan : Plan) (past : List Record) (disk left : R) (fault : ManagerFault)
+    → IsSealFault disks plan past disk left fault → FullMeans P fault
+seal-full P disks plan past disk left _ (text_had_no_memory same) = tt
+seal-full P disks plan past disk left _ (rescue_failed rises) = tt
+seal-full P disks plan past disk left _ (rescue_had_no_room small) = tt
 
-module _ {D : Type 0} (honest : D → Type 0) (failures capacity : D → ℕ) where
-  unwritten-full : (entries : List Record) (old new : Journal D) (fault : ManagerFault) → IsUnwritten failures capacity entries old new fault
+module _ {D : Type 0} (disks : Ghosts D) where
+  unwritten-full : (entries : List Record) (old new : Journal D) (fault : ManagerFault) → IsUnwritten disks entries old new fault
       → FullMeans (journal_limit old < journal_count old + slots_of entries) fault
   unwritten-full entries old new _ (no_memory_for_all same) = tt
   unwritten-full entries old new _ (broken_before broken same) = tt
@@ -81,7 +82,7 @@ module _ {D : Type 0} (honest : D → Type 0) (failures capacity : D → ℕ) wh
 
   refused-full : (is_own : Record → Type 0) (old manager : Managed D) (fault : ManagerFault)
       → past_of old ≡ Life ∷ [] → journal_limit old.journal ≡ most_slots → journal_count old.journal ≡ 1
-      → AreRefused honest failures capacity is_own old manager fault → FullMeans (IsTooLong (plan_of manager)) fault
+      → AreRefused disks is_own old manager fault → FullMeans (IsTooLong (plan_of manager)) fault
   refused-full is_own old manager fault begun limit count r =
       full-means (journal_limit r.then_was.journal < journal_count r.then_was.journal + slots_of r.entries) (IsTooLong (plan_of manager))
       (λ full.
@@ -98,25 +99,24 @@ module _ {D : Type 0} (honest : D → Type 0) (failures capacity : D → ℕ) wh
 
   drive-full : (before now : ℕ) (old manager : Managed D) (fault : DriveFault)
       → past_of old ≡ Life ∷ [] → journal_limit old.journal ≡ most_slots → journal_count old.journal ≡ 1
-      → IsDriveFault honest failures capacity before now old manager fault → StopMeans (IsTooLong (plan_of manager)) fault
+      → IsDriveFault disks before now old manager fault → StopMeans (IsTooLong (plan_of manager)) fault
   drive-full before now old manager _ begun limit count (no_memory_for_child rises) = tt
-  drive-full before now old manager _ begun limit count (no_ending_told rises) = tt
+  drive-full before now old manager _ begun limit count (no_ending_logged rises) = tt
   drive-full before now old manager _ begun limit count (no_memory_for_command still) = tt
   drive-full before now old manager _ begun limit count (no_memory_for_round still) = tt
   drive-full before now old manager _ begun limit count (records_refused {fault = fault} still r) = refused-full IsOfRun old manager fault begun limit count r
 
-pub lead-full : {D R : Type 0} (honest : D → Type 0) (failures capacity : D → ℕ) (rescue_honest : R → Type 0) (rescue_may_leave : R → List ℕ → Type 0)
-    (rescue_failures rescue_capacity : R → ℕ) (before now : ℕ) (may : List Call → Key → Outcome → Type 0) (old manager : Managed D) (told heard : List Call) (disk : R) (left : Option R)
+pub run_to_end-full : {D R : Type 0} (disks : Ghosts D) (rescues : Ghosts R) (before now : ℕ) (may : List Call → Key → Outcome → Type 0) (old manager : Managed D) (told heard : List Call) (disk : R) (left : Option R)
     (fault : DriveFault) → past_of old ≡ Life ∷ [] → journal_limit old.journal ≡ most_slots → journal_count old.journal ≡ 1
-    → IsLeadFault honest failures capacity rescue_honest rescue_may_leave rescue_failures rescue_capacity before now may old manager told heard disk left fault
+    → IsRunToEndFault disks rescues before now may old manager told heard disk left fault
     → StopMeans (IsTooLong (plan_of manager)) fault
-lead-full honest failures capacity _ _ rescue_failures rescue_capacity before now may old manager told heard disk left _ begun limit count (stopped {fault = fault} why steps same) =
-    drive-full honest failures capacity before now old manager fault begun limit count why
-lead-full honest failures capacity _ _ rescue_failures rescue_capacity before now may old manager told heard disk left _ begun limit count (not_sealed {fault = fault} rest is at needs why) =
-    seal-full (IsTooLong (plan_of manager)) rescue_failures rescue_capacity (plan_of manager) (past_of manager) disk rest fault why
-lead-full honest failures capacity _ _ rescue_failures rescue_capacity before now may old manager told heard disk left _ begun limit count (end_refused {fault = fault} at why rescued) =
-    refused-full honest failures capacity (IsEndOf (plan_of manager) (past_of manager)) old manager fault begun limit count why
-lead-full honest failures capacity _ _ rescue_failures rescue_capacity before now may old manager told heard disk left _ begun limit count (no_memory_for_report ended rescued) = tt
+run_to_end-full disks rescues before now may old manager told heard disk left _ begun limit count (stopped {fault = fault} why steps same) =
+    drive-full disks before now old manager fault begun limit count why
+run_to_end-full disks rescues before now may old manager told heard disk left _ begun limit count (not_sealed {fault = fault} rest is at needs why) =
+    seal-full (IsTooLong (plan_of manager)) rescues (plan_of manager) (past_of manager) disk rest fault why
+run_to_end-full disks rescues before now may old manager told heard disk left _ begun limit count (end_refused {fault = fault} at why rescued) =
+    refused-full disks (IsEndOf (plan_of manager) (past_of manager)) old manager fault begun limit count why
+run_to_end-full disks rescues before now may old manager told heard disk left _ begun limit count (no_memory_for_report ended rescued) = tt
 
 pub told-by : (plan : Plan) (fault : DriveFault) (told : RunFault) → StopMeans (IsTooLong plan) fault
     → (told ≡ Memory) ⊎ ((fault ≡ drives.Manager no_slot) × (told ≡ InManager no_slot)) → IsTableRunFault plan told

@@ -22,6 +22,6 @@ pub record ReportsRun (limits : Limits) (plan : Plan) (entries : List Entry) (te
 
 -- why a text of outcomes is no table: the first of its lines that is not spelled rightly; or memory ran out
 pub data IsTableFault (outcomes : Option (List ℕ)) : RunFault → Type 0 where
-  bad_line : (text : List ℕ) (number : ℕ) → outcomes ≡ Some text → outcomes_file.IsFirstBad (lines text) number →
+  bad_line : (text : List ℕ) (number : ℕ) → outcomes ≡ Some text → outcomes_file.IsFirstBadEntry (lines text) number →
       IsTableFault outcomes (InTable (table.BadLine number))
   reading_had_no_memory : IsTableFault outcomes Memory

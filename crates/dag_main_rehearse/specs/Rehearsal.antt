@@ -10,7 +10,7 @@ use Rattle.sched_core.specs.Fate.{AreFates, shown}
 use Rattle.sched_core.specs.Lives.{HasOutcomesOf}
 use Rattle.job_starter_drive.specs.declared.Call.{Call}
 use Rattle.job_starter_drive.specs.Scripts.{IsScripted}
-use Rattle.run_round.specs.Led.{DrivesToEnd}
+use Rattle.run_round.specs.RunToEnd.{DrivesToEnd}
 use Rattle.fate_audit.specs.Fates.{table_by}
 
 -- A whole run of one life under these limits, one step behind another, as with children, of which each ends as the table says,

@@ -30,7 +30,7 @@ bare_plan_by always_post dag order = bare_plan always_post (record { dag = dag; 
 -- the entries that a text of outcomes says; without a text there are none
 abbrev pub HasEntries : Option (List ℕ) → List Entry → Type 0
 HasEntries None entries = entries ≡ []
-HasEntries (Some text) entries = outcomes_file.SayAll 1 (lines text) entries
+HasEntries (Some text) entries = outcomes_file.SayEntries 1 (lines text) entries
 
 -- What a rehearsal answers: the report of a run of the DAG of the file with this path under the limits, at the outcomes of the
 -- entries, with the exit status and the warnings. No node of the DAG is its own ancestor, since an order has parents before

@@ -18,7 +18,7 @@ pub fn calm_reports()
 /// exit status: where the run of one rehearsal meets no abort, neither does that of any other, under
 /// whatever limits, and both report the same. The warnings are the same with abort too.
 pub fn one_report()
-    ensures calm { (always_post : Bool) (files : Files) (path : List ℕ) (outcomes : Option (List ℕ)) (limits bounds : Limits)
+    ensures abort_free { (always_post : Bool) (files : Files) (path : List ℕ) (outcomes : Option (List ℕ)) (limits bounds : Limits)
         (text other warnings notes : List ℕ) (status verdict : ℕ)
         (a : IsRehearsalOf always_post files path outcomes limits text warnings status)
         (b : IsRehearsalOf always_post files path outcomes bounds other notes verdict) →

@@ -20,7 +20,7 @@ use job_starter_table::{Script, ScriptedStarter};
 use node_machine::{Record, Table, Verdict};
 use recovery_manager::{Manager, ManagerFault};
 use run_plan::Plan;
-use run_round::{MOST_RECORDS, lead};
+use run_round::{MOST_RECORDS, run_to_end};
 use sched_core::Core;
 use std::alloc::Global;
 use throttles::Limits;
@@ -126,7 +126,7 @@ pub fn run_table<'a>(
     let mut manager = begin(alloc, plan, limits)?;
     let mut starter = ScriptedStarter::new(alloc, plan, table, in_order(alloc));
     let rescue = MemDisk::new(alloc, CAPACITY);
-    match lead(alloc, &mut manager, plan, &mut starter, rescue) {
+    match run_to_end(alloc, &mut manager, plan, &mut starter, rescue) {
         Ok(led) => Ok(Rehearsal {
             manager,
             text: led.text,

@@ -24,10 +24,10 @@ run-of path options files graph round plan is_graph is_round (rescue, rescue_is,
   is_round = is_round;
   rescue = rescue;
   rescue_is = rescue_is;
-  told = record {
+  answered = record {
     plan = plan;
     planned = record { graph = graph; is_graph = is_graph; made = made };
-    told = led;
+    answered = led;
     warnings_are = notes;
   };
 }
@@ -67,14 +67,14 @@ answer-from holds has path options files graph round plan rescue read is_graph i
   read = read;
   round = round;
   is_round = is_round;
-  told = record {
+  answered = record {
     plan = plan;
     planned = record {
       graph = graph;
       is_graph = is_graph;
       made = subst (λ (r : Option (List ℕ)). IsPlanBy round.always_post (bytes_of files) (entries_of files) r graph plan) is_rescue made;
     };
-    told = led;
+    answered = led;
     warnings_are = notes;
   };
 }

@@ -14,10 +14,10 @@ use Rattle.throttles.specs.declared.Limits.{Limits}
 use Rattle.dag_main_args.specs.declared.request.RunOptions.{RunOptions}
 use Rattle.dag_main_run.specs.Launching.{IsLauncherFault}
 use Rattle.job_starter_drive.specs.declared.Call.{Call}
-use Rattle.job_starter_drive.specs.Handed.{HandsAll}
+use Rattle.job_starter_drive.specs.Spawned.{SpawnsAll}
 use Rattle.run_round.specs.declared.rounds.Start.{Start}
 use Rattle.run_round.specs.declared.rounds.Start.TheVariants.{Begin, GoOn}
-use Rattle.run_round.specs.Led.{IsLed, DrivesToEnd}
+use Rattle.run_round.specs.RunToEnd.{IsRunToEnd, DrivesToEnd}
 use Rattle.run_round.specs.Rounds.{IsBegunBy}
 use Rattle.run_round.specs.Causes.{IsManagerStop}
 use Rattle.dag_main_files.specs.declared.rounds.Journaled.{Journaled}
@@ -25,9 +25,9 @@ use Rattle.dag_main_files.specs.declared.rounds.Journaled.TheVariants as journal
 use Rattle.dag_main_files.specs.declared.rounds.Round.{Round}
 use Rattle.splices_flat.specs.Opening.{Files}
 use Rattle.dag_main_files.specs.Folder.{IsReadFrom, IsRoundFrom, rescue_in}
-use Rattle.dag_main_files.specs.Beside.{IsFileFault, IsRoomFault, IsRoundFault, IsRoundBy, IsRescueOf, IsRescueFault}
+use Rattle.dag_main_files.specs.Beside.{IsFileFault, IsRoomFault, IsRoundFault, IsRoundBy, IsRescueOf, IsRescueReadFault}
 use Rattle.dag_main_check.specs.Planned.{IsGraphOf, IsGraphFault, IsPlanBy, IsPlanByFault, in_line, named_by}
-use Rattle.dag_main_check.specs.Told.{IsToldOf}
+use Rattle.dag_main_check.specs.ByPlan.{IsAnswerByPlan}
 use Rattle.dag_main_check.specs.declared.fault.RunFault.{RunFault}
 use Rattle.dag_main_check.specs.declared.fault.RunFault.TheVariants.{InManager, StartMemory, WaitFault, Memory}
 
@@ -48,7 +48,7 @@ start_by round = start_with round.journal round.used round.next
 
 -- children of the system may come to any ending
 abbrev pub any_ending : List Call → Key → Outcome → Type 0
-any_ending told key outcome = Unit {0}
+any_ending answered key outcome = Unit {0}
 
 -- This was printed by a manager whose life began on some records of the plan, in a new round on none; which led the run to its end under
 -- these limits, one step behind another; and which handed over the commands of its launches, once each and in their order.
@@ -57,9 +57,9 @@ pub record IsLedRun (limits : Limits) (plan : Plan) (start : Start) (text : List
   pub records : List Record
   pub calls : List Call
   pub anew : IsBegunBy start begun
-  pub led : IsLed plan (Life ∷ begun) records text status
+  pub led : IsRunToEnd plan (Life ∷ begun) records text status
   pub steps : DrivesToEnd limits plan any_ending (Life ∷ begun) [] records calls
-  pub hands_over : HandsAll plan (Life ∷ begun) records [] calls
+  pub spawns : SpawnsAll plan (Life ∷ begun) records [] calls
 
 -- This was printed of the plan of the files of this path, with the rescue file of the round that this is, or without one: the status
 -- text of the records of a run that was led to its end under the limits of these options, and its exit status; and these are the
@@ -70,7 +70,7 @@ pub record IsRunOf (path : List ℕ) (options : RunOptions) (text warnings : Lis
   pub is_round : IsRoundBy options.autorescue options.dorescuefrom options.always_post round
   pub rescue : Option (List ℕ)
   pub rescue_is : IsRescueOf round rescue
-  pub told : IsToldOf round.always_post (bytes_of files) (entries_of files) path rescue (λ plan. IsLedRun options.limits plan (start_by round) text status) warnings
+  pub answered : IsAnswerByPlan round.always_post (bytes_of files) (entries_of files) path rescue (λ plan. IsLedRun options.limits plan (start_by round) text status) warnings
 
 -- The same where these files are held and these paths are there: it is the plan of files that are held, with the rescue file that is held, in the
 -- round that the journal and the rescue files make of it.
@@ -79,13 +79,13 @@ pub record IsRunFrom (holds : Files) (has : List ℕ → Bool) (path : List ℕ)
   pub read : IsReadFrom holds path files
   pub round : Round
   pub is_round : IsRoundFrom holds has path options.autorescue options.dorescuefrom options.always_post round
-  pub told : IsToldOf round.always_post (bytes_of files) (entries_of files) path (rescue_in holds path round.used)
+  pub answered : IsAnswerByPlan round.always_post (bytes_of files) (entries_of files) path (rescue_in holds path round.used)
       (λ plan. IsLedRun options.limits plan (start_by round) text status) warnings
 
 -- Why it is not told which round this is and what its rescue file says, the first cause first: the second is met where the first is not.
 pub data IsFindingFault (options : RunOptions) : RunFault → Type 0 where
   no_round : (fault : RunFault) → IsRoundFault options.dorescuefrom fault → IsFindingFault options fault
-  no_rescue : (round : Round) (fault : RunFault) → IsRoundBy options.autorescue options.dorescuefrom options.always_post round → IsRescueFault round fault → IsFindingFault options fault
+  no_rescue : (round : Round) (fault : RunFault) → IsRoundBy options.autorescue options.dorescuefrom options.always_post round → IsRescueReadFault round fault → IsFindingFault options fault
 
 -- Why it is not told so under the lock: a name beside the DAG file would be too long; another manager is at work, or the lock is refused; or
 -- as above.
@@ -96,11 +96,11 @@ pub data IsLockedFault (path : List ℕ) (options : RunOptions) : RunFault → T
 
 -- The same as it is found first: a file beside the DAG file may be another user's, or is no regular one, or memory ran out; then as above,
 -- but a journal that can't be read is looked at again under the lock.
-pub data IsFirstFault (path : List ℕ) (options : RunOptions) : RunFault → Type 0 where
-  not_ours : (fault : RunFault) → IsFileFault fault → IsFirstFault path options fault
-  not_found_at_first : (fault : RunFault) → IsFindingFault options fault → IsFirstFault path options fault
+pub data IsFirstRunFault (path : List ℕ) (options : RunOptions) : RunFault → Type 0 where
+  not_ours : (fault : RunFault) → IsFileFault fault → IsFirstRunFault path options fault
+  not_found_at_first : (fault : RunFault) → IsFindingFault options fault → IsFirstRunFault path options fault
   looked_again : (journal : ManagerFault) (fault : RunFault) → IsFindingFault options (InManager journal) → IsLockedFault path options fault →
-      IsFirstFault path options fault
+      IsFirstRunFault path options fault
 
 -- Why the round has no plan: a submit file, a text of a job or a line of the rescue file has a fault, that of a line told with the name
 -- of the rescue file; memory ran out.
@@ -116,7 +116,7 @@ pub data IsStopFault : RunFault → Type 0 where
   not_cleared : (fault : RunFault) → IsFileFault fault → IsStopFault fault
   manager_refused : (fault : ManagerFault) → IsManagerStop fault → IsStopFault (InManager fault)
   no_memory_for_child : IsStopFault StartMemory
-  no_ending_told : IsStopFault WaitFault
+  no_ending_logged : IsStopFault WaitFault
   leading_had_no_memory : IsStopFault Memory
 
 -- Why the round is not led to its end once the lock is held, the first cause first: it is not told again which round this is, or it is
@@ -141,7 +141,7 @@ pub record IsPlannedFor (path : List ℕ) (options : RunOptions) : Type 0 where
 -- manager is at work, or the lock is refused; under the lock the round is another one, or is not led to its end.
 pub data IsRunFault (path : List ℕ) (options : RunOptions) : RunFault → Type 0 where
   no_graph : (files : FileSet) (fault : RunFault) → IsGraphFault (bytes_of files) path fault → IsRunFault path options fault
-  not_found : (files : FileSet) (graph : Network) (fault : RunFault) → IsGraphOf (bytes_of files) path graph → IsFirstFault path options fault → IsRunFault path options fault
+  not_found : (files : FileSet) (graph : Network) (fault : RunFault) → IsGraphOf (bytes_of files) path graph → IsFirstRunFault path options fault → IsRunFault path options fault
   no_plan : (files : FileSet) (graph : Network) (fault : RunFault) → IsGraphOf (bytes_of files) path graph → IsRoundPlanFault files path graph fault → IsRunFault path options fault
   no_launcher : (fault : RunFault) → IsPlannedFor path options → IsLauncherFault options.launcher fault → IsRunFault path options fault
   no_room : (fault : RunFault) → IsPlannedFor path options → IsRoomFault path fault → IsRunFault path options fault

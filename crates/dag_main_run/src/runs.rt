@@ -8,7 +8,7 @@ ghost use Rattle.run_round.specs.Causes.{MayStop};
 ghost use Rattle.dag_main_files.specs.Beside.{IsFileFault, IsRoundBy, IsRescueOf};
 ghost use Rattle.dag_main_files.specs.Folder.{IsRoundFrom, rescue_in};
 ghost use Rattle.dag_main_check.specs.Warnings.{warning_lines};
-ghost use Rattle.dag_main_run.specs.Runs.{start_by, IsPlannedRun, IsLedRun, IsRunOf, IsRunFrom, IsFindingFault, IsLockedFault, IsFirstFault, IsRoundPlanFault, IsStopFault, IsHeldFault, IsRunFault};
+ghost use Rattle.dag_main_run.specs.Runs.{start_by, IsPlannedRun, IsLedRun, IsRunOf, IsRunFrom, IsFindingFault, IsLockedFault, IsFirstRunFault, IsRoundPlanFault, IsStopFault, IsHeldFault, IsRunFault};
 
 use crate::beginning::{
     forget_children, has_own_files, ignores_endings, keep_inputs, life_of, make_journal, settled,
@@ -20,8 +20,8 @@ use dag_graph::Graph;
 use dag_main_args::RunOptions;
 use dag_main_check::{Answer, RunFault, graph_of, plan_by, warning_text};
 use dag_main_files::{
-    Folder, Journaled, Lock, Place, Reading, Round, bytes_of, files_of, journal_disk, named,
-    rescue_disk, rescue_of, rescue_path, round_of,
+    Folder, Journaled, Lock, Place, Reading, Round, files_of, journal_disk, named, rescue_disk,
+    rescue_of, rescue_path, round_of,
 };
 use event_journal::FileDisk;
 use job_starter_drive::DriveFault;
@@ -339,7 +339,7 @@ fn first_look<R: Files<File = File> + Clock + AllocGlobal + Copy + Drop, F: Fold
     ensures numbers { IfOk result (λ found. IsRescueNumber found.0.next × (found.0.used ≤ 999)) }
     ensures by { IfOk result (λ found. IsRoundBy options.now.autorescue options.now.dorescuefrom options.now.always_post found.0) }
     ensures rescue { IfOk result (λ found. IsRescueOf found.0 (option_map (λ b. b.items) found.1)) }
-    ensures refused { IfErr result (IsFirstFault place.now.top.now options.now) }
+    ensures refused { IfErr result (IsFirstRunFault place.now.top.now options.now) }
 {
     has_own_files(&rt, place, options.trust_owner)?;
     match round_with_rescue(rt, folder, place, options) {
@@ -378,7 +378,7 @@ fn look_locked<R: Files<File = File> + Clock + AllocGlobal + Copy + Drop, F: Fol
 /// Whether the round and its rescue file are still those that were found before the lock was taken:
 /// where they aren't, another manager was at work meanwhile.
 fn is_same(found: &(Round, Option<Vec<u8>>), again: &(Round, Option<Vec<u8>>)) -> bool {
-    found.0 == again.0 && bytes_of(&found.1) == bytes_of(&again.1)
+    found.0 == again.0 && found.1.as_deref() == again.1.as_deref()
 }
 
 /// Runs the round that was found before the lock was taken, with the rescue file that it reads, where it is
@@ -410,7 +410,7 @@ fn run_locked<
         return Err(place.taken(alloc));
     }
     let warnings = warning_text(alloc, plan.graph().flat().warnings())?;
-    keep_inputs(rt, place, plan, round, files, bytes_of(rescue))?;
+    keep_inputs(rt, place, plan, round, files, rescue.as_deref())?;
     let report = run_planned(rt, place, plan, round, options, launcher, lock)?;
     Ok(Answer {
         text: report.text,
@@ -467,7 +467,7 @@ pub fn run_dag<
     let files = files_of(alloc, folder, place.top, Reading::SubmitFilesToo)?;
     let graph = graph_of(alloc, &files, place.top)?;
     let found = first_look(rt, folder, place, options)?;
-    let plan = plan_of_round(alloc, place, &files, graph, &found.0, bytes_of(&found.1))?;
+    let plan = plan_of_round(alloc, place, &files, graph, &found.0, found.1.as_deref())?;
     let launcher = launcher_of(&rt, place.folder, &plan, options)?;
     place.has_room_for_names(alloc)?;
     let mut lock = place.lock(&rt)?;

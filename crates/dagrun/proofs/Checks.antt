@@ -6,7 +6,7 @@ use Rattle.folder_answers.specs.Answered.{IsCheckRefusal}
 use Rattle.dag_main_check.specs.declared.fault.RunFault.{RunFault}
 use Rattle.dag_main_check.specs.declared.warnings.Answer.{Answer}
 use Rattle.dag_main_check.proofs.Refusals.{weaker}
-use Rattle.dagrun.specs.Answered.{Said, IsCheckWith, without_hints, with_hints, IsRefusal, not_checked}
+use Rattle.dagrun.specs.Answered.{Said, IsCheckWith, without_hints, with_hints, IsRefusedRequest, not_checked}
 
 -- what is said of an answer
 abbrev pub IsAnswer : Said → Bool → Answer → Type 0
@@ -21,8 +21,8 @@ plain_check Checked hinted (Ok answer) is = without_hints _ _ is
 plain_check Checked hinted (Err fault) is = tt
 
 -- the same of a refusal
-pub refused_check : (path : List ℕ) (hinted : Bool) (r : Result Answer RunFault) → IfErr r (IsCheckRefusal path) → IfErr r (IsRefusal (checks path hinted))
-refused_check path hinted r why = weaker (IsRefusal (checks path hinted)) r why (λ fault is. not_checked path hinted fault is)
+pub refused_check : (path : List ℕ) (hinted : Bool) (r : Result Answer RunFault) → IfErr r (IsCheckRefusal path) → IfErr r (IsRefusedRequest (checks path hinted))
+refused_check path hinted r why = weaker (IsRefusedRequest (checks path hinted)) r why (λ fault is. not_checked path hinted fault is)
 
 -- an answer with hints behind its warnings
 behind : (Checked : Said) (text warnings hints all : List ℕ) (status : ℕ) → Checked text warnings status → (all ≡ warnings ++ hints) ⊎ (all ≡ warnings) → IsCheckWith Checked true text all status

@@ -9,7 +9,7 @@ use Rattle.dag_main_args.specs.Answered.{IsAskedFor}
 use Rattle.dag_main_check.specs.declared.fault.RunFault.{RunFault}
 use Rattle.dag_main_check.specs.declared.warnings.Answer.{Answer}
 use Rattle.dagrun.specs.Answered.{AskFor, IsAnswerTo, IsExit, answered, refused}
-use Rattle.answer_console.specs.Telling.{IsStatusOf, printed, not_printed}
+use Rattle.answer_console.specs.Telling.{IsExitStatusOf, printed, not_printed}
 
 -- the words as they are lent
 abbrev pub lent_words : List (Bor (List ℕ)) → List (List ℕ)
@@ -29,11 +29,11 @@ asks-for words request none said limited = record {
 -- an answer is printed with its status, or refused
 pub exits : (words : List (List ℕ)) (request : Request) → AskFor words request → (result : Result Answer RunFault)
     → IfOk result (λ answer. IsAnswerTo (asked_by request) (string_bytes answer.text) (string_bytes answer.warnings) answer.status)
-    → (status : ℕ) → IsStatusOf result status → IsExit words status
+    → (status : ℕ) → IsExitStatusOf result status → IsExit words status
 exits words request ask result is status (printed answer same) = answered request _ _ answer.status ask (IfOk-at_ok _ same is)
 exits words request ask result is status not_printed = refused
 
 -- so is what is told of a fault
-pub exits-refused : (words : List (List ℕ)) (fault : RunFault) (status : ℕ) → IsStatusOf (Err fault) status → IsExit words status
+pub exits-refused : (words : List (List ℕ)) (fault : RunFault) (status : ℕ) → IsExitStatusOf (Err fault) status → IsExit words status
 exits-refused words fault status (printed answer same) = absurd cc
 exits-refused words fault status not_printed = refused

@@ -12,9 +12,9 @@ use Rattle.dag_main_rehearse.specs.Rehearsed.{IsRehearsalOf}
 use Rattle.folder_answers.specs.Answered.{IsCheckOfSome, IsCheckRefusal, IsRehearsalOfSome, IsRehearsalRefusal}
 use Rattle.dag_main_check.specs.declared.fault.RunFault.{RunFault}
 use Rattle.dag_main_run.specs.Runs.{IsRunOf, IsRunFrom, IsRunFault}
-use Rattle.dag_main_inspect.specs.Asked.{IsToldOfRun, IsToldFrom, IsToldFault}
+use Rattle.dag_main_inspect.specs.Asked.{IsAnswerOfRun, IsAnswerHeld, IsAnswerFault}
 use Rattle.dag_main_inspect.specs.Reported.{IsReportHere, IsReportFrom}
-use Rattle.run_times.specs.Told.{IsTimesOf, IsTimesFrom, IsTimesFault}
+use Rattle.run_times.specs.Answered.{IsTimesOf, IsTimesFrom, IsTimesFault}
 use Rattle.dag_main_inspect.specs.declared.by_journal.Question.TheVariants.{Status, Audit, Graph}
 use Rattle.salvage.specs.Salvaged.{IsSalvageOf, IsSalvageFrom}
 use Rattle.salvage.specs.Faults.{fault_text}
@@ -29,9 +29,9 @@ Said = List ℕ → List ℕ → ℕ → Type 0
 
 -- What `run` answers: what is printed of a round that was led to its end; or, where that is asked for, what was printed of the last round, which
 -- has ended.
-pub data IsRunWith (Led Again : Said) (options : RunOptions) (text warnings : List ℕ) (status : ℕ) : Type 0 where
-  led : Led text warnings status → IsRunWith Led Again options text warnings status
-  told_again : options.resume ≡ true → Again text warnings status → IsRunWith Led Again options text warnings status
+pub data IsRunWith (RunToEnd Again : Said) (options : RunOptions) (text warnings : List ℕ) (status : ℕ) : Type 0 where
+  led : RunToEnd text warnings status → IsRunWith RunToEnd Again options text warnings status
+  told_again : options.resume ≡ true → Again text warnings status → IsRunWith RunToEnd Again options text warnings status
 
 -- What `rehearse` answers, by the text of a table where one is named.
 pub record IsRehearsalWith (Rehearsed : Option (List ℕ) → Said) (outcomes : Option (List ℕ)) (text warnings : List ℕ) (status : ℕ) : Type 0 where
@@ -39,15 +39,15 @@ pub record IsRehearsalWith (Rehearsed : Option (List ℕ) → Said) (outcomes : 
   pub is_named : is_some table ≡ is_some outcomes
   pub rehearsed : Rehearsed table text warnings status
 
--- `dagrun: CODE Name PATH`, of a cause that no other command has; of one that others have, any warning
-abbrev pub IsToldCause : SalvageFault → List ℕ → Type 0
-IsToldCause fault warnings = IfSome (fault_text fault) (λ line. warnings ≡ codes "dagrun: " ++ (line ++ codes "\n"))
+-- the cause is one that no other command has, and the warning is its line: `dagrun: CODE Name PATH`
+abbrev pub IsWarnedCause : SalvageFault → List ℕ → Type 0
+IsWarnedCause fault warnings = (line : List ℕ) × (fault_text fault ≡ Some line) × (warnings ≡ codes "dagrun: " ++ (line ++ codes "\n"))
 
 -- What `salvage` answers: what it made of a round that was cut short; or the line of a cause that no other command has, as a warning, with
 -- nothing printed and exit status 125.
 pub data IsSalvageWith (Salvaged : Said) (path : List ℕ) : (text warnings : List ℕ) → (status : ℕ) → Type 0 where
   salvaged : (text warnings : List ℕ) (status : ℕ) → Salvaged text warnings status → IsSalvageWith Salvaged path text warnings status
-  not_salvaged : (fault : SalvageFault) (warnings : List ℕ) → IsSalvageFault path fault → IsToldCause fault warnings → IsSalvageWith Salvaged path [] warnings 125
+  not_salvaged : (fault : SalvageFault) (warnings : List ℕ) → IsSalvageFault path fault → IsWarnedCause fault warnings → IsSalvageWith Salvaged path [] warnings 125
 
 -- What `check` answers; where hints are asked for, with these behind its warnings.
 pub data IsCheckWith (Checked : Said) (hinted : Bool) (text : List ℕ) : (warnings : List ℕ) → (status : ℕ) → Type 0 where
@@ -58,11 +58,11 @@ pub data IsCheckWith (Checked : Said) (hinted : Bool) (text : List ℕ) : (warni
 abbrev pub IsAnswerTo : Asked → (text warnings : List ℕ) → (status : ℕ) → Type 0
 IsAnswerTo (checks path hinted) text warnings status = IsCheckWith (IsCheckOfSome path) hinted text warnings status
 IsAnswerTo (runs path options) text warnings status = IsRunWith (IsRunOf path options) (IsReportHere path) options text warnings status
-IsAnswerTo (tells_status path) text warnings status = IsToldOfRun Status path text warnings status
-IsAnswerTo (audits path) text warnings status = IsToldOfRun Audit path text warnings status
+IsAnswerTo (tells_status path) text warnings status = IsAnswerOfRun Status path text warnings status
+IsAnswerTo (audits path) text warnings status = IsAnswerOfRun Audit path text warnings status
 IsAnswerTo (rehearses path outcomes limits always_post) text warnings status =
     IsRehearsalWith (λ table. IsRehearsalOfSome always_post path table limits) outcomes text warnings status
-IsAnswerTo (draws path) text warnings status = IsToldOfRun Graph path text warnings status
+IsAnswerTo (draws path) text warnings status = IsAnswerOfRun Graph path text warnings status
 IsAnswerTo (asks_why path nodes) text warnings status = IsWhyOf path nodes text warnings status
 IsAnswerTo (times path svg) text warnings status = IsTimesOf path svg text warnings status
 IsAnswerTo (salvages path) text warnings status = IsSalvageWith (IsSalvageOf path) path text warnings status
@@ -73,11 +73,11 @@ abbrev pub IsAnswerFrom : Files → (List ℕ → Bool) → Asked → (text warn
 IsAnswerFrom holds has (checks path hinted) text warnings status = IsCheckWith (IsCheckOf holds path) hinted text warnings status
 IsAnswerFrom holds has (runs path options) text warnings status =
     IsRunWith (IsRunFrom holds has path options) (IsReportFrom holds path) options text warnings status
-IsAnswerFrom holds has (tells_status path) text warnings status = IsToldFrom holds Status path text warnings status
-IsAnswerFrom holds has (audits path) text warnings status = IsToldFrom holds Audit path text warnings status
+IsAnswerFrom holds has (tells_status path) text warnings status = IsAnswerHeld holds Status path text warnings status
+IsAnswerFrom holds has (audits path) text warnings status = IsAnswerHeld holds Audit path text warnings status
 IsAnswerFrom holds has (rehearses path outcomes limits always_post) text warnings status =
     IsRehearsalWith (λ table. IsRehearsalOf always_post holds path table limits) outcomes text warnings status
-IsAnswerFrom holds has (draws path) text warnings status = IsToldFrom holds Graph path text warnings status
+IsAnswerFrom holds has (draws path) text warnings status = IsAnswerHeld holds Graph path text warnings status
 IsAnswerFrom holds has (asks_why path nodes) text warnings status = IsWhyHeld holds path nodes text warnings status
 IsAnswerFrom holds has (times path svg) text warnings status = IsTimesFrom holds path svg text warnings status
 IsAnswerFrom holds has (salvages path) text warnings status = IsSalvageWith (IsSalvageFrom holds path) path text warnings status
@@ -89,19 +89,19 @@ is_run (runs path options) = true
 is_run _ = false
 
 -- Why a request is refused: the system refuses the folder or a file, or memory ran out; or for a cause of the call that it is for.
-pub data IsRefusal : Asked → RunFault → Type 0 where
-  not_read : (asked : Asked) (fault : RunFault) → IsFileFault fault → IsRefusal asked fault
-  not_checked : (path : List ℕ) (hinted : Bool) (fault : RunFault) → IsCheckRefusal path fault → IsRefusal (checks path hinted) fault
-  not_run : (path : List ℕ) (options : RunOptions) (fault : RunFault) → IsRunFault path options fault → IsRefusal (runs path options) fault
-  not_told_again : (path : List ℕ) (options : RunOptions) (fault : RunFault) → options.resume ≡ true → IsToldFault Status path fault → IsRefusal (runs path options) fault
-  no_status : (path : List ℕ) (fault : RunFault) → IsToldFault Status path fault → IsRefusal (tells_status path) fault
-  not_audited : (path : List ℕ) (fault : RunFault) → IsToldFault Audit path fault → IsRefusal (audits path) fault
-  not_timed : (path : List ℕ) (svg : Bool) (fault : RunFault) → IsTimesFault path fault → IsRefusal (times path svg) fault
-  not_drawn : (path : List ℕ) (fault : RunFault) → IsToldFault Graph path fault → IsRefusal (draws path) fault
-  not_salvaged_as_run : (path : List ℕ) (fault : RunFault) → IsSalvageFault path (Refused fault) → IsRefusal (salvages path) fault
-  not_why : (path : List ℕ) (nodes : List (List ℕ)) (fault : RunFault) → IsToldFault Status path fault → IsRefusal (asks_why path nodes) fault
+pub data IsRefusedRequest : Asked → RunFault → Type 0 where
+  not_read : (asked : Asked) (fault : RunFault) → IsFileFault fault → IsRefusedRequest asked fault
+  not_checked : (path : List ℕ) (hinted : Bool) (fault : RunFault) → IsCheckRefusal path fault → IsRefusedRequest (checks path hinted) fault
+  not_run : (path : List ℕ) (options : RunOptions) (fault : RunFault) → IsRunFault path options fault → IsRefusedRequest (runs path options) fault
+  not_told_again : (path : List ℕ) (options : RunOptions) (fault : RunFault) → options.resume ≡ true → IsAnswerFault Status path fault → IsRefusedRequest (runs path options) fault
+  no_status : (path : List ℕ) (fault : RunFault) → IsAnswerFault Status path fault → IsRefusedRequest (tells_status path) fault
+  not_audited : (path : List ℕ) (fault : RunFault) → IsAnswerFault Audit path fault → IsRefusedRequest (audits path) fault
+  not_timed : (path : List ℕ) (svg : Bool) (fault : RunFault) → IsTimesFault path fault → IsRefusedRequest (times path svg) fault
+  not_drawn : (path : List ℕ) (fault : RunFault) → IsAnswerFault Graph path fault → IsRefusedRequest (draws path) fault
+  not_salvaged_as_run : (path : List ℕ) (fault : RunFault) → IsSalvageFault path (Refused fault) → IsRefusedRequest (salvages path) fault
+  not_why : (path : List ℕ) (nodes : List (List ℕ)) (fault : RunFault) → IsAnswerFault Status path fault → IsRefusedRequest (asks_why path nodes) fault
   not_rehearsed : (path : List ℕ) (outcomes table : Option (List ℕ)) (limits : Limits) (always_post : Bool) (fault : RunFault) →
-      is_some table ≡ is_some outcomes → IsRehearsalRefusal path table fault → IsRefusal (rehearses path outcomes limits always_post) fault
+      is_some table ≡ is_some outcomes → IsRehearsalRefusal path table fault → IsRefusedRequest (rehearses path outcomes limits always_post) fault
 
 -- What the words of a command line ask for, the program's name among them: without others it is `rehearse -`; others ask for what the manual says of
 -- the command to which clap matches them; and there is always a limit on all children.

@@ -1,6 +1,6 @@
 //! What is answered to a request by the files of a folder.
 
-ghost use Rattle.std.specs.Prelude.{◌≡◌, ◌⊎◌, ◌||◌, true, ℕ, List, [], ◌++◌, Some, IfOk, IfErr, is_some, map, string_bytes, codes};
+ghost use Rattle.std.specs.Prelude.{◌≡◌, ◌⊎◌, ◌||◌, true, ℕ, List, [], ◌++◌, Some, IfOk, IfErr, IfSome, is_some, map, string_bytes, codes};
 ghost use Rattle.std.specs.Option.{option_map};
 ghost use Rattle.dag_main_args.specs.Requests.{asked_by, checks, runs, rehearses, salvages, shows};
 ghost use Rattle.dag_main_files.specs.Beside.{IsFileFault};
@@ -9,12 +9,12 @@ ghost use Rattle.folder_answers.specs.Answered.{IsCheckOfSome, IsCheckRefusal};
 ghost use Rattle.dag_main_check.specs.declared.fault.RunFault.TheVariants.{Memory};
 ghost use Rattle.salvage.specs.Faults.{fault_text};
 ghost use Rattle.salvage.specs.Refused.{IsSalvageFault};
-ghost use Rattle.dagrun.specs.Answered.{is_run, IsAnswerTo, IsAnswerFrom, IsCheckWith, IsToldCause, IsRefusal};
+ghost use Rattle.dagrun.specs.Answered.{is_run, IsAnswerTo, IsAnswerFrom, IsCheckWith, IsRefusedRequest};
 
 use dag_main_args::{Request, RunOptions};
 use dag_main_check::{Answer, RunFault};
-use dag_main_files::{Folder, Place, Reading, bytes_of, files_of, read_input, refused};
-use dag_main_inspect::{Question, report_here, told_here};
+use dag_main_files::{Folder, Place, Reading, files_of, read_input, refused};
+use dag_main_inspect::{Question, answer_here, report_here};
 use dag_main_run::{Screen, run_dag};
 use failure_answers::why_here;
 use folder_answers::{check_here, rehearse_here};
@@ -48,14 +48,14 @@ pub(crate) fn answer_in<
         (string_bytes answer.text) (string_bytes answer.warnings) answer.status) }
     // It is refused for a cause of the call; `run` does not read standard input.
     ensures refused { (is_run (asked_by request.entry) ≡ true → ¬ (F.streams folder.now))
-        → IfErr result (IsRefusal (asked_by request.entry)) }
+        → IfErr result (IsRefusedRequest (asked_by request.entry)) }
 {
     let alloc = rt.alloc();
     match request {
         Request::Run { dag, options } => run_in(rt, folder, seat, dag, &options),
-        Request::Status { dag } => told_here(alloc, folder, dag, Question::Status),
-        Request::Audit { dag } => told_here(alloc, folder, dag, Question::Audit),
-        Request::Graph { dag } => told_here(alloc, folder, dag, Question::Graph),
+        Request::Status { dag } => answer_here(alloc, folder, dag, Question::Status),
+        Request::Audit { dag } => answer_here(alloc, folder, dag, Question::Audit),
+        Request::Graph { dag } => answer_here(alloc, folder, dag, Question::Graph),
         Request::Why { dag, nodes } => {
             let place = Place {
                 folder: seat,
@@ -104,7 +104,7 @@ fn run_in<
     ensures held { F.honest folder.now → IfOk result (λ answer.
         IsAnswerFrom (F.holds folder.now) (F.has folder.now) (runs dag.now options.now)
         (string_bytes answer.text) (string_bytes answer.warnings) answer.status) }
-    ensures refused { ¬ (F.streams folder.now) → IfErr result (IsRefusal (runs dag.now options.now)) }
+    ensures refused { ¬ (F.streams folder.now) → IfErr result (IsRefusedRequest (runs dag.now options.now)) }
 {
     if options.resume {
         if let Some(answer) = report_here(rt.alloc(), folder, dag)? {
@@ -118,12 +118,13 @@ fn run_in<
     run_dag(*rt, folder, &place, options)
 }
 
-/// What is told of a fault that no other command has: its line, as a warning, and status 125.
+/// The answer that nothing was salvaged, for a fault that no other command has: its line as a warning, and status 125.
 ///
 /// # Errors
 /// `Memory` alone.
-fn told_salvage(alloc: Global, fault: &SalvageFault) -> Result<Answer, RunFault>
-    ensures told { IfOk result (λ answer. IsToldCause fault.now (string_bytes answer.warnings)) }
+fn not_salvaged(alloc: Global, fault: &SalvageFault) -> Result<Answer, RunFault>
+    ensures warned { IfOk result (λ answer. IfSome (fault_text fault.now) (λ line.
+        string_bytes answer.warnings ≡ codes "dagrun: " ++ (line ++ codes "\n"))) }
     ensures text { IfOk result (λ answer. string_bytes answer.text ≡ []) }
     ensures status { IfOk result (λ answer. answer.status ≡ 125) }
     ensures err { IfErr result (λ fault. fault ≡ Memory) }
@@ -147,12 +148,14 @@ fn salvage_in<R: Files<File = File> + Clock + AllocGlobal + Copy + Drop, F: Fold
     ensures held { F.honest folder.now → IfOk result (λ answer.
         IsAnswerFrom (F.holds folder.now) (F.has folder.now) (salvages place.now.top.now)
         (string_bytes answer.text) (string_bytes answer.warnings) answer.status) }
-    ensures refused { IfErr result (IsRefusal (salvages place.now.top.now)) }
+    ensures refused { IfErr result (IsRefusedRequest (salvages place.now.top.now)) }
 {
     match salvage_here(*rt, folder, place) {
         Ok(answer) => Ok(answer),
-        Err(SalvageFault::Refused(fault)) => Err(fault),
-        Err(fault) => told_salvage(rt.alloc(), &fault),
+        Err(fault) => {
+            let own = fault.own()?;
+            not_salvaged(rt.alloc(), &own)
+        }
     }
 }
 
@@ -168,7 +171,7 @@ fn check<R: Files<File = File> + Screen + AllocGlobal, F: Folder>(
     ensures held { F.honest folder.now → IfOk result (λ answer.
         IsAnswerFrom (F.holds folder.now) (F.has folder.now) (checks dag.now (wanted.hints || wanted.condor))
         (string_bytes answer.text) (string_bytes answer.warnings) answer.status) }
-    ensures refused { IfErr result (IsRefusal (checks dag.now (wanted.hints || wanted.condor))) }
+    ensures refused { IfErr result (IsRefusedRequest (checks dag.now (wanted.hints || wanted.condor))) }
 {
     if wanted.any() {
         check_with_hints(rt, folder, dag, wanted)
@@ -235,14 +238,14 @@ fn rehearse<R: Files + AllocGlobal, F: Folder>(
         (rehearses dag.now (option_map (λ t. t.now) outcomes.entry) limits always_post)
         (string_bytes answer.text) (string_bytes answer.warnings) answer.status) }
     ensures refused { IfErr result
-        (IsRefusal (rehearses dag.now (option_map (λ t. t.now) outcomes.entry) limits always_post)) }
+        (IsRefusedRequest (rehearses dag.now (option_map (λ t. t.now) outcomes.entry) limits always_post)) }
 {
     let table = outcomes_of(rt, outcomes)?;
     rehearse_here(
         rt.alloc(),
         folder,
         dag,
-        bytes_of(&table),
+        table.as_deref(),
         limits,
         always_post,
     )

@@ -3,8 +3,8 @@
 ghost use Rattle.std.specs.Prelude.{◌≡◌, true, IfOk, IfErr, map, string_bytes};
 ghost use Rattle.dag_main_args.specs.Requests.{asked_by};
 ghost use Rattle.dag_main_files.specs.Beside.{IsFileFault};
-ghost use Rattle.dagrun.specs.Answered.{is_run, IsAnswerTo, IsRefusal, IsExit};
-ghost use Rattle.answer_console.specs.Telling.{IsStatusOf};
+ghost use Rattle.dagrun.specs.Answered.{is_run, IsAnswerTo, IsRefusedRequest, IsExit};
+ghost use Rattle.answer_console.specs.Telling.{IsExitStatusOf};
 
 use crate::answers::{REFUSED, answer_in};
 use crate::telling::{tell_more, tell_totals, tell_worker};
@@ -37,7 +37,7 @@ pub fn run<
             let postscript = postscript_to(&request);
             finish(rt, dag, postscript, &answer(rt, request))
         }
-        Err(WordsFault::Told(text)) => refuse_words(rt, text.as_str()),
+        Err(WordsFault::Refused(text)) => refuse_words(rt, text.as_str()),
         Err(WordsFault::Memory) => finish(rt, None, Postscript::Nothing, &Err(RunFault::Memory)),
     }
 }
@@ -54,7 +54,7 @@ fn answer<R: Files<File = File> + Processes + Clock + Screen + Input + AllocGlob
 ) -> Result<Answer, RunFault>
     ensures answered { IfOk result (λ answer. IsAnswerTo (asked_by request.entry)
         (string_bytes answer.text) (string_bytes answer.warnings) answer.status) }
-    ensures refused { IfErr result (IsRefusal (asked_by request.entry)) }
+    ensures refused { IfErr result (IsRefusedRequest (asked_by request.entry)) }
 {
     if !is_beside(&request) {
         return answer_in(rt, &StreamOrFolder { rt }, "", request);
@@ -128,7 +128,7 @@ fn finish<R: Files<File = File> + Print + Screen + AllocGlobal>(
     postscript: Postscript,
     answer: &Result<Answer, RunFault>,
 ) -> u8
-    ensures { IsStatusOf answer.now result }
+    ensures { IsExitStatusOf answer.now result }
 {
     let status = tell_answer(rt.alloc(), &mut SystemConsole { rt }, answer);
     match (answer, dag) {

@@ -1,6 +1,6 @@
 //! What a person at a terminal is told behind the line of a refusal, and behind a status.
 
-use dag_main_files::{Place, bytes_of, read_input};
+use dag_main_files::{Place, read_input};
 use dag_main_run::Screen;
 use log_lines::{read_line, unquoted, whole_lines};
 use refusal_hints::{Evidence, Refusal, hint_text};
@@ -83,7 +83,7 @@ fn hint_of<R: Files + AllocGlobal>(
     let source = source_of(rt, &refusal);
     let reason = reason_of(rt, dag, &refusal)?;
     let evidence = Evidence {
-        source: bytes_of(&source),
+        source: source.as_deref(),
         reason: reason.as_ref().map(|reason| reason.as_str()),
     };
     hint_text(rt.alloc(), &refusal, &evidence)

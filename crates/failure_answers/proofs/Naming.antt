@@ -6,9 +6,9 @@ use Rattle.node_machine.specs.declared.Record.{Record}
 use Rattle.run_plan.specs.Plan.{Plan}
 use Rattle.dag_main_check.specs.Warnings.{warning_lines}
 use Rattle.failure_report.specs.declared.why.Why.TheVariants as why
-use Rattle.failure_report.specs.Told.{IsWhyOfAll}
+use Rattle.failure_report.specs.Reported.{IsWhyOfAll}
 use Rattle.failure_report.specs.Named.{IsWhyOfNamed}
-use Rattle.failure_answers.specs.Answered.{IsAnswerOf, told_of_all, told_of_named, unknown_name}
+use Rattle.failure_answers.specs.Answered.{IsAnswerOf, reported_of_all, reported_of_named, unknown_name}
 
 -- the names as they are lent
 abbrev lent_names : List (Bor (List ℕ)) → List (List ℕ)
@@ -18,14 +18,14 @@ lent-many : (names : List (Bor (List ℕ))) → length (lent_names names) ≡ le
 lent-many names = length-map names (λ (n : Bor (List ℕ)). n.now)
 
 module _ (plan : Plan) (past : List Record) (path : List ℕ) (names : List (Bor (List ℕ))) where
-  told-by : (text : String Global) → (length names ≡ 0) ⊎ (length names ≡ 0 → ⊥) → (length names ≡ 0 → IsWhyOfAll plan past (why.Told text))
-      → ((length names ≡ 0 → ⊥) → IsWhyOfNamed plan past path (lent_names names) (why.Told text))
+  told-by : (text : String Global) → (length names ≡ 0) ⊎ (length names ≡ 0 → ⊥) → (length names ≡ 0 → IsWhyOfAll plan past (why.Reported text))
+      → ((length names ≡ 0 → ⊥) → IsWhyOfNamed plan past path (lent_names names) (why.Reported text))
       → IsAnswerOf plan past path (lent_names names) (string_bytes text) (warning_lines plan.graph.dag.warnings) 0
-  told-by text (inl none) all named = told_of_all (string_bytes text) (lent-many names ∙ none) (all none)
-  told-by text (inr some) all named = told_of_named (string_bytes text) (λ none. some (sym (lent-many names) ∙ none)) (named some)
+  told-by text (inl none) all named = reported_of_all (string_bytes text) (lent-many names ∙ none) (all none)
+  told-by text (inr some) all named = reported_of_named (string_bytes text) (λ none. some (sym (lent-many names) ∙ none)) (named some)
 
-  pub told-so : (text : String Global) → (length names ≡ 0 → IsWhyOfAll plan past (why.Told text))
-      → ((length names ≡ 0 → ⊥) → IsWhyOfNamed plan past path (lent_names names) (why.Told text))
+  pub told-so : (text : String Global) → (length names ≡ 0 → IsWhyOfAll plan past (why.Reported text))
+      → ((length names ≡ 0 → ⊥) → IsWhyOfNamed plan past path (lent_names names) (why.Reported text))
       → IsAnswerOf plan past path (lent_names names) (string_bytes text) (warning_lines plan.graph.dag.warnings) 0
   told-so text all named = told-by text (cases_eq (length names) 0) all named
 

@@ -5,21 +5,21 @@ use Rattle.splices_flat.specs.FileSet.{bytes_of, entries_of}
 use Rattle.splices_flat.specs.declared.file_set.FileSet.{FileSet}
 use Rattle.node_machine.specs.declared.Record.{Record}
 use Rattle.run_plan.specs.Plan.{Plan}
-use Rattle.sched_core.specs.Run.{written, is_lawful}
+use Rattle.sched_core.specs.Run.{chronological, is_lawful}
 use Rattle.dag_main_check.specs.Planned.{IsPlanWith}
 use Rattle.dag_main_check.specs.Warnings.{warning_lines}
 use Rattle.dag_main_files.specs.Folder.{IsReadFrom}
 use Rattle.dag_main_inspect.specs.LastRound.{IsLastRound}
-use Rattle.dag_main_inspect.specs.Statused.{journal_bytes, flag_by, records_at}
-use Rattle.failure_report.specs.Told.{HasAllFailed}
+use Rattle.dag_main_inspect.specs.Statused.{journal_bytes, flag_by, records_in_bytes}
+use Rattle.failure_report.specs.Reported.{HasAllFailed}
 use Rattle.failure_report.specs.Named.{HasNamed, IsUnknownName}
 
 -- The answer of a run of the DAG file of a path to names: a text, the warnings of the files, and status 0, where the text has what is told of all
 -- nodes in error where there is no name, and else of those that are named, in their order; or, where a name is none of a node, no text, the line
 -- that says so as a warning, and status 125.
 pub data IsAnswerOf (plan : Plan) (past : List Record) (path : List ℕ) (names : List (List ℕ)) : (text warnings : List ℕ) → (status : ℕ) → Type 0 where
-  told_of_all : (text : List ℕ) → length names ≡ 0 → HasAllFailed plan past text → IsAnswerOf plan past path names text (warning_lines plan.graph.dag.warnings) 0
-  told_of_named : (text : List ℕ) → length names ≢ 0 → HasNamed plan past names text → IsAnswerOf plan past path names text (warning_lines plan.graph.dag.warnings) 0
+  reported_of_all : (text : List ℕ) → length names ≡ 0 → HasAllFailed plan past text → IsAnswerOf plan past path names text (warning_lines plan.graph.dag.warnings) 0
+  reported_of_named : (text : List ℕ) → length names ≢ 0 → HasNamed plan past names text → IsAnswerOf plan past path names text (warning_lines plan.graph.dag.warnings) 0
   unknown_name : (line : List ℕ) → length names ≢ 0 → IsUnknownName plan path names line → IsAnswerOf plan past path names [] line 125
 
 -- That is the answer of the plan of these files, with a rescue file or none, where the records of a journal or none are lawful.
@@ -27,7 +27,7 @@ pub record IsWhyFrom (files : FileSet) (path : List ℕ) (rescue journal : Optio
   pub plan : Plan
   pub planned : IsPlanWith (flag_by journal) (bytes_of files) (entries_of files) path rescue plan
   pub past : List Record
-  pub are_records : records_at plan (journal_bytes journal) ≡ Some (written past)
+  pub are_records : records_in_bytes plan (journal_bytes journal) ≡ Some (chronological past)
   pub lawful : IsTrue (is_lawful plan past)
   pub answer : IsAnswerOf plan past path names text warnings status
 
@@ -36,7 +36,7 @@ pub record IsWhyOf (path : List ℕ) (names : List (List ℕ)) (text warnings : 
   pub files : FileSet
   pub rescue : Option (List ℕ)
   pub journal : Option (List ℕ)
-  pub told : IsWhyFrom files path rescue journal names text warnings status
+  pub answered : IsWhyFrom files path rescue journal names text warnings status
 
 -- The same where these files are held: of the DAG file and those that were read with it, the journal, and the rescue file that the journal's
 -- header names.
@@ -46,4 +46,4 @@ pub record IsWhyHeld (holds : Files) (path : List ℕ) (names : List (List ℕ))
   pub journal : Option (List ℕ)
   pub read : IsReadFrom holds path files
   pub beside : IsLastRound holds path journal rescue
-  pub told : IsWhyFrom files path rescue journal names text warnings status
+  pub answered : IsWhyFrom files path rescue journal names text warnings status

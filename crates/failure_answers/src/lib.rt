@@ -4,13 +4,13 @@
 ghost use Rattle.std.specs.Prelude.{◌≡◌, map, IfOk, IfErr, option_map, string_bytes};
 ghost use Rattle.dag_main_check.specs.declared.fault.RunFault.TheVariants.{Memory};
 ghost use Rattle.splices_flat.specs.FileSet.{bytes_of, entries_of};
-ghost use Rattle.dag_main_inspect.specs.Asked.{IsToldFault};
+ghost use Rattle.dag_main_inspect.specs.Asked.{IsAnswerFault};
 ghost use Rattle.dag_main_inspect.specs.Statused.{IsStatusFault};
 ghost use Rattle.dag_main_inspect.specs.declared.by_journal.Question.TheVariants.{Status};
 ghost use Rattle.failure_answers.specs.Answered.{IsAnswerOf, IsWhyFrom, IsWhyOf, IsWhyHeld};
 
 use dag_main_check::{Answer, RunFault, warning_text};
-use dag_main_files::{Folder, Place, Reading, bytes_of, files_of, named};
+use dag_main_files::{Folder, Place, Reading, files_of, named};
 use dag_main_inspect::{bytes_in, core_of, last_round, plan_by, records_of};
 use dag_reader::Text;
 use failure_report::{Surroundings, Why, why_text};
@@ -57,7 +57,7 @@ fn answer_of<R: Files<File = File> + AllocGlobal>(
         log: &log,
     };
     match why_text(rt, core, &surroundings, names)? {
-        Why::Told(text) => Ok(Answer {
+        Why::Reported(text) => Ok(Answer {
             text,
             warnings: warning_text(alloc, core.plan().graph().flat().warnings())?,
             status: 0,
@@ -102,7 +102,7 @@ fn why_of<R: Files<File = File> + AllocGlobal>(
 /// A name that is none of a node is told as a warning, with no text and with status 125.
 ///
 /// # Errors
-/// As `told_here` for the status: in this order a journal that the system refuses to read, a number of a
+/// As `answer_here` for the status: in this order a journal that the system refuses to read, a number of a
 /// rescue file above 999 in its header, a rescue file that the system refuses to read; then those of
 /// `status_of`, a fault in a line of the rescue file with its path. Want of memory may stand before any.
 pub fn why_here<R: Files<File = File> + AllocGlobal, F: Folder>(
@@ -117,13 +117,13 @@ pub fn why_here<R: Files<File = File> + AllocGlobal, F: Folder>(
     ensures held { F.honest folder.now → IfOk result (λ answer.
         IsWhyHeld (F.holds folder.now) place.now.top.now (map (λ n. n.now) names.now)
         (string_bytes answer.text) (string_bytes answer.warnings) answer.status) }
-    ensures refused { IfErr result (IsToldFault Status place.now.top.now) }
+    ensures refused { IfErr result (IsAnswerFault Status place.now.top.now) }
 {
     let alloc = rt.alloc();
     let round = last_round(alloc, folder, place.top)?;
     let files = files_of(alloc, folder, place.top, Reading::SubmitFilesToo)?;
-    let rescue = bytes_of(&round.rescue);
-    let journal = bytes_of(&round.journal);
+    let rescue = round.rescue.as_deref();
+    let journal = round.journal.as_deref();
     match why_of(rt, place, &files, rescue, journal, names) {
         Ok(answer) => Ok(answer),
         Err(fault) => Err(named(fault, round.name)),

@@ -5,9 +5,9 @@ use Rattle.node_machine.specs.declared.Ended.{Ended}
 use Rattle.run_plan_node.specs.Node.{NodeSpec}
 use Rattle.run_plan.specs.Plan.{Plan, node_at}
 use Rattle.failure_report.specs.declared.failed.Failure.{Failure}
-use Rattle.failure_report.specs.declared.why.Told.{Told}
+use Rattle.failure_report.specs.declared.why.Reported.{Reported}
 use Rattle.failure_report.specs.Heads.{head_line}
-use Rattle.failure_report.specs.Told.{IsFailureBlock, has_line, HasBlock, HasBlocks, behind}
+use Rattle.failure_report.specs.Reported.{IsFailureBlock, has_line, HasBlock, HasBlocks, behind}
 
 pub line_and_more : (plan : Plan) (failure : Failure) (end : Ended) (reason : Option (List ℕ)) (spec : NodeSpec) (name : List ℕ) (retries : ℕ) (start headed more now : List ℕ)
     → failure.end ≡ Some end → spec ≡ node_at plan failure.node → name ≡ spec.name → retries ≡ spec.course.retries → start ≡ []
@@ -18,8 +18,8 @@ line_and_more plan failure end reason spec name retries start headed more now is
     ∙ (λ j. head_line ((named ∙ ap (λ (s : NodeSpec). s.name) of) j) end reason ((counted ∙ ap (λ (s : NodeSpec). s.course.retries) of) j) failure.waiting) in
     subst (IsFailureBlock plan failure) (sym (added ∙ ap (λ (s : List ℕ). s ++ more) same)) (has_line end reason more is)
 
-pub blocks_more : (plan : Plan) (told : List Told) (i : ℕ) (x : Told) (before now : List ℕ) → i < length told → x ≡ get_or told i x → HasBlocks plan (take i told) before
-    → HasBlock plan x before now → HasBlocks plan (take (i + 1) told) now
-blocks_more plan told i x before now lt is blocks block =
-    subst (λ (ts : List Told). HasBlocks plan ts now) (sym (take_more told i x lt))
-    (behind blocks (subst (λ (one : Told). HasBlock plan one before now) is block))
+pub blocks_more : (plan : Plan) (reported : List Reported) (i : ℕ) (x : Reported) (before now : List ℕ) → i < length reported → x ≡ get_or reported i x → HasBlocks plan (take i reported) before
+    → HasBlock plan x before now → HasBlocks plan (take (i + 1) reported) now
+blocks_more plan reported i x before now lt is blocks block =
+    subst (λ (ts : List Reported). HasBlocks plan ts now) (sym (take_more reported i x lt))
+    (behind blocks (subst (λ (one : Reported). HasBlock plan one before now) is block))

@@ -5,9 +5,9 @@ use Rattle.node_machine.specs.declared.Ended.{Ended}
 use Rattle.node_machine.specs.declared.Record.{Record}
 use Rattle.node_machine.specs.declared.Record.TheVariants.{Life, Launch, End, Finish}
 use Rattle.sched_core.specs.Run.{history}
-use Rattle.failure_report.specs.Failures.{last_of, last_end, noted_end}
+use Rattle.failure_report.specs.Failures.{last_phase, last_end, noted_end}
 
-last_added : (es : List Ended) (e : Ended) → last_of (es ++ e ∷ []) ≡ Some e
+last_added : (es : List Ended) (e : Ended) → last_phase (es ++ e ∷ []) ≡ Some e
 last_added [] e = refl
 last_added (f ∷ []) e = refl
 last_added (f ∷ g ∷ es) e = last_added (g ∷ es) e
@@ -22,7 +22,7 @@ end_more past (End key outcome) node = go (key.node == node)
     e : Ended
     e = record { attempt = key.attempt; phase = key.phase; outcome = outcome }
 
-    go : (b : Bool) → last_of (if b then history past node ++ e ∷ [] else history past node) ≡ (if b then Some e else last_end past node)
+    go : (b : Bool) → last_phase (if b then history past node ++ e ∷ [] else history past node) ≡ (if b then Some e else last_end past node)
     go true = last_added (history past node) e
     go false = refl
 

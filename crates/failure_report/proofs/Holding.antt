@@ -7,8 +7,8 @@ use Rattle.dag_graph.specs.Graph.{children_of, is_edge}
 use Rattle.node_machine.specs.declared.Record.{Record}
 use Rattle.run_plan.specs.Plan.{Plan, count_of}
 use Rattle.sched_core.specs.Run.{is_done}
-use Rattle.failure_report.specs.Reaching.{next_in, AreBelow, Reaches, beside, behind, IsReachCount}
-use Rattle.failure_report.specs.Waiting.{held_by, AreHeld}
+use Rattle.failure_report.specs.Reaching.{next_in, ListsAreBelow, Reaches, beside, behind, IsReachCount}
+use Rattle.failure_report.specs.Waiting.{held_by, AreChildrenLeft}
 
 range-below : (from count n : ℕ) → from + count ≤ n → All (λ k. k < n) (range_with_len from count)
 range-below from zero n fits = All-nil (λ k. k < n)
@@ -40,7 +40,7 @@ module _ (plan : Plan) (past : List Record) (counted : count_of plan ≡ length 
   reach_low from v (beside there) = held_low from v there
   reach_low from v (behind {between = p} is there) = held_low p v there
 
-  module _ (lists : List (List ℕ)) (are : AreHeld plan past lists) where
+  module _ (lists : List (List ℕ)) (are : AreChildrenLeft plan past lists) where
     pub held_many : length lists ≡ suc (count_of plan)
     held_many = ap length are ∙ length-map-range_with_len (held_by plan past) 0 (suc (count_of plan))
 
@@ -52,10 +52,10 @@ module _ (plan : Plan) (past : List Record) (counted : count_of plan ≡ length 
         subst (All (λ v. v < suc (count_of plan))) (sym (get_or-map-range_with_len (held_by plan past) 0 (suc (count_of plan)) k k d low (omega arith)))
         (λ i e lt. let h = all_low k i e lt in omega (arith, h, counted))
 
-    pub held_below : AreBelow (length lists) lists
+    pub held_below : ListsAreBelow (length lists) lists
     held_below =
-        subst (λ (n : ℕ). AreBelow n lists) (sym held_many)
-        (subst (λ (ls : List (List ℕ)). AreBelow (suc (count_of plan)) ls) (sym are)
+        subst (λ (n : ℕ). ListsAreBelow n lists) (sym held_many)
+        (subst (λ (ls : List (List ℕ)). ListsAreBelow (suc (count_of plan)) ls) (sym are)
         (λ k d lt. low_lists k d (omega (arith, lt, length-map-range_with_len (held_by plan past) 0 (suc (count_of plan))))))
 
     to : (from : ℕ) → from < suc (count_of plan) → (v : ℕ) → Reaches (next_in lists) from v → Reaches (held_by plan past) from v

@@ -19,10 +19,10 @@ module _ (plan : Plan) (past : List Record) where
       ∙ ap (λ (xs : List ℕ). filter (is_in_error plan past) xs ++ (if is_in_error plan past n then n ∷ [] else [])) (map-id (range_with_len 0 n))
 
   pub skip : (n : ℕ) (found : List Failure) → is_in_error plan past n ≡ false → AreInPlanOrder plan past n found → AreInPlanOrder plan past (n + 1) found
-  skip n found calm is = record {
+  skip n found abort_free is = record {
     nodes =
         is.nodes ∙ sym (append-nil (in_error_below plan past n))
-        ∙ sym (ap (λ (b : Bool). in_error_below plan past n ++ (if b then n ∷ [] else [])) calm)
+        ∙ sym (ap (λ (b : Bool). in_error_below plan past n ++ (if b then n ∷ [] else [])) abort_free)
         ∙ sym (below_more n);
     each = is.each;
   }

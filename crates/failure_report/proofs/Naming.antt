@@ -7,18 +7,18 @@ use Rattle.std.specs.Prelude.{position}
 use Rattle.dag_graph.specs.Graph.{Network, names_of}
 use Rattle.node_machine.specs.declared.Record.{Record}
 use Rattle.run_plan.specs.Plan.{Plan}
-use Rattle.failure_report.specs.declared.why.Told.{Told}
-use Rattle.failure_report.specs.Named.{number_of, AreNumbers, IsToldOfNode, AreTold, none_told, one_more_told, IsUnknownLine, IsUnknownName}
+use Rattle.failure_report.specs.declared.why.Reported.{Reported}
+use Rattle.failure_report.specs.Named.{number_of_node, AreNumbers, IsReportedOfNode, AreReported, none_reported, one_more_reported, IsUnknownLine, IsUnknownName}
 
-pub told-more : (plan : Plan) (past : List Record) (nodes : List ℕ) (i : ℕ) (told new : List Told) (one : Told) → i < length nodes
-    → AreTold plan past (take i nodes) told → IsToldOfNode plan past (get_or nodes i 0) one → new ≡ told ++ one ∷ [] → AreTold plan past (take (i + 1) nodes) new
-told-more plan past nodes i told new one less so_far here added =
-    subst (AreTold plan past (take (i + 1) nodes)) (sym added)
-    (subst (λ (ns : List ℕ). AreTold plan past ns (told ++ one ∷ [])) (sym (take_more nodes i 0 less))
-    (one_more_told (take i nodes) told (get_or nodes i 0) one so_far here))
+pub reported-more : (plan : Plan) (past : List Record) (nodes : List ℕ) (i : ℕ) (reported new : List Reported) (one : Reported) → i < length nodes
+    → AreReported plan past (take i nodes) reported → IsReportedOfNode plan past (get_or nodes i 0) one → new ≡ reported ++ one ∷ [] → AreReported plan past (take (i + 1) nodes) new
+reported-more plan past nodes i reported new one less so_far here added =
+    subst (AreReported plan past (take (i + 1) nodes)) (sym added)
+    (subst (λ (ns : List ℕ). AreReported plan past ns (reported ++ one ∷ [])) (sym (take_more nodes i 0 less))
+    (one_more_reported (take i nodes) reported (get_or nodes i 0) one so_far here))
 
-pub told-all : (plan : Plan) (past : List Record) (nodes : List ℕ) (i : ℕ) (told : List Told) → length nodes ≤ i → AreTold plan past (take i nodes) told → AreTold plan past nodes told
-told-all plan past nodes i told over so_far = subst (λ (ns : List ℕ). AreTold plan past ns told) (take_all i nodes over) so_far
+pub reported-all : (plan : Plan) (past : List Record) (nodes : List ℕ) (i : ℕ) (reported : List Reported) → length nodes ≤ i → AreReported plan past (take i nodes) reported → AreReported plan past nodes reported
+reported-all plan past nodes i reported over so_far = subst (λ (ns : List ℕ). AreReported plan past ns reported) (take_all i nodes over) so_far
 
 -- the names as they are lent
 abbrev pub lent_names : List (Bor (List ℕ)) → List (List ℕ)
@@ -32,9 +32,9 @@ pub numbers-more : (plan : Plan) (graph : Network) (names : List (Bor (List ℕ)
     → AreNumbers plan (lent_names (take i names)) numbers → position (bytes_eq (get_or names i d).now) (names_of graph.dag) ≡ Some number
     → new ≡ numbers ++ number ∷ [] → AreNumbers plan (lent_names (take (i + 1) names)) new
 numbers-more plan graph names i d numbers new number same less so_far found added =
-    let own : number_of plan (get_or names i d).now ≡ Some number = (λ k. position (bytes_eq (get_or names i d).now) (names_of (sym same k).dag)) ∙ found in
-    ap (map (number_of plan)) (lent-more names i d less)
-    ∙ map_push (number_of plan) (lent_names (take i names)) (get_or names i d).now
+    let own : number_of_node plan (get_or names i d).now ≡ Some number = (λ k. position (bytes_eq (get_or names i d).now) (names_of (sym same k).dag)) ∙ found in
+    ap (map (number_of_node plan)) (lent-more names i d less)
+    ∙ map_push (number_of_node plan) (lent_names (take i names)) (get_or names i d).now
     ∙ (λ j. so_far j ++ own j ∷ [])
     ∙ sym (map_push Some numbers number)
     ∙ ap (map Some) (sym added)
@@ -47,7 +47,7 @@ numbers-all plan names i numbers over so_far = subst (λ (ns : List (Bor (List �
 pub first-unknown : (plan : Plan) (graph : Network) (path : List ℕ) (names : List (Bor (List ℕ))) (i : ℕ) (d : Bor (List ℕ)) (numbers : List ℕ) (line : List ℕ) → graph ≡ plan.graph
     → i < length names → AreNumbers plan (lent_names (take i names)) numbers → position (bytes_eq (get_or names i d).now) (names_of graph.dag) ≡ None
     → IsUnknownLine path (get_or names i d).now line → IsUnknownName plan path (lent_names names) line
-first-unknown plan graph path names i d numbers line same less so_far none told = record {
+first-unknown plan graph path names i d numbers line same less so_far none reported = record {
   before = lent_names (take i names);
   name = (get_or names i d).now;
   behind = lent_names (drop (i + 1) names);
@@ -59,7 +59,7 @@ first-unknown plan graph path names i d numbers line same less so_far none told 
   numbers = numbers;
   known = so_far;
   unknown = (λ k. position (bytes_eq (get_or names i d).now) (names_of (sym same k).dag)) ∙ none;
-  told = told;
+  reported = reported;
 }
 
 -- the parts of a line, one behind another

@@ -8,9 +8,9 @@ use Rattle.std.proofs.lemmas.List.{get_or-replicate, length-replicate, length-ma
 use Rattle.std.proofs.lemmas.List.Filters.{length-filter_both}
 use Rattle.std.proofs.lemmas.List.Sums.{length-filter}
 use Rattle.dag_graph.specs.Graph.{rank_in}
-use Rattle.dag_graph.specs.Search.{Searched, IsSearch, Meets, is_met}
+use Rattle.dag_graph.specs.Search.{Searched, IsSearch, MeetsNodes, is_met}
 use Rattle.dag_graph.proofs.Ranks.{rank_at}
-use Rattle.failure_report.specs.Reaching.{nodes_in, next_in, AreBelow, Reaches, beside, behind, IsOnTheWay}
+use Rattle.failure_report.specs.Reaching.{nodes_in, next_in, ListsAreBelow, Reaches, beside, behind, IsOnTheWay}
 
 none_met : (n v : ℕ) → get_or (replicate n false) v false ≡ false
 none_met n v = ⊎_elim
@@ -24,7 +24,7 @@ pub read_list : (lists : List (Vec ℕ Global)) (node : ℕ) (list : Vec ℕ Glo
 read_list lists node list slice inside is items =
     items ∙ ap (λ (v : Vec ℕ Global). v.items) is ∙ sym (get_or-map (λ (v : Vec ℕ Global). v.items) lists node list [] inside)
 
-pub begins : (lists : List (List ℕ)) (from : ℕ) (s : Searched) → Meets (next_in lists from) (record { met = replicate (length lists) false; found = [] }) s → IsOnTheWay lists from 0 s
+pub begins : (lists : List (List ℕ)) (from : ℕ) (s : Searched) → MeetsNodes (next_in lists from) (record { met = replicate (length lists) false; found = [] }) s → IsOnTheWay lists from 0 s
 begins lists from s is = record {
   search = is.search;
   len = is.len ∙ length-replicate (length lists) false;
@@ -37,7 +37,7 @@ begins lists from s is = record {
       (is.only v was);
 }
 
-pub more : (lists : List (List ℕ)) (from done : ℕ) (s t : Searched) → IsOnTheWay lists from done s → done < length s.found → Meets (next_in lists (slice_index s.found done)) s t
+pub more : (lists : List (List ℕ)) (from done : ℕ) (s t : Searched) → IsOnTheWay lists from done s → done < length s.found → MeetsNodes (next_in lists (slice_index s.found done)) s t
     → IsOnTheWay lists from (done + 1) t
 more lists from done s t is lt now =
     let met_here : is_met s (slice_index s.found done) ≡ true = is.search.marked done lt in
@@ -94,7 +94,7 @@ fresh n = record { met = replicate n false; found = [] }
 
 -- the numbers of a list that was read are below
 pub list_below : (lists : List (Vec ℕ Global)) (node : ℕ) (list : Vec ℕ Global) (slice : List ℕ) (n : ℕ) → node < length lists → list ≡ get_or lists node list → slice ≡ list.items
-    → AreBelow (length lists) (nodes_in lists) → n ≡ length lists → All (λ k. k < n) slice
+    → ListsAreBelow (length lists) (nodes_in lists) → n ≡ length lists → All (λ k. k < n) slice
 list_below lists node list slice n inside is items below same =
     let lt : node < length (nodes_in lists) = omega (arith, inside, length-map lists (λ (v : Vec ℕ Global). v.items)) in
     subst (λ (m : ℕ). All (λ k. k < m) slice) (sym same) (subst (All (λ k. k < length lists)) (sym (read_list lists node list slice inside is items)) (below node [] lt))

@@ -11,14 +11,14 @@ use Rattle.failure_report.specs.declared.failed.Failure.{Failure}
 use Rattle.failure_report.specs.Waiting.{IsWaitingCount}
 
 -- the last of some phases
-abbrev pub last_of : List Ended → Option Ended
-last_of [] = None
-last_of (e ∷ []) = Some e
-last_of (e ∷ f ∷ es) = last_of (f ∷ es)
+abbrev pub last_phase : List Ended → Option Ended
+last_phase [] = None
+last_phase (e ∷ []) = Some e
+last_phase (e ∷ f ∷ es) = last_phase (f ∷ es)
 
 -- the last phase of a node that ended
 abbrev pub last_end : List Record → ℕ → Option Ended
-last_end past node = last_of (history past node)
+last_end past node = last_phase (history past node)
 
 -- what a record makes of it
 abbrev pub noted_end : Option Ended → Record → ℕ → Option Ended

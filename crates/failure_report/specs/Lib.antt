@@ -2,5 +2,5 @@ pub mod Reaching
 pub mod Waiting
 pub mod Failures
 pub mod Heads
-pub mod Told
+pub mod Reported
 pub mod Named

@@ -9,40 +9,40 @@ use Rattle.log_lines.specs.Words.{word_text}
 use Rattle.failure_report.specs.declared.failed.Failure.{Failure}
 use Rattle.failure_report.specs.declared.numbers.Named.{Named}
 use Rattle.failure_report.specs.declared.numbers.Named.TheVariants.{Nodes, Unknown}
-use Rattle.failure_report.specs.declared.why.Told.{Told}
-use Rattle.failure_report.specs.declared.why.Told.TheVariants.{Failed, Standing}
+use Rattle.failure_report.specs.declared.why.Reported.{Reported}
+use Rattle.failure_report.specs.declared.why.Reported.TheVariants.{Failed, Standing}
 use Rattle.failure_report.specs.declared.why.Why.{Why}
 use Rattle.failure_report.specs.declared.why.Why.TheVariants as why
 use Rattle.failure_report.specs.Failures.{IsFailure}
-use Rattle.failure_report.specs.Told.{HasBlocks}
+use Rattle.failure_report.specs.Reported.{HasBlocks}
 
 -- the number of the node of this full name
-abbrev pub number_of : Plan → List ℕ → Option ℕ
-number_of plan name = position (bytes_eq name) (names_of plan.graph.dag)
+abbrev pub number_of_node : Plan → List ℕ → Option ℕ
+number_of_node plan name = position (bytes_eq name) (names_of plan.graph.dag)
 
 -- these are the numbers of nodes of these names, in their order
 abbrev pub AreNumbers : Plan → (names : List (List ℕ)) → (numbers : List ℕ) → Type 0
-AreNumbers plan names numbers = map (number_of plan) names ≡ map Some numbers
+AreNumbers plan names numbers = map (number_of_node plan) names ≡ map Some numbers
 
 -- a node is in error, with how it failed and how many wait for it; or it is not
-pub data IsToldOfNode (plan : Plan) (past : List Record) (node : ℕ) : Told → Type 0 where
+pub data IsReportedOfNode (plan : Plan) (past : List Record) (node : ℕ) : Reported → Type 0 where
   is_failed : (failure : Failure) → failure.node ≡ node → node ≤ count_of plan → is_in_error plan past node ≡ true → IsFailure plan past failure →
-      IsToldOfNode plan past node (Failed failure)
-  is_standing : (node ≤ count_of plan → is_in_error plan past node ≡ false) → IsToldOfNode plan past node (Standing node)
+      IsReportedOfNode plan past node (Failed failure)
+  is_standing : (node ≤ count_of plan → is_in_error plan past node ≡ false) → IsReportedOfNode plan past node (Standing node)
 
 -- so it is of each of these nodes, in their order
-pub data AreTold (plan : Plan) (past : List Record) : (nodes : List ℕ) → List Told → Type 0 where
-  none_told : AreTold plan past [] []
-  one_more_told : (nodes : List ℕ) (told : List Told) (node : ℕ) (one : Told) → AreTold plan past nodes told → IsToldOfNode plan past node one →
-      AreTold plan past (nodes ++ node ∷ []) (told ++ one ∷ [])
+pub data AreReported (plan : Plan) (past : List Record) : (nodes : List ℕ) → List Reported → Type 0 where
+  none_reported : AreReported plan past [] []
+  one_more_reported : (nodes : List ℕ) (reported : List Reported) (node : ℕ) (one : Reported) → AreReported plan past nodes reported → IsReportedOfNode plan past node one →
+      AreReported plan past (nodes ++ node ∷ []) (reported ++ one ∷ [])
 
 -- the text has what is told of the nodes of these names, one behind another
 pub record HasNamed (plan : Plan) (past : List Record) (names : List (List ℕ)) (text : List ℕ) : Type 0 where
   pub numbers : List ℕ
   pub are_numbers : AreNumbers plan names numbers
-  pub told : List Told
-  pub each : AreTold plan past numbers told
-  pub blocks : HasBlocks plan told text
+  pub reported : List Reported
+  pub each : AreReported plan past numbers reported
+  pub blocks : HasBlocks plan reported text
 
 -- the name of a node that is near, where there is one
 abbrev pub nearest_words : Option (List ℕ) → List ℕ
@@ -65,8 +65,8 @@ pub record IsUnknownName (plan : Plan) (path : List ℕ) (names : List (List ℕ
   pub stand : names ≡ before ++ name ∷ behind
   pub numbers : List ℕ
   pub known : AreNumbers plan before numbers
-  pub unknown : number_of plan name ≡ None
-  pub told : IsUnknownLine path name line
+  pub unknown : number_of_node plan name ≡ None
+  pub reported : IsUnknownLine path name line
 
 -- the numbers of the nodes of these names; or what is told of the first that is none
 abbrev pub IsNamed : Plan → (path : List ℕ) → (names : List (List ℕ)) → Named → Type 0
@@ -75,5 +75,5 @@ IsNamed plan path names (Unknown line) = IsUnknownName plan path names (string_b
 
 -- what is told of the nodes of these names
 abbrev pub IsWhyOfNamed : Plan → List Record → (path : List ℕ) → (names : List (List ℕ)) → Why → Type 0
-IsWhyOfNamed plan past path names (why.Told text) = HasNamed plan past names (string_bytes text)
+IsWhyOfNamed plan past path names (why.Reported text) = HasNamed plan past names (string_bytes text)
 IsWhyOfNamed plan past path names (why.Unknown line) = IsUnknownName plan path names (string_bytes line)

@@ -13,8 +13,8 @@ abbrev pub next_in : List (List ℕ) → ℕ → List ℕ
 next_in lists node = slice_index_or lists node []
 
 -- each of these lists has numbers below n alone
-abbrev pub AreBelow : ℕ → List (List ℕ) → Type 0
-AreBelow n lists = All (All (λ k. k < n)) lists
+abbrev pub ListsAreBelow : ℕ → List (List ℕ) → Type 0
+ListsAreBelow n lists = All (All (λ k. k < n)) lists
 
 -- a node is one of the next ones of that from which it is reached, or of one that is reached from there
 pub data Reaches (next : ℕ → List ℕ) (from : ℕ) : ℕ → Type 0 where

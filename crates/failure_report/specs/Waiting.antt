@@ -20,5 +20,5 @@ abbrev pub IsWaitingCount : Plan → List Record → (blocker : ℕ) → (count 
 IsWaitingCount plan past blocker count = IsReachCount (held_by plan past) blocker count
 
 -- of each node, FINAL's place behind the others, its children that are not done
-abbrev pub AreHeld : Plan → List Record → List (List ℕ) → Type 0
-AreHeld plan past lists = lists ≡ map (held_by plan past) (range_with_len 0 (suc (count_of plan)))
+abbrev pub AreChildrenLeft : Plan → List Record → List (List ℕ) → Type 0
+AreChildrenLeft plan past lists = lists ≡ map (held_by plan past) (range_with_len 0 (suc (count_of plan)))

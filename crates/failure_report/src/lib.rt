@@ -14,8 +14,8 @@ mod notes;
 mod numbers;
 mod quotes;
 mod reaching;
+mod reported;
 mod standing;
-mod told;
 mod waiting;
 mod why;
 

@@ -2,8 +2,8 @@
 
 ghost use Rattle.std.specs.Prelude.{◌≡◌, ◌<◌, ◌≤◌, ◌^◌, ℕ, [], false, IfOk, OnOk, length, map, replicate, slice_index};
 ghost use Rattle.std.specs.List.{All};
-ghost use Rattle.dag_graph.specs.Search.{IsSearch, Meets, with_met};
-ghost use Rattle.failure_report.specs.Reaching.{AreBelow, IsReached, IsCountOf, nodes_in};
+ghost use Rattle.dag_graph.specs.Search.{IsSearch, MeetsNodes, with_met};
+ghost use Rattle.failure_report.specs.Reaching.{ListsAreBelow, IsReached, IsCountOf, nodes_in};
 
 use std::alloc::{AllocError, Global};
 use std::marker::Model;
@@ -66,7 +66,7 @@ impl Search {
     fn meet_all(&mut self, nodes: &[u32]) -> Result<(), AllocError>
         requires search { IsSearch self.old }
         requires below { All (λ n. n < length self.old.met) nodes.now }
-        ensures { OnOk result (Meets nodes.now self.old self.new) }
+        ensures { OnOk result (MeetsNodes nodes.now self.old self.new) }
     {
         for node in nodes {
             self.meet(*node)?;
@@ -78,7 +78,7 @@ impl Search {
 /// The search from a node, of which each one has the next ones that stand in its list; each is looked at once.
 fn search_from(alloc: Global, lists: &[Vec<u32>], node: u32) -> Result<Search, AllocError>
     requires node { node < length lists.now }
-    requires below { AreBelow (length lists.now) (nodes_in lists.now) }
+    requires below { ListsAreBelow (length lists.now) (nodes_in lists.now) }
     ensures { IfOk result (IsReached (nodes_in lists.now) node) }
 {
     let mut search = Search::new(alloc, lists.len())?;
@@ -99,7 +99,7 @@ fn search_from(alloc: Global, lists: &[Vec<u32>], node: u32) -> Result<Search, A
 pub(crate) fn count_from(alloc: Global, lists: &[Vec<u32>], node: u32) -> Result<u32, AllocError>
     requires few { length lists.now < 2 ^ 32 }
     requires node { node < length lists.now }
-    requires below { AreBelow (length lists.now) (nodes_in lists.now) }
+    requires below { ListsAreBelow (length lists.now) (nodes_in lists.now) }
     ensures { IfOk result (IsCountOf (nodes_in lists.now) node) }
 {
     let search = search_from(alloc, lists, node)?;

@@ -5,7 +5,7 @@ ghost use Rattle.run_plan.specs.Plan.{count_of};
 
 use crate::failed::is_in_error;
 use crate::heads::{phase_words, push_attempt, push_ending};
-use crate::told::{Run, Story, push_story};
+use crate::reported::{Run, Story, push_story};
 use log_lines::unquoted;
 use node_machine::{Ended, Key, Phase};
 use run_plan_node::NodeSpec;

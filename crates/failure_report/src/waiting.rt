@@ -3,7 +3,7 @@
 ghost use Rattle.std.specs.Prelude.{◌≡◌, ◌≤◌, IfOk};
 ghost use Rattle.run_plan.specs.Plan.{count_of};
 ghost use Rattle.failure_report.specs.Reaching.{nodes_in};
-ghost use Rattle.failure_report.specs.Waiting.{held_by, AreHeld, IsWaitingCount};
+ghost use Rattle.failure_report.specs.Waiting.{held_by, AreChildrenLeft, IsWaitingCount};
 
 use crate::reaching::count_from;
 use sched_core::Core;
@@ -25,7 +25,7 @@ fn held_by(alloc: Global, core: &Core<'_>, node: u32) -> Result<Vec<u32>, AllocE
 
 /// Of each node, FINAL's place behind the others, the children that are not done.
 pub(crate) fn held_lists(alloc: Global, core: &Core<'_>) -> Result<Vec<Vec<u32>>, AllocError>
-    ensures { IfOk result (λ lists. AreHeld core.now.plan core.now.past (nodes_in lists.items)) }
+    ensures { IfOk result (λ lists. AreChildrenLeft core.now.plan core.now.past (nodes_in lists.items)) }
 {
     let mut lists = Vec::new(alloc);
     for node in 0..core.plan().count() + 1 {
@@ -45,7 +45,7 @@ pub(crate) fn waiting_for(
     node: u32,
 ) -> Result<u32, AllocError>
     requires node { node ≤ count_of core.now.plan }
-    requires held { AreHeld core.now.plan core.now.past (nodes_in held.now) }
+    requires held { AreChildrenLeft core.now.plan core.now.past (nodes_in held.now) }
     ensures { IfOk result (IsWaitingCount core.now.plan core.now.past node) }
 {
     let _graph = core.plan().graph();

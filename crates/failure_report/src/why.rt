@@ -3,17 +3,17 @@
 ghost use Rattle.std.specs.Prelude.{◌≡◌, ◌≢◌, ◌<◌, map, length, IfSome, IfOk, OnOk, string_bytes};
 ghost use Rattle.run_plan.specs.Plan.{count_of};
 ghost use Rattle.failure_report.specs.Reaching.{nodes_in};
-ghost use Rattle.failure_report.specs.Waiting.{AreHeld};
+ghost use Rattle.failure_report.specs.Waiting.{AreChildrenLeft};
 ghost use Rattle.failure_report.specs.Failures.{AreLastEnds};
-ghost use Rattle.failure_report.specs.Told.{IsBlock, HasBlock, HasBlocks, AreAllFailed, IsWhyOfAll};
-ghost use Rattle.failure_report.specs.Named.{IsToldOfNode, AreTold, IsWhyOfNamed};
+ghost use Rattle.failure_report.specs.Reported.{IsBlock, HasBlock, HasBlocks, AreAllFailed, IsWhyOfAll};
+ghost use Rattle.failure_report.specs.Named.{IsReportedOfNode, AreReported, IsWhyOfNamed};
 
 use crate::failed::{Failure, failures, is_in_error, last_ends};
 use crate::launches::launch_facts;
 use crate::notes::LogNotes;
 use crate::numbers::{Named, numbers_of};
+use crate::reported::{Run, failure_block};
 use crate::standing::push_standing;
-use crate::told::{Run, failure_block};
 use crate::waiting::{held_lists, waiting_for};
 use log_lines::unquoted;
 use node_machine::Ended;
@@ -37,14 +37,14 @@ pub struct Surroundings<'a> {
 #[derive(Drop)]
 pub enum Why {
     /// This text.
-    Told(String),
+    Reported(String),
     /// A name is none of a node; this line says which.
     Unknown(String),
 }
 
 /// A node of which is told.
 #[derive(Clone, Copy)]
-enum Told {
+enum Reported {
     /// It is in error.
     Failed(Failure),
     /// It is not.
@@ -52,66 +52,66 @@ enum Told {
 }
 
 /// All nodes in error.
-fn all_failed(alloc: Global, core: &Core<'_>) -> Result<Vec<Told>, AllocError>
-    ensures { IfOk result (λ told. AreAllFailed core.now.plan core.now.past told.items) }
+fn all_failed(alloc: Global, core: &Core<'_>) -> Result<Vec<Reported>, AllocError>
+    ensures { IfOk result (λ reported. AreAllFailed core.now.plan core.now.past reported.items) }
 {
     let failed = failures(alloc, core)?;
-    let mut told = Vec::new(alloc);
+    let mut reported = Vec::new(alloc);
     for failure in &failed {
-        told.push(Told::Failed(*failure))?;
+        reported.push(Reported::Failed(*failure))?;
     }
-    Ok(told)
+    Ok(reported)
 }
 
 /// Whether a node is in error, and then how it failed and how many wait for it, where these are the newest
 /// endings of all nodes and the children of each that are not done.
-fn told_of_node(
+fn reported_of_node(
     alloc: Global,
     core: &Core<'_>,
     ends: &[Option<Ended>],
     held: &[Vec<u32>],
     node: u32,
-) -> Result<Told, AllocError>
+) -> Result<Reported, AllocError>
     requires ends { AreLastEnds core.now.plan core.now.past ends.now }
-    requires held { AreHeld core.now.plan core.now.past (nodes_in held.now) }
-    ensures { IfOk result (IsToldOfNode core.now.plan core.now.past node) }
+    requires held { AreChildrenLeft core.now.plan core.now.past (nodes_in held.now) }
+    ensures { IfOk result (IsReportedOfNode core.now.plan core.now.past node) }
 {
     if node > core.plan().count() {
-        return Ok(Told::Standing(node));
+        return Ok(Reported::Standing(node));
     }
     if !is_in_error(core, node) {
-        return Ok(Told::Standing(node));
+        return Ok(Reported::Standing(node));
     }
     let waiting = waiting_for(alloc, core, held, node)?;
     let end = ends[node as usize];
-    Ok(Told::Failed(Failure { node, end, waiting }))
+    Ok(Reported::Failed(Failure { node, end, waiting }))
 }
 
 /// These nodes, in their order.
-fn all_named(alloc: Global, core: &Core<'_>, nodes: &[u32]) -> Result<Vec<Told>, AllocError>
-    ensures { IfOk result (λ told. AreTold core.now.plan core.now.past nodes.now told.items) }
+fn all_named(alloc: Global, core: &Core<'_>, nodes: &[u32]) -> Result<Vec<Reported>, AllocError>
+    ensures { IfOk result (λ reported. AreReported core.now.plan core.now.past nodes.now reported.items) }
 {
     let ends = last_ends(alloc, core)?;
     let held = held_lists(alloc, core)?;
-    let mut told = Vec::new(alloc);
+    let mut reported = Vec::new(alloc);
     for node in nodes {
-        told.push(told_of_node(alloc, core, &ends, &held, *node)?)?;
+        reported.push(reported_of_node(alloc, core, &ends, &held, *node)?)?;
     }
-    Ok(told)
+    Ok(reported)
 }
 
 /// Asks a log for the attempt of a node of which is told: its last one, or the one that runs.
-fn ask(core: &Core<'_>, notes: &mut LogNotes<'_>, told: &Told) -> Result<(), AllocError> {
-    match told {
-        Told::Failed(failure) => match failure.end {
+fn ask(core: &Core<'_>, notes: &mut LogNotes<'_>, reported: &Reported) -> Result<(), AllocError> {
+    match reported {
+        Reported::Failed(failure) => match failure.end {
             Some(end) => notes.ask(failure.node, end.attempt),
             None => Ok(()),
         },
-        Told::Standing(node) if *node <= core.plan().count() => match core.next(*node) {
+        Reported::Standing(node) if *node <= core.plan().count() => match core.next(*node) {
             Some(key) => notes.ask(*node, key.attempt),
             None => Ok(()),
         },
-        Told::Standing(_) => Ok(()),
+        Reported::Standing(_) => Ok(()),
     }
 }
 
@@ -119,11 +119,11 @@ fn ask(core: &Core<'_>, notes: &mut LogNotes<'_>, told: &Told) -> Result<(), All
 fn notes_for<'l>(
     alloc: Global,
     core: &Core<'_>,
-    told: &[Told],
+    reported: &[Reported],
     log: &'l [u8],
 ) -> Result<LogNotes<'l>, AllocError> {
     let mut notes = LogNotes::new(alloc, core.plan().count() as usize + 1)?;
-    for one in told {
+    for one in reported {
         ask(core, &mut notes, one)?;
     }
     notes.read(core.plan(), log);
@@ -183,13 +183,13 @@ fn standing_block<R: Files<File = File> + AllocGlobal>(
 fn block_of<R: Files<File = File> + AllocGlobal>(
     rt: &R,
     run: &Run<'_, '_, '_>,
-    one: &Told,
+    one: &Reported,
 ) -> Result<String, AllocError>
     ensures { IfOk result (λ block. IsBlock run.now.core.now.plan one.now (string_bytes block)) }
 {
     match one {
-        Told::Failed(failure) => failure_block(rt, run, failure),
-        Told::Standing(node) => standing_block(rt, run, *node),
+        Reported::Failed(failure) => failure_block(rt, run, failure),
+        Reported::Standing(node) => standing_block(rt, run, *node),
     }
 }
 
@@ -198,7 +198,7 @@ fn push_block<R: Files<File = File> + AllocGlobal>(
     rt: &R,
     text: &mut String,
     run: &Run<'_, '_, '_>,
-    one: &Told,
+    one: &Reported,
 ) -> Result<(), AllocError>
     ensures { OnOk result (HasBlock run.now.core.now.plan one.now (string_bytes text.old) (string_bytes text.new)) }
 {
@@ -209,10 +209,10 @@ fn push_block<R: Files<File = File> + AllocGlobal>(
 }
 
 /// What is told before all nodes.
-fn front_of(alloc: Global, core: &Core<'_>, told: &[Told]) -> Result<String, AllocError> {
+fn front_of(alloc: Global, core: &Core<'_>, reported: &[Reported]) -> Result<String, AllocError> {
     let mut text = String::new(alloc);
     push_round(&mut text, core)?;
-    if told.is_empty() {
+    if reported.is_empty() {
         text.push_str("no node is in error\n")?;
     }
     Ok(text)
@@ -222,28 +222,28 @@ fn front_of(alloc: Global, core: &Core<'_>, told: &[Told]) -> Result<String, All
 fn text_of<R: Files<File = File> + AllocGlobal>(
     rt: &R,
     run: &Run<'_, '_, '_>,
-    told: &[Told],
+    reported: &[Reported],
 ) -> Result<String, AllocError>
-    ensures { IfOk result (λ text. HasBlocks run.now.core.now.plan told.now (string_bytes text)) }
+    ensures { IfOk result (λ text. HasBlocks run.now.core.now.plan reported.now (string_bytes text)) }
 {
-    let mut text = front_of(rt.alloc(), run.core, told)?;
-    for one in told {
+    let mut text = front_of(rt.alloc(), run.core, reported)?;
+    for one in reported {
         push_block(rt, &mut text, run, one)?;
     }
     Ok(text)
 }
 
 /// What is told of these nodes of a run.
-fn told_of<R: Files<File = File> + AllocGlobal>(
+fn reported_of<R: Files<File = File> + AllocGlobal>(
     rt: &R,
     core: &Core<'_>,
     place: &Surroundings<'_>,
-    told: &[Told],
+    reported: &[Reported],
 ) -> Result<String, AllocError>
-    ensures { IfOk result (λ text. HasBlocks core.now.plan told.now (string_bytes text)) }
+    ensures { IfOk result (λ text. HasBlocks core.now.plan reported.now (string_bytes text)) }
 {
     let alloc = rt.alloc();
-    let notes = notes_for(alloc, core, told, place.log)?;
+    let notes = notes_for(alloc, core, reported, place.log)?;
     let folder = match notes.folder {
         Some(value) => unquoted(alloc, value)?,
         None => String::from_str(alloc, place.folder)?,
@@ -255,7 +255,7 @@ fn told_of<R: Files<File = File> + AllocGlobal>(
         notes,
         folder,
     };
-    text_of(rt, &run, told)
+    text_of(rt, &run, reported)
 }
 
 /// What is told of the nodes of these names in their order; where there is no name, of all that are in
@@ -277,13 +277,13 @@ pub fn why_text<R: Files<File = File> + AllocGlobal>(
 {
     let alloc = rt.alloc();
     if names.is_empty() {
-        let told = all_failed(alloc, core)?;
-        return Ok(Why::Told(told_of(rt, core, place, &told)?));
+        let reported = all_failed(alloc, core)?;
+        return Ok(Why::Reported(reported_of(rt, core, place, &reported)?));
     }
     match numbers_of(alloc, core.plan(), place.top, names)? {
         Named::Nodes(nodes) => {
-            let told = all_named(alloc, core, &nodes)?;
-            Ok(Why::Told(told_of(rt, core, place, &told)?))
+            let reported = all_named(alloc, core, &nodes)?;
+            Ok(Why::Reported(reported_of(rt, core, place, &reported)?))
         }
         Named::Unknown(line) => Ok(Why::Unknown(line)),
     }

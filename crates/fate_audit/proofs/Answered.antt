@@ -6,7 +6,7 @@ use Rattle.std.proofs.lemmas.List.{reverse-append, reverse-reverse, take-append-
 use Rattle.std.proofs.lemmas.Option.{slice_get_within, unwrap_or-slice_get}
 use Rattle.run_plan.specs.Plan.{Plan, IsRankedBy}
 use Rattle.node_machine.specs.declared.Record.{Record}
-use Rattle.sched_core.specs.Run.{written, table_of, is_lawful, is_over, is_finished, is_aborted, may_follow}
+use Rattle.sched_core.specs.Run.{chronological, table_of, is_lawful, is_over, is_finished, is_aborted, may_follow}
 use Rattle.sched_core.specs.Fate.{Fate}
 use Rattle.sched_core.proofs.LivesLemmas.{lawful-tail}
 use Rattle.sched_core.proofs.Finished.{lawful_part}
@@ -44,7 +44,7 @@ one-more records k entry is =
     ∙ ap (λ (e : Record). e ∷ reverse (take k records)) (sym (unwrap_or-slice_get records k entry) ∙ ap (λ o. unwrap_or o entry) is)
 
 -- what is written and turned once more
-turned : (past records : List Record) → records ≡ written past → past ≡ reverse records
+turned : (past records : List Record) → records ≡ chronological past → past ≡ reverse records
 turned past records is = sym (reverse-reverse past) ∙ ap reverse (sym is)
 
 foreign-bad : (plan : Plan) (records : List Record) (place : ℕ) → IsFirstForeign plan records place → (k : ℕ) → place < k
@@ -56,7 +56,7 @@ foreign-bad plan records place is k lt h =
     let follows : may_follow plan (reverse (take place records)) is.entry ≡ true = (and_parts (is_lawful plan (reverse (take place records))) _ both).1 in
     false≢true (sym is.refused ∙ ap (λ (t : List Record). may_follow plan t is.entry) (turned is.past (take place records) is.before) ∙ follows)
 
-foreign-whole : (plan : Plan) (records past : List Record) (place : ℕ) → IsFirstForeign plan records place → records ≡ written past
+foreign-whole : (plan : Plan) (records past : List Record) (place : ℕ) → IsFirstForeign plan records place → records ≡ chronological past
     → is_lawful plan past ≡ true → ⊥
 foreign-whole plan records past place is same h =
     foreign-bad plan records place is (place + 1) (omega arith)
@@ -92,14 +92,14 @@ module _ (plan : Plan) (bytes : List ℕ) where
   no-past : HasNoRecords (replay_by plan bytes) → (past : List Record) → IsJournalOf plan bytes past → ⊥
   no-past none past is = no-records none _ is.reads
 
-  same-records : (found : Found) → replay_by plan bytes ≡ Ok (Some found) → (past : List Record) → IsJournalOf plan bytes past → found.records ≡ written past
+  same-records : (found : Found) → replay_by plan bytes ≡ Ok (Some found) → (past : List Record) → IsJournalOf plan bytes past → found.records ≡ chronological past
   same-records found is past journal = ap records_or (sym is ∙ journal.reads)
 
   same-found : (found other : Found) → replay_by plan bytes ≡ Ok (Some found) → replay_by plan bytes ≡ Ok (Some other) → other.records ≡ found.records
   same-found found other is is' = ap records_or (sym is' ∙ is)
 
   same-past : (past other : List Record) → IsJournalOf plan bytes past → IsJournalOf plan bytes other → other ≡ past
-  same-past past other is is' = turned other (written past) (ap records_or (sym is.reads ∙ is'.reads)) ∙ reverse-reverse past
+  same-past past other is is' = turned other (chronological past) (ap records_or (sym is.reads ∙ is'.reads)) ∙ reverse-reverse past
 
   foreign-past : {X : Type 0} (slot : ℕ) → IsForeignSlot plan (replay_by plan bytes) (groups_in bytes) slot
       → (past : List Record) → IsJournalOf plan bytes past → is_lawful plan past ≡ true → X
@@ -126,7 +126,7 @@ module _ (plan : Plan) (bytes : List ℕ) where
   sound-no cause (past, sound) (foreign_record slot why) = foreign-past slot why past sound.journal (lawful_part plan past sound.finished)
   sound-no cause (past, sound) (no_finish other is lawful going) = open-over other past is sound.journal going sound.finished
   sound-no cause (past, sound) (had_abort other is finished aborted) =
-      absurd (false≢true (sym sound.calm ∙ ap (is_aborted plan) (same-past other past is sound.journal) ∙ aborted))
+      absurd (false≢true (sym sound.abort_free ∙ ap (is_aborted plan) (same-past other past is sound.journal) ∙ aborted))
   sound-no cause (past, sound) no_memory = refl
 
   pub one-cause : (cause other : AuditNo) → IsAuditNo plan bytes cause → IsAuditNo plan bytes other → cause ≢ Memory → other ≢ Memory → cause ≡ other
@@ -182,7 +182,7 @@ module _ (plan : Plan) (bytes : List ℕ) where
       found = subst (λ (x : Option (List Record)). ReadsRecords x (replay_by plan bytes)) some own
 
       -- the records of a core that were read
-      pub read-past : (past : List Record) → records ≡ written past → IsJournalOf plan bytes past
+      pub read-past : (past : List Record) → records ≡ chronological past → IsJournalOf plan bytes past
       read-past past e = record {
         header = found.0.header;
         reads = found.1 ∙ ap (λ (rs : List Record). Ok (Some (found_as found.0.header rs))) (sym found.2 ∙ e);
@@ -223,15 +223,15 @@ module _ (plan : Plan) (bytes : List ℕ) where
 
     pub audited : is_over past ≡ true → is_aborted p past ≡ false → (rank : ℕ → ℕ) → IsRankedBy rank plan
         → (fates : List Fate) → AreShown p past fates → IsAuditOf plan bytes fates
-    audited over calm rank ranked fates are =
-        let quiet = subst (λ (q : Plan). is_aborted q past ≡ false) same calm in
+    audited over abort_free rank ranked fates are =
+        let quiet = subst (λ (q : Plan). is_aborted q past ≡ false) same abort_free in
         record {
           past = past;
-          sound = record { journal = journal; finished = ended over; calm = quiet };
+          sound = record { journal = journal; finished = ended over; abort_free = quiet };
           are_fates = shown-fates plan past rank ranked (ended over) quiet fates (subst (λ (q : Plan). AreShown q past fates) same are);
         }
 
 -- a refusal that is handed on
-pub handed-on : {A : Type 0} {Q : AuditNo → Type 0} (P : AuditNo → Type 0) (r : Result A AuditNo) → IsErrAnd r Q → ((cause : AuditNo) → Q cause → P cause) → IfErr r P
-handed-on P (Ok x) h more = absurd h
-handed-on P (Err cause) h more = more cause h
+pub spawned-on : {A : Type 0} {Q : AuditNo → Type 0} (P : AuditNo → Type 0) (r : Result A AuditNo) → IsErrAnd r Q → ((cause : AuditNo) → Q cause → P cause) → IfErr r P
+spawned-on P (Ok x) h more = absurd h
+spawned-on P (Err cause) h more = more cause h

@@ -16,9 +16,9 @@ use Rattle.fate_audit.proofs.Orders.{same-fates}
 -- in a finished run without abort what the records show are the fates by the table of its endings
 pub shown-fates : (plan : Plan) (past : List Record) (rank : ℕ → ℕ) → IsRankedBy rank plan → is_finished plan past ≡ true → is_aborted plan past ≡ false
     → (fates : List Fate) → AreShown plan past fates → AreFatesOf plan (table_of past) fates
-shown-fates plan past rank ranked finished calm fates is = record {
+shown-fates plan past rank ranked finished abort_free fates is = record {
   many = is.many;
-  are = same-fates plan (table_of past) rank ranked (fate_at fates) (shown plan past) (own-fates plan past finished calm) is.each;
+  are = same-fates plan (table_of past) rank ranked (fate_at fates) (shown plan past) (own-fates plan past finished abort_free) is.each;
 }
 
 pub one-list : (plan : Plan) (table : Table) (rank : ℕ → ℕ) → IsRankedBy rank plan → (listed : List Fate) → AreFatesOf plan table listed

@@ -20,12 +20,12 @@ use Rattle.run_plan.specs.declared.fault.PlanFault.{PlanFault}
 use Rattle.run_plan_node.specs.Node.{Job, NodeSpec, no_node}
 use Rattle.run_plan.specs.Plan.{Plan, node_at, count_of}
 use Rattle.run_plan_node.specs.Specs.{spec_of}
-use Rattle.run_plan.specs.Specs.{Sources, specs_from, final_spec, plan_of, is_listed}
-use Rattle.run_plan.specs.Submitted.{◌>>=◌, first_fault, all_nodes, rescued_in, in_rescue, sources_of, plan_at}
+use Rattle.run_plan.specs.Specs.{Sources, specs_from, final_spec, plan_from, is_listed}
+use Rattle.run_plan.specs.Submitted.{◌>>=◌, first_plan_fault, all_nodes, rescued_in, in_rescue, sources_of, plan_at}
 use Rattle.run_plan.proofs.PlanFacts.{count-is}
 use Rattle.node_machine.specs.declared.Record.{Record}
 use Rattle.sched_core.specs.Run.{history, is_done, needs_rescue}
-use Rattle.sched_core.specs.Rounds.{Round, IsRound, IsRescuedBy, AreRounds}
+use Rattle.sched_core.specs.Rounds.{Round, IsFinishedRound, IsRescuedBy, AreRounds}
 use Rattle.recovery_manager.specs.Rescue.{marks_of, rescue_text_for}
 
 -- a part of a node's specification that no mark changes
@@ -104,14 +104,14 @@ done-again false mark good = refl
 
 module _ (set : Files) (top : List ℕ) (graph : Network) (opened : dag_at set top ≡ Ok graph.dag) (always : Bool) (files : Option Files) (rescue : Option (List ℕ)) (digest next : List ℕ) where
   module _ (plan : Plan) (made : plan_at always graph files rescue digest ≡ Ok plan) (past : List Record) where
-    parts : (first_fault files (all_nodes graph.dag) ≡ Ok tt) × (numbers : List ℕ) × (rescued_in graph.dag rescue ≡ Ok numbers) × (plan ≡ plan_of graph (sources_of always files numbers) digest)
+    parts : (first_plan_fault files (all_nodes graph.dag) ≡ Ok tt) × (numbers : List ℕ) × (rescued_in graph.dag rescue ≡ Ok numbers) × (plan ≡ plan_from graph (sources_of always files numbers) digest)
     unfolding plan_at
-    parts = made-from (first_fault files (all_nodes graph.dag)) (rescued_in graph.dag rescue) (λ numbers. plan_of graph (sources_of always files numbers) digest) plan made
+    parts = made-from (first_plan_fault files (all_nodes graph.dag)) (rescued_in graph.dag rescue) (λ numbers. plan_from graph (sources_of always files numbers) digest) plan made
 
     abbrev numbers : List ℕ
     numbers = parts.1
 
-    is-made : plan ≡ plan_of graph (sources_of always files parts.1) digest
+    is-made : plan ≡ plan_from graph (sources_of always files parts.1) digest
     is-made = parts.3
 
     count : count_of plan ≡ length graph.dag.nodes
@@ -127,17 +127,17 @@ module _ (set : Files) (top : List ℕ) (graph : Network) (opened : dag_at set t
         (ap (λ (p : Plan). rescued_of graph.dag (rescue_text_of (ordinary_names p.graph.dag) (marks_of plan past))) is-made
         ∙ read_again graph.dag (marks_of plan past) (dag_fit set top graph.dag opened))
 
-    again-is : plan_at always graph files (Some (rescue_text_for plan past)) next ≡ Ok (plan_of graph (sources_of always files said) next)
+    again-is : plan_at always graph files (Some (rescue_text_for plan past)) next ≡ Ok (plan_from graph (sources_of always files said) next)
     unfolding plan_at
     again-is =
-        (λ j. parts.0 j >>= λ none. rescued_in graph.dag (Some (rescue_text_for plan past)) >>= λ ns. Ok (plan_of graph (sources_of always files ns) next))
-        ∙ (λ j. text-says j >>= λ ns. Ok (plan_of graph (sources_of always files ns) next))
+        (λ j. parts.0 j >>= λ none. rescued_in graph.dag (Some (rescue_text_for plan past)) >>= λ ns. Ok (plan_from graph (sources_of always files ns) next))
+        ∙ (λ j. text-says j >>= λ ns. Ok (plan_from graph (sources_of always files ns) next))
 
     pub read : (again : Plan) × (plan_at always graph files (Some (rescue_text_for plan past)) next ≡ Ok again)
-    read = (plan_of graph (sources_of always files said) next, again-is)
+    read = (plan_from graph (sources_of always files said) next, again-is)
 
     module _ (again : Plan) (found : plan_at always graph files (Some (rescue_text_for plan past)) next ≡ Ok again) where
-      same-plan : again ≡ plan_of graph (sources_of always files said) next
+      same-plan : again ≡ plan_from graph (sources_of always files said) next
       same-plan = sym (ap (or-given again) found) ∙ ap (or-given again) again-is
 
       -- what no mark changes is as it was
@@ -180,11 +180,11 @@ module _ (set : Files) (top : List ℕ) (graph : Network) (opened : dag_at set t
     done = same-done round.plan made round.records again found;
   }
 
-  pub same-orders : (plan : Plan) → plan_at always graph files rescue digest ≡ Ok plan → (past : List Record) → (again : Plan)
-      → plan_at always graph files (Some (rescue_text_for plan past)) next ≡ Ok again → (node : ℕ) → (node_at again node).orders ≡ (node_at plan node).orders
-  same-orders plan made past again found = same plan made past again found (λ (s : NodeSpec). s.orders) (λ flag limits parents job mark other node. refl)
+  pub same-launch_spec : (plan : Plan) → plan_at always graph files rescue digest ≡ Ok plan → (past : List Record) → (again : Plan)
+      → plan_at always graph files (Some (rescue_text_for plan past)) next ≡ Ok again → (node : ℕ) → (node_at again node).launch_spec ≡ (node_at plan node).launch_spec
+  same-launch_spec plan made past again found = same plan made past again found (λ (s : NodeSpec). s.launch_spec) (λ flag limits parents job mark other node. refl)
 
-  pub one-round : (round last : Round) (before : List Round) → AreRounds (last ∷ before) → needs_rescue last.plan last.records ≡ true → IsRound round
+  pub one-round : (round last : Round) (before : List Round) → AreRounds (last ∷ before) → needs_rescue last.plan last.records ≡ true → IsFinishedRound round
       → plan_at always graph files rescue digest ≡ Ok last.plan → plan_at always graph files (Some (rescue_text_for last.plan last.records)) next ≡ Ok round.plan
       → AreRounds (round ∷ last ∷ before)
   one-round round last before are needs is made found = (is, rescued-by last made round.plan found, needs, are)

@@ -30,7 +30,7 @@ pub record IsJournalOf (plan : Plan) (bytes : List ℕ) (past : List Record) : T
 pub record IsSoundJournal (plan : Plan) (bytes : List ℕ) (past : List Record) : Type 0 where
   pub journal : IsJournalOf plan bytes past
   pub finished : IsTrue (is_finished plan past)
-  pub calm : IsFalse (is_aborted plan past)
+  pub abort_free : IsFalse (is_aborted plan past)
 
 -- the bytes are the journal of a finished run of this plan without abort
 abbrev pub AreSound : Plan → List ℕ → Type 0

@@ -10,7 +10,7 @@ ghost use Rattle.run_plan.specs.Submitted.{plan_at};
 ghost use Rattle.node_machine.specs.declared.Record.{Record};
 ghost use Rattle.sched_core.specs.Run.{needs_rescue};
 ghost use Rattle.sched_core.specs.Fate.{Fate, AreFates};
-ghost use Rattle.sched_core.specs.Rounds.{Round, IsRound, IsRescuedBy, AreRounds};
+ghost use Rattle.sched_core.specs.Rounds.{Round, IsFinishedRound, IsRescuedBy, AreRounds};
 ghost use Rattle.recovery_manager.specs.Rescue.{rescue_text_for};
 ghost use Rattle.fate_audit.specs.Fates.{fate_at, AreFatesOf};
 ghost use Rattle.fate_audit.specs.Audit.{AreSound, IsAuditOf, IsAuditNo};
@@ -57,15 +57,15 @@ pub fn rescued()
         plan_at always_post graph files rescue digest ≡ Ok round.plan → (again : Plan) →
         plan_at always_post graph files (Some (rescue_text_for round.plan round.records)) next ≡ Ok again →
         IsRescuedBy round again }
-    ensures orders { (set : Files) (top : List ℕ) (graph : Network) → dag_at set top ≡ Ok graph.dag →
+    ensures launch_spec { (set : Files) (top : List ℕ) (graph : Network) → dag_at set top ≡ Ok graph.dag →
         (always_post : Bool) (files : Option Files) (rescue : Option (List ℕ)) (digest next : List ℕ) (plan : Plan) →
         plan_at always_post graph files rescue digest ≡ Ok plan → (past : List Record) → (again : Plan) →
         plan_at always_post graph files (Some (rescue_text_for plan past)) next ≡ Ok again →
-        (node : ℕ) → (node_at again node).orders ≡ (node_at plan node).orders }
+        (node : ℕ) → (node_at again node).launch_spec ≡ (node_at plan node).launch_spec }
     ensures rounds { (set : Files) (top : List ℕ) (graph : Network) → dag_at set top ≡ Ok graph.dag →
         (always_post : Bool) (files : Option Files) (rescue : Option (List ℕ)) (digest next : List ℕ) (round last : Round)
         (before : List Round) → AreRounds (last ∷ before) →
-        IsTrue (needs_rescue last.plan last.records) → IsRound round →
+        IsTrue (needs_rescue last.plan last.records) → IsFinishedRound round →
         plan_at always_post graph files rescue digest ≡ Ok last.plan →
         plan_at always_post graph files (Some (rescue_text_for last.plan last.records)) next ≡ Ok round.plan →
         AreRounds (round ∷ last ∷ before) }

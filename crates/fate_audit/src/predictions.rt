@@ -3,12 +3,12 @@
 ghost use Rattle.std.specs.Prelude.{◌≡◌, ◌<◌, nat_lt, length, Some, false, IsTrue, IfOk, OnOk};
 ghost use Rattle.std.specs.List.{list_all};
 ghost use Rattle.node_machine.specs.Story.{story, ends_with};
-ghost use Rattle.node_machine.specs.Stand.{next_of};
+ghost use Rattle.node_machine.specs.MachineState.{next_of};
 ghost use Rattle.node_machine.specs.NodeRun.{ended_with};
 ghost use Rattle.node_machine.specs.OutcomeTable.{outcome_at};
 ghost use Rattle.dag_graph.specs.Graph.{rank_in, IsOrderOf};
 ghost use Rattle.run_plan.specs.Plan.{node_at, count_of, IsRankedBy};
-ghost use Rattle.sched_core.specs.Fate.{is_done_state, told_by, fate_by};
+ghost use Rattle.sched_core.specs.Fate.{is_done_state, fate_by_story, fate_by};
 ghost use Rattle.fate_audit.specs.Fates.{table_by, fate_at, filled, AreFatesOf};
 
 use crate::Fate;
@@ -30,7 +30,7 @@ fn ending(course: &Course, phase: Phase, outcome: Outcome) -> Outcome
 /// The next phase is launched and ends.
 fn end_next(run: &mut NodeRun, attempt: u32, phase: Phase, outcome: Outcome)
     requires idle { run.old.running ≡ false }
-    requires next { next_of run.old.stand run.old.stand.phase ≡ Some (attempt, phase) }
+    requires next { next_of run.old.machine run.old.machine.phase ≡ Some (attempt, phase) }
     ensures { run.new ≡ ended_with run.old outcome }
 {
     let _ = run.launched(attempt, phase);
@@ -39,7 +39,7 @@ fn end_next(run: &mut NodeRun, attempt: u32, phase: Phase, outcome: Outcome)
 
 /// The fate of a node whose parents are all done: its story by the table.
 fn play(alloc: Global, name: &str, course: &Course, table: &Table) -> Result<Fate, AllocError>
-    ensures { IfOk result (λ fate. fate ≡ told_by (story course.now (outcome_at table.now name.now))) }
+    ensures { IfOk result (λ fate. fate ≡ fate_by_story (story course.now (outcome_at table.now name.now))) }
 {
     let mut run = NodeRun::new(*course);
     let mut history = Vec::new(alloc);

@@ -2,7 +2,7 @@
 use Rattle.std.proofs.Common.{◌≡◌, ◌∙◌, sym, ap, refl, subst, inl, inr, ℕ, ◌+◌, ◌<◌, List, [], ◌∷◌, ◌++◌, Option, Some, None, length, get_or, take, drop, append_assoc}
 use Rattle.std.proofs.lemmas.List.{append-nil, take_more, drop_more}
 use Rattle.splices_flat.specs.declared.flat.Edge.{Edge}
-use Rattle.file_hints.specs.Outputs.{last_from, a_clash, HasClash, AreClashes}
+use Rattle.file_hints.specs.Outputs.{last_writer, a_clash, HasClash, AreClashes}
 use Rattle.file_hints.specs.declared.outputs.Writer.{Writer}
 use Rattle.file_hints.specs.declared.outputs.Clash.{Clash}
 
@@ -20,9 +20,9 @@ abbrev pub Leads : List Edge → List Writer → ℕ → List Clash → Type 0
 Leads edges ws at found = (more : List Clash) → AreClashes edges (take at ws) (drop at ws) more → AreClashes edges [] ws (found ++ more)
 
 pub one_more : (edges : List Edge) (ws : List Writer) (at : ℕ) (w : Writer) (old new : List Clash) → at < length ws → get_or ws at w ≡ w →
-    HasClash edges (last_from None (take at ws) w.path) w old new → Leads edges ws at old → Leads edges ws (at + 1) new
+    HasClash edges (last_writer None (take at ws) w.path) w old new → Leads edges ws at old → Leads edges ws (at + 1) new
 one_more edges ws at w old new lt is has so_far = λ more rest.
-    let (here, (has_here, e)) = clash_here edges (last_from None (take at ws) w.path) w old new has in
+    let (here, (has_here, e)) = clash_here edges (last_writer None (take at ws) w.path) w old new has in
     let taken : take (at + 1) ws ≡ take at ws ++ w ∷ [] = take_more ws at w lt ∙ ap (λ (x : Writer). take at ws ++ x ∷ []) is in
     let dropped : drop at ws ≡ w ∷ drop (at + 1) ws = drop_more ws at w lt ∙ ap (λ (x : Writer). x ∷ drop (at + 1) ws) is in
     let behind = subst (λ (before : List Writer). AreClashes edges before (drop (at + 1) ws) more) taken rest in

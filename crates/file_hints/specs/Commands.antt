@@ -5,8 +5,8 @@ use Rattle.dag_reader.specs.declared.command.Command.{Command}
 use Rattle.dag_reader.specs.declared.command.Command.TheVariants.{Job, Final, Script, Retry, PreSkip, AbortDagOn}
 use Rattle.dag_reader.specs.declared.command.Target.{Target}
 use Rattle.dag_reader.specs.declared.command.Target.TheVariants.{Node, AllNodes}
-use Rattle.splices_flat.specs.Settings.{line_of}
-use Rattle.file_hints.specs.Submitted.{at_line}
+use Rattle.splices_flat.specs.Settings.{line_of_target}
+use Rattle.file_hints.specs.Submitted.{findings_at}
 use Rattle.file_hints.specs.declared.hint.Hint.{Hint}
 use Rattle.file_hints.specs.declared.hint.Hint.TheVariants.{SkipValue, SignalValue, NoopScript}
 use Rattle.file_hints.specs.declared.hint.Finding.{Finding}
@@ -47,10 +47,10 @@ noop_note (Some name) = Some (NoopScript name)
 
 -- what is told of a line of a file with these lines
 abbrev pub note_of : List Command → Command → List Finding
-note_of commands (PreSkip node value) = at_line (line_of node) (skip_note value)
-note_of commands (AbortDagOn node value status) = at_line (line_of node) (signal_note (codes "ABORT-DAG-ON") value)
-note_of commands (Retry node retries unless_exit) = at_line (line_of node) (unless_note unless_exit)
-note_of commands (Script kind node program arguments) = at_line (line_of node) (noop_note (first_noop node commands))
+note_of commands (PreSkip node value) = findings_at (line_of_target node) (skip_note value)
+note_of commands (AbortDagOn node value status) = findings_at (line_of_target node) (signal_note (codes "ABORT-DAG-ON") value)
+note_of commands (Retry node retries unless_exit) = findings_at (line_of_target node) (unless_note unless_exit)
+note_of commands (Script kind node program arguments) = findings_at (line_of_target node) (noop_note (first_noop node commands))
 note_of commands command = []
 
 abbrev pub dag_notes : List Command → List Command → List Finding

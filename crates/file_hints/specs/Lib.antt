@@ -1,4 +1,4 @@
-pub mod Told
+pub mod Displayed
 pub mod References
 pub mod Submitted
 pub mod Meant

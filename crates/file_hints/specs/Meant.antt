@@ -17,11 +17,11 @@ guess_of name None = UnknownName name
 guess_of name (Some meant) = Misspelled name meant
 
 -- A name of nothing has the nearest of these commands beside it, where one is near; any other hint stays.
-abbrev pub IsBetter : List (List ℕ) → Hint → Hint → Type 0
-IsBetter known (UnknownName name) better = (meant : Option (List ℕ)) × IsNearest (str_to_ascii_lowercase name) known meant × (better ≡ guess_of name meant)
-IsBetter known hint better = better ≡ hint
+abbrev pub IsBetterHint : List (List ℕ) → Hint → Hint → Type 0
+IsBetterHint known (UnknownName name) better = (meant : Option (List ℕ)) × IsNearest (str_to_ascii_lowercase name) known meant × (better ≡ guess_of name meant)
+IsBetterHint known hint better = better ≡ hint
 
 -- each finding stays on its line
 abbrev pub AreBetter : List (List ℕ) → List Finding → List Finding → Type 0
 AreBetter known [] better = better ≡ []
-AreBetter known (f ∷ fs) better = (g : Finding) × (more : List Finding) × (better ≡ g ∷ more) × (g.line ≡ f.line) × IsBetter known f.hint g.hint × AreBetter known fs more
+AreBetter known (f ∷ fs) better = (g : Finding) × (more : List Finding) × (better ≡ g ∷ more) × (g.line ≡ f.line) × IsBetterHint known f.hint g.hint × AreBetter known fs more

@@ -26,8 +26,8 @@ ends_with_return (b ∷ bs) = if b == 10 then false else if b == 13 then begins_
 abbrev pub says_reader : List ℕ → Bool
 says_reader bytes = begins_with 35 bytes && begins_with 33 (drop 1 bytes)
 
-abbrev pub state_by : (is_executable : Bool) → List ℕ → ProgramState
-state_by is_executable bytes =
+abbrev pub program_state_by : (is_executable : Bool) → List ℕ → ProgramState
+program_state_by is_executable bytes =
     if is_executable
     then (if says_reader bytes && ends_with_return (drop 2 bytes) then states.CarriageReturn else states.Runs)
     else states.NotExecutable

@@ -6,11 +6,11 @@ pub use Rattle.dag_reader.specs.Keywords.{begins_with}
 use Rattle.file_hints.specs.declared.macros.Reference.{Reference}
 
 -- letters, digits, the underline (95) and the full stop (46)
-abbrev pub is_name_byte : ℕ → Bool
-is_name_byte b = is_ascii_alphanumeric b || b == 95 || b == 46
+abbrev pub is_reference_byte : ℕ → Bool
+is_reference_byte b = is_ascii_alphanumeric b || b == 95 || b == 46
 
-abbrev pub name_in : List ℕ → List ℕ
-name_in text = take_while is_name_byte text
+abbrev pub command_name : List ℕ → List ℕ
+command_name text = take_while is_reference_byte text
 
 -- what a name with this behind it is: a reference with a default behind a colon (58), one without where the parenthesis (41) closes it, or none
 abbrev pub reference_by : (name after : List ℕ) → List Reference
@@ -20,7 +20,7 @@ reference_by name after =
 -- the reference of which a text is what stands behind the dollar sign: it begins with a parenthesis (40)
 abbrev pub reference_in : List ℕ → List Reference
 reference_in [] = []
-reference_in (b ∷ bs) = if b == 40 then reference_by (name_in bs) (drop (length (name_in bs)) bs) else []
+reference_in (b ∷ bs) = if b == 40 then reference_by (command_name bs) (drop (length (command_name bs)) bs) else []
 
 -- those of a text behind a dollar sign, or behind none, or a second one
 abbrev pub references_from : (dollar : Bool) → List ℕ → List Reference

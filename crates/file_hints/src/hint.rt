@@ -1,7 +1,7 @@
 //! Hints, and how they are displayed.
 
 ghost use Rattle.std.specs.Prelude.{◌≡◌, Some, IfOk, string_bytes};
-ghost use Rattle.file_hints.specs.Told.{hint_text, topic_of, finding_line};
+ghost use Rattle.file_hints.specs.Displayed.{hint_text, topic_of, finding_line};
 
 use dag_reader::Text;
 use std::alloc::{AllocError, Global};

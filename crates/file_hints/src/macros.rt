@@ -4,7 +4,7 @@ ghost use Rattle.std.specs.Prelude.{◌≡◌, ◌≤◌, ◌++◌, length, IfOk
 ghost use Rattle.std.specs.Option.{option_to_list};
 ghost use Rattle.std.specs.List.{take_while};
 ghost use Rattle.std.specs.Str.{IsUtf8};
-ghost use Rattle.file_hints.specs.References.{references, reference_in, is_name_byte, begins_with};
+ghost use Rattle.file_hints.specs.References.{references, reference_in, is_reference_byte, begins_with};
 
 use dag_reader::Text;
 use std::alloc::{AllocError, Global};
@@ -79,14 +79,14 @@ fn reference_in(alloc: Global, text: &[u8]) -> Result<Option<Reference>, AllocEr
 
 /// How many bytes of a name stand in front.
 fn name_length(text: &[u8]) -> usize
-    ensures value { result ≡ length (take_while is_name_byte text.now) }
+    ensures value { result ≡ length (take_while is_reference_byte text.now) }
     ensures within { result ≤ length text.now }
 {
     text.iter().take_while(|byte| is_name_byte(**byte)).count()
 }
 
 fn is_name_byte(byte: u8) -> bool
-    ensures { result ≡ is_name_byte byte }
+    ensures { result ≡ is_reference_byte byte }
 {
     byte.is_ascii_alphanumeric() || byte == b'_' || byte == b'.'
 }

@@ -1,7 +1,7 @@
 //! The command that may have been meant.
 
 ghost use Rattle.std.specs.Prelude.{◌≡◌, ◌++◌, map, IfOk};
-ghost use Rattle.file_hints.specs.Meant.{known_names, IsBetter, AreBetter};
+ghost use Rattle.file_hints.specs.Meant.{known_names, IsBetterHint, AreBetter};
 
 use crate::hint::{Finding, Hint};
 use crate::names::CommandNames;
@@ -45,7 +45,7 @@ fn known_names<'a>(alloc: Global, names: &CommandNames<'a>) -> Result<Vec<&'a st
 
 /// A hint, of a name of nothing with the nearest of these commands, where one is near.
 fn better_hint(alloc: Global, known: &[&str], hint: Hint) -> Result<Hint, AllocError>
-    ensures { IfOk result (IsBetter (map (λ w. w.now) known.now) hint) }
+    ensures { IfOk result (IsBetterHint (map (λ w. w.now) known.now) hint) }
 {
     let Hint::UnknownName(name) = hint else {
         return Ok(hint);

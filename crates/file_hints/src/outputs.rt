@@ -3,7 +3,7 @@
 ghost use Rattle.std.specs.Prelude.{◌≡◌, ◌++◌, ◌↔◌, ◌⊎◌, [], None, IsTrue, IfOk, IfErr, OnOk, option_copied};
 ghost use Rattle.std.specs.Str.{bytes_eq};
 ghost use Rattle.dag_graph.specs.declared.fault.GraphFault.TheVariants.{Memory};
-ghost use Rattle.file_hints.specs.Outputs.{last_from, IsOrdered, HasClash, AreClashes};
+ghost use Rattle.file_hints.specs.Outputs.{last_writer, AreRelated, HasClash, AreClashes};
 
 use dag_graph::{Graph, GraphFault};
 use dag_reader::Text;
@@ -49,7 +49,7 @@ fn push_clash(
     before: &[Writer],
     one: &Writer,
 ) -> Result<(), GraphFault>
-    ensures found { OnOk result (HasClash graph.now.dag.edges (last_from None before.now one.now.path) one.now found.old.items found.new.items) }
+    ensures found { OnOk result (HasClash graph.now.dag.edges (last_writer None before.now one.now.path) one.now found.old.items found.new.items) }
     ensures err { IfErr result (λ fault. fault ≡ Memory) }
 {
     let Some(other) = last_same(before, one.path.as_str()) else {
@@ -69,7 +69,7 @@ fn push_clash(
 
 /// The last of some writers that writes the file of this path.
 fn last_same<'a>(writers: &'a [Writer], path: &str) -> Option<&'a Writer>
-    ensures { option_copied result ≡ last_from None writers.now path.now }
+    ensures { option_copied result ≡ last_writer None writers.now path.now }
 {
     let mut found = None;
     for one in writers {
@@ -82,7 +82,7 @@ fn last_same<'a>(writers: &'a [Writer], path: &str) -> Option<&'a Writer>
 
 /// Whether two nodes are one, or one of them is an ancestor of the other.
 fn are_ordered(alloc: Global, graph: &Graph, a: u32, b: u32) -> Result<bool, GraphFault>
-    ensures ordered { IfOk result (λ ordered. IsTrue ordered ↔ IsOrdered graph.now.dag.edges a b) }
+    ensures ordered { IfOk result (λ ordered. IsTrue ordered ↔ AreRelated graph.now.dag.edges a b) }
     ensures err { IfErr result (λ fault. fault ≡ Memory) }
 {
     if a == b {

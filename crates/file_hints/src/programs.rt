@@ -1,7 +1,7 @@
 //! What is odd in a program or a folder, by what the system says of it.
 
 ghost use Rattle.std.specs.Prelude.{◌≡◌, IfOk};
-ghost use Rattle.file_hints.specs.Programs.{program_hint, folder_hint, state_by, ends_with_return};
+ghost use Rattle.file_hints.specs.Programs.{program_hint, folder_hint, program_state_by, ends_with_return};
 
 use crate::hint::Hint;
 use dag_reader::Text;
@@ -58,7 +58,7 @@ pub fn folder_hint(alloc: Global, path: &str, is_there: bool) -> Result<Option<H
 
 /// The state of a file, by whether somebody may run it and by the bytes that it begins with.
 pub fn state_by(is_executable: bool, beginning: &[u8]) -> ProgramState
-    ensures { result ≡ state_by is_executable beginning.now }
+    ensures { result ≡ program_state_by is_executable beginning.now }
 {
     if !is_executable {
         return ProgramState::NotExecutable;

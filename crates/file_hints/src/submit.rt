@@ -4,7 +4,7 @@ ghost use Rattle.std.specs.Prelude.{◌≡◌, ◌++◌, ◌==◌, ◌≤◌, le
 ghost use Rattle.std.specs.Option.{option_map};
 ghost use Rattle.std.specs.List.{list_any, take_while};
 ghost use Rattle.file_hints.specs.References.{references};
-ghost use Rattle.file_hints.specs.Submitted.{is_word, is_listed, advice_in, is_attribute, is_referred, is_meant, name_hint, has_name, is_assigned, is_empty_reference, at_line, macro_findings, placed_references, assigned_references, submit_findings};
+ghost use Rattle.file_hints.specs.Submitted.{is_same_word, is_word_listed, advice_in, is_attribute, is_referred, is_meant, name_hint, has_name, is_macro_assigned, is_empty_reference, findings_at, macro_findings, placed_references, assigned_references, submit_findings};
 
 use crate::hint::{Finding, Hint};
 use crate::macros::{Reference, begins_with, push_references, references};
@@ -85,7 +85,7 @@ pub(crate) fn push_hint(
     line: usize,
     hint: Option<Hint>,
 ) -> Result<(), AllocError>
-    ensures { OnOk result (found.new.items ≡ found.old.items ++ at_line line hint) }
+    ensures { OnOk result (found.new.items ≡ found.old.items ++ findings_at line hint) }
 {
     if let Some(hint) = hint {
         found.push(Finding { line, hint })?;
@@ -139,7 +139,7 @@ fn is_meant(names: &CommandNames<'_>, referred: &[Reference], name: &str) -> boo
 }
 
 fn is_listed(words: &[&str], name: &str) -> bool
-    ensures { result ≡ is_listed words.now name.now }
+    ensures { result ≡ is_word_listed words.now name.now }
 {
     words.iter().any(|word| is_word(word, name))
 }
@@ -166,14 +166,14 @@ fn is_referred(referred: &[Reference], name: &str) -> bool
 }
 
 pub(crate) fn is_word(word: &str, text: &str) -> bool
-    ensures { result ≡ is_word word.now text.now }
+    ensures { result ≡ is_same_word word.now text.now }
 {
     is_same_word(word.as_bytes(), text.as_bytes())
 }
 
-#[tactic(auto, unfolding(crate::specs::Submitted::is_word))]
+#[tactic(auto, unfolding(crate::specs::Submitted::is_same_word))]
 fn is_same_word(word: &[u8], text: &[u8]) -> bool
-    ensures { result ≡ is_word word.now text.now }
+    ensures { result ≡ is_same_word word.now text.now }
 {
     word.eq_ignore_ascii_case(text)
 }
@@ -218,7 +218,7 @@ fn is_empty_reference(
 
 /// Whether a name is assigned above the queue line or by a VARS line.
 fn is_assigned(placed: &[PlacedAssignment], vars: &[Assignment], name: &str) -> bool
-    ensures { result ≡ is_assigned placed.now vars.now name.now }
+    ensures { result ≡ is_macro_assigned placed.now vars.now name.now }
 {
     has_name(placed, name) || is_set(vars, name)
 }
@@ -231,7 +231,7 @@ pub(crate) fn has_name(placed: &[PlacedAssignment], name: &str) -> bool
 }
 
 fn is_set(vars: &[Assignment], name: &str) -> bool
-    ensures { result ≡ list_any (λ a. is_word a.name name.now) vars.now }
+    ensures { result ≡ list_any (λ a. is_same_word a.name name.now) vars.now }
 {
     vars.iter().any(|one| is_word(one.name.as_str(), name))
 }

@@ -10,7 +10,7 @@ use Rattle.splices_flat.specs.Opened.{dag_at}
 use Rattle.run_plan_node.specs.Node.{Job, Program}
 use Rattle.run_plan.specs.declared.fault.PlanFault.{PlanFault}
 use Rattle.run_plan.specs.declared.fault.PlanFault.TheVariants as plans
-use Rattle.run_plan.specs.Submitted.{◌>>=◌, submit_at, described, assigned_to, described_by, job_at, first_fault, all_nodes}
+use Rattle.run_plan.specs.Submitted.{◌>>=◌, submit_at, described, assigned_to, described_by, job_at, first_plan_fault, all_nodes}
 use Rattle.dag_main_check.specs.Planned.{IsGraphFault, not_opened, cyclic, opening_had_no_memory}
 use Rattle.dag_main_check.specs.Checked.{IsCheckOf, IsCheckFault, has_no_graph, not_sound, checking_had_no_memory}
 use Rattle.dag_main_check.specs.declared.fault.RunFault.{RunFault}
@@ -47,7 +47,7 @@ module _ (set holds : Files) (held : (path bytes : List ℕ) → set path ≡ So
       (λ path at. none path (ap (λ b. if b then Ok (Program node.file) else described_by set node) is ∙ at))
       ∙ sym (ap (λ b. if b then Ok (Program node.file) else described_by set node) is)
 
-  pub faults-same : (nodes : List FlatNode) → SameJob (first_fault (Some set) nodes) (first_fault (Some holds) nodes)
+  pub faults-same : (nodes : List FlatNode) → SameJob (first_plan_fault (Some set) nodes) (first_plan_fault (Some holds) nodes)
   faults-same [] = λ none. refl
   faults-same (node ∷ nodes) = bind-job (job_at (Some set) node) (job_at (Some holds) node) _ _ (job-same node node.noop refl) (λ job. faults-same nodes)
 

@@ -11,7 +11,7 @@ use Rattle.splices_flat.specs.Dag.{Dag}
 use Rattle.splices_flat.specs.Forest.{Forest, none, more, Tree, tree_files}
 use Rattle.splices_flat.specs.Paths.{join, dir_text}
 use Rattle.splices_flat.specs.Faults.{files_fault}
-use Rattle.splices_flat.specs.Opening.{◌>>=◌, Files, Opener, says_at, check_file, with_file, with_forest, with_splice, said_by, joined, enter_at, open_line, open_lines, open_said, open_file, opened_at}
+use Rattle.splices_flat.specs.Opening.{◌>>=◌, Files, Opener, says_at, check_file, with_file, with_forest, with_splice, parsed_file, forests_joined, enter_at, open_line, open_lines, open_said, open_file, opened_at}
 use Rattle.splices_flat.specs.Opened.{dag_of, dag_unless, dag_at}
 
 module _ (set holds : Files) (held : (path bytes : List ℕ) → set path ≡ Some bytes → holds path ≡ Some bytes) where

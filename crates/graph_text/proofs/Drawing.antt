@@ -7,9 +7,9 @@ use Rattle.dag_graph.specs.Graph.{children_of, is_edge}
 use Rattle.run_plan.specs.Plan.{Plan, node_at, count_of}
 use Rattle.status_report.specs.declared.status.Status.{Status}
 use Rattle.status_report.specs.Text.{reported}
-use Rattle.graph_text.specs.Names.{parts_of, scope_in}
+use Rattle.graph_text.specs.Names.{parts_of, splices_among}
 use Rattle.graph_text.specs.Clusters.{closings, moved}
-use Rattle.graph_text.specs.Picture.{node_line, scope_before, node_lines, all_nodes}
+use Rattle.graph_text.specs.Picture.{drawn_node, scope_before, node_lines, all_drawn}
 
 -- children are ordinary nodes
 range-below : (from count n : ℕ) → from + count ≤ n → All (λ k. k < n) (range_with_len from count)
@@ -27,18 +27,18 @@ child-below plan counted node i items is inside =
 
 -- the nodes, one by one
 module _ (plan : Plan) (states : ℕ → Option Status) (start : List ℕ) where
-  pub nodes-more : (n : ℕ) (before parts : List (List ℕ)) (old now : List ℕ) → old ≡ start ++ node_lines plan states n → scope_in before ≡ scope_before plan n
-      → parts ≡ parts_of (node_at plan n).name → now ≡ old ++ (moved n (scope_in before) (scope_in parts) ++ node_line plan (states n) n)
+  pub nodes-more : (n : ℕ) (before parts : List (List ℕ)) (old now : List ℕ) → old ≡ start ++ node_lines plan states n → splices_among before ≡ scope_before plan n
+      → parts ≡ parts_of (node_at plan n).name → now ≡ old ++ (moved n (splices_among before) (splices_among parts) ++ drawn_node plan (states n) n)
       → now ≡ start ++ node_lines plan states (suc n)
   nodes-more n before parts old now so_far scope are added =
-      let line = node_line plan (states n) n in
+      let line = drawn_node plan (states n) n in
       added
-      ∙ (λ j. so_far j ++ (moved n (scope j) (scope_in (are j)) ++ line))
+      ∙ (λ j. so_far j ++ (moved n (scope j) (splices_among (are j)) ++ line))
       ∙ append_assoc start (node_lines plan states n) _
 
   pub nodes-closed : (n : ℕ) (before : List (List ℕ)) (slice : List (Bor (List ℕ))) (old now : List ℕ) → old ≡ start ++ node_lines plan states n
-      → scope_in before ≡ scope_before plan n → n ≡ reported plan → map (λ part. part.now) slice ≡ scope_in before → now ≡ old ++ closings 0 (length slice)
-      → now ≡ start ++ all_nodes plan states
+      → splices_among before ≡ scope_before plan n → n ≡ reported plan → map (λ part. part.now) slice ≡ splices_among before → now ≡ old ++ closings 0 (length slice)
+      → now ≡ start ++ all_drawn plan states
   nodes-closed n before slice old now so_far scope all are added =
       let count : length slice ≡ length (scope_before plan n) =
       sym (length-map slice (λ (part : Bor (List ℕ)). part.now)) ∙ ap length are ∙ ap length scope in

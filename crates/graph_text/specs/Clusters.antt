@@ -3,7 +3,7 @@ use Rattle.std.specs.Prelude.{ℕ, zero, suc, ◌+◌, ◌-◌, List, [], ◌∷
 use Rattle.std.specs.Fmt.{decimal}
 use Rattle.std.specs.List.{common_prefix_len}
 use Rattle.std.specs.Str.{bytes_eq}
-use Rattle.graph_text.specs.Names.{quoted}
+use Rattle.graph_text.specs.Names.{quoted_label}
 
 -- four blanks for each depth
 abbrev pub indent : ℕ → List ℕ
@@ -17,7 +17,7 @@ cluster_line node depth = codes "subgraph cluster_" ++ (decimal node ++ (codes "
 
 -- the label of a cluster
 abbrev pub label_line : List ℕ → List ℕ
-label_line name = codes "label=" ++ (quoted name ++ codes ";\n")
+label_line name = codes "label=" ++ (quoted_label name ++ codes ";\n")
 
 -- the beginning of such a cluster, with the splice's name as label
 abbrev pub opening : (node depth : ℕ) → List ℕ → List ℕ

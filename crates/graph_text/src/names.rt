@@ -1,13 +1,13 @@
 //! Names in a picture.
 
 ghost use Rattle.std.specs.Prelude.{◌≡◌, ◌++◌, map, flat_map, chars, OnOk, IfOk, string_bytes};
-ghost use Rattle.graph_text.specs.Names.{escaped, quoted, parts_of, scope_in, own_in};
+ghost use Rattle.graph_text.specs.Names.{escaped_label, quoted_label, parts_of, splices_among, own_in};
 
 use std::alloc::{AllocError, Global};
 
 /// Adds what stands for a character between quotes.
 fn push_escaped(text: &mut String, character: char) -> Result<(), AllocError>
-    ensures { OnOk result (string_bytes text.new ≡ string_bytes text.old ++ escaped character) }
+    ensures { OnOk result (string_bytes text.new ≡ string_bytes text.old ++ escaped_label character) }
 {
     match character {
         '"' => text.push_str("\\\""),
@@ -19,7 +19,7 @@ fn push_escaped(text: &mut String, character: char) -> Result<(), AllocError>
 
 /// Adds what stands for the characters of a text.
 fn push_all_escaped(text: &mut String, name: &str) -> Result<(), AllocError>
-    ensures { OnOk result (string_bytes text.new ≡ string_bytes text.old ++ flat_map escaped (chars name.now)) }
+    ensures { OnOk result (string_bytes text.new ≡ string_bytes text.old ++ flat_map escaped_label (chars name.now)) }
 {
     for character in name.chars() {
         push_escaped(text, character)?;
@@ -29,7 +29,7 @@ fn push_all_escaped(text: &mut String, name: &str) -> Result<(), AllocError>
 
 /// Adds a text between quotes, so that a reader of DOT reads just this text.
 pub(crate) fn push_quoted(text: &mut String, name: &str) -> Result<(), AllocError>
-    ensures { OnOk result (string_bytes text.new ≡ string_bytes text.old ++ quoted name.now) }
+    ensures { OnOk result (string_bytes text.new ≡ string_bytes text.old ++ quoted_label name.now) }
 {
     text.push_str("\"")?;
     push_all_escaped(text, name)?;
@@ -46,7 +46,7 @@ pub(crate) fn parts_of<'a>(alloc: Global, name: &'a str) -> Result<Vec<&'a str>,
 
 /// The splices among the parts of a name.
 pub(crate) fn scope_in<'s, 'a>(parts: &'s [&'a str]) -> &'s [&'a str]
-    ensures { map (λ part. part.now) result.now ≡ scope_in (map (λ part. part.now) parts.now) }
+    ensures { map (λ part. part.now) result.now ≡ splices_among (map (λ part. part.now) parts.now) }
 {
     match parts.len() {
         0 => parts,

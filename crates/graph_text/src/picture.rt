@@ -4,8 +4,8 @@ ghost use Rattle.std.specs.Prelude.{◌≡◌, ◌<◌, ◌≤◌, ◌+◌, ◌+
 ghost use Rattle.run_plan.specs.Plan.{node_at, count_of};
 ghost use Rattle.dag_graph.specs.Graph.{children_of};
 ghost use Rattle.status_report.specs.Text.{reported};
-ghost use Rattle.graph_text.specs.Names.{scope_of, own_of, parts_of, scope_in};
-ghost use Rattle.graph_text.specs.Picture.{plan_of, states_of, status_text, state_text, frame_text, attributes_text, node_line, node_lines, scope_before, all_nodes, edge_line, edge_lines, dot_text_of};
+ghost use Rattle.graph_text.specs.Names.{splices_of_name, own_of, parts_of, splices_among};
+ghost use Rattle.graph_text.specs.Picture.{drawn_plan, states_of, status_text, state_text, frame_text, attributes_text, drawn_node, node_lines, scope_before, all_drawn, edge_line, edge_lines, dot_text_of};
 ghost use Rattle.graph_text.specs.Clusters.{moved};
 
 use crate::clusters::{push_closings, push_indent, push_move};
@@ -27,7 +27,7 @@ pub enum Drawn<'a> {
 impl<'a> Drawn<'a> {
     /// The plan that is drawn.
     pub fn plan(&self) -> &'a Plan
-        ensures { result.now ≡ plan_of self.now }
+        ensures { result.now ≡ drawn_plan self.now }
     {
         match self {
             Drawn::Bare(plan) => *plan,
@@ -37,7 +37,7 @@ impl<'a> Drawn<'a> {
 
     /// Where a node stands, if that is to be seen.
     fn status(&self, node: u32) -> Option<Status>
-        requires { node ≤ count_of (plan_of self.now) }
+        requires { node ≤ count_of (drawn_plan self.now) }
         ensures { result ≡ states_of self.now node }
     {
         match self {
@@ -102,9 +102,9 @@ fn push_node(
     node: u32,
     parts: &[&str],
 ) -> Result<(), AllocError>
-    requires node { node ≤ count_of (plan_of drawn.now) }
-    requires parts { map (λ part. part.now) parts.now ≡ parts_of (node_at (plan_of drawn.now) node).name }
-    ensures { OnOk result (string_bytes text.new ≡ string_bytes text.old ++ node_line (plan_of drawn.now) (states_of drawn.now node) node) }
+    requires node { node ≤ count_of (drawn_plan drawn.now) }
+    requires parts { map (λ part. part.now) parts.now ≡ parts_of (node_at (drawn_plan drawn.now) node).name }
+    ensures { OnOk result (string_bytes text.new ≡ string_bytes text.old ++ drawn_node (drawn_plan drawn.now) (states_of drawn.now node) node) }
 {
     let plan = drawn.plan();
     let frame = frame_text(plan, node);
@@ -122,11 +122,11 @@ fn push_next(
     before: &[&str],
     parts: &[&str],
 ) -> Result<(), AllocError>
-    requires node { node ≤ count_of (plan_of drawn.now) }
-    requires parts { map (λ part. part.now) parts.now ≡ parts_of (node_at (plan_of drawn.now) node).name }
+    requires node { node ≤ count_of (drawn_plan drawn.now) }
+    requires parts { map (λ part. part.now) parts.now ≡ parts_of (node_at (drawn_plan drawn.now) node).name }
     ensures { OnOk result (string_bytes text.new ≡ string_bytes text.old
-        ++ (moved node (scope_in (map (λ part. part.now) before.now)) (scope_in (map (λ part. part.now) parts.now))
-        ++ node_line (plan_of drawn.now) (states_of drawn.now node) node)) }
+        ++ (moved node (splices_among (map (λ part. part.now) before.now)) (splices_among (map (λ part. part.now) parts.now))
+        ++ drawn_node (drawn_plan drawn.now) (states_of drawn.now node) node)) }
 {
     push_move(text, node, scope_in(before), scope_in(parts))?;
     push_node(text, drawn, node, parts)
@@ -146,7 +146,7 @@ fn drawn_nodes(plan: &Plan) -> u32
 
 /// Adds all nodes in plan order, each within the clusters of its splices.
 fn push_nodes(alloc: Global, text: &mut String, drawn: &Drawn<'_>) -> Result<(), AllocError>
-    ensures { OnOk result (string_bytes text.new ≡ string_bytes text.old ++ all_nodes (plan_of drawn.now) (states_of drawn.now)) }
+    ensures { OnOk result (string_bytes text.new ≡ string_bytes text.old ++ all_drawn (drawn_plan drawn.now) (states_of drawn.now)) }
 {
     let plan = drawn.plan();
     let mut before = Vec::new(alloc);
@@ -200,7 +200,7 @@ fn push_edges(text: &mut String, plan: &Plan) -> Result<(), AllocError>
 /// # Errors
 /// Want of memory, and nothing else.
 pub fn dot_text(alloc: Global, drawn: &Drawn<'_>) -> Result<String, AllocError>
-    ensures { IfOk result (λ text. string_bytes text ≡ dot_text_of (plan_of drawn.now) (states_of drawn.now)) }
+    ensures { IfOk result (λ text. string_bytes text ≡ dot_text_of (drawn_plan drawn.now) (states_of drawn.now)) }
 {
     let mut text = String::new(alloc);
     text.push_str("digraph dag {\n    node [shape=box, style=filled, fillcolor=white];\n")?;

@@ -9,7 +9,7 @@ use Rattle.job_starter_drive.specs.declared.Call.{Call}
 use Rattle.job_starter_drive.specs.declared.Call.TheVariants as calls
 use Rattle.job_starter_drive.specs.declared.Started.TheVariants.{Running, NotStarted}
 use Rattle.job_starter_drive.specs.Calls.{snapshot_of}
-use Rattle.job_starter_drive.specs.Drives.{Standing, records_of, calls_of, IsStep, launches, passes, starts, fails, ends, settles, kills, Goes, no_step, one_more, Kills, nobody, one_killed}
+use Rattle.job_starter_drive.specs.Drives.{Standing, drive_records, calls_of, IsStep, launch_round, skip_noop, spawn_child, spawn_failed, child_exits, ends_recorded, kill_child, Goes, no_step, one_more, Kills, nobody, one_killed}
 use Rattle.job_starter_drive.specs.Moments.{IsOlderPart}
 use Rattle.job_starter_drive.proofs.Turns.{launched-older, added-older}
 
@@ -27,36 +27,36 @@ older-is held kept same = ([], same)
 
 module _ (limits : Limits) (plan : Plan) (may : List Call → Key → Outcome → Type 0) where
   -- the records that stood there are kept
-  pub step-records : (from to : Standing) → IsStep limits plan may from to → IsOlderPart (records_of from) (records_of to)
-  step-records _ _ (launches {past = past} {keys = keys} lawful going step round) = launched-older past keys
-  step-records _ _ (passes {past = past} quiet) = older-self past
-  step-records _ _ (starts {past = past} child is may_run) = older-self past
-  step-records _ _ (fails {past = past} child is may_be) = older-self past
-  step-records _ _ (ends {past = past} step held ran may_be) = older-self past
-  step-records _ _ (settles {past = past} {end = end} {owed = owed}) = added-older past (up_to_abort plan past (ends_of (end ∷ owed)))
-  step-records _ _ (kills {past = past} ran free) = older-self past
+  pub step-records : (from to : Standing) → IsStep limits plan may from to → IsOlderPart (drive_records from) (drive_records to)
+  step-records _ _ (launch_round {past = past} {keys = keys} lawful going step round) = launched-older past keys
+  step-records _ _ (skip_noop {past = past} quiet) = older-self past
+  step-records _ _ (spawn_child {past = past} child is may_run) = older-self past
+  step-records _ _ (spawn_failed {past = past} child is may_be) = older-self past
+  step-records _ _ (child_exits {past = past} step held ran may_be) = older-self past
+  step-records _ _ (ends_recorded {past = past} {end = end} {owed = owed}) = added-older past (up_to_abort plan past (ends_of (end ∷ owed)))
+  step-records _ _ (kill_child {past = past} ran free) = older-self past
 
   -- and so are the calls that were answered
   pub step-calls : (from to : Standing) → IsStep limits plan may from to → IsOlderPart (calls_of from) (calls_of to)
-  step-calls _ _ (launches {told = told} lawful going step round) = older-self told
-  step-calls _ _ (passes {told = told} quiet) = older-self told
-  step-calls _ _ (starts {told = told} {key = key} {command = command} child is may_run) = older-one (calls.Started key (snapshot_of command) Running) told
-  step-calls _ _ (fails {told = told} {key = key} {command = command} child is may_be) = older-one (calls.Started key (snapshot_of command) NotStarted) told
-  step-calls _ _ (ends {told = told} {key = key} {outcome = outcome} step held ran may_be) = older-one (calls.Ended key outcome) told
-  step-calls _ _ (settles {told = told}) = older-self told
-  step-calls _ _ (kills {told = told} {key = key} ran free) = older-one (calls.Killed key) told
+  step-calls _ _ (launch_round {call_log = call_log} lawful going step round) = older-self call_log
+  step-calls _ _ (skip_noop {call_log = call_log} quiet) = older-self call_log
+  step-calls _ _ (spawn_child {call_log = call_log} {key = key} {command = command} child is may_run) = older-one (calls.Started key (snapshot_of command) Running) call_log
+  step-calls _ _ (spawn_failed {call_log = call_log} {key = key} {command = command} child is may_be) = older-one (calls.Started key (snapshot_of command) NotStarted) call_log
+  step-calls _ _ (child_exits {call_log = call_log} {key = key} {outcome = outcome} step held ran may_be) = older-one (calls.Ended key outcome) call_log
+  step-calls _ _ (ends_recorded {call_log = call_log}) = older-self call_log
+  step-calls _ _ (kill_child {call_log = call_log} {key = key} ran free) = older-one (calls.Killed key) call_log
 
-  pub goes-records : (from to : Standing) → Goes limits plan may from to → IsOlderPart (records_of from) (records_of to)
-  goes-records from _ no_step = older-self (records_of from)
+  pub goes-records : (from to : Standing) → Goes limits plan may from to → IsOlderPart (drive_records from) (drive_records to)
+  goes-records from _ no_step = older-self (drive_records from)
   goes-records from to (one_more {between = between} steps step) =
-      older-then (records_of from) (records_of between) (records_of to) (goes-records from between steps) (step-records between to step)
+      older-then (drive_records from) (drive_records between) (drive_records to) (goes-records from between steps) (step-records between to step)
 
   pub goes-calls : (from to : Standing) → Goes limits plan may from to → IsOlderPart (calls_of from) (calls_of to)
   goes-calls from _ no_step = older-self (calls_of from)
   goes-calls from to (one_more {between = between} steps step) =
       older-then (calls_of from) (calls_of between) (calls_of to) (goes-calls from between steps) (step-calls between to step)
 
-pub kills-tell : (told last : List Call) → Kills told last → IsOlderPart told last
-kills-tell told _ nobody = older-self told
-kills-tell told _ (one_killed {heard = heard} {key = key} before ran) =
-    older-then told heard (calls.Killed key ∷ heard) (kills-tell told heard before) (older-one (calls.Killed key) heard)
+pub kills-tell : (call_log last : List Call) → Kills call_log last → IsOlderPart call_log last
+kills-tell call_log _ nobody = older-self call_log
+kills-tell call_log _ (one_killed {later_log = later_log} {key = key} before ran) =
+    older-then call_log later_log (calls.Killed key ∷ later_log) (kills-tell call_log later_log before) (older-one (calls.Killed key) later_log)

@@ -24,8 +24,8 @@ use Rattle.job_starter_drive.specs.declared.driving.DriveFault.{DriveFault}
 use Rattle.job_starter_drive.proofs.Phases.{noop-quiet}
 use Rattle.job_starter_drive.proofs.Turns.{launched-onto, launch-all}
 use Rattle.job_starter_drive.specs.Calls.{snapshot_of}
-use Rattle.job_starter_drive.specs.Drives.{most_at_once, Standing, At, at_rest, records_of, calls_of, IsCommandIn, IsStep, launches, passes, starts, fails, ends, settles, kills, Goes, no_step, one_more, Drives, Kills, nobody, one_killed, IsHalted, IsHaltedBy, IsStopped}
-use Rattle.job_starter_drive.specs.Handed.{handed, HandsAll, HandsAllButSome}
+use Rattle.job_starter_drive.specs.Drives.{most_at_once, Standing, At, at_rest, drive_records, calls_of, IsCommandIn, IsStep, launch_round, skip_noop, spawn_child, spawn_failed, child_exits, ends_recorded, kill_child, Goes, no_step, one_more, Drives, Kills, nobody, one_killed, IsHalted, IsHaltedBy, IsStopped}
+use Rattle.job_starter_drive.specs.Spawned.{spawned, SpawnsAll, SpawnsAllButSome}
 
 -- a phase and its command, by what the records say
 abbrev command_in : Plan → List Record → Key → Command
@@ -38,7 +38,7 @@ commands_for plan records (key ∷ keys) =
     if starts_child (node_at plan key.node) key.phase then command_in plan records key ∷ commands_for plan records keys else commands_for plan records keys
 
 abbrev keys_of : Standing → List Key
-keys_of (At past told keys owed) = keys
+keys_of (At past call_log keys owed) = keys
 
 -- launches of a round, of which the first stand in the records: the commands of the others come behind theirs
 module _ (plan : Plan) (now : List Record) (lawful : is_lawful plan now ≡ true) where
@@ -79,20 +79,20 @@ ended-commands plan past (end ∷ owed) = go (stops plan past (End end.0 end.1))
     go false later = later
 
 -- what was handed over until a standing, and what is to be
-record Hands (plan : Plan) (past : List Record) (told : List Call) (to : Standing) : Type 0 where
+record Hands (plan : Plan) (past : List Record) (call_log : List Call) (to : Standing) : Type 0 where
   own : List Command
-  are : handed (calls_of to) ≡ handed told ++ own
-  commands : commands_in plan (records_of to) ≡ commands_in plan past ++ (own ++ commands_for plan (records_of to) (keys_of to))
+  are : spawned (calls_of to) ≡ spawned call_log ++ own
+  commands : commands_in plan (drive_records to) ≡ commands_in plan past ++ (own ++ commands_for plan (drive_records to) (keys_of to))
   few : length (keys_of to) ≤ most_at_once
 
-module _ (limits : Limits) (plan : Plan) (may : List Call → Key → Outcome → Type 0) (past : List Record) (told : List Call) where
+module _ (limits : Limits) (plan : Plan) (may : List Call → Key → Outcome → Type 0) (past : List Record) (call_log : List Call) where
   -- the first of a round was handed over
-  handed-first : (before : List Call) (records : List Record) (key : Key) (keys : List Key) (owed then_owed : List (Key × Outcome)) (command : ChildCommand) (answer : Started)
+  spawned-first : (before : List Call) (records : List Record) (key : Key) (keys : List Key) (owed then_owed : List (Key × Outcome)) (command : ChildCommand) (answer : Started)
       → starts_child (node_at plan key.node) key.phase ≡ true → IsCommandIn plan records key command
-      → Hands plan past told (At records before (key ∷ keys) owed) → Hands plan past told (At records (calls.Started key (snapshot_of command) answer ∷ before) keys then_owed)
-  handed-first before records key keys owed then_owed command answer child is h = record {
+      → Hands plan past call_log (At records before (key ∷ keys) owed) → Hands plan past call_log (At records (calls.Started key (snapshot_of command) answer ∷ before) keys then_owed)
+  spawned-first before records key keys owed then_owed command answer child is h = record {
     own = h.own ++ (key, Ok command) ∷ [];
-    are = ap (λ (l : List Command). l ++ (key, Ok command) ∷ []) h.are ∙ append_assoc (handed told) h.own ((key, Ok command) ∷ []);
+    are = ap (λ (l : List Command). l ++ (key, Ok command) ∷ []) h.are ∙ append_assoc (spawned call_log) h.own ((key, Ok command) ∷ []);
     commands =
         h.commands
         ∙ (λ j. commands_in plan past ++ (h.own
@@ -102,8 +102,8 @@ module _ (limits : Limits) (plan : Plan) (may : List Call → Key → Outcome �
     few = (let few = h.few in omega (arith, few));
   }
 
-  step-hands : (from to : Standing) → IsStep limits plan may from to → Hands plan past told from → Hands plan past told to
-  step-hands _ _ (launches {past = before} {keys = keys} lawful going step round) h = record {
+  step-hands : (from to : Standing) → IsStep limits plan may from to → Hands plan past call_log from → Hands plan past call_log to
+  step-hands _ _ (launch_round {past = before} {keys = keys} lawful going step round) h = record {
     own = h.own;
     are = h.are;
     commands =
@@ -112,28 +112,28 @@ module _ (limits : Limits) (plan : Plan) (may : List Call → Key → Outcome �
         ∙ append_assoc (commands_in plan past) h.own (commands_for plan (launched before keys) keys);
     few = round.few;
   }
-  step-hands _ _ (passes {past = now} {key = key} {keys = keys} quiet) h = record {
+  step-hands _ _ (skip_noop {past = now} {key = key} {keys = keys} quiet) h = record {
     own = h.own;
     are = h.are;
     commands = h.commands ∙ (λ j. commands_in plan past ++ (h.own
         ++ (if noop-quiet (node_at plan key.node) key.phase quiet j then command_in plan now key ∷ commands_for plan now keys else commands_for plan now keys)));
     few = (let few = h.few in omega (arith, few));
   }
-  step-hands _ _ (starts {past = now} {told = heard} {key = key} {keys = keys} {owed = owed} {command = command} child is may_run) h =
-      handed-first heard now key keys owed owed command Running child is h
-  step-hands _ _ (fails {past = now} {told = heard} {key = key} {keys = keys} {owed = owed} {command = command} child is may_be) h =
-      handed-first heard now key keys owed (owed ++ (key, NoStart) ∷ []) command NotStarted child is h
-  step-hands _ _ (ends step held ran may_be) h = record { own = h.own; are = h.are; commands = h.commands; few = h.few }
-  step-hands _ _ (settles {past = now} {end = end} {owed = owed}) h =
+  step-hands _ _ (spawn_child {past = now} {call_log = later_log} {key = key} {keys = keys} {owed = owed} {command = command} child is may_run) h =
+      spawned-first later_log now key keys owed owed command Running child is h
+  step-hands _ _ (spawn_failed {past = now} {call_log = later_log} {key = key} {keys = keys} {owed = owed} {command = command} child is may_be) h =
+      spawned-first later_log now key keys owed (owed ++ (key, NoStart) ∷ []) command NotStarted child is h
+  step-hands _ _ (child_exits step held ran may_be) h = record { own = h.own; are = h.are; commands = h.commands; few = h.few }
+  step-hands _ _ (ends_recorded {past = now} {end = end} {owed = owed}) h =
       record { own = h.own; are = h.are; commands = ended-commands plan now (end ∷ owed) ∙ h.commands; few = h.few }
-  step-hands _ _ (kills ran free) h = record { own = h.own; are = h.are; commands = h.commands; few = h.few }
+  step-hands _ _ (kill_child ran free) h = record { own = h.own; are = h.are; commands = h.commands; few = h.few }
 
-  goes-hands : (to : Standing) → Goes limits plan may (at_rest past told) to → Hands plan past told to
-  goes-hands _ no_step = record { own = []; are = sym (append-nil (handed told)); commands = sym (append-nil (commands_in plan past)); few = omega arith }
+  goes-hands : (to : Standing) → Goes limits plan may (at_rest past call_log) to → Hands plan past call_log to
+  goes-hands _ no_step = record { own = []; are = sym (append-nil (spawned call_log)); commands = sym (append-nil (commands_in plan past)); few = omega arith }
   goes-hands to (one_more {between = between} steps step) = step-hands between to step (goes-hands between steps)
 
   -- steps that were driven hand over the commands of their launches
-  pub driven : (after : List Record) (last : List Call) → Drives limits plan may past told after last → HandsAll plan past after told last
+  pub driven : (after : List Record) (last : List Call) → Drives limits plan may past call_log after last → SpawnsAll plan past after call_log last
   driven after last steps =
       let h = goes-hands (at_rest after last) steps in
       record { own = h.own; are = h.are; commands = h.commands ∙ ap (λ (l : List Command). commands_in plan past ++ l) (append-nil h.own) }
@@ -147,28 +147,28 @@ module _ (limits : Limits) (plan : Plan) (may : List Call → Key → Outcome �
       go true few = omega (arith, few)
       go false few = omega (arith, few)
 
-  to-some : (after : List Record) (last : List Call) (keys : List Key) (owed : List (Key × Outcome)) → Goes limits plan may (at_rest past told) (At after last keys owed)
-      → HandsAllButSome plan past after told last
+  to-some : (after : List Record) (last : List Call) (keys : List Key) (owed : List (Key × Outcome)) → Goes limits plan may (at_rest past call_log) (At after last keys owed)
+      → SpawnsAllButSome plan past after call_log last
   to-some after last keys owed steps =
       let h = goes-hands (At after last keys owed) steps in
       let most = h.few in
       let some = rest-few after keys in
       record { own = h.own; are = h.are; rest = commands_for plan after keys; few = omega (arith, most, some); commands = h.commands }
 
-  pub halted-hands : (after : List Record) (last : List Call) → IsHalted limits plan may past told after last → HandsAllButSome plan past after told last
+  pub halted-hands : (after : List Record) (last : List Call) → IsHalted limits plan may past call_log after last → SpawnsAllButSome plan past after call_log last
   halted-hands after last h = to-some after last h.keys h.owed h.steps
 
   -- so do those that a fault cut off
-  pub by-fault-hands : (fault : DriveFault) (after : List Record) (last : List Call) → IsHaltedBy limits plan may past told fault after last → HandsAllButSome plan past after told last
+  pub by-fault-hands : (fault : DriveFault) (after : List Record) (last : List Call) → IsHaltedBy limits plan may past call_log fault after last → SpawnsAllButSome plan past after call_log last
   by-fault-hands fault after last h = to-some after last h.keys h.owed h.steps
 
-kills-same : (told last : List Call) → Kills told last → handed last ≡ handed told
-kills-same told _ nobody = refl
-kills-same told _ (one_killed {heard = heard} {key = key} before ran) = kills-same told heard before
+kills-same : (call_log last : List Call) → Kills call_log last → spawned last ≡ spawned call_log
+kills-same call_log _ nobody = refl
+kills-same call_log _ (one_killed {later_log = later_log} {key = key} before ran) = kills-same call_log later_log before
 
 -- so do those that were stopped
-pub stopped : (limits : Limits) (plan : Plan) (may : List Call → Key → Outcome → Type 0) (past : List Record) (told : List Call) (fault : DriveFault) (after : List Record) (last : List Call)
-    → IsStopped limits plan may past told fault after last → HandsAllButSome plan past after told last
-stopped limits plan may past told fault after last s =
-    let h = by-fault-hands limits plan may past told fault after s.rest s.halted in
+pub stopped : (limits : Limits) (plan : Plan) (may : List Call → Key → Outcome → Type 0) (past : List Record) (call_log : List Call) (fault : DriveFault) (after : List Record) (last : List Call)
+    → IsStopped limits plan may past call_log fault after last → SpawnsAllButSome plan past after call_log last
+stopped limits plan may past call_log fault after last s =
+    let h = by-fault-hands limits plan may past call_log fault after s.rest s.halted in
     record { own = h.own; are = kills-same s.rest last s.kills ∙ h.are; rest = h.rest; few = h.few; commands = h.commands }

@@ -5,9 +5,9 @@ use Rattle.node_machine.specs.declared.Record.{Record}
 use Rattle.node_machine.specs.declared.Record.TheVariants.{Life}
 use Rattle.sched_core.specs.Run.{is_lawful}
 use Rattle.event_journal_log.specs.Image.{Header}
-use Rattle.recovery_manager.specs.Managed.{Reads}
+use Rattle.recovery_manager.specs.Managed.{ReadsJournal}
 use Rattle.recovery_manager.specs.Lives.{GoesOn}
-use Rattle.recovery_manager.specs.Chain.{Leaves, life_records}
+use Rattle.recovery_manager.specs.Chain.{LeavesRecords, life_records}
 use Rattle.recovery_manager.specs.Inputs.{IsHeaderOf}
 use Rattle.job_starter_drive.specs.declared.driving.DriveFault.{DriveFault}
 use Rattle.job_starter_drive.specs.Moments.{IsOlderPart, IsMore, MayHold}
@@ -28,7 +28,7 @@ kept-or-more (Some fault) held kept (inr more) all = more.1
 
 pub leaves-kept : (plan : Plan) (past kept held : List Record) (fault : Option DriveFault) (header : Header) (image : List ℕ)
     → MayHold fault kept held → IsOlderPart kept held → (own : List Record) × (held ≡ own ++ Life ∷ past) → is_lawful plan held ≡ true
-    → IsHeaderOf plan header → Reads header held image → Leaves plan (life_records past kept) image
+    → IsHeaderOf plan header → ReadsJournal header held image → LeavesRecords plan (life_records past kept) image
 leaves-kept plan past kept held fault header image part all adds lawful of_plan reads =
     let more = kept-or-more fault held kept part all in
     record {
@@ -36,5 +36,5 @@ leaves-kept plan past kept held fault header image part all adds lawful of_plan 
       few = more.few;
       goes_on = subst (GoesOn past) more.is (inr adds);
       lawful = subst (λ (l : List Record). is_lawful plan l ≡ true) more.is lawful;
-      reads = inr (header, subst (λ (l : List Record). Reads header l image) more.is reads, of_plan);
+      reads = inr (header, subst (λ (l : List Record). ReadsJournal header l image) more.is reads, of_plan);
     }

@@ -13,7 +13,7 @@ use Rattle.sched_core.specs.Ahead.{launch_of, launched, added, up_to_abort, ends
 use Rattle.sched_core.specs.Lives.{HasOutcomesOf}
 use Rattle.sched_core.specs.Looks.{stops}
 use Rattle.job_starter_drive.specs.declared.Call.{Call}
-use Rattle.job_starter_drive.specs.Drives.{Standing, At, at_rest, IsStep, launches, passes, starts, fails, ends, settles, kills, Goes, no_step, one_more, Drives}
+use Rattle.job_starter_drive.specs.Drives.{Standing, At, at_rest, IsStep, launch_round, skip_noop, spawn_child, spawn_failed, child_exits, ends_recorded, kill_child, Goes, no_step, one_more, Drives}
 
 module _ (limits : Limits) (plan : Plan) (may : List Call → Key → Outcome → Type 0) (table : Table)
     (tells : (calls : List Call) (key : Key) (outcome : Outcome) → may calls key outcome → table key.node key.attempt key.phase ≡ outcome) where
@@ -23,7 +23,7 @@ module _ (limits : Limits) (plan : Plan) (may : List Call → Key → Outcome �
   Owes (end ∷ owed) = (is_noop_job (node_at plan end.0.node).course end.0.phase ≡ false → table end.0.node end.0.attempt end.0.phase ≡ end.1) × Owes owed
 
   abbrev Has : Standing → Type 0
-  Has (At past told keys owed) = HasOutcomesOf plan table past × Owes owed
+  Has (At past call_log keys owed) = HasOutcomesOf plan table past × Owes owed
 
   owes-more : (owed : List (Key × Outcome)) (key : Key) (outcome : Outcome) → Owes owed
       → (is_noop_job (node_at plan key.node).course key.phase ≡ false → table key.node key.attempt key.phase ≡ outcome) → Owes (owed ++ (key, outcome) ∷ [])
@@ -45,18 +45,18 @@ module _ (limits : Limits) (plan : Plan) (may : List Call → Key → Outcome �
       go false later = later
 
   step-outcomes : (from to : Standing) → IsStep limits plan may from to → Has from → Has to
-  step-outcomes _ _ (launches {past = past} {keys = keys} lawful going step round) has = (has-launched past keys has.0, tt)
-  step-outcomes _ _ (passes {key = key} {owed = owed} noop) has = (has.0, owes-more owed key (Exit 0) has.1 (λ no. absurd (false≢true (sym no ∙ noop))))
-  step-outcomes _ _ (starts child command may_run) has = has
-  step-outcomes _ _ (fails {told = told} {key = key} {owed = owed} child command may_be) has = (has.0, owes-more owed key NoStart has.1 (λ no. tells told key NoStart may_be))
-  step-outcomes _ _ (ends {told = told} {key = key} {outcome = outcome} step held ran may_be) has = (has.0, (λ no. tells told key outcome may_be, tt))
-  step-outcomes _ _ (settles {past = past} {end = end} {owed = owed}) has = (has-ended past (end ∷ owed) has.0 has.1, tt)
-  step-outcomes _ _ (kills ran free) has = has
+  step-outcomes _ _ (launch_round {past = past} {keys = keys} lawful going step round) has = (has-launched past keys has.0, tt)
+  step-outcomes _ _ (skip_noop {key = key} {owed = owed} noop) has = (has.0, owes-more owed key (Exit 0) has.1 (λ no. absurd (false≢true (sym no ∙ noop))))
+  step-outcomes _ _ (spawn_child child command may_run) has = has
+  step-outcomes _ _ (spawn_failed {call_log = call_log} {key = key} {owed = owed} child command may_be) has = (has.0, owes-more owed key NoStart has.1 (λ no. tells call_log key NoStart may_be))
+  step-outcomes _ _ (child_exits {call_log = call_log} {key = key} {outcome = outcome} step held ran may_be) has = (has.0, (λ no. tells call_log key outcome may_be, tt))
+  step-outcomes _ _ (ends_recorded {past = past} {end = end} {owed = owed}) has = (has-ended past (end ∷ owed) has.0 has.1, tt)
+  step-outcomes _ _ (kill_child ran free) has = has
 
   goes-outcomes : (from to : Standing) → Goes limits plan may from to → Has from → Has to
   goes-outcomes from _ no_step has = has
   goes-outcomes from to (one_more {between = between} steps step) has = step-outcomes between to step (goes-outcomes from between steps has)
 
-  pub drives-outcomes : (past : List Record) (told : List Call) (after : List Record) (last : List Call) → Drives limits plan may past told after last
+  pub drives-outcomes : (past : List Record) (call_log : List Call) (after : List Record) (last : List Call) → Drives limits plan may past call_log after last
       → HasOutcomesOf plan table past → HasOutcomesOf plan table after
-  drives-outcomes past told after last steps has = (goes-outcomes (at_rest past told) (at_rest after last) steps (has, tt)).0
+  drives-outcomes past call_log after last steps has = (goes-outcomes (at_rest past call_log) (at_rest after last) steps (has, tt)).0

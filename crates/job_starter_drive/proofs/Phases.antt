@@ -8,7 +8,7 @@ use Rattle.node_machine.specs.declared.Phase.TheVariants.{Pre, Job, Post}
 use Rattle.node_machine.specs.declared.Outcome.{Outcome}
 use Rattle.node_machine.specs.declared.Ended.{Ended}
 use Rattle.node_machine.specs.declared.Course.{Course}
-use Rattle.node_machine.specs.Story.{ended, decided_by, with_job, always_posts, with_failed_pre, with_pre, attempt, attempts_from, is_last, skips, is_exit_0, is_noop_job, value_of, ends_with, phases_of, story, attempts_after, outcome_in, has_ended, first_to_come, next_after}
+use Rattle.node_machine.specs.Story.{ended, decided_by, with_job, always_posts, with_failed_pre, with_pre, attempt, attempts_from, is_final_attempt, skips, is_exit_0, is_noop_job, value_of, ends_with, phases_of, story, attempts_after, outcome_in, has_ended, first_to_come, next_after}
 use Rattle.run_plan_node.specs.Node.{NodeSpec}
 use Rattle.run_plan.specs.Plan.{Plan, node_at}
 use Rattle.run_plan_node.specs.Commands.{starts_child}
@@ -64,7 +64,7 @@ module _ (course : Course) where
 
   attempts-have : (outcomes : ℕ → Phase → Outcome) (i left : ℕ) → All (phases_of (attempts_from course outcomes i left))
   attempts-have outcomes i zero = all_then (attempt course i (outcomes i)).ended [] (attempt-has i (outcomes i)) refl
-  attempts-have outcomes i (suc left) = go (is_last course (attempt course i (outcomes i))) (attempts-have outcomes (suc i) left)
+  attempts-have outcomes i (suc left) = go (is_final_attempt course (attempt course i (outcomes i))) (attempts-have outcomes (suc i) left)
     where
       go : (b : Bool) → All (phases_of (attempts_from course outcomes (suc i) left)) → All (phases_of (if b then attempt course i (outcomes i) ∷ [] else attempt course i (outcomes i) ∷ attempts_from course outcomes (suc i) left))
       go true rest = all_then (attempt course i (outcomes i)).ended [] (attempt-has i (outcomes i)) refl

@@ -16,10 +16,10 @@ use Rattle.job_starter_drive.proofs.Turns.{launch-all, end-all}
 use Rattle.job_starter_drive.proofs.Ways.{starting}
 
 -- what is owed is recorded
-pub ends-turn : (plan : Plan) (past : List Record) (heard : List Call) (owed : List (Key × Outcome)) → is_lawful plan past ≡ true → is_open past ≡ true
-    → AreUnderWay plan past heard [] owed → IsTurn plan past (added past (up_to_abort plan past (ends_of owed))) heard
-ends-turn plan past heard owed lawful going way =
-    let all = end-all plan past (running heard) owed lawful going way.same way.ends in
+pub ends-turn : (plan : Plan) (past : List Record) (later_log : List Call) (owed : List (Key × Outcome)) → is_lawful plan past ≡ true → is_open past ≡ true
+    → AreUnderWay plan past later_log [] owed → IsTurn plan past (added past (up_to_abort plan past (ends_of owed))) later_log
+ends-turn plan past later_log owed lawful going way =
+    let all = end-all plan past (running later_log) owed lawful going way.same way.ends in
     record {
       going = all.going;
       in_step = λ on. record {
@@ -33,23 +33,23 @@ ends-turn plan past heard owed lawful going way =
 
 -- a turn of a run that was aborted earlier, or not, just as it is
 pub turn-before : (plan : Plan) (past between after : List Record) (last : List Call) → is_aborted plan between ≡ is_aborted plan past → IsTurn plan between after last → IsTurn plan past after last
-turn-before plan past between after last calm turn =
-    let same = λ (b : Bool) (e : is_aborted_between plan past after ≡ b). (λ j. not (calm j) && is_aborted plan after) ∙ e in
+turn-before plan past between after last abort_free turn =
+    let same = λ (b : Bool) (e : is_aborted_between plan past after ≡ b). (λ j. not (abort_free j) && is_aborted plan after) ∙ e in
     record {
       going = turn.going;
       in_step = λ on. turn.in_step (same false on);
       at_last = λ stop. turn.at_last (same true stop);
       empty = λ stop. turn.empty (same true stop);
-      stays = λ was. turn.stays (calm ∙ was);
+      stays = λ was. turn.stays (abort_free ∙ was);
     }
 
-pub round-turn : (limits : Limits) (plan : Plan) (past : List Record) (keys : List Key) (heard : List Call) (owed : List (Key × Outcome)) → is_lawful plan past ≡ true → is_open past ≡ true
-    → IsRoundOf limits plan past keys → AreUnderWay plan (launched past keys) heard [] owed
-    → IsTurn plan past (added (launched past keys) (up_to_abort plan (launched past keys) (ends_of owed))) heard
-round-turn limits plan past keys heard owed lawful going round way =
+pub round-turn : (limits : Limits) (plan : Plan) (past : List Record) (keys : List Key) (later_log : List Call) (owed : List (Key × Outcome)) → is_lawful plan past ≡ true → is_open past ≡ true
+    → IsRoundOf limits plan past keys → AreUnderWay plan (launched past keys) later_log [] owed
+    → IsTurn plan past (added (launched past keys) (up_to_abort plan (launched past keys) (ends_of owed))) later_log
+round-turn limits plan past keys later_log owed lawful going round way =
     let all = launch-all limits plan past keys lawful going round.chosen in
-    turn-before plan past (launched past keys) (added (launched past keys) (up_to_abort plan (launched past keys) (ends_of owed))) heard all.calm
-    (ends-turn plan (launched past keys) heard owed all.lawful all.going way)
+    turn-before plan past (launched past keys) (added (launched past keys) (up_to_abort plan (launched past keys) (ends_of owed))) later_log all.abort_free
+    (ends-turn plan (launched past keys) later_log owed all.lawful all.going way)
 
 not-self : (a : Bool) → (not a && a) ≡ false
 not-self true = refl
@@ -57,19 +57,19 @@ not-self false = refl
 
 -- nothing was done, or what was done didn't abort it
 pub turn-still : (plan : Plan) (past after : List Record) (last : List Call) → is_open after ≡ true → AreInStep plan after last → is_aborted plan after ≡ is_aborted plan past → IsTurn plan past after last
-turn-still plan past after last going step calm =
-    let none : is_aborted_between plan past after ≡ false = (λ j. not (is_aborted plan past) && calm j) ∙ not-self (is_aborted plan past) in
+turn-still plan past after last going step abort_free =
+    let none : is_aborted_between plan past after ≡ false = (λ j. not (is_aborted plan past) && abort_free j) ∙ not-self (is_aborted plan past) in
     record {
       going = going;
       in_step = λ on. step;
       at_last = λ stop. absurd (false≢true (sym none ∙ stop));
       empty = λ stop. absurd (false≢true (sym none ∙ stop));
-      stays = λ was. calm ∙ was;
+      stays = λ was. abort_free ∙ was;
     }
 
 -- where a turn didn't abort the run, it is aborted as it was
-pub turn-calm : (plan : Plan) (past after : List Record) (last : List Call) → IsTurn plan past after last → is_aborted_between plan past after ≡ false → is_aborted plan after ≡ is_aborted plan past
-turn-calm plan past after last turn on = go (is_aborted plan past) refl (is_aborted plan after) refl
+pub turn-abort_free : (plan : Plan) (past after : List Record) (last : List Call) → IsTurn plan past after last → is_aborted_between plan past after ≡ false → is_aborted plan after ≡ is_aborted plan past
+turn-abort_free plan past after last turn on = go (is_aborted plan past) refl (is_aborted plan after) refl
   where
     go : (a : Bool) → is_aborted plan past ≡ a → (b : Bool) → is_aborted plan after ≡ b → is_aborted plan after ≡ is_aborted plan past
     go true was b is = turn.stays was ∙ sym was

@@ -19,7 +19,7 @@ use Rattle.sched_core.proofs.Best.{choice-one}
 use Rattle.job_starter_drive.specs.declared.Call.{Call}
 use Rattle.job_starter_drive.specs.Calls.{oldest}
 use Rattle.job_starter_drive.specs.Scripts.{scripted_outcome, IsScripted}
-use Rattle.job_starter_drive.specs.Drives.{most_at_once, Standing, At, at_rest, IsRoundOf, IsStep, launches, passes, starts, fails, ends, settles, kills, Goes, no_step, one_more, Drives}
+use Rattle.job_starter_drive.specs.Drives.{most_at_once, Standing, At, at_rest, IsRoundOf, IsStep, launch_round, skip_noop, spawn_child, spawn_failed, child_exits, ends_recorded, kill_child, Goes, no_step, one_more, Drives}
 use Rattle.job_starter_drive.proofs.Phases.{noop-quiet}
 use Rattle.job_starter_drive.proofs.Walks.{no_child}
 
@@ -28,7 +28,7 @@ data Place : Type 0 where
   Here : List Record → List Key → List (Key × Outcome) → Place
 
 abbrev place_of : Standing → Place
-place_of (At past told keys owed) = Here past keys owed
+place_of (At past call_log keys owed) = Here past keys owed
 
 module _ (limits : Limits) (plan : Plan) (table : List Entry) where
   -- what a step makes of that
@@ -114,15 +114,15 @@ module _ (limits : Limits) (plan : Plan) (table : List Entry) where
       let bad : None ≡ Some key = sym (ap oldest (no_child (outstanding plan past) chosen.1)) ∙ first in absurd cc
 
   step-chain : (start : Place) (from to : Standing) → Chain start (place_of from) → IsStep limits plan (IsScripted plan table []) from to → Chain start (place_of to)
-  step-chain start _ _ c (launches lawful going step round) = more c (next_launches round)
-  step-chain start _ _ c (passes noop) = more c (next_passes noop)
-  step-chain start _ _ c (starts child command run) = more c (next_starts child (λ is. run.1 (run.2.by_table ∙ is)))
-  step-chain start _ _ c (fails child command may_be) = more c (next_fails child (sym may_be.by_table))
-  step-chain start _ _ c (ends {past = past} {key = key} {outcome = outcome} s held ran may_be) =
+  step-chain start _ _ c (launch_round lawful going step round) = more c (next_launches round)
+  step-chain start _ _ c (skip_noop noop) = more c (next_passes noop)
+  step-chain start _ _ c (spawn_child child command run) = more c (next_starts child (λ is. run.1 (run.2.by_table ∙ is)))
+  step-chain start _ _ c (spawn_failed child command may_be) = more c (next_fails child (sym may_be.by_table))
+  step-chain start _ _ c (child_exits {past = past} {key = key} {outcome = outcome} s held ran may_be) =
       subst (λ (o : Outcome). Chain start (Here past [] ((key, o) ∷ []))) (sym may_be.by_table)
       (more c (next_ends held (ap oldest (sym s.same) ∙ may_be.oldest_first refl ran)))
-  step-chain start _ _ c settles = more c next_settles
-  step-chain start _ _ c (kills ran free) = c
+  step-chain start _ _ c ends_recorded = more c next_settles
+  step-chain start _ _ c (kill_child ran free) = c
 
   chain-of : (from to : Standing) → Goes limits plan (IsScripted plan table []) from to → Chain (place_of from) (place_of to)
   chain-of from _ no_step = here
@@ -153,12 +153,12 @@ module _ (limits : Limits) (plan : Plan) (table : List Entry) where
     | inr rest ↦ absurd (next-none a rest.0 verdict chosen rest.1)
   ]
 
-pub one-script : (limits : Limits) (plan : Plan) (table : List Entry) (past after other : List Record) (told last heard rest : List Call) (verdict status : ℕ)
-    → Drives limits plan (IsScripted plan table []) past told after last → Drives limits plan (IsScripted plan table []) past heard other rest
+pub one-script : (limits : Limits) (plan : Plan) (table : List Entry) (past after other : List Record) (call_log last later_log rest : List Call) (verdict status : ℕ)
+    → Drives limits plan (IsScripted plan table []) past call_log after last → Drives limits plan (IsScripted plan table []) past later_log other rest
     → IsChoice limits plan after (choices.Finish verdict) → IsChoice limits plan other (choices.Finish status) → after ≡ other
-one-script limits plan table past after other told last heard rest verdict status a b ended over =
+one-script limits plan table past after other call_log last later_log rest verdict status a b ended over =
     elim (either-on limits plan table (Here past [] []) (Here after [] []) (Here other [] [])
-    (chain-of limits plan table (at_rest past told) (at_rest after last) a) (chain-of limits plan table (at_rest past heard) (at_rest other rest) b)) [
+    (chain-of limits plan table (at_rest past call_log) (at_rest after last) a) (chain-of limits plan table (at_rest past later_log) (at_rest other rest) b)) [
       | inl on ↦ at-end limits plan table after other verdict ended on
       | inr back ↦ sym (at-end limits plan table other after status over back)
     ]

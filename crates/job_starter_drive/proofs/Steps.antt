@@ -2,6 +2,7 @@
 use Rattle.std.proofs.Common.{None, arith, ◌≡◌, ℕ, zero, suc, drop, ◌≤◌, ◌<◌, length, Bool, true, false, not, ◌&&◌, ◌||◌, ◌==◌, List, [], ◌∷◌, Option, Some, Result, Ok, Err, IfErr, OnOk, refl, sym, ap, ◌∙◌, subst, eq-eqb}
 use Rattle.std.specs.List.{list_all}
 use Rattle.std.proofs.lemmas.Bool.{and_parts, and_from, false≢true, not-true}
+use Rattle.event_journal_log.specs.declared.disk.Disk.{Ghosts}
 use Rattle.node_machine.specs.declared.Key.{Key}
 use Rattle.node_machine.specs.declared.Phase.{Phase}
 use Rattle.node_machine.specs.declared.Phase.TheVariants.{Pre, Job, Post}
@@ -27,11 +28,11 @@ use Rattle.sched_core.proofs.Sound.{Held, sound, next-parts}
 use Rattle.sched_core.proofs.Turns.{turn-allowed}
 use Rattle.event_journal_log.specs.Disk.{IsOneMore}
 use Rattle.recovery_manager.specs.declared.fault.ManagerFault.{ManagerFault}
-use Rattle.recovery_manager.specs.Managed.{Managed, is_begun}
+use Rattle.recovery_manager.specs.Managed.{Managed, is_begun, KeepsDisk}
 use Rattle.job_starter_drive.specs.declared.driving.DriveFault.{DriveFault}
-use Rattle.job_starter_drive.specs.Moments.{KeepsDisk, CountsOn}
+use Rattle.job_starter_drive.specs.Moments.{CountsOn}
 use Rattle.job_starter_drive.proofs.Disks.{keeps_on, counts_on}
-use Rattle.job_starter_drive.specs.Causes.{IsOfRun, AreRefused, IsDriveFault, no_memory_for_child, no_ending_told, no_memory_for_command, no_memory_for_round, records_refused}
+use Rattle.job_starter_drive.specs.Causes.{IsOfRun, AreRefused, IsDriveFault, no_memory_for_child, no_ending_logged, no_memory_for_command, no_memory_for_round, records_refused}
 
 -- an ending of what is outstanding is lawful
 pub end-may-follow : (plan : Plan) (past : List Record) (key : Key) (outcome : Outcome)
@@ -94,36 +95,36 @@ children-start plan (other ∷ keys) key all is = go (is_same key other) refl is
     go false same some rest = rest some
 
 -- why a run is stopped is so as long as the counts stand
-pub fault-on : {D : Type 0} (honest : D → Type 0) (failures capacity : D → ℕ) (before now later : ℕ) (old manager : Managed D) (fault : DriveFault) → later ≡ now
-    → IsDriveFault honest failures capacity before now old manager fault → IsDriveFault honest failures capacity before later old manager fault
-fault-on honest failures capacity before now later old manager fault same why =
-    subst (λ (count : ℕ). IsDriveFault honest failures capacity before count old manager fault) (sym same) why
+pub fault-on : {D : Type 0} (disks : Ghosts D) (before now later : ℕ) (old manager : Managed D) (fault : DriveFault) → later ≡ now
+    → IsDriveFault disks before now old manager fault → IsDriveFault disks before later old manager fault
+fault-on disks before now later old manager fault same why =
+    subst (λ (count : ℕ). IsDriveFault disks before count old manager fault) (sym same) why
 
 -- records are refused for a call that began earlier too
-pub refused-since : {D : Type 0} (honest : D → Type 0) (failures capacity : D → ℕ) (is_own : Record → Type 0) (old mid manager : Managed D) (fault : ManagerFault)
-    → KeepsDisk honest failures capacity old mid → CountsOn old mid
-    → AreRefused honest failures capacity is_own mid manager fault → AreRefused honest failures capacity is_own old manager fault
-refused-since honest failures capacity is_own old mid manager fault keeps counts r = record {
+pub refused-since : {D : Type 0} (disks : Ghosts D) (is_own : Record → Type 0) (old mid manager : Managed D) (fault : ManagerFault)
+    → KeepsDisk disks old.journal mid.journal → CountsOn old mid
+    → AreRefused disks is_own mid manager fault → AreRefused disks is_own old manager fault
+refused-since disks is_own old mid manager fault keeps counts r = record {
   entries = r.entries;
   own = r.own;
   then_was = r.then_was;
   same = r.same;
-  disk = keeps_on honest failures capacity old mid r.then_was keeps r.disk;
+  disk = keeps_on disks old mid r.then_was keeps r.disk;
   counts = counts_on old mid r.then_was counts r.counts;
   lawful = r.lawful;
   cause = r.cause;
 }
 
 -- however the manager stood earlier, where nothing was refused since
-pub fault-before : {D : Type 0} (honest : D → Type 0) (failures capacity : D → ℕ) (earlier before now : ℕ) (old mid manager : Managed D) (fault : DriveFault) → before ≡ earlier
-    → KeepsDisk honest failures capacity old mid → CountsOn old mid
-    → IsDriveFault honest failures capacity before now mid manager fault → IsDriveFault honest failures capacity earlier now old manager fault
-fault-before honest failures capacity earlier before now old mid manager _ same keeps counts (no_memory_for_child more) = no_memory_for_child (subst (λ (count : ℕ). IsOneMore count now) same more)
-fault-before honest failures capacity earlier before now old mid manager _ same keeps counts (no_ending_told more) = no_ending_told (subst (λ (count : ℕ). IsOneMore count now) same more)
-fault-before honest failures capacity earlier before now old mid manager _ same keeps counts (no_memory_for_command still) = no_memory_for_command (still ∙ same)
-fault-before honest failures capacity earlier before now old mid manager _ same keeps counts (no_memory_for_round still) = no_memory_for_round (still ∙ same)
-fault-before honest failures capacity earlier before now old mid manager _ same keeps counts (records_refused {fault = fault} still refused) =
-    records_refused (still ∙ same) (refused-since honest failures capacity IsOfRun old mid manager fault keeps counts refused)
+pub fault-before : {D : Type 0} (disks : Ghosts D) (earlier before now : ℕ) (old mid manager : Managed D) (fault : DriveFault) → before ≡ earlier
+    → KeepsDisk disks old.journal mid.journal → CountsOn old mid
+    → IsDriveFault disks before now mid manager fault → IsDriveFault disks earlier now old manager fault
+fault-before disks earlier before now old mid manager _ same keeps counts (no_memory_for_child more) = no_memory_for_child (subst (λ (count : ℕ). IsOneMore count now) same more)
+fault-before disks earlier before now old mid manager _ same keeps counts (no_ending_logged more) = no_ending_logged (subst (λ (count : ℕ). IsOneMore count now) same more)
+fault-before disks earlier before now old mid manager _ same keeps counts (no_memory_for_command still) = no_memory_for_command (still ∙ same)
+fault-before disks earlier before now old mid manager _ same keeps counts (no_memory_for_round still) = no_memory_for_round (still ∙ same)
+fault-before disks earlier before now old mid manager _ same keeps counts (records_refused {fault = fault} still refused) =
+    records_refused (still ∙ same) (refused-since disks IsOfRun old mid manager fault keeps counts refused)
 
 pub open-begun : (past : List Record) → is_begun past ≡ true → is_over past ≡ false → is_open past ≡ true
 open-begun [] begun over = absurd (false≢true begun)

@@ -11,7 +11,7 @@ use Rattle.throttles.specs.declared.Limits.{Limits}
 use Rattle.run_plan.specs.Plan.{Plan, node_at, count_of, all_below}
 use Rattle.node_machine.specs.declared.Record.{Record}
 use Rattle.node_machine.specs.declared.Record.TheVariants.{End}
-use Rattle.sched_core.specs.Run.{history, is_met, has_abort_value, is_open, is_lawful, is_among, outstanding, without, is_aborted, may_follow}
+use Rattle.sched_core.specs.Run.{history, setting_is_met, has_abort_value, is_open, is_lawful, is_among, outstanding, without, is_aborted, may_follow}
 use Rattle.sched_core.specs.Bound.{records_left}
 use Rattle.sched_core.specs.Ahead.{launch_of, launched, launches, AreChosen, may_launch_all, may_follow_all, added, up_to_abort, fitting, ends_of, ended_in}
 use Rattle.sched_core.specs.Commands.{is_launch}
@@ -27,21 +27,21 @@ use Rattle.job_starter_drive.specs.Moments.{IsOlderPart}
 use Rattle.job_starter_drive.proofs.Steps.{end-may-follow}
 
 -- an abort is no launch
-pub launch-calm : (plan : Plan) (past : List Record) (key : Key) → is_aborted plan (launch_of past key ∷ past) ≡ is_aborted plan past
+pub launch-abort_free : (plan : Plan) (past : List Record) (key : Key) → is_aborted plan (launch_of past key ∷ past) ≡ is_aborted plan past
 unfolding is_aborted
-launch-calm plan past key = refl
+launch-abort_free plan past key = refl
 
 -- of launches: lawful records, that go on, and are aborted as before
 pub record Launches (plan : Plan) (past : List Record) (keys : List Key) : Type 0 where
   pub lawful : is_lawful plan (launched past keys) ≡ true
   pub may_all : may_launch_all plan past keys ≡ true
   pub going : is_open (launched past keys) ≡ true
-  pub calm : is_aborted plan (launched past keys) ≡ is_aborted plan past
+  pub abort_free : is_aborted plan (launched past keys) ≡ is_aborted plan past
   pub fewer : records_left plan (launched past keys) + length keys ≤ records_left plan past
 
 pub launch-all : (limits : Limits) (plan : Plan) (past : List Record) (keys : List Key) → is_lawful plan past ≡ true → is_open past ≡ true
     → AreChosen limits plan past keys → Launches plan past keys
-launch-all limits plan past [] lawful going chosen = record { lawful = lawful; may_all = refl; going = going; calm = refl; fewer = omega arith }
+launch-all limits plan past [] lawful going chosen = record { lawful = lawful; may_all = refl; going = going; abort_free = refl; fewer = omega arith }
 launch-all limits plan past (key ∷ keys) lawful going chosen =
     let follows : may_follow plan past (launch_of past key) ≡ true = chosen-follows limits plan past key going chosen.0 in
     let less = launch-lowers plan past lawful key _ follows in
@@ -51,7 +51,7 @@ launch-all limits plan past (key ∷ keys) lawful going chosen =
       lawful = rest.lawful;
       may_all = and_from _ _ follows rest.may_all;
       going = rest.going;
-      calm = rest.calm ∙ launch-calm plan past key;
+      abort_free = rest.abort_free ∙ launch-abort_free plan past key;
       fewer = omega (arith, few, less);
     }
 
@@ -113,7 +113,7 @@ end-stays plan past key outcome lawful among aborted =
     let some = below-some (λ node. not (has_abort_value plan past node)) (count_of plan) (not-true _ aborted) in
     let ne : (key.node == some.0) ≡ false = (let lt = some.1 in let differ : key.node ≡ some.0 → ⊥ = (λ is. omega (arith, low, lt, is)) in apart key.node some.0 differ) in
     let kept : has_abort_value plan (End key outcome ∷ past) some.0 ≡ has_abort_value plan past some.0 =
-    (λ j. is_met (node_at plan some.0).course.abort_on (value_after (node_at plan some.0).course
+    (λ j. setting_is_met (node_at plan some.0).course.abort_on (value_after (node_at plan some.0).course
     (if ne j then history past some.0 ++ record { attempt = key.attempt; phase = key.phase; outcome = outcome } ∷ [] else history past some.0))) in
     ap not (all_below-not (λ node. not (has_abort_value plan (End key outcome ∷ past) node)) (count_of plan) some.0 some.1 (ap not kept ∙ some.2))
   where
@@ -175,8 +175,8 @@ module _ (plan : Plan) (past : List Record) (lawful : is_lawful plan past ≡ tr
 
   -- it does not
   module _ (among : is_among key (outstanding plan past) ≡ true) (on : stops plan past (End key outcome) ≡ false) where
-    calm-then : is_aborted plan (End key outcome ∷ past) ≡ is_aborted plan past
-    calm-then = same (is_aborted plan (End key outcome ∷ past)) refl (is_aborted plan past) refl
+    abort_free-then : is_aborted plan (End key outcome ∷ past) ≡ is_aborted plan past
+    abort_free-then = same (is_aborted plan (End key outcome ∷ past)) refl (is_aborted plan past) refl
       where
         same : (a : Bool) → is_aborted plan (End key outcome ∷ past) ≡ a → (b : Bool) → is_aborted plan past ≡ b → is_aborted plan (End key outcome ∷ past) ≡ is_aborted plan past
         same true e true f = e ∙ sym f
@@ -189,7 +189,7 @@ module _ (plan : Plan) (past : List Record) (lawful : is_lawful plan past ≡ tr
         let less = end-lowers plan past lawful key outcome follows in
         let few = rest.fewer in
         let between = λ (b : Bool) (e : is_aborted_between plan past (added (End key outcome ∷ past) entries) ≡ b).
-        (λ j. not (calm-then j) && is_aborted plan (added (End key outcome ∷ past) entries)) ∙ e in
+        (λ j. not (abort_free-then j) && is_aborted plan (added (End key outcome ∷ past) entries)) ∙ e in
         record {
           may_all = and_from _ _ follows rest.may_all;
           lawful = rest.lawful;
@@ -197,7 +197,7 @@ module _ (plan : Plan) (past : List Record) (lawful : is_lawful plan past ≡ tr
           kept = λ e. rest.kept (between false e);
           at_last = λ e. rest.at_last (between true e);
           empty = λ e. rest.empty (between true e);
-          stays = λ was. rest.stays (calm-then ∙ was);
+          stays = λ was. rest.stays (abort_free-then ∙ was);
           fewer = omega (arith, few, less);
         }
 

@@ -14,26 +14,26 @@ use Rattle.sched_core.specs.Choices.{IsChoice}
 use Rattle.job_starter_drive.specs.declared.Call.{Call}
 use Rattle.job_starter_drive.specs.declared.Call.TheVariants as calls
 use Rattle.job_starter_drive.specs.declared.Started.{Started}
-use Rattle.job_starter_drive.specs.Calls.{snapshot_of, TellsNoMore}
+use Rattle.job_starter_drive.specs.Calls.{snapshot_of, AllowsNoMore}
 use Rattle.job_starter_drive.specs.Moments.{IsOlderPart}
-use Rattle.job_starter_drive.specs.Drives.{Standing, at_rest, IsHandedOver, IsStep, launches, passes, starts, fails, ends, settles, kills, final_verdict, Goes, no_step, one_more, Starts, none_started, one_start, Kills, nobody, one_killed}
+use Rattle.job_starter_drive.specs.Drives.{Standing, at_rest, IsSpawned, IsStep, launch_round, skip_noop, spawn_child, spawn_failed, child_exits, ends_recorded, kill_child, final_verdict, Goes, no_step, one_more, Starts, none_started, one_start, Kills, nobody, one_killed}
 
 -- kills are steps where nothing is outstanding
-pub goes-kills : (limits : Limits) (plan : Plan) (may : List Call → Key → Outcome → Type 0) (past : List Record) (told last : List Call)
-    → outstanding plan past ≡ [] → Kills told last → Goes limits plan may (at_rest past told) (at_rest past last)
-goes-kills limits plan may past told _ empty nobody = no_step
-goes-kills limits plan may past told _ empty (one_killed {key = key} k ran) =
-    one_more (goes-kills limits plan may past told _ empty k) (kills ran (ap (is_among key) empty))
+pub goes-kills : (limits : Limits) (plan : Plan) (may : List Call → Key → Outcome → Type 0) (past : List Record) (call_log last : List Call)
+    → outstanding plan past ≡ [] → Kills call_log last → Goes limits plan may (at_rest past call_log) (at_rest past last)
+goes-kills limits plan may past call_log _ empty nobody = no_step
+goes-kills limits plan may past call_log _ empty (one_killed {key = key} k ran) =
+    one_more (goes-kills limits plan may past call_log _ empty k) (kill_child ran (ap (is_among key) empty))
 
-module _ (limits : Limits) (plan : Plan) (may may' : List Call → Key → Outcome → Type 0) (t : TellsNoMore may may') where
+module _ (limits : Limits) (plan : Plan) (may may' : List Call → Key → Outcome → Type 0) (t : AllowsNoMore may may') where
   step-fewer : (from to : Standing) → IsStep limits plan may' from to → IsStep limits plan may from to
-  step-fewer _ _ (launches lawful going step round) = launches lawful going step round
-  step-fewer _ _ (passes quiet) = passes quiet
-  step-fewer _ _ (starts {key = key} child command may_run) = starts child command (may_run.0, may_run.1, t _ key may_run.0 may_run.2)
-  step-fewer _ _ (fails {key = key} child command may_be) = fails child command (t _ key NoStart may_be)
-  step-fewer _ _ (ends {key = key} {outcome = outcome} step held ran may_be) = ends step held ran (t _ key outcome may_be)
-  step-fewer _ _ settles = settles
-  step-fewer _ _ (kills ran free) = kills ran free
+  step-fewer _ _ (launch_round lawful going step round) = launch_round lawful going step round
+  step-fewer _ _ (skip_noop quiet) = skip_noop quiet
+  step-fewer _ _ (spawn_child {key = key} child command may_run) = spawn_child child command (may_run.0, may_run.1, t _ key may_run.0 may_run.2)
+  step-fewer _ _ (spawn_failed {key = key} child command may_be) = spawn_failed child command (t _ key NoStart may_be)
+  step-fewer _ _ (child_exits {key = key} {outcome = outcome} step held ran may_be) = child_exits step held ran (t _ key outcome may_be)
+  step-fewer _ _ ends_recorded = ends_recorded
+  step-fewer _ _ (kill_child ran free) = kill_child ran free
 
   -- steps behind one another
   pub goes-then : (from between to : Standing) → Goes limits plan may from between → Goes limits plan may' between to → Goes limits plan may from to
@@ -54,20 +54,20 @@ final-choice limits plan past (choices.Finish status) verdict chosen is =
 
 -- what was so later was not before, where it stays
 pub not-before : (a b : Bool) → (a ≡ true → b ≡ true) → b ≡ false → a ≡ false
-not-before true b stays calm = absurd (false≢true (sym calm ∙ stays refl))
-not-before false b stays calm = refl
+not-before true b stays abort_free = absurd (false≢true (sym abort_free ∙ stays refl))
+not-before false b stays abort_free = refl
 
-pub starts-same : (told heard : List Call) → heard ≡ told → Starts told heard
-starts-same told heard same = subst (Starts told) (sym same) none_started
+pub starts-same : (call_log later_log : List Call) → later_log ≡ call_log → Starts call_log later_log
+starts-same call_log later_log same = subst (Starts call_log) (sym same) none_started
 
-pub starts-handed : (plan : Plan) (records : List Record) (key : Key) (answer : Started) (told heard : List Call)
-    → IsHandedOver plan records key answer told heard → Starts told heard
-starts-handed plan records key answer told heard handed = subst (Starts told) (sym handed.entry) (one_start none_started)
+pub starts-spawned : (plan : Plan) (records : List Record) (key : Key) (answer : Started) (call_log later_log : List Call)
+    → IsSpawned plan records key answer call_log later_log → Starts call_log later_log
+starts-spawned plan records key answer call_log later_log spawned = subst (Starts call_log) (sym spawned.entry) (one_start none_started)
 
-pub starts-then : (told heard last : List Call) → Starts told heard → Starts heard last → Starts told last
-starts-then told heard _ first none_started = first
-starts-then told heard _ first (one_start s) = one_start (starts-then told heard _ first s)
+pub starts-then : (call_log later_log last : List Call) → Starts call_log later_log → Starts later_log last → Starts call_log last
+starts-then call_log later_log _ first none_started = first
+starts-then call_log later_log _ first (one_start s) = one_start (starts-then call_log later_log _ first s)
 
-pub handed-older : (plan : Plan) (records : List Record) (key : Key) (answer : Started) (told heard : List Call)
-    → IsHandedOver plan records key answer told heard → IsOlderPart told heard
-handed-older plan records key answer told heard handed = (calls.Started key (snapshot_of handed.command) answer ∷ [], handed.entry)
+pub spawned-older : (plan : Plan) (records : List Record) (key : Key) (answer : Started) (call_log later_log : List Call)
+    → IsSpawned plan records key answer call_log later_log → IsOlderPart call_log later_log
+spawned-older plan records key answer call_log later_log spawned = (calls.Started key (snapshot_of spawned.command) answer ∷ [], spawned.entry)

@@ -148,8 +148,8 @@ ends-more plan keys (end ∷ owed) key outcome ends among possible fits =
 
 module _ (plan : Plan) (past : List Record) where
   -- behind the launches of a round
-  pub way-launched : (told : List Call) (keys : List Key) → AreInStep plan past told → length keys ≤ most_at_once → AreUnderWay plan (launched past keys) told keys []
-  way-launched told keys step few = record {
+  pub way-launched : (call_log : List Call) (keys : List Key) → AreInStep plan past call_log → length keys ≤ most_at_once → AreUnderWay plan (launched past keys) call_log keys []
+  way-launched call_log keys step few = record {
     same = launched-outstanding plan past keys ∙ ap (with_launched keys) (sym step.same);
     children = subst (λ (l : List Key). list_all (starting plan) l ≡ true) (sym step.same) step.children;
     ends = tt;
@@ -157,41 +157,41 @@ module _ (plan : Plan) (past : List Record) where
   }
 
   -- where nothing is left of a round, the children that run are the outstanding phases
-  pub way-rests : (told : List Call) → AreUnderWay plan past told [] [] → AreInStep plan past told
-  way-rests told way = record { same = sym way.same; children = subst (λ (l : List Key). list_all (starting plan) l ≡ true) (sym way.same) way.children }
+  pub way-rests : (call_log : List Call) → AreUnderWay plan past call_log [] [] → AreInStep plan past call_log
+  way-rests call_log way = record { same = sym way.same; children = subst (λ (l : List Key). list_all (starting plan) l ≡ true) (sym way.same) way.children }
 
   -- a child was told to have ended
-  pub way-told : (told : List Call) (key : Key) (outcome : Outcome) → AreInStep plan past told → is_among key (running told) ≡ true → is_possible outcome ≡ true
-      → AreUnderWay plan past (calls.Ended key outcome ∷ told) [] ((key, outcome) ∷ [])
-  way-told told key outcome step ran possible =
+  pub way-call_log : (call_log : List Call) (key : Key) (outcome : Outcome) → AreInStep plan past call_log → is_among key (running call_log) ≡ true → is_possible outcome ≡ true
+      → AreUnderWay plan past (calls.Ended key outcome ∷ call_log) [] ((key, outcome) ∷ [])
+  way-call_log call_log key outcome step ran possible =
       let among : is_among key (outstanding plan past) ≡ true = ap (is_among key) (sym step.same) ∙ ran in
-      let all : list_all (starting plan) (running told) ≡ true = subst (λ (l : List Key). list_all (starting plan) l ≡ true) (sym step.same) step.children in
+      let all : list_all (starting plan) (running call_log) ≡ true = subst (λ (l : List Key). list_all (starting plan) l ≡ true) (sym step.same) step.children in
       record {
         same = ap (without key) (sym step.same);
-        children = all-without (starting plan) key (running told) all;
-        ends = (among, possible, child-ends (node_at plan key.node) key.phase outcome (children-start plan (running told) key all ran), tt);
+        children = all-without (starting plan) key (running call_log) all;
+        ends = (among, possible, child-ends (node_at plan key.node) key.phase outcome (children-start plan (running call_log) key all ran), tt);
         few = omega arith;
       }
 
-  module _ (lawful : is_lawful plan past ≡ true) (told : List Call) (key : Key) (keys : List Key) (owed : List (Key × Outcome)) (way : AreUnderWay plan past told (key ∷ keys) owed) where
+  module _ (lawful : is_lawful plan past ≡ true) (call_log : List Call) (key : Key) (keys : List Key) (owed : List (Key × Outcome)) (way : AreUnderWay plan past call_log (key ∷ keys) owed) where
     -- the first of what is not yet handed over
     here : is_among key (without_all (ended_in owed) (outstanding plan past)) ≡ true
-    here = ap (is_among key) way.same ∙ among-with key keys (key ∷ running told) (λ j. same-self key j || is_among key (running told))
+    here = ap (is_among key) way.same ∙ among-with key keys (key ∷ running call_log) (λ j. same-self key j || is_among key (running call_log))
 
     pub way-outstanding : is_among key (outstanding plan past) ≡ true
     way-outstanding = among-left key (ended_in owed) (outstanding plan past) here
 
-    apart : AreApart (with_launched keys (key ∷ running told))
+    apart : AreApart (with_launched keys (key ∷ running call_log))
     apart = subst AreApart way.same (apart-all (ended_in owed) (outstanding plan past) (outstanding-apart plan past lawful))
 
-    pub way-free : is_among key (running told) ≡ false
-    way-free = not-among key (running told) (apart-with keys (key ∷ running told) apart).0.0
+    pub way-free : is_among key (running call_log) ≡ false
+    way-free = not-among key (running call_log) (apart-with keys (key ∷ running call_log) apart).0.0
 
     not-later : is_among key keys ≡ false
-    not-later = (apart-with keys (key ∷ running told) apart).1 key (λ j. same-self key j || is_among key (running told))
+    not-later = (apart-with keys (key ∷ running call_log) apart).1 key (λ j. same-self key j || is_among key (running call_log))
 
     -- its child runs
-    pub way-starts : (command : Snapshot ChildCommand) → starts_child (node_at plan key.node) key.phase ≡ true → AreUnderWay plan past (calls.Started key command Running ∷ told) keys owed
+    pub way-starts : (command : Snapshot ChildCommand) → starts_child (node_at plan key.node) key.phase ≡ true → AreUnderWay plan past (calls.Started key command Running ∷ call_log) keys owed
     way-starts command child = record {
       same = way.same;
       children = and_from _ _ child way.children;
@@ -200,14 +200,14 @@ module _ (plan : Plan) (past : List Record) where
     }
 
     -- its end is owed, and the children that run are the same
-    pub way-owes : (heard : List Call) (outcome : Outcome) → running heard ≡ running told → is_possible outcome ≡ true → may_end_with (node_at plan key.node).course key.phase outcome ≡ true
-        → AreUnderWay plan past heard keys (owed ++ (key, outcome) ∷ [])
-    way-owes heard outcome runs possible fits = record {
+    pub way-owes : (later_log : List Call) (outcome : Outcome) → running later_log ≡ running call_log → is_possible outcome ≡ true → may_end_with (node_at plan key.node).course key.phase outcome ≡ true
+        → AreUnderWay plan past later_log keys (owed ++ (key, outcome) ∷ [])
+    way-owes later_log outcome runs possible fits = record {
       same = ap (λ (l : List Key). without_all l (outstanding plan past)) (ended-more owed (key, outcome))
           ∙ without-all-more (ended_in owed) key (outstanding plan past)
           ∙ ap (without key) way.same
-          ∙ without-with key keys (key ∷ running told) (running told)
-          ((λ j. if same-self key j then without key (running told) else key ∷ without key (running told)) ∙ without-free key (running told) way-free) not-later
+          ∙ without-with key keys (key ∷ running call_log) (running call_log)
+          ((λ j. if same-self key j then without key (running call_log) else key ∷ without key (running call_log)) ∙ without-free key (running call_log) way-free) not-later
           ∙ ap (with_launched keys) (sym runs);
       children = subst (λ (l : List Key). list_all (starting plan) l ≡ true) (sym runs) way.children;
       ends = ends-more plan (outstanding plan past) owed key outcome way.ends here possible fits;

@@ -22,17 +22,17 @@ with_started key NotStarted keys = keys
 -- The children that run, the newest first: from the start to the ending that is told, or to the kill.
 abbrev pub running : List Call → List Key
 running [] = []
-running (calls.Started key command answer ∷ told) = with_started key answer (running told)
-running (calls.Ended key outcome ∷ told) = without key (running told)
-running (calls.Killed key ∷ told) = without key (running told)
+running (calls.Started key command answer ∷ call_log) = with_started key answer (running call_log)
+running (calls.Ended key outcome ∷ call_log) = without key (running call_log)
+running (calls.Killed key ∷ call_log) = without key (running call_log)
 
 -- What may be told now might have been told before.
-abbrev pub TellsNoMore : (List Call → Key → Outcome → Type 0) → (List Call → Key → Outcome → Type 0) → Type 0
-TellsNoMore old new = (told : List Call) (key : Key) (outcome : Outcome) → new told key outcome → old told key outcome
+abbrev pub AllowsNoMore : (List Call → Key → Outcome → Type 0) → (List Call → Key → Outcome → Type 0) → Type 0
+AllowsNoMore old new = (call_log : List Call) (key : Key) (outcome : Outcome) → new call_log key outcome → old call_log key outcome
 
 -- A child that runs may come to another ending than that it did not start.
 abbrev pub MayRun : (List Call → Key → Outcome → Type 0) → List Call → Key → Type 0
-MayRun may told key = (outcome : Outcome) × (outcome ≢ NoStart) × may told key outcome
+MayRun may call_log key = (outcome : Outcome) × (outcome ≢ NoStart) × may call_log key outcome
 
 -- the key that stands last: of the children that run, the one that was started first
 abbrev pub oldest : List Key → Option Key

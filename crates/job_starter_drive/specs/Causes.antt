@@ -1,11 +1,12 @@
 -- Why a starter refuses a call, and why a run is stopped before its end.
 use Rattle.std.specs.Prelude.{◌≡◌, ℕ, List, [], IsTrue}
 use Rattle.std.specs.List.{All}
+use Rattle.event_journal_log.specs.declared.disk.Disk.{Ghosts}
 use Rattle.node_machine.specs.declared.Record.{Record}
 use Rattle.node_machine.specs.declared.Record.TheVariants.{Life, Launch, End, Finish}
 use Rattle.sched_core.specs.Ahead.{may_follow_all}
 use Rattle.event_journal_log.specs.Disk.{IsOneMore}
-use Rattle.recovery_manager.specs.Managed.{Managed, plan_of, past_of}
+use Rattle.recovery_manager.specs.Managed.{Managed, plan_of, past_of, KeepsDisk}
 use Rattle.recovery_manager.specs.Batched.{IsUnwritten}
 use Rattle.recovery_manager.specs.declared.fault.ManagerFault.{ManagerFault}
 use Rattle.recovery_manager.specs.declared.fault.ManagerFault.TheVariants as faults
@@ -15,7 +16,7 @@ use Rattle.job_starter_drive.specs.declared.StartFault.TheVariants as starts
 use Rattle.job_starter_drive.specs.declared.driving.DriveFault.{DriveFault}
 use Rattle.job_starter_drive.specs.declared.driving.DriveFault.TheVariants as drives
 use Rattle.job_starter_drive.specs.Calls.{running}
-use Rattle.job_starter_drive.specs.Moments.{KeepsDisk, CountsOn}
+use Rattle.job_starter_drive.specs.Moments.{CountsOn}
 
 -- Why a child is neither started nor answered as not started, by the system's counts of refusals before and after: memory, which is
 -- one refusal.
@@ -27,9 +28,9 @@ pub data IsAskFault (before now : ℕ) : StartFault → Type 0 where
   asking_refused : IsOneMore before now → IsAskFault before now starts.WaitFault
 
 -- Why a starter tells no ending: the system refused a question or a wait, once; or no child runs, which counts as no refusal.
-pub data IsWaitFault (before now : ℕ) (told : List Call) : StartFault → Type 0 where
-  waiting_refused : IsOneMore before now → IsWaitFault before now told starts.WaitFault
-  no_child_runs : running told ≡ [] → now ≡ before → IsWaitFault before now told starts.NoChild
+pub data IsWaitFault (before now : ℕ) (call_log : List Call) : StartFault → Type 0 where
+  waiting_refused : IsOneMore before now → IsWaitFault before now call_log starts.WaitFault
+  no_child_runs : running call_log ≡ [] → now ≡ before → IsWaitFault before now call_log starts.NoChild
 
 -- a run records launches and endings
 abbrev pub IsOfRun : Record → Type 0
@@ -40,25 +41,25 @@ IsOfRun (Finish status) = ⊥
 
 -- A manager refused records that may follow: the disk or memory is the cause, by what it was at that call. Then it had the records
 -- that are left, and its journal had counted each since the call began; its disk had the same bounds, and had failed no less often.
-pub record AreRefused {D : Type 0} (honest : D → Type 0) (failures capacity : D → ℕ) (is_own : Record → Type 0) (old manager : Managed D) (fault : ManagerFault) : Type 0 where
+pub record AreRefused {D : Type 0} (disks : Ghosts D) (is_own : Record → Type 0) (old manager : Managed D) (fault : ManagerFault) : Type 0 where
   pub entries : List Record
   pub own : All is_own entries
   pub then_was : Managed D
   pub same : past_of then_was ≡ past_of manager
-  pub disk : KeepsDisk honest failures capacity old then_was
+  pub disk : KeepsDisk disks old.journal then_was.journal
   pub counts : CountsOn old then_was
   pub lawful : IsTrue (may_follow_all (plan_of manager) (past_of manager) entries)
-  pub cause : IsUnwritten failures capacity entries then_was.journal manager.journal fault
+  pub cause : IsUnwritten disks entries then_was.journal manager.journal fault
 
 -- Why a run is stopped, by the starter's counts of refusals and by the manager that was there and that is left: the starter refused,
 -- once; or, where it refused nothing, there was no memory for a command or for the list of a round, or the manager refused records.
-pub data IsDriveFault {D : Type 0} (honest : D → Type 0) (failures capacity : D → ℕ) (before now : ℕ) (old manager : Managed D) : DriveFault → Type 0 where
-  no_memory_for_child : IsOneMore before now → IsDriveFault honest failures capacity before now old manager drives.StartMemory
-  no_ending_told : IsOneMore before now → IsDriveFault honest failures capacity before now old manager drives.WaitFault
-  no_memory_for_command : now ≡ before → IsDriveFault honest failures capacity before now old manager drives.Memory
-  no_memory_for_round : now ≡ before → IsDriveFault honest failures capacity before now old manager (drives.Manager faults.Memory)
-  records_refused : {fault : ManagerFault} → now ≡ before → AreRefused honest failures capacity IsOfRun old manager fault
-      → IsDriveFault honest failures capacity before now old manager (drives.Manager fault)
+pub data IsDriveFault {D : Type 0} (disks : Ghosts D) (before now : ℕ) (old manager : Managed D) : DriveFault → Type 0 where
+  no_memory_for_child : IsOneMore before now → IsDriveFault disks before now old manager drives.StartMemory
+  no_ending_logged : IsOneMore before now → IsDriveFault disks before now old manager drives.WaitFault
+  no_memory_for_command : now ≡ before → IsDriveFault disks before now old manager drives.Memory
+  no_memory_for_round : now ≡ before → IsDriveFault disks before now old manager (drives.Manager faults.Memory)
+  records_refused : {fault : ManagerFault} → now ≡ before → AreRefused disks IsOfRun old manager fault
+      → IsDriveFault disks before now old manager (drives.Manager fault)
 
 -- the manager refused
 abbrev pub IsOfManager : DriveFault → Type 0
@@ -68,8 +69,8 @@ IsOfManager drives.WaitFault = ⊥
 IsOfManager drives.Memory = ⊥
 
 -- memory was refused for a child or for its command
-abbrev pub IsUnhanded : DriveFault → Type 0
-IsUnhanded drives.StartMemory = Unit {0}
-IsUnhanded drives.Memory = Unit {0}
-IsUnhanded drives.WaitFault = ⊥
-IsUnhanded (drives.Manager fault) = ⊥
+abbrev pub IsUnspawned : DriveFault → Type 0
+IsUnspawned drives.StartMemory = Unit {0}
+IsUnspawned drives.Memory = Unit {0}
+IsUnspawned drives.WaitFault = ⊥
+IsUnspawned (drives.Manager fault) = ⊥

@@ -39,8 +39,8 @@ IsCommandIn plan records key command =
     command_of (node_at plan key.node) key.attempt key.phase (facts_in plan records key) ≡ Ok command
 
 -- the children that run are the outstanding phases, and each of these starts a child
-pub record AreInStep (plan : Plan) (past : List Record) (told : List Call) : Type 0 where
-  pub same : running told ≡ outstanding plan past
+pub record AreInStep (plan : Plan) (past : List Record) (call_log : List Call) : Type 0 where
+  pub same : running call_log ≡ outstanding plan past
   pub children : IsTrue (list_all (λ key. starts_child (node_at plan key.node) key.phase) (outstanding plan past))
 
 -- keys with those that were launched behind them, the first of these first
@@ -56,18 +56,18 @@ without_all (gone ∷ more) keys = without_all more (without gone keys)
 -- each of these phases is outstanding once those before it ended, and may end so
 abbrev pub MayEndAll : Plan → List Key → List (Key × Outcome) → Type 0
 MayEndAll plan keys [] = Unit {0}
-MayEndAll plan keys (end ∷ ends) =
+MayEndAll plan keys (end ∷ child_exits) =
     IsTrue (is_among end.0 keys) × IsTrue (is_possible end.1) × IsTrue (may_end_with (node_at plan end.0.node).course end.0.phase end.1)
-    × MayEndAll plan (without end.0 keys) ends
+    × MayEndAll plan (without end.0 keys) child_exits
 
 -- a round launches no more phases than this
 abbrev pub most_at_once : ℕ
 most_at_once = 64
 
 -- Within a round the outstanding phases, but for those whose ends are owed, are the children that run and what is not yet handed over.
-pub record AreUnderWay (plan : Plan) (past : List Record) (told : List Call) (keys : List Key) (owed : List (Key × Outcome)) : Type 0 where
-  pub same : without_all (ended_in owed) (outstanding plan past) ≡ with_launched keys (running told)
-  pub children : IsTrue (list_all (λ key. starts_child (node_at plan key.node) key.phase) (running told))
+pub record AreUnderWay (plan : Plan) (past : List Record) (call_log : List Call) (keys : List Key) (owed : List (Key × Outcome)) : Type 0 where
+  pub same : without_all (ended_in owed) (outstanding plan past) ≡ with_launched keys (running call_log)
+  pub children : IsTrue (list_all (λ key. starts_child (node_at plan key.node) key.phase) (running call_log))
   pub ends : MayEndAll plan (outstanding plan past) owed
   pub few : length keys + length owed ≤ most_at_once
 
@@ -77,10 +77,10 @@ pub record IsNearerEnd (plan : Plan) (before past : List Record) : Type 0 where
   pub fewer : records_left plan past < records_left plan before
 
 -- a phase that was launched was handed over with its command, and this was the answer
-pub record IsHandedOver (plan : Plan) (records : List Record) (key : Key) (answer : Started) (told heard : List Call) : Type 0 where
+pub record IsSpawned (plan : Plan) (records : List Record) (key : Key) (answer : Started) (call_log later_log : List Call) : Type 0 where
   pub command : ChildCommand
   pub is : IsCommandIn plan records key command
-  pub entry : heard ≡ calls.Started key (snapshot_of command) answer ∷ told
+  pub entry : later_log ≡ calls.Started key (snapshot_of command) answer ∷ call_log
 
 -- A round: phases that are launched together, each what is chosen once those before it are launched; fewer than may be only where
 -- nothing more may be launched behind them.
@@ -97,13 +97,13 @@ pub data Standing : Type 0 where
 
 -- between two rounds
 abbrev pub at_rest : List Record → List Call → Standing
-at_rest past told = At past told [] []
+at_rest past call_log = At past call_log [] []
 
-abbrev pub records_of : Standing → List Record
-records_of (At past told keys owed) = past
+abbrev pub drive_records : Standing → List Record
+drive_records (At past call_log keys owed) = past
 
 abbrev pub calls_of : Standing → List Call
-calls_of (At past told keys owed) = told
+calls_of (At past call_log keys owed) = call_log
 
 -- One step of a run. A round is launched, while the run goes on and the children that run are the outstanding phases. Of its phases the
 -- first is handed over with its command, and its child starts, or doesn't: then its end with NoStart is owed; the job of a NOOP is not
@@ -111,26 +111,26 @@ calls_of (At past told keys owed) = told
 -- the run. Where nothing may be launched, a child is told to have ended, which is owed then. Or a child is killed whose phase is not
 -- outstanding.
 pub data IsStep (limits : Limits) (plan : Plan) (may : List Call → Key → Outcome → Type 0) : Standing → Standing → Type 0 where
-  launches : {past : List Record} {told : List Call} {keys : List Key} → IsTrue (is_lawful plan past) → IsTrue (is_open past)
-      → AreInStep plan past told → IsRoundOf limits plan past keys
-      → IsStep limits plan may (At past told [] []) (At (launched past keys) told keys [])
-  passes : {past : List Record} {told : List Call} {key : Key} {keys : List Key} {owed : List (Key × Outcome)}
+  launch_round : {past : List Record} {call_log : List Call} {keys : List Key} → IsTrue (is_lawful plan past) → IsTrue (is_open past)
+      → AreInStep plan past call_log → IsRoundOf limits plan past keys
+      → IsStep limits plan may (At past call_log [] []) (At (launched past keys) call_log keys [])
+  skip_noop : {past : List Record} {call_log : List Call} {key : Key} {keys : List Key} {owed : List (Key × Outcome)}
       → IsTrue (is_noop_job (node_at plan key.node).course key.phase)
-      → IsStep limits plan may (At past told (key ∷ keys) owed) (At past told keys (owed ++ (key, Exit 0) ∷ []))
-  starts : {past : List Record} {told : List Call} {key : Key} {keys : List Key} {owed : List (Key × Outcome)} {command : ChildCommand}
-      → IsTrue (starts_child (node_at plan key.node) key.phase) → IsCommandIn plan past key command → MayRun may told key
-      → IsStep limits plan may (At past told (key ∷ keys) owed) (At past (calls.Started key (snapshot_of command) Running ∷ told) keys owed)
-  fails : {past : List Record} {told : List Call} {key : Key} {keys : List Key} {owed : List (Key × Outcome)} {command : ChildCommand}
-      → IsTrue (starts_child (node_at plan key.node) key.phase) → IsCommandIn plan past key command → may told key NoStart
-      → IsStep limits plan may (At past told (key ∷ keys) owed)
-      (At past (calls.Started key (snapshot_of command) NotStarted ∷ told) keys (owed ++ (key, NoStart) ∷ []))
-  ends : {past : List Record} {told : List Call} {key : Key} {outcome : Outcome} → AreInStep plan past told → NothingToStart limits plan past
-      → IsTrue (is_among key (running told)) → may told key outcome
-      → IsStep limits plan may (At past told [] []) (At past (calls.Ended key outcome ∷ told) [] ((key, outcome) ∷ []))
-  settles : {past : List Record} {told : List Call} {end : Key × Outcome} {owed : List (Key × Outcome)}
-      → IsStep limits plan may (At past told [] (end ∷ owed)) (At (added past (up_to_abort plan past (ends_of (end ∷ owed)))) told [] [])
-  kills : {past : List Record} {told : List Call} {key : Key} → IsTrue (is_among key (running told)) → IsFalse (is_among key (outstanding plan past))
-      → IsStep limits plan may (At past told [] []) (At past (calls.Killed key ∷ told) [] [])
+      → IsStep limits plan may (At past call_log (key ∷ keys) owed) (At past call_log keys (owed ++ (key, Exit 0) ∷ []))
+  spawn_child : {past : List Record} {call_log : List Call} {key : Key} {keys : List Key} {owed : List (Key × Outcome)} {command : ChildCommand}
+      → IsTrue (starts_child (node_at plan key.node) key.phase) → IsCommandIn plan past key command → MayRun may call_log key
+      → IsStep limits plan may (At past call_log (key ∷ keys) owed) (At past (calls.Started key (snapshot_of command) Running ∷ call_log) keys owed)
+  spawn_failed : {past : List Record} {call_log : List Call} {key : Key} {keys : List Key} {owed : List (Key × Outcome)} {command : ChildCommand}
+      → IsTrue (starts_child (node_at plan key.node) key.phase) → IsCommandIn plan past key command → may call_log key NoStart
+      → IsStep limits plan may (At past call_log (key ∷ keys) owed)
+      (At past (calls.Started key (snapshot_of command) NotStarted ∷ call_log) keys (owed ++ (key, NoStart) ∷ []))
+  child_exits : {past : List Record} {call_log : List Call} {key : Key} {outcome : Outcome} → AreInStep plan past call_log → NothingToStart limits plan past
+      → IsTrue (is_among key (running call_log)) → may call_log key outcome
+      → IsStep limits plan may (At past call_log [] []) (At past (calls.Ended key outcome ∷ call_log) [] ((key, outcome) ∷ []))
+  ends_recorded : {past : List Record} {call_log : List Call} {end : Key × Outcome} {owed : List (Key × Outcome)}
+      → IsStep limits plan may (At past call_log [] (end ∷ owed)) (At (added past (up_to_abort plan past (ends_of (end ∷ owed)))) call_log [] [])
+  kill_child : {past : List Record} {call_log : List Call} {key : Key} → IsTrue (is_among key (running call_log)) → IsFalse (is_among key (outstanding plan past))
+      → IsStep limits plan may (At past call_log [] []) (At past (calls.Killed key ∷ call_log) [] [])
 
 -- any number of steps
 pub data Goes (limits : Limits) (plan : Plan) (may : List Call → Key → Outcome → Type 0) (from : Standing) : Standing → Type 0 where
@@ -139,7 +139,7 @@ pub data Goes (limits : Limits) (plan : Plan) (may : List Call → Key → Outco
 
 -- any number of steps from rest to rest
 abbrev pub Drives : Limits → Plan → (List Call → Key → Outcome → Type 0) → List Record → List Call → List Record → List Call → Type 0
-Drives limits plan may past told after last = Goes limits plan may (at_rest past told) (at_rest after last)
+Drives limits plan may past call_log after last = Goes limits plan may (at_rest past call_log) (at_rest after last)
 
 -- the verdict of a choice to finish
 abbrev pub final_verdict : Choice → Option ℕ
@@ -152,29 +152,29 @@ final_verdict (choices.Finish verdict) = Some verdict
 -- Where no ending was told, nothing more may be launched and some phase is outstanding. The manager refused to record a round, or what
 -- is owed.
 pub data IsStoppedAt (limits : Limits) (plan : Plan) : DriveFault → Standing → Type 0 where
-  child_refused : {past : List Record} {told : List Call} {key : Key} {keys : List Key} {owed : List (Key × Outcome)}
-      → IsTrue (starts_child (node_at plan key.node) key.phase) → IsStoppedAt limits plan drives.StartMemory (At past told (key ∷ keys) owed)
-  command_refused : {past : List Record} {told : List Call} {key : Key} {keys : List Key} {owed : List (Key × Outcome)}
-      → IsTrue (starts_child (node_at plan key.node) key.phase) → IsStoppedAt limits plan drives.Memory (At past told (key ∷ keys) owed)
-  list_refused : {past : List Record} {told : List Call} → IsStoppedAt limits plan drives.Memory (At past told [] [])
-  round_refused : {past : List Record} {told : List Call} → IsStoppedAt limits plan (drives.Manager faults.Memory) (At past told [] [])
-  launch_refused : {past : List Record} {told : List Call} {keys : List Key} {fault : ManagerFault} → IsRoundOf limits plan past keys
-      → IsStoppedAt limits plan (drives.Manager fault) (At past told [] [])
-  end_refused : {past : List Record} {told : List Call} {end : Key × Outcome} {owed : List (Key × Outcome)} {fault : ManagerFault}
-      → IsStoppedAt limits plan (drives.Manager fault) (At past told [] (end ∷ owed))
-  none_told : {past : List Record} {told : List Call} → NothingToStart limits plan past → IsFalse (is_nothing (outstanding plan past))
-      → IsStoppedAt limits plan drives.WaitFault (At past told [] [])
+  child_refused : {past : List Record} {call_log : List Call} {key : Key} {keys : List Key} {owed : List (Key × Outcome)}
+      → IsTrue (starts_child (node_at plan key.node) key.phase) → IsStoppedAt limits plan drives.StartMemory (At past call_log (key ∷ keys) owed)
+  command_refused : {past : List Record} {call_log : List Call} {key : Key} {keys : List Key} {owed : List (Key × Outcome)}
+      → IsTrue (starts_child (node_at plan key.node) key.phase) → IsStoppedAt limits plan drives.Memory (At past call_log (key ∷ keys) owed)
+  list_refused : {past : List Record} {call_log : List Call} → IsStoppedAt limits plan drives.Memory (At past call_log [] [])
+  round_refused : {past : List Record} {call_log : List Call} → IsStoppedAt limits plan (drives.Manager faults.Memory) (At past call_log [] [])
+  launch_refused : {past : List Record} {call_log : List Call} {keys : List Key} {fault : ManagerFault} → IsRoundOf limits plan past keys
+      → IsStoppedAt limits plan (drives.Manager fault) (At past call_log [] [])
+  end_refused : {past : List Record} {call_log : List Call} {end : Key × Outcome} {owed : List (Key × Outcome)} {fault : ManagerFault}
+      → IsStoppedAt limits plan (drives.Manager fault) (At past call_log [] (end ∷ owed))
+  none_told : {past : List Record} {call_log : List Call} → NothingToStart limits plan past → IsFalse (is_nothing (outstanding plan past))
+      → IsStoppedAt limits plan drives.WaitFault (At past call_log [] [])
 
 -- children were to be started; none ended and none was killed
-pub data Starts (told : List Call) : List Call → Type 0 where
-  none_started : Starts told told
-  one_start : {heard : List Call} {key : Key} {command : Snapshot ChildCommand} {answer : Started} → Starts told heard
-      → Starts told (calls.Started key command answer ∷ heard)
+pub data Starts (call_log : List Call) : List Call → Type 0 where
+  none_started : Starts call_log call_log
+  one_start : {later_log : List Call} {key : Key} {command : Snapshot ChildCommand} {answer : Started} → Starts call_log later_log
+      → Starts call_log (calls.Started key command answer ∷ later_log)
 
 -- running children are killed one after another
-pub data Kills (told : List Call) : List Call → Type 0 where
-  nobody : Kills told told
-  one_killed : {heard : List Call} {key : Key} → Kills told heard → IsTrue (is_among key (running heard)) → Kills told (calls.Killed key ∷ heard)
+pub data Kills (call_log : List Call) : List Call → Type 0 where
+  nobody : Kills call_log call_log
+  one_killed : {later_log : List Call} {key : Key} → Kills call_log later_log → IsTrue (is_among key (running later_log)) → Kills call_log (calls.Killed key ∷ later_log)
 
 -- the newest record aborted the run
 abbrev pub AbortsAtLast : Plan → List Record → Type 0
@@ -192,7 +192,7 @@ pub record IsHaltedFrom (limits : Limits) (plan : Plan) (may : List Call → Key
   pub steps : Goes limits plan may from (At after last keys owed)
 
 abbrev pub IsHalted : Limits → Plan → (List Call → Key → Outcome → Type 0) → List Record → List Call → List Record → List Call → Type 0
-IsHalted limits plan may past told after last = IsHaltedFrom limits plan may (at_rest past told) after last
+IsHalted limits plan may past call_log after last = IsHaltedFrom limits plan may (at_rest past call_log) after last
 
 -- the run was aborted between these records and those
 abbrev pub is_aborted_between : Plan → List Record → List Record → Bool
@@ -208,14 +208,14 @@ pub record IsTurn (plan : Plan) (past after : List Record) (last : List Call) : 
   pub stays : IsTrue (is_aborted plan past) → IsTrue (is_aborted plan after)
 
 -- behind a fault: any number of steps, to where that fault stops a run
-pub record IsHaltedBy (limits : Limits) (plan : Plan) (may : List Call → Key → Outcome → Type 0) (past : List Record) (told : List Call) (fault : DriveFault) (after : List Record) (last : List Call) : Type 0 where
+pub record IsHaltedBy (limits : Limits) (plan : Plan) (may : List Call → Key → Outcome → Type 0) (past : List Record) (call_log : List Call) (fault : DriveFault) (after : List Record) (last : List Call) : Type 0 where
   pub keys : List Key
   pub owed : List (Key × Outcome)
-  pub steps : Goes limits plan may (at_rest past told) (At after last keys owed)
+  pub steps : Goes limits plan may (at_rest past call_log) (At after last keys owed)
   pub stop : IsStoppedAt limits plan fault (At after last keys owed)
 
 -- behind a fault: the same, and all children that still ran are killed
-pub record IsStopped (limits : Limits) (plan : Plan) (may : List Call → Key → Outcome → Type 0) (past : List Record) (told : List Call) (fault : DriveFault) (after : List Record) (last : List Call) : Type 0 where
+pub record IsStopped (limits : Limits) (plan : Plan) (may : List Call → Key → Outcome → Type 0) (past : List Record) (call_log : List Call) (fault : DriveFault) (after : List Record) (last : List Call) : Type 0 where
   pub rest : List Call
-  pub halted : IsHaltedBy limits plan may past told fault after rest
+  pub halted : IsHaltedBy limits plan may past call_log fault after rest
   pub kills : Kills rest last

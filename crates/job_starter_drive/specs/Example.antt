@@ -19,7 +19,7 @@ unlimited = record { jobs = 0; pre = 0; post = 0; children = 0 }
 
 -- a starter whose children exit with 0
 abbrev pub exits_well : List Call → Key → Outcome → Type 0
-exits_well told key outcome = outcome ≡ Exit 0
+exits_well call_log key outcome = outcome ≡ Exit 0
 
 abbrev pub child_of_a : ChildCommand
 child_of_a = bare_command [] (codes "a") []

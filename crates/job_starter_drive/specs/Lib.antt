@@ -4,6 +4,6 @@ pub mod Scripts
 pub mod Drives
 pub mod Moments
 pub mod Causes
-pub mod Handed
+pub mod Spawned
 pub mod Stretches
-pub mod Told
+pub mod CallLogView

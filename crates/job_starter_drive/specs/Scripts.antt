@@ -18,6 +18,6 @@ scripted_outcome plan table key =
 
 -- What a script tells behind these calls: the table's outcome; and of the children that run the end of the one that was started first, where
 -- no places are listed.
-pub record IsScripted (plan : Plan) (table : List Entry) (places : List ℕ) (told : List Call) (key : Key) (outcome : Outcome) : Type 0 where
+pub record IsScripted (plan : Plan) (table : List Entry) (places : List ℕ) (call_log : List Call) (key : Key) (outcome : Outcome) : Type 0 where
   pub by_table : outcome ≡ scripted_outcome plan table key
-  pub oldest_first : places ≡ [] → IsTrue (is_among key (running told)) → oldest (running told) ≡ Some key
+  pub oldest_first : places ≡ [] → IsTrue (is_among key (running call_log)) → oldest (running call_log) ≡ Some key

@@ -4,11 +4,11 @@ ghost use Rattle.sched_core.specs.Run.{is_aborted, is_over, is_open, is_nothing,
 ghost use Rattle.sched_core.specs.Fate.{AreFates, shown};
 ghost use Rattle.sched_core.specs.Choices.{IsChoice};
 ghost use Rattle.sched_core.specs.Ahead.{NothingToStart};
-ghost use Rattle.recovery_manager.specs.Managed.{Managed, plan_of, past_of};
-ghost use Rattle.job_starter_drive.specs.Calls.{running, TellsNoMore};
+ghost use Rattle.recovery_manager.specs.Managed.{Managed, plan_of, past_of, KeepsDisk};
+ghost use Rattle.job_starter_drive.specs.Calls.{running, AllowsNoMore};
 ghost use Rattle.job_starter_drive.specs.Drives.{limits_of, at_rest, AreInStep, IsNearerEnd, IsTurn, final_verdict, Drives, Kills, IsStopped};
 ghost use Rattle.job_starter_drive.specs.Causes.{IsDriveFault};
-ghost use Rattle.job_starter_drive.specs.Moments.{fault_in, IsMomentOfRun, IsLastMoment, AtAnyMoment, AtTheEnd, UnlessDiskFault, StaysAcknowledged, KeepsDisk, CountsOn};
+ghost use Rattle.job_starter_drive.specs.Moments.{fault_in, IsMomentOfRun, IsLastMoment, AtAnyMoment, AtTheEnd, UnlessDiskFault, StaysAcknowledged, CountsOn};
 ghost use Rattle.job_starter_drive.specs.Stretches.{IsStretch, IsCutShort};
 
 use crate::Starter;
@@ -52,10 +52,10 @@ pub struct RunEnd {
 /// Kills each running child, the oldest first.
 #[tactic(auto, using(crate::proofs::Running::fewer_left))]
 fn kill_all<S: Starter>(starter: &mut S)
-    ensures none_left { running (S.told starter.new) ≡ [] }
-    ensures kills { Kills (S.told starter.old) (S.told starter.new) }
+    ensures none_left { running (S.call_log starter.new) ≡ [] }
+    ensures kills { Kills (S.call_log starter.old) (S.call_log starter.new) }
     ensures unrefused { S.faults starter.new ≡ S.faults starter.old }
-    ensures may { TellsNoMore (S.may_tell starter.old) (S.may_tell starter.new) }
+    ensures may { AllowsNoMore (S.may_return starter.old) (S.may_return starter.new) }
 {
     while !starter.running().is_empty() {
         let oldest = key_at(starter.running(), 0);
@@ -69,20 +69,20 @@ fn end_one<D: Disk + Drop, S: Starter>(
     manager: &mut Manager<'_, D>,
     starter: &mut S,
 ) -> Result<(), DriveFault>
-    requires in_step { AreInStep (plan_of manager.old) (past_of manager.old) (S.told starter.old) }
+    requires in_step { AreInStep (plan_of manager.old) (past_of manager.old) (S.call_log starter.old) }
     requires held { NothingToStart (limits_of manager.old) (plan_of manager.old) (past_of manager.old) }
     requires some { IsFalse (is_nothing (outstanding (plan_of manager.old) (past_of manager.old))) }
     requires going { IsTrue (is_open (past_of manager.old)) }
     ensures nearer { OnOk result (IsNearerEnd (plan_of manager.old) (past_of manager.old) (past_of manager.new)) }
-    ensures turn { OnOk result (IsTurn (plan_of manager.old) (past_of manager.old) (past_of manager.new) (S.told starter.new)) }
-    ensures went { OnOk result (IsStretch D.honest D.seen D.may_leave D.moment D.left_since D.faults D.capacity
-        (limits_of manager.old) (plan_of manager.old) (S.may_tell starter.old) (S.may_tell starter.new)
+    ensures turn { OnOk result (IsTurn (plan_of manager.old) (past_of manager.old) (past_of manager.new) (S.call_log starter.new)) }
+    ensures went { OnOk result (IsStretch D.Disk
+        (limits_of manager.old) (plan_of manager.old) (S.may_return starter.old) (S.may_return starter.new)
         (S.faults starter.old) (S.faults starter.new) manager.old manager.new
-        (at_rest (past_of manager.old) (S.told starter.old)) (at_rest (past_of manager.new) (S.told starter.new))) }
-    ensures cut { IfErr result (IsCutShort D.honest D.seen D.may_leave D.moment D.left_since D.faults D.capacity
-        (limits_of manager.old) (plan_of manager.old) (S.may_tell starter.old) (S.may_tell starter.new)
+        (at_rest (past_of manager.old) (S.call_log starter.old)) (at_rest (past_of manager.new) (S.call_log starter.new))) }
+    ensures cut { IfErr result (IsCutShort D.Disk
+        (limits_of manager.old) (plan_of manager.old) (S.may_return starter.old) (S.may_return starter.new)
         (S.faults starter.old) (S.faults starter.new) manager.old manager.new
-        (at_rest (past_of manager.old) (S.told starter.old)) (S.told starter.new)) }
+        (at_rest (past_of manager.old) (S.call_log starter.old)) (S.call_log starter.new)) }
 {
     keeps_the_law(manager);
     match starter.wait_any() {
@@ -110,20 +110,20 @@ fn act<D: Disk + Drop, S: Starter>(
     choice: Choice,
 ) -> Result<(), DriveFault>
     requires own { plan.now ≡ plan_of manager.old }
-    requires in_step { AreInStep (plan_of manager.old) (past_of manager.old) (S.told starter.old) }
+    requires in_step { AreInStep (plan_of manager.old) (past_of manager.old) (S.call_log starter.old) }
     requires chosen { IsChoice (limits_of manager.old) (plan_of manager.old) (past_of manager.old) choice }
     requires unending { final_verdict choice ≡ None }
     requires going { IsTrue (is_open (past_of manager.old)) }
     ensures nearer { OnOk result (IsNearerEnd (plan_of manager.old) (past_of manager.old) (past_of manager.new)) }
-    ensures turn { OnOk result (IsTurn (plan_of manager.old) (past_of manager.old) (past_of manager.new) (S.told starter.new)) }
-    ensures went { OnOk result (IsStretch D.honest D.seen D.may_leave D.moment D.left_since D.faults D.capacity
-        (limits_of manager.old) (plan_of manager.old) (S.may_tell starter.old) (S.may_tell starter.new)
+    ensures turn { OnOk result (IsTurn (plan_of manager.old) (past_of manager.old) (past_of manager.new) (S.call_log starter.new)) }
+    ensures went { OnOk result (IsStretch D.Disk
+        (limits_of manager.old) (plan_of manager.old) (S.may_return starter.old) (S.may_return starter.new)
         (S.faults starter.old) (S.faults starter.new) manager.old manager.new
-        (at_rest (past_of manager.old) (S.told starter.old)) (at_rest (past_of manager.new) (S.told starter.new))) }
-    ensures cut { IfErr result (IsCutShort D.honest D.seen D.may_leave D.moment D.left_since D.faults D.capacity
-        (limits_of manager.old) (plan_of manager.old) (S.may_tell starter.old) (S.may_tell starter.new)
+        (at_rest (past_of manager.old) (S.call_log starter.old)) (at_rest (past_of manager.new) (S.call_log starter.new))) }
+    ensures cut { IfErr result (IsCutShort D.Disk
+        (limits_of manager.old) (plan_of manager.old) (S.may_return starter.old) (S.may_return starter.new)
         (S.faults starter.old) (S.faults starter.new) manager.old manager.new
-        (at_rest (past_of manager.old) (S.told starter.old)) (S.told starter.new)) }
+        (at_rest (past_of manager.old) (S.call_log starter.old)) (S.call_log starter.new)) }
 {
     match choice {
         Choice::Start(_) => launch_round(alloc, manager, plan, starter),
@@ -141,23 +141,23 @@ fn turn<D: Disk + Drop, S: Starter>(
     starter: &mut S,
 ) -> Result<Option<Verdict>, DriveFault>
     requires own { plan.now ≡ plan_of manager.old }
-    requires in_step { AreInStep (plan_of manager.old) (past_of manager.old) (S.told starter.old) }
+    requires in_step { AreInStep (plan_of manager.old) (past_of manager.old) (S.call_log starter.old) }
     requires going { IsTrue (is_open (past_of manager.old)) }
     ensures in_step { OnOk result
-        (AreInStep (plan_of manager.old) (past_of manager.new) (S.told starter.new)) }
+        (AreInStep (plan_of manager.old) (past_of manager.new) (S.call_log starter.new)) }
     ensures over { IfOk result (λ end. IfSome end (λ verdict.
         IsChoice (limits_of manager.old) (plan_of manager.old) (past_of manager.new) (Choice.Finish verdict))) }
     ensures still { IfOk result (λ end. IfSome end (λ verdict. IsTrue (is_open (past_of manager.new)))) }
     ensures nearer { IfOk result (λ end. IfNone end (
         IsNearerEnd (plan_of manager.old) (past_of manager.old) (past_of manager.new))) }
-    ensures went { OnOk result (IsStretch D.honest D.seen D.may_leave D.moment D.left_since D.faults D.capacity
-        (limits_of manager.old) (plan_of manager.old) (S.may_tell starter.old) (S.may_tell starter.new)
+    ensures went { OnOk result (IsStretch D.Disk
+        (limits_of manager.old) (plan_of manager.old) (S.may_return starter.old) (S.may_return starter.new)
         (S.faults starter.old) (S.faults starter.new) manager.old manager.new
-        (at_rest (past_of manager.old) (S.told starter.old)) (at_rest (past_of manager.new) (S.told starter.new))) }
-    ensures cut { IfErr result (IsCutShort D.honest D.seen D.may_leave D.moment D.left_since D.faults D.capacity
-        (limits_of manager.old) (plan_of manager.old) (S.may_tell starter.old) (S.may_tell starter.new)
+        (at_rest (past_of manager.old) (S.call_log starter.old)) (at_rest (past_of manager.new) (S.call_log starter.new))) }
+    ensures cut { IfErr result (IsCutShort D.Disk
+        (limits_of manager.old) (plan_of manager.old) (S.may_return starter.old) (S.may_return starter.new)
         (S.faults starter.old) (S.faults starter.new) manager.old manager.new
-        (at_rest (past_of manager.old) (S.told starter.old)) (S.told starter.new)) }
+        (at_rest (past_of manager.old) (S.call_log starter.old)) (S.call_log starter.new)) }
 {
     keeps_the_law(manager);
     let before = is_aborted(manager);
@@ -183,20 +183,20 @@ fn run<D: Disk + Drop, S: Starter>(
     starter: &mut S,
 ) -> Result<Verdict, DriveFault>
     requires own { plan.now ≡ plan_of manager.old }
-    requires in_step { AreInStep (plan_of manager.old) (past_of manager.old) (S.told starter.old) }
+    requires in_step { AreInStep (plan_of manager.old) (past_of manager.old) (S.call_log starter.old) }
     requires going { IsTrue (is_open (past_of manager.old)) }
-    ensures none_left { OnOk result (running (S.told starter.new) ≡ []) }
+    ensures none_left { OnOk result (running (S.call_log starter.new) ≡ []) }
     ensures over { IfOk result (λ verdict.
         IsChoice (limits_of manager.old) (plan_of manager.old) (past_of manager.new) (Choice.Finish verdict)) }
     ensures still { OnOk result (IsTrue (is_open (past_of manager.new))) }
-    ensures went { OnOk result (IsStretch D.honest D.seen D.may_leave D.moment D.left_since D.faults D.capacity
-        (limits_of manager.old) (plan_of manager.old) (S.may_tell starter.old) (S.may_tell starter.new)
+    ensures went { OnOk result (IsStretch D.Disk
+        (limits_of manager.old) (plan_of manager.old) (S.may_return starter.old) (S.may_return starter.new)
         (S.faults starter.old) (S.faults starter.new) manager.old manager.new
-        (at_rest (past_of manager.old) (S.told starter.old)) (at_rest (past_of manager.new) (S.told starter.new))) }
-    ensures cut { IfErr result (IsCutShort D.honest D.seen D.may_leave D.moment D.left_since D.faults D.capacity
-        (limits_of manager.old) (plan_of manager.old) (S.may_tell starter.old) (S.may_tell starter.new)
+        (at_rest (past_of manager.old) (S.call_log starter.old)) (at_rest (past_of manager.new) (S.call_log starter.new))) }
+    ensures cut { IfErr result (IsCutShort D.Disk
+        (limits_of manager.old) (plan_of manager.old) (S.may_return starter.old) (S.may_return starter.new)
         (S.faults starter.old) (S.faults starter.new) manager.old manager.new
-        (at_rest (past_of manager.old) (S.told starter.old)) (S.told starter.new)) }
+        (at_rest (past_of manager.old) (S.call_log starter.old)) (S.call_log starter.new)) }
 {
     keeps_the_law(manager);
     loop {
@@ -223,13 +223,13 @@ pub fn drive<D: Disk + Drop, S: Starter>(
     starter: &mut S,
 ) -> Result<RunEnd, DriveFault>
     requires own { plan.now ≡ plan_of manager.old }
-    requires in_step { AreInStep (plan_of manager.old) (past_of manager.old) (S.told starter.old) }
+    requires in_step { AreInStep (plan_of manager.old) (past_of manager.old) (S.call_log starter.old) }
     requires unfinished { IsFalse (is_over (past_of manager.old)) }
     ensures plan { plan_of manager.new ≡ plan_of manager.old }
     ensures limits { limits_of manager.new ≡ limits_of manager.old }
     // What was recorded and handed over, one step behind another.
-    ensures steps { OnOk result (Drives (limits_of manager.old) (plan_of manager.old) (S.may_tell starter.old)
-        (past_of manager.old) (S.told starter.old) (past_of manager.new) (S.told starter.new)) }
+    ensures steps { OnOk result (Drives (limits_of manager.old) (plan_of manager.old) (S.may_return starter.old)
+        (past_of manager.old) (S.call_log starter.old) (past_of manager.new) (S.call_log starter.new)) }
     // The run's choice is to finish, with this verdict.
     ensures over { IfOk result (λ end.
         IsChoice (limits_of manager.old) (plan_of manager.old) (past_of manager.new) (Choice.Finish end.verdict)) }
@@ -242,30 +242,30 @@ pub fn drive<D: Disk + Drop, S: Starter>(
     ensures fates { IfOk result (λ end. IsFalse end.aborted → AreFates (plan_of manager.old)
         (table_of (past_of manager.new)) (shown (plan_of manager.old) (past_of manager.new))) }
     // Behind a fault: steps, what this fault leaves of one, and kills.
-    ensures stopped { IfErr result (λ fault. IsStopped (limits_of manager.old) (plan_of manager.old) (S.may_tell starter.old)
-        (past_of manager.old) (S.told starter.old) fault (past_of manager.new) (S.told starter.new)) }
+    ensures stopped { IfErr result (λ fault. IsStopped (limits_of manager.old) (plan_of manager.old) (S.may_return starter.old)
+        (past_of manager.old) (S.call_log starter.old) fault (past_of manager.new) (S.call_log starter.new)) }
     // No child runs, however the call returns.
-    ensures none_left { running (S.told starter.new) ≡ [] }
+    ensures none_left { running (S.call_log starter.new) ≡ [] }
     // The starter's refusal alone is counted, once.
     ensures unrefused { OnOk result (S.faults starter.new ≡ S.faults starter.old) }
     ensures later { S.faults starter.old ≤ S.faults starter.new }
-    ensures refused { IfErr result (IsDriveFault D.honest D.faults D.capacity
+    ensures refused { IfErr result (IsDriveFault D.Disk
         (S.faults starter.old) (S.faults starter.new) manager.old manager.new) }
     // On an honest disk each image that a crash may leave meanwhile has what was recorded until some
     // moment of the call; where the disk refused a record, perhaps that one too.
-    ensures any_moment { AtAnyMoment D.honest D.seen D.may_leave D.moment D.left_since
+    ensures any_moment { AtAnyMoment D.Disk
         manager.old manager.new (IsMomentOfRun (limits_of manager.old) (plan_of manager.old)
-        (S.may_tell starter.old) (past_of manager.old) (S.told starter.old) (fault_in result)
-        (past_of manager.new) (S.told starter.new)) }
+        (S.may_return starter.old) (past_of manager.old) (S.call_log starter.old) (fault_in result)
+        (past_of manager.new) (S.call_log starter.new)) }
     // Behind a fault none of the records is missing in an image.
-    ensures left { OnErr result (AtTheEnd D.honest D.seen D.may_leave manager.old manager.new
+    ensures left { OnErr result (AtTheEnd D.Disk manager.old manager.new
         (IsLastMoment (limits_of manager.old) (plan_of manager.old)
-        (S.may_tell starter.old) (past_of manager.old) (S.told starter.old) (fault_in result)
-        (past_of manager.new) (S.told starter.new))) }
+        (S.may_return starter.old) (past_of manager.old) (S.call_log starter.old) (fault_in result)
+        (past_of manager.new) (S.call_log starter.new))) }
     // What it recorded is in every later image, unless the disk refused a record.
     ensures acknowledged { UnlessDiskFault (fault_in result)
-        (StaysAcknowledged D.honest D.seen D.may_leave manager.old manager.new) }
-    ensures disk { KeepsDisk D.honest D.faults D.capacity manager.old manager.new }
+        (StaysAcknowledged D.Disk manager.old manager.new) }
+    ensures disk { KeepsDisk D.Disk manager.old.journal manager.new.journal }
     ensures counts { OnOk result (CountsOn manager.old manager.new) }
 {
     goes_on(manager);

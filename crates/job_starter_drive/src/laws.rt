@@ -13,13 +13,13 @@ ghost use Rattle.sched_core.specs.Lives.{HasOutcomesOf};
 ghost use Rattle.sched_core.specs.Choices.{IsChoice};
 ghost use Rattle.sched_core.specs.declared.Choice.TheVariants as choices;
 ghost use Rattle.event_journal_log.specs.Image.{Header};
-ghost use Rattle.recovery_manager.specs.Chain.{ReadsForInputs, Leaves, life_records};
+ghost use Rattle.recovery_manager.specs.Chain.{ReadsForInputs, LeavesRecords, life_records};
 ghost use Rattle.recovery_manager.specs.Inputs.{IsHeaderOf};
 ghost use Rattle.job_starter_drive.specs.declared.Call.{Call};
 ghost use Rattle.job_starter_drive.specs.declared.driving.DriveFault.{DriveFault};
 ghost use Rattle.job_starter_drive.specs.Calls.{running};
 ghost use Rattle.job_starter_drive.specs.Drives.{AreInStep, Drives, IsHalted, IsHaltedBy, IsStopped};
-ghost use Rattle.job_starter_drive.specs.Handed.{HandsAll, HandsAllButSome};
+ghost use Rattle.job_starter_drive.specs.Spawned.{SpawnsAll, SpawnsAllButSome};
 ghost use Rattle.job_starter_drive.specs.Moments.{IsMomentOfRun, IsLastMoment, IsLifeAt};
 ghost use Rattle.job_starter_drive.specs.Scripts.{IsScripted};
 
@@ -30,17 +30,17 @@ use crate::Starter;
 /// perhaps the last, which are of one round.
 pub fn hand_over<S: Starter>()
     ensures driven { (limits : Limits) (plan : Plan) (starter : S) (past : List Record)
-        (told : List Call) (after : List Record) (last : List Call) →
-        Drives limits plan (S.may_tell starter) past told after last → HandsAll plan past after told last }
+        (call_log : List Call) (after : List Record) (last : List Call) →
+        Drives limits plan (S.may_return starter) past call_log after last → SpawnsAll plan past after call_log last }
     ensures halted { (limits : Limits) (plan : Plan) (starter : S) (past : List Record)
-        (told : List Call) (after : List Record) (last : List Call) →
-        IsHalted limits plan (S.may_tell starter) past told after last → HandsAllButSome plan past after told last }
+        (call_log : List Call) (after : List Record) (last : List Call) →
+        IsHalted limits plan (S.may_return starter) past call_log after last → SpawnsAllButSome plan past after call_log last }
     ensures halted_by { (limits : Limits) (plan : Plan) (starter : S) (past : List Record)
-        (told : List Call) (fault : DriveFault) (after : List Record) (last : List Call) →
-        IsHaltedBy limits plan (S.may_tell starter) past told fault after last → HandsAllButSome plan past after told last }
+        (call_log : List Call) (fault : DriveFault) (after : List Record) (last : List Call) →
+        IsHaltedBy limits plan (S.may_return starter) past call_log fault after last → SpawnsAllButSome plan past after call_log last }
     ensures stopped { (limits : Limits) (plan : Plan) (starter : S) (past : List Record)
-        (told : List Call) (fault : DriveFault) (after : List Record) (last : List Call) →
-        IsStopped limits plan (S.may_tell starter) past told fault after last → HandsAllButSome plan past after told last }
+        (call_log : List Call) (fault : DriveFault) (after : List Record) (last : List Call) →
+        IsStopped limits plan (S.may_return starter) past call_log fault after last → SpawnsAllButSome plan past after call_log last }
 {}
 
 /// A run that a manager began or went on with stopped at some moment of `launch_round` or `drive`,
@@ -48,33 +48,33 @@ pub fn hand_over<S: Starter>()
 /// the run, of the bytes that the manager found.
 pub fn stops<S: Starter>()
     ensures life { (limits : Limits) (plan : Plan) (starter : S) (past : List Record)
-        (told : List Call) (fault : Option DriveFault) (kept : List Record) (last : List Call)
+        (call_log : List Call) (fault : Option DriveFault) (kept : List Record) (last : List Call)
         (header : Header) (found image : List ℕ) →
         IsHeaderOf plan header → ReadsForInputs plan past found →
-        (stop : IsMomentOfRun limits plan (S.may_tell starter) (Life ∷ past) told fault kept last header image) →
-        IsLifeAt past told found image stop }
+        (stop : IsMomentOfRun limits plan (S.may_return starter) (Life ∷ past) call_log fault kept last header image) →
+        IsLifeAt past call_log found image stop }
     // Behind the call: by the records that it kept, an image is one that their life leaves.
     ensures leaves { (limits : Limits) (plan : Plan) (starter : S) (past : List Record)
-        (told : List Call) (fault : Option DriveFault) (kept : List Record) (last : List Call)
+        (call_log : List Call) (fault : Option DriveFault) (kept : List Record) (last : List Call)
         (header : Header) (image : List ℕ) → IsHeaderOf plan header →
-        IsLastMoment limits plan (S.may_tell starter) (Life ∷ past) told fault kept last header image →
-        Leaves plan (life_records past kept) image }
+        IsLastMoment limits plan (S.may_return starter) (Life ∷ past) call_log fault kept last header image →
+        LeavesRecords plan (life_records past kept) image }
 {}
 
 /// A manager that began a run or went on with it is in step with a starter of no running child.
 pub fn begins()
-    ensures { (plan : Plan) (past : List Record) (told : List Call) →
-        running told ≡ [] → AreInStep plan (Life ∷ past) told }
+    ensures { (plan : Plan) (past : List Record) (call_log : List Call) →
+        running call_log ≡ [] → AreInStep plan (Life ∷ past) call_log }
 {}
 
 /// Where a starter tells what a table says, and nothing else, the endings that a run records are the
 /// table's: so the fates that `drive` shows at its end without abort are those of the table.
 pub fn outcomes<S: Starter>()
     ensures { (limits : Limits) (plan : Plan) (starter : S) (table : Table)
-        (past : List Record) (told : List Call) (after : List Record) (last : List Call) →
+        (past : List Record) (call_log : List Call) (after : List Record) (last : List Call) →
         ((calls : List Call) (key : Key) (outcome : Outcome) →
-        S.may_tell starter calls key outcome → table key.node key.attempt key.phase ≡ outcome) →
-        Drives limits plan (S.may_tell starter) past told after last →
+        S.may_return starter calls key outcome → table key.node key.attempt key.phase ≡ outcome) →
+        Drives limits plan (S.may_return starter) past call_log after last →
         HasOutcomesOf plan table past → HasOutcomesOf plan table after }
 {}
 
@@ -83,9 +83,9 @@ pub fn outcomes<S: Starter>()
 /// choice is to finish, have the same records, with abort or without.
 pub fn one_script()
     ensures { (limits : Limits) (plan : Plan) (table : List Entry)
-        (past after other : List Record) (told last heard rest : List Call) (verdict status : ℕ) →
-        Drives limits plan (IsScripted plan table []) past told after last →
-        Drives limits plan (IsScripted plan table []) past heard other rest →
+        (past after other : List Record) (call_log last later_log rest : List Call) (verdict status : ℕ) →
+        Drives limits plan (IsScripted plan table []) past call_log after last →
+        Drives limits plan (IsScripted plan table []) past later_log other rest →
         IsChoice limits plan after (choices.Finish verdict) →
         IsChoice limits plan other (choices.Finish status) → after ≡ other }
 {}

@@ -90,17 +90,17 @@ pub fn record_launches<D: Disk + Drop, S: Starter>(
 ) -> Result<(), DriveFault>
     requires round { IsRoundOf (limits_of manager.old) (plan_of manager.old) (past_of manager.old) keys.now }
     requires going { IsTrue (is_open (past_of manager.old)) }
-    requires in_step { AreInStep (plan_of manager.old) (past_of manager.old) (S.told starter.now) }
+    requires in_step { AreInStep (plan_of manager.old) (past_of manager.old) (S.call_log starter.now) }
     ensures nearer { OnOk result (IsNearerEnd (plan_of manager.old) (past_of manager.old) (past_of manager.new)) }
-    ensures went { OnOk result (IsStretch D.honest D.seen D.may_leave D.moment D.left_since D.faults D.capacity
-        (limits_of manager.old) (plan_of manager.old) (S.may_tell starter.now) (S.may_tell starter.now)
+    ensures went { OnOk result (IsStretch D.Disk
+        (limits_of manager.old) (plan_of manager.old) (S.may_return starter.now) (S.may_return starter.now)
         (S.faults starter.now) (S.faults starter.now) manager.old manager.new
-        (at_rest (past_of manager.old) (S.told starter.now))
-        (At (launched (past_of manager.old) keys.now) (S.told starter.now) keys.now [])) }
-    ensures cut { IfErr result (IsCutShort D.honest D.seen D.may_leave D.moment D.left_since D.faults D.capacity
-        (limits_of manager.old) (plan_of manager.old) (S.may_tell starter.now) (S.may_tell starter.now)
+        (at_rest (past_of manager.old) (S.call_log starter.now))
+        (At (launched (past_of manager.old) keys.now) (S.call_log starter.now) keys.now [])) }
+    ensures cut { IfErr result (IsCutShort D.Disk
+        (limits_of manager.old) (plan_of manager.old) (S.may_return starter.now) (S.may_return starter.now)
         (S.faults starter.now) (S.faults starter.now) manager.old manager.new
-        (at_rest (past_of manager.old) (S.told starter.now)) (S.told starter.now)) }
+        (at_rest (past_of manager.old) (S.call_log starter.now)) (S.call_log starter.now)) }
 {
     let _starter = starter;
     keeps_the_law(manager);
@@ -125,15 +125,15 @@ pub fn record_ends<D: Disk + Drop, S: Starter>(
     ensures nearer { OnOk result (IsNearerEnd (plan_of manager.old) (past_of manager.old) (past_of manager.new)) }
     ensures past { OnOk result (past_of manager.new ≡ added (past_of manager.old)
         (up_to_abort (plan_of manager.old) (past_of manager.old) (ends_of ends.now))) }
-    ensures went { OnOk result (IsStretch D.honest D.seen D.may_leave D.moment D.left_since D.faults D.capacity
-        (limits_of manager.old) (plan_of manager.old) (S.may_tell starter.now) (S.may_tell starter.now)
+    ensures went { OnOk result (IsStretch D.Disk
+        (limits_of manager.old) (plan_of manager.old) (S.may_return starter.now) (S.may_return starter.now)
         (S.faults starter.now) (S.faults starter.now) manager.old manager.new
-        (At (past_of manager.old) (S.told starter.now) [] ends.now)
-        (at_rest (past_of manager.new) (S.told starter.now))) }
-    ensures cut { IfErr result (IsCutShort D.honest D.seen D.may_leave D.moment D.left_since D.faults D.capacity
-        (limits_of manager.old) (plan_of manager.old) (S.may_tell starter.now) (S.may_tell starter.now)
+        (At (past_of manager.old) (S.call_log starter.now) [] ends.now)
+        (at_rest (past_of manager.new) (S.call_log starter.now))) }
+    ensures cut { IfErr result (IsCutShort D.Disk
+        (limits_of manager.old) (plan_of manager.old) (S.may_return starter.now) (S.may_return starter.now)
         (S.faults starter.now) (S.faults starter.now) manager.old manager.new
-        (At (past_of manager.old) (S.told starter.now) [] ends.now) (S.told starter.now)) }
+        (At (past_of manager.old) (S.call_log starter.now) [] ends.now) (S.call_log starter.now)) }
 {
     let _starter = starter;
     keeps_the_law(manager);

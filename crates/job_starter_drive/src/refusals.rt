@@ -29,7 +29,7 @@ pub fn no_memory(faults: &mut u64) -> StartFault
 pub fn no_answer(faults: &mut u64) -> StartFault
     ensures later { faults.old ≤ faults.new }
     ensures asked { IsAskFault faults.old faults.new result }
-    ensures waited { (told : List Call) → IsWaitFault faults.old faults.new told result }
+    ensures waited { (call_log : List Call) → IsWaitFault faults.old faults.new call_log result }
 {
     raise(faults);
     StartFault::WaitFault

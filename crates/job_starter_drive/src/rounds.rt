@@ -9,9 +9,9 @@ ghost use Rattle.sched_core.specs.Run.{is_among, is_aborted, is_over, is_open, o
 ghost use Rattle.sched_core.specs.Choices.{IsChoice};
 ghost use Rattle.sched_core.specs.declared.Choice.TheVariants.{Start};
 ghost use Rattle.recovery_manager.specs.Managed.{Managed, plan_of, past_of};
-ghost use Rattle.job_starter_drive.specs.Calls.{running, MayRun, TellsNoMore};
-ghost use Rattle.job_starter_drive.specs.Drives.{limits_of, At, at_rest, AreInStep, AreUnderWay, IsRoundOf, IsNearerEnd, IsHandedOver, IsTurn, Starts, IsLaunched};
-ghost use Rattle.job_starter_drive.specs.Causes.{IsDriveFault, IsUnhanded};
+ghost use Rattle.job_starter_drive.specs.Calls.{running, MayRun, AllowsNoMore};
+ghost use Rattle.job_starter_drive.specs.Drives.{limits_of, At, at_rest, AreInStep, AreUnderWay, IsRoundOf, IsNearerEnd, IsSpawned, IsTurn, Starts, IsLaunched};
+ghost use Rattle.job_starter_drive.specs.Causes.{IsDriveFault, IsUnspawned};
 ghost use Rattle.job_starter_drive.specs.Stretches.{IsStretch, IsCutShort};
 
 use crate::records::{
@@ -35,20 +35,20 @@ fn hand_over<D: Disk + Drop, S: Starter>(
     requires allowed { key.attempt ≤ (node_at (plan_of manager.now) key.node).course.retries }
     requires child { IsTrue (starts_child (node_at (plan_of manager.now) key.node) key.phase) }
     requires outstanding { IsTrue (is_among key (outstanding (plan_of manager.now) (past_of manager.now))) }
-    requires free { IsFalse (is_among key (running (S.told starter.old))) }
-    ensures handed { IfOk result (λ answer. IsHandedOver (plan_of manager.now) (past_of manager.now)
-        key answer (S.told starter.old) (S.told starter.new)) }
-    ensures silent { OnErr result (S.told starter.new ≡ S.told starter.old) }
+    requires free { IsFalse (is_among key (running (S.call_log starter.old))) }
+    ensures spawned { IfOk result (λ answer. IsSpawned (plan_of manager.now) (past_of manager.now)
+        key answer (S.call_log starter.old) (S.call_log starter.new)) }
+    ensures silent { OnErr result (S.call_log starter.new ≡ S.call_log starter.old) }
     ensures may_be { IfOk result (λ answer.
-        answer ≡ Started.NotStarted → S.may_tell starter.old (S.told starter.old) key NoStart) }
+        answer ≡ Started.NotStarted → S.may_return starter.old (S.call_log starter.old) key NoStart) }
     ensures may_run { IfOk result (λ answer.
-        answer ≡ Started.Running → MayRun (S.may_tell starter.old) (S.told starter.old) key) }
+        answer ≡ Started.Running → MayRun (S.may_return starter.old) (S.call_log starter.old) key) }
     ensures unrefused { OnOk result (S.faults starter.new ≡ S.faults starter.old) }
     ensures later { S.faults starter.old ≤ S.faults starter.new }
-    ensures refused { (old : Managed D) → IfErr result (IsDriveFault D.honest D.faults D.capacity
+    ensures refused { (old : Managed D) → IfErr result (IsDriveFault D.Disk
         (S.faults starter.old) (S.faults starter.new) old manager.now) }
-    ensures unhanded { IfErr result IsUnhanded }
-    ensures may { TellsNoMore (S.may_tell starter.old) (S.may_tell starter.new) }
+    ensures unhanded { IfErr result IsUnspawned }
+    ensures may { AllowsNoMore (S.may_return starter.old) (S.may_return starter.new) }
 {
     let core = manager.core();
     let facts = core.facts(&key);
@@ -73,20 +73,20 @@ fn hand_one<D: Disk + Drop, S: Starter>(
     requires there { place < length keys.now }
     requires room { length owed.old.items < vec_capacity owed.old }
     requires going { IsTrue (is_open (past_of manager.now)) }
-    requires under_way { AreUnderWay (plan_of manager.now) (past_of manager.now) (S.told starter.old)
+    requires under_way { AreUnderWay (plan_of manager.now) (past_of manager.now) (S.call_log starter.old)
         (drop place keys.now) owed.old.items }
-    ensures under_way { OnOk result (AreUnderWay (plan_of manager.now) (past_of manager.now) (S.told starter.new)
+    ensures under_way { OnOk result (AreUnderWay (plan_of manager.now) (past_of manager.now) (S.call_log starter.new)
         (drop (place + 1) keys.now) owed.new.items) }
-    ensures went { OnOk result (IsStretch D.honest D.seen D.may_leave D.moment D.left_since D.faults D.capacity
-        (limits_of manager.now) (plan_of manager.now) (S.may_tell starter.old) (S.may_tell starter.new)
+    ensures went { OnOk result (IsStretch D.Disk
+        (limits_of manager.now) (plan_of manager.now) (S.may_return starter.old) (S.may_return starter.new)
         (S.faults starter.old) (S.faults starter.new) manager.now manager.now
-        (At (past_of manager.now) (S.told starter.old) (drop place keys.now) owed.old.items)
-        (At (past_of manager.now) (S.told starter.new) (drop (place + 1) keys.now) owed.new.items)) }
-    ensures cut { IfErr result (IsCutShort D.honest D.seen D.may_leave D.moment D.left_since D.faults D.capacity
-        (limits_of manager.now) (plan_of manager.now) (S.may_tell starter.old) (S.may_tell starter.new)
+        (At (past_of manager.now) (S.call_log starter.old) (drop place keys.now) owed.old.items)
+        (At (past_of manager.now) (S.call_log starter.new) (drop (place + 1) keys.now) owed.new.items)) }
+    ensures cut { IfErr result (IsCutShort D.Disk
+        (limits_of manager.now) (plan_of manager.now) (S.may_return starter.old) (S.may_return starter.new)
         (S.faults starter.old) (S.faults starter.new) manager.now manager.now
-        (At (past_of manager.now) (S.told starter.old) (drop place keys.now) owed.old.items) (S.told starter.new)) }
-    ensures waits_for_none { Starts (S.told starter.old) (S.told starter.new) }
+        (At (past_of manager.now) (S.call_log starter.old) (drop place keys.now) owed.old.items) (S.call_log starter.new)) }
+    ensures waits_for_none { Starts (S.call_log starter.old) (S.call_log starter.new) }
     ensures room { vec_capacity owed.old ≤ vec_capacity owed.new }
     ensures more { OnOk result (length owed.new.items ≤ length owed.old.items + 1) }
 {
@@ -117,19 +117,19 @@ fn hand_all<D: Disk + Drop, S: Starter>(
     requires none { owed.old.items ≡ [] }
     requires room { length keys.now ≤ vec_capacity owed.old }
     requires going { IsTrue (is_open (past_of manager.now)) }
-    requires under_way { AreUnderWay (plan_of manager.now) (past_of manager.now) (S.told starter.old) keys.now [] }
-    ensures under_way { OnOk result (AreUnderWay (plan_of manager.now) (past_of manager.now) (S.told starter.new)
+    requires under_way { AreUnderWay (plan_of manager.now) (past_of manager.now) (S.call_log starter.old) keys.now [] }
+    ensures under_way { OnOk result (AreUnderWay (plan_of manager.now) (past_of manager.now) (S.call_log starter.new)
         [] owed.new.items) }
-    ensures went { OnOk result (IsStretch D.honest D.seen D.may_leave D.moment D.left_since D.faults D.capacity
-        (limits_of manager.now) (plan_of manager.now) (S.may_tell starter.old) (S.may_tell starter.new)
+    ensures went { OnOk result (IsStretch D.Disk
+        (limits_of manager.now) (plan_of manager.now) (S.may_return starter.old) (S.may_return starter.new)
         (S.faults starter.old) (S.faults starter.new) manager.now manager.now
-        (At (past_of manager.now) (S.told starter.old) keys.now [])
-        (At (past_of manager.now) (S.told starter.new) [] owed.new.items)) }
-    ensures cut { IfErr result (IsCutShort D.honest D.seen D.may_leave D.moment D.left_since D.faults D.capacity
-        (limits_of manager.now) (plan_of manager.now) (S.may_tell starter.old) (S.may_tell starter.new)
+        (At (past_of manager.now) (S.call_log starter.old) keys.now [])
+        (At (past_of manager.now) (S.call_log starter.new) [] owed.new.items)) }
+    ensures cut { IfErr result (IsCutShort D.Disk
+        (limits_of manager.now) (plan_of manager.now) (S.may_return starter.old) (S.may_return starter.new)
         (S.faults starter.old) (S.faults starter.new) manager.now manager.now
-        (At (past_of manager.now) (S.told starter.old) keys.now []) (S.told starter.new)) }
-    ensures waits_for_none { Starts (S.told starter.old) (S.told starter.new) }
+        (At (past_of manager.now) (S.call_log starter.old) keys.now []) (S.call_log starter.new)) }
+    ensures waits_for_none { Starts (S.call_log starter.old) (S.call_log starter.new) }
 {
     keeps_the_law(manager);
     let mut place = 0;
@@ -149,20 +149,20 @@ fn start_round<D: Disk + Drop, S: Starter>(
     starter: &mut S,
     keys: &[Key],
 ) -> Result<(), DriveFault>
-    requires in_step { AreInStep (plan_of manager.old) (past_of manager.old) (S.told starter.old) }
+    requires in_step { AreInStep (plan_of manager.old) (past_of manager.old) (S.call_log starter.old) }
     requires going { IsTrue (is_open (past_of manager.old)) }
     requires round { IsRoundOf (limits_of manager.old) (plan_of manager.old) (past_of manager.old) keys.now }
     ensures nearer { OnOk result (IsNearerEnd (plan_of manager.old) (past_of manager.old) (past_of manager.new)) }
-    ensures turn { OnOk result (IsTurn (plan_of manager.old) (past_of manager.old) (past_of manager.new) (S.told starter.new)) }
-    ensures went { OnOk result (IsStretch D.honest D.seen D.may_leave D.moment D.left_since D.faults D.capacity
-        (limits_of manager.old) (plan_of manager.old) (S.may_tell starter.old) (S.may_tell starter.new)
+    ensures turn { OnOk result (IsTurn (plan_of manager.old) (past_of manager.old) (past_of manager.new) (S.call_log starter.new)) }
+    ensures went { OnOk result (IsStretch D.Disk
+        (limits_of manager.old) (plan_of manager.old) (S.may_return starter.old) (S.may_return starter.new)
         (S.faults starter.old) (S.faults starter.new) manager.old manager.new
-        (at_rest (past_of manager.old) (S.told starter.old)) (at_rest (past_of manager.new) (S.told starter.new))) }
-    ensures cut { IfErr result (IsCutShort D.honest D.seen D.may_leave D.moment D.left_since D.faults D.capacity
-        (limits_of manager.old) (plan_of manager.old) (S.may_tell starter.old) (S.may_tell starter.new)
+        (at_rest (past_of manager.old) (S.call_log starter.old)) (at_rest (past_of manager.new) (S.call_log starter.new))) }
+    ensures cut { IfErr result (IsCutShort D.Disk
+        (limits_of manager.old) (plan_of manager.old) (S.may_return starter.old) (S.may_return starter.new)
         (S.faults starter.old) (S.faults starter.new) manager.old manager.new
-        (at_rest (past_of manager.old) (S.told starter.old)) (S.told starter.new)) }
-    ensures waits_for_none { Starts (S.told starter.old) (S.told starter.new) }
+        (at_rest (past_of manager.old) (S.call_log starter.old)) (S.call_log starter.new)) }
+    ensures waits_for_none { Starts (S.call_log starter.old) (S.call_log starter.new) }
 {
     keeps_the_law(manager);
     let Ok(mut owed) = Vec::with_capacity(alloc, keys.len()) else {
@@ -196,29 +196,29 @@ pub fn launch_round<D: Disk + Drop, S: Starter>(
     starter: &mut S,
 ) -> Result<(), DriveFault>
     requires own { plan.now ≡ plan_of manager.old }
-    requires in_step { AreInStep (plan_of manager.old) (past_of manager.old) (S.told starter.old) }
+    requires in_step { AreInStep (plan_of manager.old) (past_of manager.old) (S.call_log starter.old) }
     requires unfinished { IsFalse (is_over (past_of manager.old)) }
     ensures plan { plan_of manager.new ≡ plan_of manager.old }
     ensures limits { limits_of manager.new ≡ limits_of manager.old }
     // A stretch of the run from rest to rest.
-    ensures went { OnOk result (IsStretch D.honest D.seen D.may_leave D.moment D.left_since D.faults D.capacity
-        (limits_of manager.old) (plan_of manager.old) (S.may_tell starter.old) (S.may_tell starter.new)
+    ensures went { OnOk result (IsStretch D.Disk
+        (limits_of manager.old) (plan_of manager.old) (S.may_return starter.old) (S.may_return starter.new)
         (S.faults starter.old) (S.faults starter.new) manager.old manager.new
-        (at_rest (past_of manager.old) (S.told starter.old)) (at_rest (past_of manager.new) (S.told starter.new))) }
+        (at_rest (past_of manager.old) (S.call_log starter.old)) (at_rest (past_of manager.new) (S.call_log starter.new))) }
     // Nothing more is let in, or the newest record aborts the run, which was not aborted before.
     ensures done { OnOk result (IsLaunched (limits_of manager.old) (plan_of manager.old)
         (past_of manager.old) (past_of manager.new)) }
     // The run goes on: the children that run are the outstanding phases, or it was aborted just now.
-    ensures turn { OnOk result (IsTurn (plan_of manager.old) (past_of manager.old) (past_of manager.new) (S.told starter.new)) }
+    ensures turn { OnOk result (IsTurn (plan_of manager.old) (past_of manager.old) (past_of manager.new) (S.call_log starter.new)) }
     // Where something was to be launched, fewer records are to come.
     ensures nearer { (key : Key) → IsChoice (limits_of manager.old) (plan_of manager.old) (past_of manager.old) (Start key)
         → OnOk result (IsNearerEnd (plan_of manager.old) (past_of manager.old) (past_of manager.new)) }
     // Behind a fault: a stretch that this fault cut short.
-    ensures cut { IfErr result (IsCutShort D.honest D.seen D.may_leave D.moment D.left_since D.faults D.capacity
-        (limits_of manager.old) (plan_of manager.old) (S.may_tell starter.old) (S.may_tell starter.new)
+    ensures cut { IfErr result (IsCutShort D.Disk
+        (limits_of manager.old) (plan_of manager.old) (S.may_return starter.old) (S.may_return starter.new)
         (S.faults starter.old) (S.faults starter.new) manager.old manager.new
-        (at_rest (past_of manager.old) (S.told starter.old)) (S.told starter.new)) }
-    ensures waits_for_none { Starts (S.told starter.old) (S.told starter.new) }
+        (at_rest (past_of manager.old) (S.call_log starter.old)) (S.call_log starter.new)) }
+    ensures waits_for_none { Starts (S.call_log starter.old) (S.call_log starter.new) }
 {
     let _plan = plan;
     goes_on(manager);

@@ -5,7 +5,7 @@ ghost use Rattle.node_machine.specs.declared.Key.{Key};
 ghost use Rattle.node_machine.specs.declared.Outcome.{Outcome};
 ghost use Rattle.sched_core.specs.Run.{is_among};
 ghost use Rattle.job_starter_drive.specs.declared.Call.{Call};
-ghost use Rattle.job_starter_drive.specs.Calls.{running, snapshot_of, MayRun, TellsNoMore};
+ghost use Rattle.job_starter_drive.specs.Calls.{running, snapshot_of, MayRun, AllowsNoMore};
 ghost use Rattle.job_starter_drive.specs.Causes.{IsStartFault, IsAskFault, IsWaitFault};
 
 use crate::{Call, Killed, StartFault, Started};
@@ -18,10 +18,10 @@ use run_plan_node::ChildCommand;
 /// and what was told. A child runs from its start until its ending is told or it is killed.
 pub trait Starter {
     /// The calls that were answered, the newest first.
-    ghost told: { Self → List Call };
+    ghost call_log: { Self → List Call };
 
     /// How the child of a key may be told to end, behind these calls.
-    ghost may_tell: { Self → List Call → Key → Outcome → Type 0 };
+    ghost may_return: { Self → List Call → Key → Outcome → Type 0 };
 
     /// The count of the system's refusals, which stays at 2 ^ 64 - 1: each adds one. That no child runs
     /// counts as none, and so does a kill.
@@ -33,18 +33,18 @@ pub trait Starter {
     /// `StartMemory` where memory for it is refused: none is started. A child that can't be started
     /// for another reason is an answer, `NotStarted`.
     fn start(&mut self, key: Key, command: &ChildCommand) -> Result<Started, StartFault>
-        requires { IsFalse (is_among key (running (told self.old))) }
+        requires { IsFalse (is_among key (running (call_log self.old))) }
         ensures ok { IfOk result
-            (λ answer. told self.new ≡ Call.Started key (snapshot_of command.now) answer ∷ told self.old) }
+            (λ answer. call_log self.new ≡ Call.Started key (snapshot_of command.now) answer ∷ call_log self.old) }
         ensures not_started { IfOk result (λ answer.
-            answer ≡ Started.NotStarted → may_tell self.old (told self.old) key Outcome.NoStart) }
+            answer ≡ Started.NotStarted → may_return self.old (call_log self.old) key Outcome.NoStart) }
         ensures runs { IfOk result (λ answer.
-            answer ≡ Started.Running → MayRun (may_tell self.old) (told self.old) key) }
-        ensures refused { OnErr result (told self.new ≡ told self.old) }
+            answer ≡ Started.Running → MayRun (may_return self.old) (call_log self.old) key) }
+        ensures refused { OnErr result (call_log self.new ≡ call_log self.old) }
         ensures err { IfErr result (IsStartFault (faults self.old) (faults self.new)) }
         ensures counts { OnOk result (faults self.new ≡ faults self.old) }
         ensures later { faults self.old ≤ faults self.new }
-        ensures may { TellsNoMore (may_tell self.old) (may_tell self.new) };
+        ensures may { AllowsNoMore (may_return self.old) (may_return self.new) };
 
     /// Waits until some child ends, and tells how. It takes no memory.
     ///
@@ -52,33 +52,33 @@ pub trait Starter {
     /// `NoChild` exactly where none runs, and `WaitFault` where the system refuses the question or the
     /// wait: the children stay as they were.
     fn wait_any(&mut self) -> Result<(Key, Outcome), StartFault>
-        ensures told { IfOk result
-            (λ ended. told self.new ≡ Call.Ended ended.0 ended.1 ∷ told self.old) }
-        ensures ran { IfOk result (λ ended. IsTrue (is_among ended.0 (running (told self.old)))) }
-        ensures may_be { IfOk result (λ ended. may_tell self.old (told self.old) ended.0 ended.1) }
+        ensures call_log { IfOk result
+            (λ ended. call_log self.new ≡ Call.Ended ended.0 ended.1 ∷ call_log self.old) }
+        ensures ran { IfOk result (λ ended. IsTrue (is_among ended.0 (running (call_log self.old)))) }
+        ensures may_be { IfOk result (λ ended. may_return self.old (call_log self.old) ended.0 ended.1) }
         ensures possible { IfOk result (λ ended. IsTrue (is_possible ended.1)) }
-        ensures refused { OnErr result (told self.new ≡ told self.old) }
+        ensures refused { OnErr result (call_log self.new ≡ call_log self.old) }
         ensures err { IfErr result
-            (IsWaitFault (faults self.old) (faults self.new) (told self.old)) }
-        ensures idle { running (told self.old) ≡ [] → IsErrOf result StartFault.NoChild }
+            (IsWaitFault (faults self.old) (faults self.new) (call_log self.old)) }
+        ensures idle { running (call_log self.old) ≡ [] → IsErrOf result StartFault.NoChild }
         ensures counts { OnOk result (faults self.new ≡ faults self.old) }
         ensures later { faults self.old ≤ faults self.new }
-        ensures may { TellsNoMore (may_tell self.old) (may_tell self.new) };
+        ensures may { AllowsNoMore (may_return self.old) (may_return self.new) };
 
     /// Kills a child, waits for it where the system lets it, and forgets it either way.
     fn kill(&mut self, key: Key) -> Killed
-        requires { IsTrue (is_among key (running (told self.old))) }
-        ensures told { told self.new ≡ Call.Killed key ∷ told self.old }
+        requires { IsTrue (is_among key (running (call_log self.old))) }
+        ensures call_log { call_log self.new ≡ Call.Killed key ∷ call_log self.old }
         ensures counts { faults self.new ≡ faults self.old }
-        ensures may { TellsNoMore (may_tell self.old) (may_tell self.new) };
+        ensures may { AllowsNoMore (may_return self.old) (may_return self.new) };
 
     /// The keys of the children that run, in the order of their starts.
     fn running(&self) -> &[Key]
-        ensures { reverse result.now ≡ running (told self.now) };
+        ensures { reverse result.now ≡ running (call_log self.now) };
 
     /// The calls that were answered, in order.
     fn calls(&self) -> &[Call]
-        ensures { reverse result.now ≡ told self.now };
+        ensures { reverse result.now ≡ call_log self.now };
 
     /// How often the system refused.
     fn faults(&self) -> u64
@@ -89,10 +89,10 @@ pub trait Starter {
 /// key.
 pub trait System {
     /// The calls that were answered, the newest first.
-    ghost told: { Self → List Call };
+    ghost call_log: { Self → List Call };
 
     /// How the child of a key may be told to end, behind these calls.
-    ghost may_tell: { Self → List Call → Key → Outcome → Type 0 };
+    ghost may_return: { Self → List Call → Key → Outcome → Type 0 };
 
     /// The count of refusals, which stays at 2 ^ 64 - 1: each adds one. A kill counts as none.
     ghost faults: { Self → ℕ };
@@ -102,73 +102,73 @@ pub trait System {
     /// # Errors
     /// `StartMemory` where memory for it is refused: none is started.
     fn spawn(&mut self, key: Key, command: &ChildCommand) -> Result<Started, StartFault>
-        requires { IsFalse (is_among key (running (told self.old))) }
+        requires { IsFalse (is_among key (running (call_log self.old))) }
         ensures ok { IfOk result
-            (λ answer. told self.new ≡ Call.Started key (snapshot_of command.now) answer ∷ told self.old) }
+            (λ answer. call_log self.new ≡ Call.Started key (snapshot_of command.now) answer ∷ call_log self.old) }
         ensures not_started { IfOk result (λ answer.
-            answer ≡ Started.NotStarted → may_tell self.old (told self.old) key Outcome.NoStart) }
+            answer ≡ Started.NotStarted → may_return self.old (call_log self.old) key Outcome.NoStart) }
         ensures runs { IfOk result (λ answer.
-            answer ≡ Started.Running → MayRun (may_tell self.old) (told self.old) key) }
-        ensures refused { OnErr result (told self.new ≡ told self.old) }
+            answer ≡ Started.Running → MayRun (may_return self.old) (call_log self.old) key) }
+        ensures refused { OnErr result (call_log self.new ≡ call_log self.old) }
         ensures err { IfErr result (IsStartFault (faults self.old) (faults self.new)) }
         ensures counts { OnOk result (faults self.new ≡ faults self.old) }
         ensures later { faults self.old ≤ faults self.new }
-        ensures may { TellsNoMore (may_tell self.old) (may_tell self.new) };
+        ensures may { AllowsNoMore (may_return self.old) (may_return self.new) };
 
     /// Whether a child has ended, and how. It does not wait.
     ///
     /// # Errors
     /// `WaitFault` where the question is refused.
     fn ask(&mut self, key: Key) -> Result<Option<Outcome>, StartFault>
-        requires { IsTrue (is_among key (running (told self.old))) }
-        ensures told { IfOk result (λ answer. IfSome answer
-            (λ outcome. told self.new ≡ Call.Ended key outcome ∷ told self.old)) }
-        ensures may_be { IfOk result (λ answer. IfSome answer (may_tell self.old (told self.old) key)) }
+        requires { IsTrue (is_among key (running (call_log self.old))) }
+        ensures call_log { IfOk result (λ answer. IfSome answer
+            (λ outcome. call_log self.new ≡ Call.Ended key outcome ∷ call_log self.old)) }
+        ensures may_be { IfOk result (λ answer. IfSome answer (may_return self.old (call_log self.old) key)) }
         ensures possible { IfOk result
             (λ answer. IfSome answer (λ outcome. IsTrue (is_possible outcome))) }
-        ensures runs { IfOk result (λ answer. answer ≡ None → told self.new ≡ told self.old) }
-        ensures refused { OnErr result (told self.new ≡ told self.old) }
+        ensures runs { IfOk result (λ answer. answer ≡ None → call_log self.new ≡ call_log self.old) }
+        ensures refused { OnErr result (call_log self.new ≡ call_log self.old) }
         ensures err { IfErr result (IsAskFault (faults self.old) (faults self.new)) }
         ensures counts { OnOk result (faults self.new ≡ faults self.old) }
         ensures later { faults self.old ≤ faults self.new }
-        ensures may { TellsNoMore (may_tell self.old) (may_tell self.new) };
+        ensures may { AllowsNoMore (may_return self.old) (may_return self.new) };
 
     /// Waits until a child ends, and tells how.
     ///
     /// # Errors
     /// `WaitFault` where the wait is refused.
     fn wait(&mut self, key: Key) -> Result<Outcome, StartFault>
-        requires { IsTrue (is_among key (running (told self.old))) }
-        ensures told { IfOk result
-            (λ outcome. told self.new ≡ Call.Ended key outcome ∷ told self.old) }
-        ensures may_be { IfOk result (may_tell self.old (told self.old) key) }
+        requires { IsTrue (is_among key (running (call_log self.old))) }
+        ensures call_log { IfOk result
+            (λ outcome. call_log self.new ≡ Call.Ended key outcome ∷ call_log self.old) }
+        ensures may_be { IfOk result (may_return self.old (call_log self.old) key) }
         ensures possible { IfOk result (λ outcome. IsTrue (is_possible outcome)) }
-        ensures refused { OnErr result (told self.new ≡ told self.old) }
+        ensures refused { OnErr result (call_log self.new ≡ call_log self.old) }
         ensures err { IfErr result (IsAskFault (faults self.old) (faults self.new)) }
         ensures counts { OnOk result (faults self.new ≡ faults self.old) }
         ensures later { faults self.old ≤ faults self.new }
-        ensures may { TellsNoMore (may_tell self.old) (may_tell self.new) };
+        ensures may { AllowsNoMore (may_return self.old) (may_return self.new) };
 
     /// Kills a child, waits for it where that succeeded, and forgets it either way.
     fn kill(&mut self, key: Key) -> Killed
-        requires { IsTrue (is_among key (running (told self.old))) }
-        ensures told { told self.new ≡ Call.Killed key ∷ told self.old }
+        requires { IsTrue (is_among key (running (call_log self.old))) }
+        ensures call_log { call_log self.new ≡ Call.Killed key ∷ call_log self.old }
         ensures counts { faults self.new ≡ faults self.old }
-        ensures may { TellsNoMore (may_tell self.old) (may_tell self.new) };
+        ensures may { AllowsNoMore (may_return self.old) (may_return self.new) };
 
     /// Lets some time pass between two rounds of questions.
     fn pause(&mut self)
-        ensures told { told self.new ≡ told self.old }
+        ensures call_log { call_log self.new ≡ call_log self.old }
         ensures counts { faults self.new ≡ faults self.old }
-        ensures may { TellsNoMore (may_tell self.old) (may_tell self.new) };
+        ensures may { AllowsNoMore (may_return self.old) (may_return self.new) };
 
     /// The keys of the children that run, in the order of their starts.
     fn running(&self) -> &[Key]
-        ensures { reverse result.now ≡ running (told self.now) };
+        ensures { reverse result.now ≡ running (call_log self.now) };
 
     /// The calls that were answered, in order.
     fn calls(&self) -> &[Call]
-        ensures { reverse result.now ≡ told self.now };
+        ensures { reverse result.now ≡ call_log self.now };
 
     /// How often a call was refused.
     fn faults(&self) -> u64

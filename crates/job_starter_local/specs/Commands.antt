@@ -12,8 +12,8 @@ is_equals byte = byte == 61
 
 -- What is said of a variable behind one more setting, `name=value`: its name ends at its first equals sign. A text without one sets
 -- nothing.
-abbrev pub said_by : List ℕ → Option (Option (List ℕ)) → List ℕ → Option (Option (List ℕ))
-said_by name said setting =
+abbrev pub variable_after : List ℕ → Option (Option (List ℕ)) → List ℕ → Option (Option (List ℕ))
+variable_after name said setting =
     if nat_lt (position_or_len is_equals setting) (length setting) && bytes_eq (before_first is_equals setting) name
     then Some (Some (after_first is_equals setting)) else said
 
@@ -23,7 +23,7 @@ pub record IsCommandOf {A : Type 0} (folder : List ℕ) (child : ChildCommand) (
   pub program : command_program command ≡ join folder child.program
   pub words : command_args command ≡ child.words
   pub place : command_dir command ≡ Some (join folder child.folder)
-  pub variables : (name : List ℕ) → command_var command name ≡ fold (said_by name) None child.environment
+  pub variables : (name : List ℕ) → command_var command name ≡ fold (variable_after name) None child.environment
   pub inherits : clears_env command ≡ false
 
 -- the longest pause between two looks at so many children, in microseconds: a look takes longer the more there are

@@ -2,7 +2,7 @@
 
 ghost use Rattle.std.specs.Prelude.{◌≡◌, ◌∷◌, ◌++◌, None, IfOk, OnOk, unwrap_or};
 ghost use Rattle.splices_flat.specs.Paths.{join};
-ghost use Rattle.job_starter_local.specs.Launching.{is_job, is_spared, is_launched, behind, started_by};
+ghost use Rattle.job_starter_local.specs.Launching.{is_job, is_spared, has_launcher, behind_launcher, started_by};
 
 use dag_reader::{Text, Texts};
 use node_machine::{Key, Phase};
@@ -49,7 +49,7 @@ impl Launcher {
     /// Whether it stands before the command of the child of this key: before that of a job, but of the spared
     /// node's, and of no script.
     fn launches(&self, key: &Key) -> bool
-        ensures { result ≡ is_launched self.now.spared key.now }
+        ensures { result ≡ has_launcher self.now.spared key.now }
     {
         is_job(key.phase) && !self.spares(key.node)
     }

@@ -7,7 +7,7 @@ ghost use Rattle.std.specs.Prelude.{◌≡◌, ◌∷◌, [], ◌≤◌, ◌<◌
 ghost use Rattle.std.specs.Process.{exit_code, exit_signal};
 ghost use Rattle.node_machine.specs.Story.{is_possible};
 ghost use Rattle.sched_core.specs.Run.{is_same, is_among, without};
-ghost use Rattle.job_starter_drive.specs.Calls.{running, TellsNoMore};
+ghost use Rattle.job_starter_drive.specs.Calls.{running, AllowsNoMore};
 ghost use Rattle.job_starter_drive.specs.Causes.{IsStartFault, IsAskFault};
 ghost use Rattle.job_starter_local.specs.Commands.{longest_pause};
 
@@ -346,7 +346,7 @@ impl<'a, R: Processes + Files<File = File> + Clock + Drop, W: ChildWatcher + Dro
     /// A child ended with this status: it is let go, and its outcome told.
     fn end(&mut self, key: &Key, status: ExitStatus) -> Outcome
         requires { IsTrue (is_among key.now (running self.old.log.calls)) }
-        ensures told { self.new.log.calls ≡ Call.Ended key.now result ∷ self.old.log.calls }
+        ensures call_log { self.new.log.calls ≡ Call.Ended key.now result ∷ self.old.log.calls }
         ensures possible { IsTrue (is_possible result) }
         ensures faults { self.new.faults ≡ self.old.faults }
     {
@@ -361,10 +361,10 @@ impl<'a, R: Processes + Files<File = File> + Clock + Drop, W: ChildWatcher + Dro
 
 impl<R: Processes + Files<File = File> + Clock + Drop, W: ChildWatcher + Drop> System
     for LocalSystem<'_, R, W> {
-    ghost told = { λ s. s.log.calls };
+    ghost call_log = { λ s. s.log.calls };
 
     // A child of the operating system may end in any way.
-    ghost may_tell = { λ _ _ _ _. Unit {0} };
+    ghost may_return = { λ _ _ _ _. Unit {0} };
 
     ghost faults = { λ s. s.faults };
 

@@ -2,7 +2,7 @@
 
 ghost use Rattle.std.specs.Prelude.{◌≡◌, ℕ, List, ◌++◌, fold, IfOk, OnOk};
 ghost use Rattle.std.specs.Process.{command_program, command_args, command_var, clears_env, SameProgramAndArgs, SameEnv};
-ghost use Rattle.job_starter_local.specs.Commands.{said_by, IsCommandOf};
+ghost use Rattle.job_starter_local.specs.Commands.{variable_after, IsCommandOf};
 
 use crate::watching::CommandPart;
 use dag_reader::Text;
@@ -101,19 +101,21 @@ fn error_of<R: Files<File = File>>(
     alloc: Global,
     rt: &R,
     folder: &str,
-    told: &ChildCommand,
+    call_log: &ChildCommand,
     output: &Option<File>,
 ) -> io::Result<Option<File>> {
     match output {
-        Some(file) if are_one_path(&told.output, &told.error) => Ok(Some(file.try_clone()?)),
-        _ => file_of(alloc, rt, folder, &told.error),
+        Some(file) if are_one_path(&call_log.output, &call_log.error) => Ok(Some(
+            file.try_clone()?,
+        )),
+        _ => file_of(alloc, rt, folder, &call_log.error),
     }
 }
 
 /// Sets the variable of a setting, `name=value`.
 fn set_variable(command: &mut Command, setting: &str) -> Result<(), AllocError>
     ensures set { OnOk result ((name : List ℕ) → command_var command.new name
-        ≡ said_by name (command_var command.old name) setting.now) }
+        ≡ variable_after name (command_var command.old name) setting.now) }
     ensures call { OnOk result (SameProgramAndArgs command.old command.new) }
     ensures inherits { OnOk result (clears_env command.new ≡ clears_env command.old) }
 {
@@ -126,7 +128,7 @@ fn set_variable(command: &mut Command, setting: &str) -> Result<(), AllocError>
 /// Sets what is added to the environment.
 fn set_environment(command: &mut Command, settings: &[Text]) -> Result<(), AllocError>
     ensures set { OnOk result ((name : List ℕ) → command_var command.new name
-        ≡ fold (said_by name) (command_var command.old name) settings.now) }
+        ≡ fold (variable_after name) (command_var command.old name) settings.now) }
     ensures call { OnOk result (SameProgramAndArgs command.old command.new) }
     ensures inherits { OnOk result (clears_env command.new ≡ clears_env command.old) }
 {
@@ -169,17 +171,20 @@ fn set_streams<R: Files<File = File>>(
     alloc: Global,
     rt: &R,
     folder: &str,
-    told: &ChildCommand,
+    call_log: &ChildCommand,
     command: &mut Command,
 ) -> Result<(), Refusal> {
-    let input = at_part(CommandPart::Input, input_of(alloc, rt, folder, &told.input))?;
+    let input = at_part(
+        CommandPart::Input,
+        input_of(alloc, rt, folder, &call_log.input),
+    )?;
     let output = at_part(
         CommandPart::Output,
-        file_of(alloc, rt, folder, &told.output),
+        file_of(alloc, rt, folder, &call_log.output),
     )?;
     let error = at_part(
         CommandPart::Error,
-        error_of(alloc, rt, folder, told, &output),
+        error_of(alloc, rt, folder, call_log, &output),
     )?;
     command
         .stdin(input)
@@ -193,10 +198,10 @@ pub(crate) fn start_child<R: Processes + Files<File = File>>(
     alloc: Global,
     rt: &R,
     folder: &str,
-    told: &ChildCommand,
+    call_log: &ChildCommand,
 ) -> Result<Child<R::Started>, Refusal> {
-    let made = command_for(alloc, folder, told).map_err(io::Error::from);
+    let made = command_for(alloc, folder, call_log).map_err(io::Error::from);
     let mut command = at_part(CommandPart::Program, made)?;
-    set_streams(alloc, rt, folder, told, &mut command)?;
+    set_streams(alloc, rt, folder, call_log, &mut command)?;
     at_part(CommandPart::Program, command.spawn(rt))
 }

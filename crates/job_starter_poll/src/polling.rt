@@ -2,7 +2,7 @@
 ghost use Rattle.std.specs.Prelude.{◌≡◌, ◌∷◌, ◌≤◌, [], None, IsTrue, IsFalse, IfOk, IfSome, OnOk, OnErr, IfErr, reverse};
 ghost use Rattle.node_machine.specs.Story.{is_possible};
 ghost use Rattle.sched_core.specs.Run.{is_among};
-ghost use Rattle.job_starter_drive.specs.Calls.{running, TellsNoMore};
+ghost use Rattle.job_starter_drive.specs.Calls.{running, AllowsNoMore};
 ghost use Rattle.job_starter_drive.specs.Causes.{IsAskFault};
 
 use job_starter_drive::{Call, Killed, StartFault, Started, Starter, System, key_at};
@@ -29,22 +29,22 @@ impl<S: System + Drop> ProcessStarter<S> {
 
     /// The first running child that the system tells to have ended, in the order of the starts.
     fn ask_each(&mut self) -> Result<Option<(Key, Outcome)>, StartFault>
-        ensures told { IfOk result (λ answer. IfSome answer (λ ended.
-            S.told self.new.system ≡ Call.Ended ended.0 ended.1 ∷ S.told self.old.system)) }
+        ensures call_log { IfOk result (λ answer. IfSome answer (λ ended.
+            S.call_log self.new.system ≡ Call.Ended ended.0 ended.1 ∷ S.call_log self.old.system)) }
         ensures ran { IfOk result (λ answer. IfSome answer (λ ended.
-            IsTrue (is_among ended.0 (running (S.told self.old.system))))) }
+            IsTrue (is_among ended.0 (running (S.call_log self.old.system))))) }
         ensures may_be { IfOk result (λ answer. IfSome answer (λ ended.
-            S.may_tell self.old.system (S.told self.old.system) ended.0 ended.1)) }
+            S.may_return self.old.system (S.call_log self.old.system) ended.0 ended.1)) }
         ensures possible { IfOk result (λ answer. IfSome answer (λ ended.
             IsTrue (is_possible ended.1))) }
         ensures runs { IfOk result (λ answer. answer ≡ None
-            → S.told self.new.system ≡ S.told self.old.system) }
-        ensures refused { OnErr result (S.told self.new.system ≡ S.told self.old.system) }
+            → S.call_log self.new.system ≡ S.call_log self.old.system) }
+        ensures refused { OnErr result (S.call_log self.new.system ≡ S.call_log self.old.system) }
         ensures err { IfErr result
             (IsAskFault (S.faults self.old.system) (S.faults self.new.system)) }
         ensures counts { OnOk result (S.faults self.new.system ≡ S.faults self.old.system) }
         ensures later { S.faults self.old.system ≤ S.faults self.new.system }
-        ensures may { TellsNoMore (S.may_tell self.old.system) (S.may_tell self.new.system) }
+        ensures may { AllowsNoMore (S.may_return self.old.system) (S.may_return self.new.system) }
     {
         for place in 0..self.system.running().len() {
             let key = key_at(self.system.running(), place);
@@ -59,9 +59,9 @@ impl<S: System + Drop> ProcessStarter<S> {
 }
 
 impl<S: System + Drop> Starter for ProcessStarter<S> {
-    ghost told = { λ p. S.told p.system };
+    ghost call_log = { λ p. S.call_log p.system };
 
-    ghost may_tell = { λ p. S.may_tell p.system };
+    ghost may_return = { λ p. S.may_return p.system };
 
     ghost faults = { λ p. S.faults p.system };
 

@@ -4,7 +4,7 @@ ghost use Rattle.node_machine.specs.Story.{is_possible};
 ghost use Rattle.node_machine.specs.OutcomeTable.{HasPossibleOutcomes};
 ghost use Rattle.run_plan.specs.Plan.{count_of};
 ghost use Rattle.sched_core.specs.Run.{is_among};
-ghost use Rattle.job_starter_drive.specs.Calls.{running, MayRun, TellsNoMore};
+ghost use Rattle.job_starter_drive.specs.Calls.{running, MayRun, AllowsNoMore};
 ghost use Rattle.job_starter_drive.specs.Causes.{IsStartFault, IsWaitFault};
 ghost use Rattle.job_starter_drive.specs.Scripts.{scripted_outcome, IsScripted};
 
@@ -119,9 +119,9 @@ impl<'a> ScriptedStarter<'a> {
 }
 
 impl<'a> Starter for ScriptedStarter<'a> {
-    ghost told = { λ s. s.log.calls };
+    ghost call_log = { λ s. s.log.calls };
 
-    ghost may_tell = { λ s. IsScripted s.plan.now s.table.now s.script.places.items };
+    ghost may_return = { λ s. IsScripted s.plan.now s.table.now s.script.places.items };
 
     ghost faults = { λ s. s.faults };
 

@@ -7,7 +7,7 @@ use Rattle.node_machine.specs.declared.Outcome.{Outcome}
 use Rattle.node_machine.specs.declared.Outcome.TheVariants.{Exit, Signal, NoStart, Untold}
 use Rattle.node_machine.specs.declared.Ended.{Ended}
 use Rattle.node_machine.specs.declared.Course.{Course}
-use Rattle.node_machine.specs.Story.{Attempt, story, phases_of, ends_with, is_exit_0, last_of, is_good, value_if_any, attempts_within, phase_number, is_phase, outcome_in, attempts_after, has_ended, first_to_come, next_after, is_good_after, value_after, attempts_ended_after, may_end_with, is_noop_job, is_that_phase, may_go_on, is_history, BeginsWith}
+use Rattle.node_machine.specs.Story.{Attempt, story, phases_of, ends_with, is_exit_0, newest_attempt, is_good, value_if_any, attempts_within, phase_number, is_phase, outcome_in, attempts_after, has_ended, first_to_come, next_after, is_good_after, value_after, attempts_ended_after, may_end_with, is_noop_job, is_that_phase, may_go_on, is_history, BeginsWith}
 use Rattle.node_machine.proofs.Trees.{Tree, Over, Ask, play, tree_from, play_from, end_of, end_from, end-split, after, Plays, Told, play-split, Plays-push, Told-push, place, from_tree, Before, played-before, Told-same, asks, within-whole, within-none}
 
 abbrev pub tree_of : Course → Tree
@@ -184,15 +184,15 @@ module _ (course : Course) (es : List Ended) (f : Fits course es (outcome_in es)
         let over = next-none none in
         sym (story-split course es column g ∙ ap (λ t. es ++ play t (masked course column)) over.1 ∙ append-nil es)
 
-    pub whole-good : is_good_after course es ≡ is_good (last_of (story course column))
+    pub whole-good : is_good_after course es ≡ is_good (newest_attempt (story course column))
     unfolding is_good_after
-    whole-good = λ j. is_none (none j) && is_good (last_of (whole-attempts j))
+    whole-good = λ j. is_none (none j) && is_good (newest_attempt (whole-attempts j))
 
-    pub whole-value : value_after course es ≡ value_if_any (last_of (story course column))
+    pub whole-value : value_after course es ≡ value_if_any (newest_attempt (story course column))
     unfolding value_after
     whole-value =
-        (λ j. value_if_any (last_of (attempts_within (length (whole-phases j)) (whole-attempts j))))
-        ∙ ap (λ t. value_if_any (last_of t)) (within-whole (story course column))
+        (λ j. value_if_any (newest_attempt (attempts_within (length (whole-phases j)) (whole-attempts j))))
+        ∙ ap (λ t. value_if_any (newest_attempt t)) (within-whole (story course column))
 
     pub whole-count : attempts_ended_after course es ≡ length (story course column)
     unfolding attempts_ended_after
@@ -211,11 +211,11 @@ nil-next course =
 
 pub nil-good : (course : Course) → is_good_after course [] ≡ false
 unfolding is_good_after
-nil-good course = λ j. nil-next course j && is_good (last_of (attempts_after course []))
+nil-good course = λ j. nil-next course j && is_good (newest_attempt (attempts_after course []))
 
 pub nil-value : (course : Course) → value_after course [] ≡ None
 unfolding value_after attempts_after story
-nil-value course = ap (λ t. value_if_any (last_of t)) (within-none course (masked course (outcome_in [])) 0 course.retries)
+nil-value course = ap (λ t. value_if_any (newest_attempt t)) (within-none course (masked course (outcome_in [])) 0 course.retries)
 
 pub nil-count : (course : Course) → attempts_ended_after course [] ≡ 0
 unfolding attempts_ended_after attempts_after story

@@ -8,12 +8,12 @@ use Rattle.node_machine.specs.declared.Outcome.{Outcome}
 use Rattle.node_machine.specs.declared.Outcome.TheVariants.{Exit}
 use Rattle.node_machine.specs.declared.Ended.{Ended}
 use Rattle.node_machine.specs.declared.Course.{Course}
-use Rattle.node_machine.specs.declared.Stand.{Stand}
+use Rattle.node_machine.specs.declared.MachineState.{MachineState}
 use Rattle.node_machine.specs.declared.State.TheVariants.{Done, Error, NotRun}
 use Rattle.node_machine.specs.Story.{ends_with, may_end_with, is_noop_job, is_exit_0, is_that_phase, is_history, next_after, is_good_after, value_after, state_after, attempts_ended_after}
-use Rattle.node_machine.specs.Stand.{next_of, ended_by, state_by, stand_before, step, stand_after}
+use Rattle.node_machine.specs.MachineState.{next_of, attempts_ended, state_by, machine_before, machine_step, machine_after}
 use Rattle.node_machine.specs.NodeProgress.{NodeProgress, IsPossible}
-use Rattle.node_machine.specs.NodeRun.{StandsAfter, counted_at, end_at, with_end}
+use Rattle.node_machine.specs.NodeRun.{IsStateAfter, counted_at, end_at, with_phase_ended}
 use Rattle.node_machine.proofs.Standing.{steps-next, steps-good, steps-value, steps-ended}
 use Rattle.node_machine.proofs.Paces.{steps-push, step-attempt, may-go_on-push}
 
@@ -24,9 +24,9 @@ state-of None attempt true = refl
 state-of None attempt false = refl
 state-of (Some phase) attempt good = refl
 
-none-of : (stand : Stand) (o : Option Phase) → is_none (next_of stand o) ≡ is_none o
-none-of stand None = refl
-none-of stand (Some phase) = refl
+none-of : (machine : MachineState) (o : Option Phase) → is_none (next_of machine o) ≡ is_none o
+none-of machine None = refl
+none-of machine (Some phase) = refl
 
 -- what the job of a NOOP may end with is Exit 0, and so counts as it was told
 pub may-end : (course : Course) (phase : Phase) (outcome : Outcome) → may_end_with course phase (ends_with course phase outcome) ≡ true
@@ -36,58 +36,58 @@ may-end course phase outcome = go (is_noop_job course phase)
     go true = eq-eqb 0 0 refl
     go false = refl
 
-module _ (run : NodeProgress) (es : List Ended) (s : StandsAfter run es) where
-  pub next-behind : next_of run.stand run.stand.phase ≡ next_after run.course es
-  next-behind = (λ j. next_of (s.stand j) (s.stand j).phase) ∙ sym (steps-next run.course es s.history)
+module _ (run : NodeProgress) (es : List Ended) (s : IsStateAfter run es) where
+  pub next-behind : next_of run.machine run.machine.phase ≡ next_after run.course es
+  next-behind = (λ j. next_of (s.machine j) (s.machine j).phase) ∙ sym (steps-next run.course es s.history)
 
-  pub value-behind : run.stand.value ≡ value_after run.course es
-  value-behind = ap (λ (t : Stand). t.value) s.stand ∙ sym (steps-value run.course es s.history)
+  pub value-behind : run.machine.value ≡ value_after run.course es
+  value-behind = ap (λ (t : MachineState). t.value) s.machine ∙ sym (steps-value run.course es s.history)
 
-  pub attempts-behind : ended_by run.stand ≡ attempts_ended_after run.course es
-  attempts-behind = ap ended_by s.stand ∙ sym (steps-ended run.course es s.history)
+  pub attempts-behind : attempts_ended run.machine ≡ attempts_ended_after run.course es
+  attempts-behind = ap attempts_ended s.machine ∙ sym (steps-ended run.course es s.history)
 
-  abbrev there : Stand
-  there = stand_after run.course es
+  abbrev there : MachineState
+  there = machine_after run.course es
 
-  pub state-behind : state_by run.stand ≡ state_after run.course es
+  pub state-behind : state_by run.machine ≡ state_after run.course es
   state-behind =
-      ap state_by s.stand ∙ state-of there.phase there.attempt there.good
+      ap state_by s.machine ∙ state-of there.phase there.attempt there.good
       ∙ (λ j. if sym (steps-good run.course es s.history) j then Done else if sym (none-of there there.phase) j then Error else NotRun)
       ∙ (λ j. if is_good_after run.course es then Done else if is_none (sym (steps-next run.course es s.history) j) then Error else NotRun)
 
   -- the phase that comes next ends
-  pub end-behind : (phase : Phase) → run.stand.phase ≡ Some phase → (outcome : Outcome) → (new : NodeProgress)
-      → new ≡ record { course = run.course; stand = step run.course run.stand (counted_at run.course run.stand.phase outcome); running = false }
-      → StandsAfter new (with_end run.course es outcome)
-  end-behind phase is outcome new e = subst (λ (n : NodeProgress). StandsAfter n (with_end run.course es outcome)) (sym e) here
+  pub end-behind : (phase : Phase) → run.machine.phase ≡ Some phase → (outcome : Outcome) → (new : NodeProgress)
+      → new ≡ record { course = run.course; machine = machine_step run.course run.machine (counted_at run.course run.machine.phase outcome); running = false }
+      → IsStateAfter new (with_phase_ended run.course es outcome)
+  end-behind phase is outcome new e = subst (λ (n : NodeProgress). IsStateAfter n (with_phase_ended run.course es outcome)) (sym e) here
     where
-      next : next_after run.course es ≡ Some (run.stand.attempt, phase)
-      next = sym next-behind ∙ ap (next_of run.stand) is
+      next : next_after run.course es ≡ Some (run.machine.attempt, phase)
+      next = sym next-behind ∙ ap (next_of run.machine) is
 
       last : Ended
-      last = got run.stand.attempt phase (ends_with run.course phase outcome)
+      last = got run.machine.attempt phase (ends_with run.course phase outcome)
 
-      grown : with_end run.course es outcome ≡ es ++ last ∷ []
+      grown : with_phase_ended run.course es outcome ≡ es ++ last ∷ []
       grown = ap (λ o. es ++ end_at run.course o outcome) next
 
       that : is_that_phase (next_after run.course es) last ≡ true
-      that = ap (λ o. is_that_phase o last) next ∙ and_from _ _ (eq-eqb run.stand.attempt run.stand.attempt refl) (eq-eqb _ _ refl)
+      that = ap (λ o. is_that_phase o last) next ∙ and_from _ _ (eq-eqb run.machine.attempt run.machine.attempt refl) (eq-eqb _ _ refl)
 
-      here : StandsAfter (record { course = run.course; stand = step run.course run.stand (counted_at run.course run.stand.phase outcome); running = false }) (with_end run.course es outcome)
+      here : IsStateAfter (record { course = run.course; machine = machine_step run.course run.machine (counted_at run.course run.machine.phase outcome); running = false }) (with_phase_ended run.course es outcome)
       here = record {
         history = subst (λ t. is_history run.course t ≡ true) (sym grown)
             (may-go_on-push run.course [] es last s.history that (may-end run.course phase outcome));
-        stand =
-            (λ j. step run.course (s.stand j) (counted_at run.course (is j) outcome))
-            ∙ sym (steps-push run.course (stand_before run.course 0 None false) es last)
-            ∙ ap (stand_after run.course) (sym grown);
+        machine =
+            (λ j. machine_step run.course (s.machine j) (counted_at run.course (is j) outcome))
+            ∙ sym (steps-push run.course (machine_before run.course 0 None false) es last)
+            ∙ ap (machine_after run.course) (sym grown);
       }
 
 -- what a node that ran is after an ending
 pub possible-behind : (run : NodeProgress) (outcome : Outcome) → IsPossible run
-    → IsPossible (record { course = run.course; stand = step run.course run.stand (counted_at run.course run.stand.phase outcome); running = false })
+    → IsPossible (record { course = run.course; machine = machine_step run.course run.machine (counted_at run.course run.machine.phase outcome); running = false })
 possible-behind run outcome p = record {
-  allowed = step-attempt run.course run.stand (counted_at run.course run.stand.phase outcome) p.allowed;
+  allowed = step-attempt run.course run.machine (counted_at run.course run.machine.phase outcome) p.allowed;
   next = λ bad. absurd cc;
 }
 

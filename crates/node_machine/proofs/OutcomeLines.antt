@@ -12,15 +12,15 @@ use Rattle.node_machine.specs.OutcomeTable.{Entry, is_of, outcome_at, SameOutcom
 use Rattle.node_machine.specs.declared.Outcome.{Outcome}
 use Rattle.node_machine.proofs.TableEntries.{outcome_at-push}
 use Rattle.std.specs.Str.Lines.{lines}
-use Rattle.node_machine.specs.OutcomesFile.{SayAll, IsFirstBad}
-use Rattle.node_machine.specs.OutcomesReading.{words_say, text_says, line_at, then_lines, lines_at, entry_in, IsFaultOf, IsLineFault}
+use Rattle.node_machine.specs.OutcomesFile.{SayEntries, IsFirstBadEntry}
+use Rattle.node_machine.specs.OutcomesReading.{words_say_entry, text_says_entry, line_at, then_lines, lines_at, entry_in, IsFaultOf, IsLineFault}
 
 -- what a line with words says
 pub line_says : (number : ℕ) (bytes text : List ℕ) (first : PlacedText) (ws : List PlacedText) (o : Option Entry) → text_of number bytes ≡ Ok text → words number 0 text ≡ first ∷ ws → is_comment first ≡ false → o ≡ entry_in first ws
     → line_at number bytes ≡ option_map (λ x. Some x) o
 unfolding line_at
 line_says number bytes text first ws o read split no_comment entry =
-    ap (text_says number) read ∙ ap words_say split ∙ rw no_comment (ap (option_map (λ x. Some x)) (sym entry))
+    ap (text_says_entry number) read ∙ ap words_say_entry split ∙ rw no_comment (ap (option_map (λ x. Some x)) (sym entry))
 
 -- Lists of lines.
 abbrev good : List Entry → Result (List Entry) ℕ
@@ -49,14 +49,14 @@ split_bad number None later n e = inl (refl, bad_is number n e)
 split_bad number (Some first) (Err m) n e = inr (first, refl, e)
 split_bad number (Some first) (Ok others) n e = absurd cc
 
-pub lines_found : (number : ℕ) (ls : List (List ℕ)) (entries : List Entry) → lines_at number ls ≡ Ok entries → SayAll number ls entries
+pub lines_found : (number : ℕ) (ls : List (List ℕ)) (entries : List Entry) → lines_at number ls ≡ Ok entries → SayEntries number ls entries
 unfolding lines_at
 lines_found number [] entries e = sym (good_is [] entries e)
 lines_found number (line ∷ more) entries e =
     let p = split_good number (line_at number line) (lines_at (number + 1) more) entries e in
     (p.0, p.1, p.2, lines_found (number + 1) more p.1 p.3, p.4)
 
-pub lines_again : (number : ℕ) (ls : List (List ℕ)) (entries : List Entry) → SayAll number ls entries → lines_at number ls ≡ Ok entries
+pub lines_again : (number : ℕ) (ls : List (List ℕ)) (entries : List Entry) → SayEntries number ls entries → lines_at number ls ≡ Ok entries
 unfolding lines_at
 lines_again number [] entries e = ap good (sym e)
 lines_again number (line ∷ more) entries (first, others, says, all, e) =
@@ -65,7 +65,7 @@ lines_again number (line ∷ more) entries (first, others, says, all, e) =
 -- The line n of lines, the first of which is the line `number`, is the first bad one.
 abbrev StopsAt : ℕ → List (List ℕ) → ℕ → Type 0
 StopsAt number ls n = (front : List (List ℕ)) × (line : List ℕ) × (back : List (List ℕ)) × (entries : List Entry)
-    × (ls ≡ front ++ line ∷ back) × SayAll number front entries × (n ≡ number + length front) × (line_at n line ≡ None)
+    × (ls ≡ front ++ line ∷ back) × SayEntries number front entries × (n ≡ number + length front) × (line_at n line ≡ None)
 
 stops : (number : ℕ) (ls : List (List ℕ)) (n : ℕ) → lines_at number ls ≡ Err n → StopsAt number ls n
 unfolding lines_at
@@ -98,7 +98,7 @@ stops number (line ∷ more) n e =
     ))
     (split_bad number (line_at number line) (lines_at (number + 1) more) n e)
 
-stops_again : (number : ℕ) (front : List (List ℕ)) (line : List ℕ) (back : List (List ℕ)) (entries : List Entry) (n : ℕ) → SayAll number front entries → n ≡ number + length front
+stops_again : (number : ℕ) (front : List (List ℕ)) (line : List ℕ) (back : List (List ℕ)) (entries : List Entry) (n : ℕ) → SayEntries number front entries → n ≡ number + length front
     → line_at n line ≡ None → lines_at number (front ++ line ∷ back) ≡ Err n
 unfolding lines_at
 stops_again number [] line back entries n says at none =
@@ -109,10 +109,10 @@ stops_again number (x ∷ front) line back entries n (first, others, says, all, 
     let below : n ≡ number + 1 + length front = omega arith in
     rw (says, stops_again (number + 1) front line back others n all below none) refl
 
-pub first_bad : (ls : List (List ℕ)) (n : ℕ) → lines_at 1 ls ≡ Err n → IsFirstBad ls n
+pub first_bad : (ls : List (List ℕ)) (n : ℕ) → lines_at 1 ls ≡ Err n → IsFirstBadEntry ls n
 first_bad ls n e = stops 1 ls n e
 
-pub first_bad_again : (ls : List (List ℕ)) (n : ℕ) → IsFirstBad ls n → lines_at 1 ls ≡ Err n
+pub first_bad_again : (ls : List (List ℕ)) (n : ℕ) → IsFirstBadEntry ls n → lines_at 1 ls ≡ Err n
 first_bad_again ls n (front, line, back, entries, e, says, at, none) = ap (lines_at 1) e ∙ stops_again 1 front line back entries n says at none
 
 -- Reading line by line, as the loop does.
@@ -170,12 +170,12 @@ ends text (b ∷ bs) number table read e = absurd (omega arith)
 abbrev pub ReadSo : List (List ℕ) → Result (List Entry) TableFault → Type 0
 ReadSo ls result = IfOk result (λ table. (entries : List Entry) × (lines_at 1 ls ≡ Ok entries) × SameOutcomes table entries)
 
-pub is_found : (ls : List (List ℕ)) (result : Result (List Entry) TableFault) → ReadSo ls result → IfOk result (λ table. (entries : List Entry) × SayAll 1 ls entries × SameOutcomes table entries)
+pub is_found : (ls : List (List ℕ)) (result : Result (List Entry) TableFault) → ReadSo ls result → IfOk result (λ table. (entries : List Entry) × SayEntries 1 ls entries × SameOutcomes table entries)
 is_found ls (Ok table) (entries, read, same) = (entries, lines_found 1 ls entries read, same)
 is_found ls (Err e) so = tt
 
 pub is_read : (ls : List (List ℕ)) (result : Result (List Entry) TableFault) → ReadSo ls result → IfErr result (IsFaultOf (lines_at 1 ls))
-    → (entries : List Entry) → SayAll 1 ls entries → MatchResult result (λ table. SameOutcomes table entries) (λ e. e ≡ Memory)
+    → (entries : List Entry) → SayEntries 1 ls entries → MatchResult result (λ table. SameOutcomes table entries) (λ e. e ≡ Memory)
 is_read ls (Ok table) (others, read, same) fault entries says =
     let again : lines_at 1 ls ≡ good entries = lines_again 1 ls entries says in
     subst (SameOutcomes table) (good_is others entries (sym read ∙ again)) same
@@ -185,11 +185,11 @@ is_read ls (Err (BadLine n)) so fault entries says =
     let stopped : lines_at 1 ls ≡ bad n = fault in
     absurd cc
 
-pub is_first_bad : (ls : List (List ℕ)) (result : Result (List Entry) TableFault) → IfErr result (IsFaultOf (lines_at 1 ls)) → (n : ℕ) → result ≡ Err (BadLine n) → IsFirstBad ls n
+pub is_first_bad : (ls : List (List ℕ)) (result : Result (List Entry) TableFault) → IfErr result (IsFaultOf (lines_at 1 ls)) → (n : ℕ) → result ≡ Err (BadLine n) → IsFirstBadEntry ls n
 is_first_bad ls result fault n e = first_bad ls n (subst (λ (r : Result (List Entry) TableFault). IfErr r (IsFaultOf (lines_at 1 ls))) e fault)
 
 pub is_refused : (ls : List (List ℕ)) (result : Result (List Entry) TableFault) → ReadSo ls result → IfErr result (IsFaultOf (lines_at 1 ls))
-    → (n : ℕ) → IsFirstBad ls n → (result ≡ Err (BadLine n)) ⊎ (result ≡ Err Memory)
+    → (n : ℕ) → IsFirstBadEntry ls n → (result ≡ Err (BadLine n)) ⊎ (result ≡ Err Memory)
 is_refused ls (Ok table) (entries, read, same) fault n first =
     let stopped : lines_at 1 ls ≡ bad n = first_bad_again ls n first in
     let whole : lines_at 1 ls ≡ good entries = read in

@@ -7,55 +7,55 @@ use Rattle.node_machine.specs.declared.Phase.TheVariants.{Pre, Job, Post}
 use Rattle.node_machine.specs.declared.Outcome.{Outcome}
 use Rattle.node_machine.specs.declared.Ended.{Ended}
 use Rattle.node_machine.specs.declared.Course.{Course}
-use Rattle.node_machine.specs.declared.Stand.{Stand}
+use Rattle.node_machine.specs.declared.MachineState.{MachineState}
 use Rattle.node_machine.specs.Story.{is_set_to, skips, is_exit_0, always_posts, value_of, next_after, may_end_with, is_that_phase, may_go_on}
-use Rattle.node_machine.specs.Stand.{stand_before, closed, pre_failed, step_at, step, steps, stand_after}
+use Rattle.node_machine.specs.MachineState.{machine_before, attempt_closed, pre_failed, machine_step_at, machine_step, steps, machine_after}
 
-pub steps-push : (course : Course) (s : Stand) (es : List Ended) (e : Ended) → steps course s (es ++ e ∷ []) ≡ step course (steps course s es) e.outcome
+pub steps-push : (course : Course) (s : MachineState) (es : List Ended) (e : Ended) → steps course s (es ++ e ∷ []) ≡ machine_step course (steps course s es) e.outcome
 steps-push course s [] e = refl
-steps-push course s (x ∷ es) e = steps-push course (step course s x.outcome) es e
+steps-push course s (x ∷ es) e = steps-push course (machine_step course s x.outcome) es e
 
 -- one of two stands
-pick : (P : Stand → Type 0) (b : Bool) (s t : Stand) → P s → P t → P (if b then s else t)
+pick : (P : MachineState → Type 0) (b : Bool) (s t : MachineState) → P s → P t → P (if b then s else t)
 pick P true s t p q = p
 pick P false s t p q = q
 
-closed-attempt : (course : Course) (i : ℕ) (value : ℤ) (good : Bool) → i ≤ course.retries → (closed course i value good).attempt ≤ course.retries
+closed-attempt : (course : Course) (i : ℕ) (value : ℤ) (good : Bool) → i ≤ course.retries → (attempt_closed course i value good).attempt ≤ course.retries
 closed-attempt course i value good le = go (good || is_set_to course.unless_exit value || is_set_to course.abort_on value) (i == course.retries) refl
   where
     go : (a b : Bool) → (i == course.retries) ≡ b
-        → (if a || b then record { attempt = i; phase = None; value = Some value; good = good } else stand_before course (suc i) (Some value) good).attempt ≤ course.retries
+        → (if a || b then record { attempt = i; phase = None; value = Some value; good = good } else machine_before course (suc i) (Some value) good).attempt ≤ course.retries
     go true b e = le
     go false true e = le
     go false false e = let ne = eqb-false i course.retries e in omega arith
 
-pub step-attempt : (course : Course) (s : Stand) (outcome : Outcome) → s.attempt ≤ course.retries → (step course s outcome).attempt ≤ course.retries
+pub step-attempt : (course : Course) (s : MachineState) (outcome : Outcome) → s.attempt ≤ course.retries → (machine_step course s outcome).attempt ≤ course.retries
 step-attempt course s outcome le = go s.phase
   where
-    decided-attempt : (closed course s.attempt (value_of outcome) (int_eq (value_of outcome) (pos 0))).attempt ≤ course.retries
+    decided-attempt : (attempt_closed course s.attempt (value_of outcome) (int_eq (value_of outcome) (pos 0))).attempt ≤ course.retries
     decided-attempt = closed-attempt course s.attempt (value_of outcome) (int_eq (value_of outcome) (pos 0)) le
 
-    go : (o : Option Phase) → (step_at course s o outcome).attempt ≤ course.retries
+    go : (o : Option Phase) → (machine_step_at course s o outcome).attempt ≤ course.retries
     go None = le
     go (Some Pre) =
-        pick (λ t. t.attempt ≤ course.retries) (skips course outcome) (closed course s.attempt (pos 0) true)
+        pick (λ t. t.attempt ≤ course.retries) (skips course outcome) (attempt_closed course s.attempt (pos 0) true)
         (if is_exit_0 outcome then record { attempt = s.attempt; phase = Some Job; value = s.value; good = s.good } else pre_failed course s outcome)
         (closed-attempt course s.attempt (pos 0) true le)
         (pick (λ t. t.attempt ≤ course.retries) (is_exit_0 outcome) (record { attempt = s.attempt; phase = Some Job; value = s.value; good = s.good }) (pre_failed course s outcome)
         le
         (pick (λ t. t.attempt ≤ course.retries) (always_posts course) (record { attempt = s.attempt; phase = Some Post; value = s.value; good = s.good })
-        (closed course s.attempt (value_of outcome) false) le (closed-attempt course s.attempt (value_of outcome) false le)))
+        (attempt_closed course s.attempt (value_of outcome) false) le (closed-attempt course s.attempt (value_of outcome) false le)))
     go (Some Job) =
         pick (λ t. t.attempt ≤ course.retries) course.post (record { attempt = s.attempt; phase = Some Post; value = s.value; good = s.good })
-        (closed course s.attempt (value_of outcome) (int_eq (value_of outcome) (pos 0))) le decided-attempt
+        (attempt_closed course s.attempt (value_of outcome) (int_eq (value_of outcome) (pos 0))) le decided-attempt
     go (Some Post) = decided-attempt
 
-steps-attempt : (course : Course) (s : Stand) (es : List Ended) → s.attempt ≤ course.retries → (steps course s es).attempt ≤ course.retries
+steps-attempt : (course : Course) (s : MachineState) (es : List Ended) → s.attempt ≤ course.retries → (steps course s es).attempt ≤ course.retries
 steps-attempt course s [] le = le
-steps-attempt course s (e ∷ es) le = steps-attempt course (step course s e.outcome) es (step-attempt course s e.outcome le)
+steps-attempt course s (e ∷ es) le = steps-attempt course (machine_step course s e.outcome) es (step-attempt course s e.outcome le)
 
-pub stand-attempt : (course : Course) (es : List Ended) → (stand_after course es).attempt ≤ course.retries
-stand-attempt course es = steps-attempt course (stand_before course 0 None false) es (omega arith)
+pub machine-attempt : (course : Course) (es : List Ended) → (machine_after course es).attempt ≤ course.retries
+machine-attempt course es = steps-attempt course (machine_before course 0 None false) es (omega arith)
 
 -- one more phase of a history
 pub may-go_on-push : (course : Course) (before es : List Ended) (e : Ended) → may_go_on course before es ≡ true

@@ -16,8 +16,8 @@ use Rattle.node_machine.specs.declared.Outcome.TheVariants.{Exit, Signal, NoStar
 use Rattle.node_machine.specs.declared.outcomes.TableFault.{TableFault}
 use Rattle.node_machine.specs.Story.{is_possible}
 use Rattle.node_machine.specs.OutcomeTable.{Entry, is_of, outcome_at, SameOutcomes, HasPossibleOutcomes}
-use Rattle.node_machine.specs.OutcomesFile.{SayAll}
-use Rattle.node_machine.specs.OutcomesReading.{phase_in, ending_in, signal_of, signal_in, spelled_outcome, phased_in, entry_in, words_say, text_says, line_at}
+use Rattle.node_machine.specs.OutcomesFile.{SayEntries}
+use Rattle.node_machine.specs.OutcomesReading.{phase_in, ending_in, signal_of, signal_in, spelled_outcome, phased_in, entry_in, words_say_entry, text_says_entry, line_at}
 
 abbrev some : {A : Type 0} → A → Option A
 some x = Some x
@@ -99,7 +99,7 @@ abbrev IsPossibleEntry : Option Entry → Type 0
 IsPossibleEntry None = Unit {0}
 IsPossibleEntry (Some entry) = is_possible entry.outcome ≡ true
 
-words-possible : (ws : List PlacedText) (o : Option Entry) → words_say ws ≡ Some o → IsPossibleEntry o
+words-possible : (ws : List PlacedText) (o : Option Entry) → words_say_entry ws ≡ Some o → IsPossibleEntry o
 words-possible [] o e = subst IsPossibleEntry (some_is None o e) tt
 words-possible (first ∷ ws) o e =
     ⊎_elim
@@ -107,7 +107,7 @@ words-possible (first ∷ ws) o e =
     (λ other. let m = mapped some (entry_in first ws) o other.1 in subst IsPossibleEntry m.2 (entry-possible first ws m.0 m.1))
     (chosen (is_comment first) _ _ (Some o) e)
 
-text-possible : (number : ℕ) (r : Result (List ℕ) LineFault) (o : Option Entry) → text_says number r ≡ Some o → IsPossibleEntry o
+text-possible : (number : ℕ) (r : Result (List ℕ) LineFault) (o : Option Entry) → text_says_entry number r ≡ Some o → IsPossibleEntry o
 text-possible number (Err f) o e = absurd cc
 text-possible number (Ok text) o e = words-possible (words number 0 text) o e
 
@@ -119,7 +119,7 @@ said-possible number line o entries e rest = with-rest o (text-possible number (
     with-rest None p = rest
     with-rest (Some entry) p = (p, rest)
 
-lines-possible : (number : ℕ) (ls : List (List ℕ)) (entries : List Entry) → SayAll number ls entries → ArePossible entries
+lines-possible : (number : ℕ) (ls : List (List ℕ)) (entries : List Entry) → SayEntries number ls entries → ArePossible entries
 lines-possible number [] entries e = subst ArePossible (sym e) tt
 lines-possible number (line ∷ more) entries (first, others, says, rest, e) =
     subst ArePossible (sym e) (said-possible number line first others says (lines-possible (number + 1) more others rest))
@@ -144,7 +144,7 @@ last-possible test o (x ∷ xs) p all = go (test x) (last-possible test (Some x.
     go false here others = others
 
 -- what a table of lines reads is possible
-pub possible-at : (ls : List (List ℕ)) (entries table : List Entry) → SayAll 1 ls entries → SameOutcomes table entries → HasPossibleOutcomes table
+pub possible-at : (ls : List (List ℕ)) (entries table : List Entry) → SayEntries 1 ls entries → SameOutcomes table entries → HasPossibleOutcomes table
 unfolding outcome_at
 possible-at ls entries table says same name attempt phase =
     ap is_possible (same name attempt phase) ∙ last-possible (is_of name attempt phase) None entries tt (lines-possible 1 ls entries says)
@@ -155,6 +155,6 @@ unfolding outcome_at
 possible-none name attempt phase = refl
 
 pub is_possible_table : (ls : List (List ℕ)) (result : Result (List Entry) TableFault)
-    → IfOk result (λ table. (entries : List Entry) × SayAll 1 ls entries × SameOutcomes table entries) → IfOk result HasPossibleOutcomes
+    → IfOk result (λ table. (entries : List Entry) × SayEntries 1 ls entries × SameOutcomes table entries) → IfOk result HasPossibleOutcomes
 is_possible_table ls (Ok table) (entries, says, same) = possible-at ls entries table says same
 is_possible_table ls (Err e) found = tt

@@ -6,9 +6,9 @@ use Rattle.node_machine.specs.declared.Phase.TheVariants.{Pre, Job, Post}
 use Rattle.node_machine.specs.declared.Outcome.{Outcome}
 use Rattle.node_machine.specs.declared.Ended.{Ended}
 use Rattle.node_machine.specs.declared.Course.{Course}
-use Rattle.node_machine.specs.declared.Stand.{Stand}
-use Rattle.node_machine.specs.Story.{story, phases_of, attempts_within, attempts_from, value_after, Attempt, value_of, skips, is_exit_0, always_posts, is_last, decided_by, last_of, is_good, value_if_any, outcome_in, attempts_after, attempts_ended_after, next_after, is_good_after, is_history}
-use Rattle.node_machine.specs.Stand.{stand_before, closed, pre_failed, step, steps, stand_after, next_of, ended_by}
+use Rattle.node_machine.specs.declared.MachineState.{MachineState}
+use Rattle.node_machine.specs.Story.{story, phases_of, attempts_within, attempts_from, value_after, Attempt, value_of, skips, is_exit_0, always_posts, is_final_attempt, decided_by, newest_attempt, is_good, value_if_any, outcome_in, attempts_after, attempts_ended_after, next_after, is_good_after, is_history}
+use Rattle.node_machine.specs.MachineState.{machine_before, attempt_closed, pre_failed, machine_step, steps, machine_after, next_of, attempts_ended}
 use Rattle.node_machine.proofs.Trees.{end_of, end_from, end-split, one_of, within-whole, Tree, Over, Ask, got, play, job_tree, failed_tree, attempt_tree, tree_from, after, Plays, both}
 use Rattle.node_machine.proofs.Beginnings.{first_phase, Fits, tree_of, masked, story-end, next-first, history-fits, fits-nil}
 
@@ -27,11 +27,11 @@ abbrev Inside : List Attempt → ℕ → List Attempt → Type 0
 Inside done k attempts = (a : Attempt) × (rest : List Attempt) × (attempts ≡ done ++ a ∷ rest) × (k < length a.ended)
 
 -- a tree and a stand that tell the same after n phases
-abbrev Root : ℕ → Tree → Stand → Type 0
-Root n (Over attempts) s = (s.phase ≡ None) × (s.good ≡ is_good (last_of attempts)) × (s.value ≡ value_if_any (last_of attempts)) × (attempts_within n attempts ≡ attempts)
+abbrev Root : ℕ → Tree → MachineState → Type 0
+Root n (Over attempts) s = (s.phase ≡ None) × (s.good ≡ is_good (newest_attempt attempts)) × (s.value ≡ value_if_any (newest_attempt attempts)) × (attempts_within n attempts ≡ attempts)
     × (length attempts ≡ suc s.attempt)
 Root n (Ask i phase more) s =
-    (s.attempt ≡ i) × (s.phase ≡ Some phase) × ((told : ℕ → Phase → Outcome) → value_if_any (last_of (attempts_within n (end_of (Ask i phase more) told))) ≡ s.value)
+    (s.attempt ≡ i) × (s.phase ≡ Some phase) × ((told : ℕ → Phase → Outcome) → value_if_any (newest_attempt (attempts_within n (end_of (Ask i phase more) told))) ≡ s.value)
     × ((told : ℕ → Phase → Outcome) → length (attempts_within n (end_of (Ask i phase more) told)) ≡ s.attempt)
 
 -- n more than the phases
@@ -45,31 +45,31 @@ count_on-length n (e ∷ es) = count_on-length (suc n) es ∙ omega arith
 
 module _ (course : Course) where
   -- and go on doing so
-  abbrev Same : ℕ → Tree → Stand → Type 0
+  abbrev Same : ℕ → Tree → MachineState → Type 0
   Same n tree s = (es : List Ended) → Plays tree es → Root (count_on n es) (after tree es) (steps course s es)
 
   same-ask : (done : List Attempt) (n k : ℕ) → n ≡ length (phases_of done) + k
-      → (i : ℕ) → length done ≡ i → (phase : Phase) (more : Outcome → Tree) (value : Option ℤ) (good : Bool) → value_if_any (last_of done) ≡ value
+      → (i : ℕ) → length done ≡ i → (phase : Phase) (more : Outcome → Tree) (value : Option ℤ) (good : Bool) → value_if_any (newest_attempt done) ≡ value
       → ((told : ℕ → Phase → Outcome) → Inside done k (end_of (Ask i phase more) told))
-      → ((x : Outcome) → Same (suc n) (more x) (step course (record { attempt = i; phase = Some phase; value = value; good = good }) x))
+      → ((x : Outcome) → Same (suc n) (more x) (machine_step course (record { attempt = i; phase = Some phase; value = value; good = good }) x))
       → Same n (Ask i phase more) (record { attempt = i; phase = Some phase; value = value; good = good })
   same-ask done n k total i many phase more value good v inside h [] p = (
     refl,
     refl,
     λ told.
         let w = inside told in
-        ap (λ t. value_if_any (last_of (attempts_within n t))) w.2 ∙ ap (λ t. value_if_any (last_of t)) (within-done done w.0 w.1 n k total w.3) ∙ v,
+        ap (λ t. value_if_any (newest_attempt (attempts_within n t))) w.2 ∙ ap (λ t. value_if_any (newest_attempt t)) (within-done done w.0 w.1 n k total w.3) ∙ v,
     λ told.
         let w = inside told in
         ap (λ t. length (attempts_within n t)) w.2 ∙ ap (λ t. length t) (within-done done w.0 w.1 n k total w.3) ∙ many,
   )
   same-ask done n k total i many phase more value good v inside h (e ∷ es) p = h e.outcome es p.2
 
-  same-over : (n : ℕ) (attempts : List Attempt) (s : Stand) → Root n (Over attempts) s → Same n (Over attempts) s
+  same-over : (n : ℕ) (attempts : List Attempt) (s : MachineState) → Root n (Over attempts) s → Same n (Over attempts) s
   same-over n attempts s r [] p = r
   same-over n attempts s r (e ∷ es) p = elim p [ ]
 
-  last-push : (done : List Attempt) (a : Attempt) → last_of (done ++ a ∷ []) ≡ Some a
+  last-push : (done : List Attempt) (a : Attempt) → newest_attempt (done ++ a ∷ []) ≡ Some a
   last-push [] a = refl
   last-push (x ∷ []) a = refl
   last-push (x ∷ y ∷ done) a = last-push (y ∷ done) a
@@ -96,8 +96,8 @@ module _ (course : Course) where
   -- an attempt, with what may follow it
   module _ (done : List Attempt) (i : ℕ) (next : Attempt → Tree)
       (begins : (a : Attempt) (told : ℕ → Phase → Outcome) → (rest : List Attempt) × (end_of (next a) told ≡ done ++ a ∷ rest))
-      (later : (a : Attempt) (n : ℕ) → n ≡ length (phases_of done) + length a.ended → Same n (next a) (closed course i a.value a.good))
-      (value : Option ℤ) (good : Bool) (v : value_if_any (last_of done) ≡ value) (many : length done ≡ i) where
+      (later : (a : Attempt) (n : ℕ) → n ≡ length (phases_of done) + length a.ended → Same n (next a) (attempt_closed course i a.value a.good))
+      (value : Option ℤ) (good : Bool) (v : value_if_any (newest_attempt done) ≡ value) (many : length done ≡ i) where
     inside-next : (a : Attempt) (k : ℕ) → k < length a.ended → (told : ℕ → Phase → Outcome) → Inside done k (end_of (next a) told)
     inside-next a k lt told = let b = begins a told in (a, b.0, b.1, lt)
 
@@ -126,7 +126,7 @@ module _ (course : Course) where
         (λ z. later (decided_by z (got i Pre x ∷ got i Post z ∷ [])) (suc (suc n)) (omega arith)))
         (later (record { ended = got i Pre x ∷ []; value = value_of x; good = false }) (suc n) (omega arith))
 
-    same-attempt : (n : ℕ) → n ≡ length (phases_of done) → Same n (attempt_tree course i next) (stand_before course i value good)
+    same-attempt : (n : ℕ) → n ≡ length (phases_of done) → Same n (attempt_tree course i next) (machine_before course i value good)
     same-attempt n total =
         elim course.pre as (λ b. Same n (if b then Ask i Pre (λ x. if skips course x then next (record { ended = got i Pre x ∷ []; value = pos 0; good = true }) else if is_exit_0 x then job_tree course i (got i Pre x ∷ []) next else failed_tree course i x next) else job_tree course i [] next)
         (record { attempt = i; phase = Some (if b then Pre else Job); value = value; good = good })) [
@@ -146,28 +146,28 @@ module _ (course : Course) where
           | false ↦ same-job n [] (omega arith)
         ]
 
-  value-push : (done : List Attempt) (a : Attempt) → value_if_any (last_of (done ++ a ∷ [])) ≡ Some a.value
+  value-push : (done : List Attempt) (a : Attempt) → value_if_any (newest_attempt (done ++ a ∷ [])) ≡ Some a.value
   value-push done a = ap value_if_any (last-push done a)
 
-  same-from : (done : List Attempt) (i left : ℕ) → i + left ≡ course.retries → (n : ℕ) → n ≡ length (phases_of done) → (value : Option ℤ) (good : Bool) → value_if_any (last_of done) ≡ value
-      → length done ≡ i → Same n (tree_from course done i left) (stand_before course i value good)
+  same-from : (done : List Attempt) (i left : ℕ) → i + left ≡ course.retries → (n : ℕ) → n ≡ length (phases_of done) → (value : Option ℤ) (good : Bool) → value_if_any (newest_attempt done) ≡ value
+      → length done ≡ i → Same n (tree_from course done i left) (machine_before course i value good)
   same-from done i zero total n size value good v many =
       same-attempt done i (λ a. Over (done ++ a ∷ [])) (λ a told. ([], refl)) (λ a m all.
-      subst (λ b. Same m (Over (done ++ a ∷ [])) (if b then record { attempt = i; phase = None; value = Some a.value; good = a.good } else stand_before course (suc i) (Some a.value) a.good))
-      (sym (or_right (is_last course a) (i == course.retries) (eq-eqb i course.retries (omega arith))))
+      subst (λ b. Same m (Over (done ++ a ∷ [])) (if b then record { attempt = i; phase = None; value = Some a.value; good = a.good } else machine_before course (suc i) (Some a.value) a.good))
+      (sym (or_right (is_final_attempt course a) (i == course.retries) (eq-eqb i course.retries (omega arith))))
       (ended-over done a i m many all))
       value good v many n size
   same-from done i (suc left) total n size value good v many =
-      same-attempt done i (λ a. if is_last course a then Over (done ++ a ∷ []) else tree_from course (done ++ a ∷ []) (suc i) left)
-      (λ a told. one_of (λ tree. (rest : List Attempt) × (end_of tree told ≡ done ++ a ∷ rest)) (is_last course a)
+      same-attempt done i (λ a. if is_final_attempt course a then Over (done ++ a ∷ []) else tree_from course (done ++ a ∷ []) (suc i) left)
+      (λ a told. one_of (λ tree. (rest : List Attempt) × (end_of tree told ≡ done ++ a ∷ rest)) (is_final_attempt course a)
       ([], refl)
       (attempts_from course told (suc i) left, end_from told course (done ++ a ∷ []) (suc i) left ∙ append_assoc done (a ∷ []) (attempts_from course told (suc i) left)))
       (λ a m all.
-      elim (is_last course a) as (λ b. Same m (if b then Over (done ++ a ∷ []) else tree_from course (done ++ a ∷ []) (suc i) left)
-      (if b || (i == course.retries) then record { attempt = i; phase = None; value = Some a.value; good = a.good } else stand_before course (suc i) (Some a.value) a.good)) [
+      elim (is_final_attempt course a) as (λ b. Same m (if b then Over (done ++ a ∷ []) else tree_from course (done ++ a ∷ []) (suc i) left)
+      (if b || (i == course.retries) then record { attempt = i; phase = None; value = Some a.value; good = a.good } else machine_before course (suc i) (Some a.value) a.good)) [
         | true ↦ ended-over done a i m many all
         | false ↦
-            subst (λ b. Same m (tree_from course (done ++ a ∷ []) (suc i) left) (if b then record { attempt = i; phase = None; value = Some a.value; good = a.good } else stand_before course (suc i) (Some a.value) a.good))
+            subst (λ b. Same m (tree_from course (done ++ a ∷ []) (suc i) left) (if b then record { attempt = i; phase = None; value = Some a.value; good = a.good } else machine_before course (suc i) (Some a.value) a.good))
             (sym (ne_eqb i course.retries (λ e. omega arith)))
             (same-from (done ++ a ∷ []) (suc i) left (omega arith) m (all ∙ sym (phases-push done a)) (Some a.value) a.good (value-push done a) (let l = length-append done (a ∷ []) in omega arith))
       ])
@@ -177,29 +177,29 @@ module _ (course : Course) where
     fits : Fits course es (outcome_in es)
     fits = history-fits course [] es (fits-nil course (outcome_in [])) h
 
-    root : Root (length es) (after (tree_of course) es) (stand_after course es)
-    root = subst (λ n. Root n (after (tree_of course) es) (stand_after course es)) (count_on-length 0 es ∙ omega arith)
+    root : Root (length es) (after (tree_of course) es) (machine_after course es)
+    root = subst (λ n. Root n (after (tree_of course) es) (machine_after course es)) (count_on-length 0 es ∙ omega arith)
         (same-from [] 0 course.retries (omega arith) 0 refl None false refl refl es fits.plays)
 
-    pub steps-next : next_after course es ≡ next_of (stand_after course es) (stand_after course es).phase
+    pub steps-next : next_after course es ≡ next_of (machine_after course es) (machine_after course es).phase
     steps-next = next-first course es fits ∙ go (after (tree_of course) es) root
       where
-        go : (tree : Tree) → Root (length es) tree (stand_after course es) → first_phase (play tree (masked course (outcome_in es))) ≡ next_of (stand_after course es) (stand_after course es).phase
-        go (Over attempts) r = ap (next_of (stand_after course es)) (sym r.0)
-        go (Ask i phase more) r = (λ j. Some (sym r.0 j, phase)) ∙ ap (next_of (stand_after course es)) (sym r.1)
+        go : (tree : Tree) → Root (length es) tree (machine_after course es) → first_phase (play tree (masked course (outcome_in es))) ≡ next_of (machine_after course es) (machine_after course es).phase
+        go (Over attempts) r = ap (next_of (machine_after course es)) (sym r.0)
+        go (Ask i phase more) r = (λ j. Some (sym r.0 j, phase)) ∙ ap (next_of (machine_after course es)) (sym r.1)
 
-    pub steps-good : is_good_after course es ≡ (is_none (stand_after course es).phase && (stand_after course es).good)
+    pub steps-good : is_good_after course es ≡ (is_none (machine_after course es).phase && (machine_after course es).good)
     unfolding is_good_after attempts_after
     steps-good = go (after (tree_of course) es) refl root
       where
-        go : (tree : Tree) → after (tree_of course) es ≡ tree → Root (length es) tree (stand_after course es)
-            → (is_none (next_after course es) && is_good (last_of (attempts_after course es))) ≡ (is_none (stand_after course es).phase && (stand_after course es).good)
+        go : (tree : Tree) → after (tree_of course) es ≡ tree → Root (length es) tree (machine_after course es)
+            → (is_none (next_after course es) && is_good (newest_attempt (attempts_after course es))) ≡ (is_none (machine_after course es).phase && (machine_after course es).good)
         go (Over attempts) e r =
-            (λ j. is_none ((steps-next ∙ ap (next_of (stand_after course es)) r.0) j) && is_good (last_of (story-end course es (outcome_in es) fits attempts e j)))
+            (λ j. is_none ((steps-next ∙ ap (next_of (machine_after course es)) r.0) j) && is_good (newest_attempt (story-end course es (outcome_in es) fits attempts e j)))
             ∙ (λ j. is_none (sym r.0 j) && sym r.1 j)
         go (Ask i phase more) e r =
-            (λ j. is_none ((steps-next ∙ ap (next_of (stand_after course es)) r.1) j) && is_good (last_of (attempts_after course es)))
-            ∙ (λ j. is_none (sym r.1 j) && (stand_after course es).good)
+            (λ j. is_none ((steps-next ∙ ap (next_of (machine_after course es)) r.1) j) && is_good (newest_attempt (attempts_after course es)))
+            ∙ (λ j. is_none (sym r.1 j) && (machine_after course es).good)
 
     -- the story is what the tree ends with, from where it stands
     story-after : attempts_after course es ≡ end_of (after (tree_of course) es) (masked course (outcome_in es))
@@ -207,24 +207,24 @@ module _ (course : Course) where
     story-after =
         sym (end_from (masked course (outcome_in es)) course [] 0 course.retries) ∙ end-split (masked course (outcome_in es)) (tree_of course) es fits.plays fits.told
 
-    pub steps-value : value_after course es ≡ (stand_after course es).value
+    pub steps-value : value_after course es ≡ (machine_after course es).value
     unfolding value_after
-    steps-value = ap (λ t. value_if_any (last_of (attempts_within (length es) t))) story-after ∙ go (after (tree_of course) es) root
+    steps-value = ap (λ t. value_if_any (newest_attempt (attempts_within (length es) t))) story-after ∙ go (after (tree_of course) es) root
       where
-        go : (tree : Tree) → Root (length es) tree (stand_after course es)
-            → value_if_any (last_of (attempts_within (length es) (end_of tree (masked course (outcome_in es))))) ≡ (stand_after course es).value
-        go (Over attempts) r = ap (λ t. value_if_any (last_of t)) r.3 ∙ sym r.2
+        go : (tree : Tree) → Root (length es) tree (machine_after course es)
+            → value_if_any (newest_attempt (attempts_within (length es) (end_of tree (masked course (outcome_in es))))) ≡ (machine_after course es).value
+        go (Over attempts) r = ap (λ t. value_if_any (newest_attempt t)) r.3 ∙ sym r.2
         go (Ask i phase more) r = r.2 (masked course (outcome_in es))
 
-    pub steps-ended : attempts_ended_after course es ≡ ended_by (stand_after course es)
+    pub steps-ended : attempts_ended_after course es ≡ attempts_ended (machine_after course es)
     unfolding attempts_ended_after
     steps-ended = ap (λ t. length (attempts_within (length es) t)) story-after ∙ go (after (tree_of course) es) root
       where
-        go : (tree : Tree) → Root (length es) tree (stand_after course es)
-            → length (attempts_within (length es) (end_of tree (masked course (outcome_in es)))) ≡ ended_by (stand_after course es)
+        go : (tree : Tree) → Root (length es) tree (machine_after course es)
+            → length (attempts_within (length es) (end_of tree (masked course (outcome_in es)))) ≡ attempts_ended (machine_after course es)
         go (Over attempts) r =
             ap (λ t. length t) r.3 ∙ r.4
-            ∙ (λ j. if is_none (sym r.0 j) then suc (stand_after course es).attempt else (stand_after course es).attempt)
+            ∙ (λ j. if is_none (sym r.0 j) then suc (machine_after course es).attempt else (machine_after course es).attempt)
         go (Ask i phase more) r =
             r.3 (masked course (outcome_in es))
-            ∙ (λ j. if is_none (sym r.1 j) then suc (stand_after course es).attempt else (stand_after course es).attempt)
+            ∙ (λ j. if is_none (sym r.1 j) then suc (machine_after course es).attempt else (machine_after course es).attempt)

@@ -1,5 +1,5 @@
 pub mod Story
-pub mod Stand
+pub mod MachineState
 pub mod NodeProgress
 pub mod NodeRun
 pub mod OutcomeTable

@@ -5,13 +5,13 @@ use Rattle.node_machine.specs.declared.Outcome.{Outcome}
 use Rattle.node_machine.specs.declared.Ended.{Ended}
 use Rattle.node_machine.specs.declared.Course.{Course}
 use Rattle.node_machine.specs.Story.{next_after, ends_with, is_history}
-use Rattle.node_machine.specs.Stand.{step, stand_after}
+use Rattle.node_machine.specs.MachineState.{machine_step, machine_after}
 use Rattle.node_machine.specs.NodeProgress.{NodeProgress}
 
 -- these phases have ended, one after another, and the node stands behind them
-pub record StandsAfter (run : NodeProgress) (es : List Ended) : Type 0 where
+pub record IsStateAfter (run : NodeProgress) (es : List Ended) : Type 0 where
   pub history : IsTrue (is_history run.course es)
-  pub stand : run.stand ≡ stand_after run.course es
+  pub machine : run.machine ≡ machine_after run.course es
 
 -- what counts where this outcome is handed in: the job of a NOOP ends with Exit 0
 abbrev pub counted_at : Course → Option Phase → Outcome → Outcome
@@ -25,8 +25,8 @@ end_at course (Some next) outcome =
     record { attempt = next.0; phase = next.1; outcome = ends_with course next.1 outcome } ∷ []
 
 -- these phases, and then the next one of the story, ended so
-abbrev pub with_end : Course → List Ended → Outcome → List Ended
-with_end course es outcome = es ++ end_at course (next_after course es) outcome
+abbrev pub with_phase_ended : Course → List Ended → Outcome → List Ended
+with_phase_ended course es outcome = es ++ end_at course (next_after course es) outcome
 
 -- the same node with its next phase running
 abbrev pub started : NodeProgress → NodeProgress
@@ -40,6 +40,6 @@ stopped run = record run { running = false }
 abbrev pub ended_with : NodeProgress → Outcome → NodeProgress
 ended_with run outcome = record {
   course = run.course;
-  stand = step run.course run.stand (counted_at run.course run.stand.phase outcome);
+  machine = machine_step run.course run.machine (counted_at run.course run.machine.phase outcome);
   running = false;
 }

@@ -58,17 +58,17 @@ unfoldable pub entry_in : PlacedText → List PlacedText → Option Entry
 entry_in name [] = None
 entry_in name (w ∷ ws) = option_and_then (λ attempt. phased_in name attempt ws) (count 1000000 w.text)
 
-abbrev pub words_say : List PlacedText → Option (Option Entry)
-words_say [] = Some None
-words_say (first ∷ ws) = if is_comment first then Some None else option_map Some (entry_in first ws)
+abbrev pub words_say_entry : List PlacedText → Option (Option Entry)
+words_say_entry [] = Some None
+words_say_entry (first ∷ ws) = if is_comment first then Some None else option_map Some (entry_in first ws)
 
-abbrev pub text_says : ℕ → Result (List ℕ) LineFault → Option (Option Entry)
-text_says number (Ok text) = words_say (words number 0 text)
-text_says number (Err f) = None
+abbrev pub text_says_entry : ℕ → Result (List ℕ) LineFault → Option (Option Entry)
+text_says_entry number (Ok text) = words_say_entry (words number 0 text)
+text_says_entry number (Err f) = None
 
 -- what a line says, if it says an entry or nothing
 unfoldable pub line_at : ℕ → List ℕ → Option (Option Entry)
-line_at number bytes = text_says number (text_of number bytes)
+line_at number bytes = text_says_entry number (text_of number bytes)
 
 abbrev pub then_lines : ℕ → Option (Option Entry) → Result (List Entry) ℕ → Result (List Entry) ℕ
 then_lines number None later = Err number

@@ -94,14 +94,14 @@ attempt course i outcomes =
     if course.pre then with_pre course i outcomes else with_job course i outcomes []
 
 -- no attempt follows this one, whatever retries are left
-abbrev pub is_last : Course → Attempt → Bool
-is_last course a = a.good || is_set_to course.unless_exit a.value || is_set_to course.abort_on a.value
+abbrev pub is_final_attempt : Course → Attempt → Bool
+is_final_attempt course a = a.good || is_set_to course.unless_exit a.value || is_set_to course.abort_on a.value
 
 -- the attempts from number i on, of which `left` may follow the first
 abbrev pub attempts_from : Course → (ℕ → Phase → Outcome) → ℕ → ℕ → List Attempt
 attempts_from course outcomes i zero = attempt course i (outcomes i) ∷ []
 attempts_from course outcomes i (suc left) =
-    if is_last course (attempt course i (outcomes i))
+    if is_final_attempt course (attempt course i (outcomes i))
     then attempt course i (outcomes i) ∷ []
     else attempt course i (outcomes i) ∷ attempts_from course outcomes (suc i) left
 
@@ -124,10 +124,10 @@ phases_of [] = []
 phases_of (a ∷ attempts) = a.ended ++ phases_of attempts
 
 -- the last of these attempts, if there is one
-abbrev pub last_of : List Attempt → Option Attempt
-last_of [] = None
-last_of (a ∷ []) = Some a
-last_of (a ∷ b ∷ attempts) = last_of (b ∷ attempts)
+abbrev pub newest_attempt : List Attempt → Option Attempt
+newest_attempt [] = None
+newest_attempt (a ∷ []) = Some a
+newest_attempt (a ∷ b ∷ attempts) = newest_attempt (b ∷ attempts)
 
 abbrev pub is_good : Option Attempt → Bool
 is_good None = false
@@ -177,11 +177,11 @@ next_after course es = first_to_come es (phases_of (attempts_after course es))
 
 -- the story has ended well: no phase follows, and the last attempt is good
 unfoldable pub is_good_after : Course → List Ended → Bool
-is_good_after course es = is_none (next_after course es) && is_good (last_of (attempts_after course es))
+is_good_after course es = is_none (next_after course es) && is_good (newest_attempt (attempts_after course es))
 
 -- the value of the last attempt that ended
 unfoldable pub value_after : Course → List Ended → Option ℤ
-value_after course es = value_if_any (last_of (attempts_within (length es) (attempts_after course es)))
+value_after course es = value_if_any (newest_attempt (attempts_within (length es) (attempts_after course es)))
 
 -- how many attempts ended
 unfoldable pub attempts_ended_after : Course → List Ended → ℕ

@@ -108,7 +108,7 @@ pub enum State {
 /// Where a node stands: the attempt and the phase that come next, if any, and what the last
 /// attempt that ended came to.
 #[derive(Clone, Copy, Debug, PartialEq, Eq)]
-pub struct Stand {
+pub struct MachineState {
     pub attempt: u32,
     pub phase: Option<Phase>,
     pub value: Option<i32>,

@@ -9,7 +9,7 @@ ghost use Rattle.dag_reader.specs.LineReader.{left_of, word_of};
 ghost use Rattle.node_machine.specs.declared.outcomes.TableFault.TheVariants.{BadLine, Memory};
 ghost use Rattle.node_machine.specs.OutcomeTable.{Entry, SameOutcomes, HasPossibleOutcomes};
 ghost use Rattle.node_machine.specs.TableMaps.{entry_of};
-ghost use Rattle.node_machine.specs.OutcomesFile.{SayAll, IsFirstBad};
+ghost use Rattle.node_machine.specs.OutcomesFile.{SayEntries, IsFirstBadEntry};
 ghost use Rattle.node_machine.specs.OutcomesReading.{phase_in, ending_in, signal_in, spelled_outcome};
 ghost use Rattle.node_machine.specs.OutcomesReading.{entry_in, line_at, lines_at, IsFaultOf, IsLineFault};
 
@@ -70,20 +70,20 @@ impl From<AllocError> for TableFault {
 pub fn read_table(alloc: Global, text: &[u8]) -> Result<Table, TableFault>
     // Each line of a text that is read says an entry or nothing, and the last entry of a key counts.
     ensures found { IfOk result (λ table. (entries : List Entry)
-        × SayAll 1 (lines text.now) entries × SameOutcomes table entries) }
+        × SayEntries 1 (lines text.now) entries × SameOutcomes table entries) }
 
     // A table that is read has outcomes that there are: no signal but 1 to 127.
     ensures possible { IfOk result HasPossibleOutcomes }
 
     // Each such text is read, unless memory runs out.
-    ensures only { (entries : List Entry) → SayAll 1 (lines text.now) entries
+    ensures only { (entries : List Entry) → SayEntries 1 (lines text.now) entries
         → MatchResult result (λ table. SameOutcomes table entries) (λ e. e ≡ Memory) }
 
     // The line that a fault names is the first bad one.
-    ensures bad_line { (n : ℕ) → result ≡ Err (BadLine n) → IsFirstBad (lines text.now) n }
+    ensures bad_line { (n : ℕ) → result ≡ Err (BadLine n) → IsFirstBadEntry (lines text.now) n }
 
     // The first bad line is refused, unless memory runs out before.
-    ensures refused { (n : ℕ) → IsFirstBad (lines text.now) n
+    ensures refused { (n : ℕ) → IsFirstBadEntry (lines text.now) n
         → (result ≡ Err (BadLine n)) ⊎ (result ≡ Err Memory) }
 {
     read_lines(alloc, text)

@@ -3,9 +3,9 @@
 ghost use Rattle.std.specs.Prelude.{◌≡◌, ◌≤◌, Some, None, false};
 ghost use Rattle.node_machine.specs.Story.{is_set_to, skips, is_exit_0, ends_with};
 ghost use Rattle.node_machine.specs.NodeRun.{counted_at};
-ghost use Rattle.node_machine.specs.Stand.{step, step_at, closed, pre_failed, stand_before, first_phase_of, next_of, state_by, ended_by};
+ghost use Rattle.node_machine.specs.MachineState.{machine_step, machine_step_at, attempt_closed, pre_failed, machine_before, first_phase_of, next_of, state_by, attempts_ended};
 
-use crate::{Course, Outcome, Phase, Stand, State, value_of};
+use crate::{Course, MachineState, Outcome, Phase, State, value_of};
 
 fn is_set(setting: Option<i32>, value: i32) -> bool
     ensures { result ≡ is_set_to setting value }
@@ -35,10 +35,10 @@ fn is_exit_0(outcome: &Outcome) -> bool
 }
 
 /// Where a node stands before its first attempt.
-pub(crate) fn first_stand(course: &Course) -> Stand
-    ensures { result ≡ stand_before course.now 0 None false }
+pub(crate) fn first_stand(course: &Course) -> MachineState
+    ensures { result ≡ machine_before course.now 0 None false }
 {
-    Stand {
+    MachineState {
         attempt: 0,
         phase: Some(first_phase(course)),
         value: None,
@@ -53,23 +53,23 @@ fn first_phase(course: &Course) -> Phase
 }
 
 /// An attempt ends with this value: it is the last, or one more follows.
-fn close(course: &Course, attempt: u32, value: i32, good: bool) -> Stand
+fn close(course: &Course, attempt: u32, value: i32, good: bool) -> MachineState
     requires { attempt ≤ course.now.retries }
-    ensures { result ≡ closed course.now attempt value good }
+    ensures { result ≡ attempt_closed course.now attempt value good }
 {
     if good
         || is_set(course.unless_exit, value)
         || is_set(course.abort_on, value)
         || attempt == course.retries
     {
-        Stand {
+        MachineState {
             attempt,
             phase: None,
             value: Some(value),
             good,
         }
     } else {
-        Stand {
+        MachineState {
             attempt: attempt + 1,
             phase: Some(first_phase(course)),
             value: Some(value),
@@ -79,56 +79,56 @@ fn close(course: &Course, attempt: u32, value: i32, good: bool) -> Stand
 }
 
 /// PRE fails: POST runs all the same where it always does, else the attempt ends.
-fn after_failed_pre(course: &Course, stand: Stand, outcome: Outcome) -> Stand
-    requires { stand.attempt ≤ course.now.retries }
-    ensures { result ≡ pre_failed course.now stand outcome }
+fn after_failed_pre(course: &Course, machine: MachineState, outcome: Outcome) -> MachineState
+    requires { machine.attempt ≤ course.now.retries }
+    ensures { result ≡ pre_failed course.now machine outcome }
 {
     if course.always_post && course.post {
-        Stand {
+        MachineState {
             phase: Some(Phase::Post),
-            ..stand
+            ..machine
         }
     } else {
-        close(course, stand.attempt, value_of(outcome), false)
+        close(course, machine.attempt, value_of(outcome), false)
     }
 }
 
-fn after_pre(course: &Course, stand: Stand, outcome: Outcome) -> Stand
-    requires { stand.attempt ≤ course.now.retries }
-    ensures { result ≡ step_at course.now stand (Some Phase.Pre) outcome }
+fn after_pre(course: &Course, machine: MachineState, outcome: Outcome) -> MachineState
+    requires { machine.attempt ≤ course.now.retries }
+    ensures { result ≡ machine_step_at course.now machine (Some Phase.Pre) outcome }
 {
     if is_skip(course, &outcome) {
-        close(course, stand.attempt, 0, true)
+        close(course, machine.attempt, 0, true)
     } else if is_exit_0(&outcome) {
-        Stand {
+        MachineState {
             phase: Some(Phase::Job),
-            ..stand
+            ..machine
         }
     } else {
-        after_failed_pre(course, stand, outcome)
+        after_failed_pre(course, machine, outcome)
     }
 }
 
 /// The attempt ends with what this outcome is worth.
-fn decide(course: &Course, stand: Stand, outcome: Outcome) -> Stand
-    requires { stand.attempt ≤ course.now.retries }
-    ensures { result ≡ step_at course.now stand (Some Phase.Post) outcome }
+fn decide(course: &Course, machine: MachineState, outcome: Outcome) -> MachineState
+    requires { machine.attempt ≤ course.now.retries }
+    ensures { result ≡ machine_step_at course.now machine (Some Phase.Post) outcome }
 {
     let value = value_of(outcome);
-    close(course, stand.attempt, value, value == 0)
+    close(course, machine.attempt, value, value == 0)
 }
 
-fn after_job(course: &Course, stand: Stand, outcome: Outcome) -> Stand
-    requires { stand.attempt ≤ course.now.retries }
-    ensures { result ≡ step_at course.now stand (Some Phase.Job) outcome }
+fn after_job(course: &Course, machine: MachineState, outcome: Outcome) -> MachineState
+    requires { machine.attempt ≤ course.now.retries }
+    ensures { result ≡ machine_step_at course.now machine (Some Phase.Job) outcome }
 {
     if course.post {
-        Stand {
+        MachineState {
             phase: Some(Phase::Post),
-            ..stand
+            ..machine
         }
     } else {
-        decide(course, stand, outcome)
+        decide(course, machine, outcome)
     }
 }
 
@@ -149,35 +149,35 @@ fn counted(course: &Course, phase: Phase, outcome: Outcome) -> Outcome
 }
 
 /// The phase that comes next ends.
-pub(crate) fn after_ending(course: &Course, stand: Stand, outcome: Outcome) -> Stand
-    requires { stand.attempt ≤ course.now.retries }
-    ensures { result ≡ step course.now stand (counted_at course.now stand.phase outcome) }
+pub(crate) fn after_ending(course: &Course, machine: MachineState, outcome: Outcome) -> MachineState
+    requires { machine.attempt ≤ course.now.retries }
+    ensures { result ≡ machine_step course.now machine (counted_at course.now machine.phase outcome) }
 {
-    match stand.phase {
-        None => stand,
-        Some(Phase::Pre) => after_pre(course, stand, outcome),
-        Some(Phase::Job) => after_job(course, stand, counted(course, Phase::Job, outcome)),
-        Some(Phase::Post) => decide(course, stand, outcome),
+    match machine.phase {
+        None => machine,
+        Some(Phase::Pre) => after_pre(course, machine, outcome),
+        Some(Phase::Job) => after_job(course, machine, counted(course, Phase::Job, outcome)),
+        Some(Phase::Post) => decide(course, machine, outcome),
     }
 }
 
 /// The attempt and the phase that come next, if any.
-pub(crate) fn next_at(stand: Stand) -> Option<(u32, Phase)>
-    ensures { result ≡ next_of stand stand.phase }
+pub(crate) fn next_at(machine: MachineState) -> Option<(u32, Phase)>
+    ensures { result ≡ next_of machine machine.phase }
 {
-    match stand.phase {
-        Some(phase) => Some((stand.attempt, phase)),
+    match machine.phase {
+        Some(phase) => Some((machine.attempt, phase)),
         None => None,
     }
 }
 
 /// What a node that stands there has come to.
-pub(crate) fn state_at(stand: Stand) -> State
-    ensures { result ≡ state_by stand }
+pub(crate) fn state_at(machine: MachineState) -> State
+    ensures { result ≡ state_by machine }
 {
-    match stand.phase {
+    match machine.phase {
         None => {
-            if stand.good {
+            if machine.good {
                 State::Done
             } else {
                 State::Error
@@ -188,11 +188,11 @@ pub(crate) fn state_at(stand: Stand) -> State
 }
 
 /// How many attempts ended.
-pub(crate) fn ended_at(stand: Stand) -> u64
-    ensures { result ≡ ended_by stand }
+pub(crate) fn ended_at(machine: MachineState) -> u64
+    ensures { result ≡ attempts_ended machine }
 {
-    match stand.phase {
-        None => u64::from(stand.attempt) + 1,
-        Some(_) => u64::from(stand.attempt),
+    match machine.phase {
+        None => u64::from(machine.attempt) + 1,
+        Some(_) => u64::from(machine.attempt),
     }
 }

@@ -6,7 +6,7 @@ ghost use Rattle.node_machine.specs.declared.Key.{Key};
 ghost use Rattle.node_machine.specs.declared.Phase.{Phase};
 ghost use Rattle.node_machine.specs.Story.{Table};
 ghost use Rattle.run_plan.specs.Plan.{Plan, node_at, count_of, IsRankedBy};
-ghost use Rattle.run_plan_node.specs.Commands.{CommandOrFault, is_sound, uses_whole_run};
+ghost use Rattle.run_plan_node.specs.Commands.{CommandOrFault, is_expandable, uses_whole_run};
 ghost use Rattle.sched_core.specs.Run.{is_done, is_lawful};
 ghost use Rattle.sched_core.specs.Fate.{AreFates, shown, is_done_state};
 ghost use Rattle.sched_core.specs.Agree.{AgreeOnFates, Agree};
@@ -18,7 +18,7 @@ ghost use Rattle.event_journal_log.specs.Image.{Header, replay_of};
 ghost use Rattle.recovery_manager.specs.Managed.{Managed, plan_of, past_of, ReadsBeforeOrAfter};
 ghost use Rattle.recovery.specs.Recovery.{IsMomentOfBegin, IsMomentOfRecovery, IsRecovered};
 ghost use Rattle.recovery_manager.specs.Lives.{LifeRecords, AreLives};
-ghost use Rattle.recovery_manager.specs.Chain.{Command, key_of, ManagerLife, IsLifeOf, AreManagerLives, HandsOver, Leaves, ReadsForInputs, life_records, life_of, by_what_it_left};
+ghost use Rattle.recovery_manager.specs.Chain.{Command, key_of, ManagerLife, IsLifeOf, AreManagerLives, Spawns, LeavesRecords, ReadsForInputs, life_records, life_of, by_what_it_left};
 ghost use Rattle.recovery_manager.specs.Inputs.{IsHeaderOf, header_for};
 
 use event_journal_log::Disk;
@@ -50,8 +50,8 @@ pub fn lives()
         (before : List ManagerLife) →
         AreManagerLives plan (last ∷ before) → IsRunBy plan table last.records.held →
         (life : ManagerLife) → Contains (last ∷ before) life →
-        (key : Key) (command : CommandOrFault) → Contains life.handed (key, command) →
-        is_sound (node_at plan key.node) ≡ true → uses_whole_run (node_at plan key.node) ≡ false →
+        (key : Key) (command : CommandOrFault) → Contains life.spawned (key, command) →
+        is_expandable (node_at plan key.node) ≡ true → uses_whole_run (node_at plan key.node) ≡ false →
         command ≡ command_by plan table key.node key.attempt key.phase }
 {}
 
@@ -60,19 +60,19 @@ pub fn lives()
 /// calls added records of its own.
 pub fn one_life<D: Disk + Drop>()
     ensures begun { (disk : D) (manager now : Managed D) (own : List Record)
-        (handed : List Command) (left : List ℕ) → replay_of (D.seen disk) ≡ Ok None →
+        (spawned : List Command) (left : List ℕ) → replay_of (D.seen disk) ≡ Ok None →
         past_of manager ≡ Life ∷ [] → past_of now ≡ own ++ past_of manager →
         IsTrue (is_lawful (plan_of now) (past_of now)) →
-        HandsOver (plan_of now) (life_records [] (past_of now)) handed →
-        Leaves (plan_of now) (life_records [] (past_of now)) left →
-        IsLifeOf (plan_of now) (life_of (D.seen disk) (life_records [] (past_of now)) handed left) }
+        Spawns (plan_of now) (life_records [] (past_of now)) spawned →
+        LeavesRecords (plan_of now) (life_records [] (past_of now)) left →
+        IsLifeOf (plan_of now) (life_of (D.seen disk) (life_records [] (past_of now)) spawned left) }
     ensures recovered { (disk : D) (manager now : Managed D) (past own : List Record)
-        (handed : List Command) (left : List ℕ) → IsRecovered D.seen D.may_leave disk manager →
+        (spawned : List Command) (left : List ℕ) → IsRecovered D.Disk disk manager →
         past_of manager ≡ Life ∷ past → plan_of now ≡ plan_of manager →
         past_of now ≡ own ++ past_of manager → IsTrue (is_lawful (plan_of now) (past_of now)) →
-        HandsOver (plan_of now) (life_records past (past_of now)) handed →
-        Leaves (plan_of now) (life_records past (past_of now)) left →
-        IsLifeOf (plan_of now) (life_of (D.seen disk) (life_records past (past_of now)) handed left) }
+        Spawns (plan_of now) (life_records past (past_of now)) spawned →
+        LeavesRecords (plan_of now) (life_records past (past_of now)) left →
+        IsLifeOf (plan_of now) (life_of (D.seen disk) (life_records past (past_of now)) spawned left) }
 {}
 
 /// A manager that stopped while it began a run, or went on with one, left an image from before its
@@ -92,7 +92,7 @@ pub fn stops<D: Disk + Drop>()
         (entry : Record) (image : List ℕ) → IsHeaderOf plan header →
         records.held ≡ own ++ Life ∷ records.begun →
         IsTrue (is_lawful plan (entry ∷ records.held)) →
-        ReadsBeforeOrAfter header records.held entry image → Leaves plan records image }
+        ReadsBeforeOrAfter header records.held entry image → LeavesRecords plan records image }
 {}
 
 /// Two runs over such lives, whose plans and tables agree on a node and all above it, agree on that
@@ -125,14 +125,14 @@ pub fn two_runs()
         Agree plan table plan' table' node node' →
         with_commands plan table node (shown plan last.records.held node).history
         ≡ with_commands plan' table' node' (shown plan' last'.records.held node').history }
-    ensures handed { (plan plan' : Plan) (table table' : Table) (last last' : ManagerLife)
+    ensures spawned { (plan plan' : Plan) (table table' : Table) (last last' : ManagerLife)
         (before before' : List ManagerLife) →
         AreManagerLives plan (last ∷ before) → AreManagerLives plan' (last' ∷ before') →
         IsRunBy plan table last.records.held → IsRunBy plan' table' last'.records.held →
         (node node' : ℕ) → Agree plan table plan' table' node node' →
-        is_sound (node_at plan node) ≡ true → is_sound (node_at plan' node') ≡ true →
+        is_expandable (node_at plan node) ≡ true → is_expandable (node_at plan' node') ≡ true →
         (life life' : ManagerLife) → Contains (last ∷ before) life → Contains (last' ∷ before') life' →
         (attempt : ℕ) (phase : Phase) (command command' : CommandOrFault) →
-        Contains life.handed (key_of node attempt phase, command) →
-        Contains life'.handed (key_of node' attempt phase, command') → command ≡ command' }
+        Contains life.spawned (key_of node attempt phase, command) →
+        Contains life'.spawned (key_of node' attempt phase, command') → command ≡ command' }
 {}

@@ -5,7 +5,7 @@ use Rattle.std.specs.List.{range_with_len}
 use Rattle.run_plan.specs.Plan.{Plan}
 use Rattle.node_machine.specs.declared.Record.{Record}
 use Rattle.sched_core.specs.Run.{is_done}
-use Rattle.sched_core.specs.Core.{AreMarks}
+use Rattle.sched_core.specs.Core.{AreDoneMarks}
 use Rattle.recovery_manager.specs.Rescue.{marks_of}
 
 marks-from : (done : ℕ → Bool) (number : ℕ) (marks : List Bool)
@@ -18,7 +18,7 @@ marks-from done number (mark ∷ marks) each =
     ∙ ap done (let e : number + suc i ≡ number + 1 + i = omega arith in e)) in
     λ j. here j ∷ rest j
 
-pub marks-are : (plan : Plan) (past : List Record) (marks : List Bool) → AreMarks plan past marks → marks ≡ marks_of plan past
+pub marks-are : (plan : Plan) (past : List Record) (marks : List Bool) → AreDoneMarks plan past marks → marks ≡ marks_of plan past
 marks-are plan past marks are =
     marks-from (is_done plan past) 0 marks (λ i lt. are.each i (subst (λ (n : ℕ). i < n) are.many lt)
     ∙ ap (is_done plan past) (let e : i ≡ 0 + i = omega arith in e))

@@ -2,7 +2,7 @@
 //! calls this function.
 
 ghost use Rattle.std.specs.Prelude.{◌≡◌, true, false};
-ghost use Rattle.run_plan_node.specs.Commands.{is_sound, uses_whole_run};
+ghost use Rattle.run_plan_node.specs.Commands.{is_expandable, uses_whole_run};
 ghost use Rattle.run_plan.specs.Plan.{node_at};
 ghost use Rattle.sched_core.specs.Lives.{IsRunBy};
 ghost use Rattle.recovery_manager.specs.Chain.{AreManagerLives};
@@ -14,6 +14,6 @@ ghost use Rattle.recovery_manager.specs.Example.{one_node, lives_on_bytes, third
 pub fn examples()
     ensures on_bytes { AreManagerLives one_node lives_on_bytes }
     ensures run { IsRunBy one_node all_good third_held }
-    ensures sound { is_sound (node_at one_node 0) ≡ true }
+    ensures sound { is_expandable (node_at one_node 0) ≡ true }
     ensures plain { uses_whole_run (node_at one_node 0) ≡ false }
 {}

@@ -1,6 +1,6 @@
 // The faults of a manager.
 ghost use Rattle.std.specs.Prelude.{◌≡◌};
-ghost use Rattle.recovery_manager.specs.Faults.{fault_of};
+ghost use Rattle.recovery_manager.specs.Faults.{manager_fault};
 
 use event_journal_log::JournalFault;
 use std::fmt;
@@ -42,7 +42,7 @@ impl fmt::Display for ManagerFault {
 
 /// A journal's fault as a manager tells it.
 pub fn told(fault: JournalFault) -> ManagerFault
-    ensures { result ≡ fault_of fault }
+    ensures { result ≡ manager_fault fault }
 {
     match fault {
         JournalFault::Memory => ManagerFault::Memory,

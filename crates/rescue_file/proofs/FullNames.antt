@@ -11,8 +11,8 @@ use Rattle.dag_reader.specs.Lines.{is_control}
 use Rattle.dag_reader.specs.Words.{is_blank}
 use Rattle.splices_flat.specs.declared.flat.FlatNode.{FlatNode}
 use Rattle.splices_flat.specs.declared.flat.Settings.{Settings}
-use Rattle.splices_flat.specs.Nodes.{Declared, names_in, job_names, jobs_in, nodes_of}
-use Rattle.splices_flat.specs.Forest.{Said, Forest, none, more, OpenFile, inside, opened_as, forest_files, job_nodes}
+use Rattle.splices_flat.specs.Nodes.{Declared, names_in, job_names, jobs_in, declared_nodes}
+use Rattle.splices_flat.specs.Forest.{ParsedFile, Forest, none, more, OpenFile, inside, opened_as, forest_files, job_nodes}
 use Rattle.rescue_file.proofs.PlainNames.{IsPlain, Others, AreNew, AreApart, right_of, apart_append}
 
 -- The names of splices, and those of nodes seen from the file that holds the splices.
@@ -28,7 +28,7 @@ seen_from none = []
 seen_from (more name file inner others) = map (spliced name) (job_names file.commands ++ seen_from inner) ++ seen_from others
 
 -- What is known of a file and the splices in it: each kind of name is declared once.
-pub record IsLawful (file : Said) (inner : Forest) : Type 0 where
+pub record IsLawful (file : ParsedFile) (inner : Forest) : Type 0 where
   pub jobs_plain : All IsPlain (job_names file.commands)
   pub jobs_apart : AreApart (job_names file.commands)
   pub splices_plain : All IsPlain (forest_names inner)
@@ -44,7 +44,7 @@ AreLawful (suc left) (more name file inner others) = IsLawful file inner × AreL
 abbrev name_of : FlatNode → List ℕ
 name_of node = node.name
 
-own_names : (prefix folder : List ℕ) (settings : ℕ → Settings) (place : ℕ) (ds : List Declared) → map name_of (nodes_of prefix folder settings place ds) ≡ map (λ (n : List ℕ). prefix ++ n) (names_in ds)
+own_names : (prefix folder : List ℕ) (settings : ℕ → Settings) (place : ℕ) (ds : List Declared) → map name_of (declared_nodes prefix folder settings place ds) ≡ map (λ (n : List ℕ). prefix ++ n) (names_in ds)
 own_names prefix folder settings place [] = refl
 own_names prefix folder settings place (d ∷ ds) = ap (λ (ns : List (List ℕ)). (prefix ++ d.name.text) ∷ ns) (own_names prefix folder settings (place + 1) ds)
 
@@ -83,7 +83,7 @@ unprefixed [] = refl
 unprefixed (n ∷ ns) = ap (λ (ms : List (List ℕ)). n ∷ ms) (unprefixed ns)
 
 -- the nodes of the top file, and of those in it
-pub top_names : (file : Said) (inner : Forest) → names_of_files (opened_as [] file inner ∷ forest_files [] inner) ≡ job_names file.commands ++ seen_from inner
+pub top_names : (file : ParsedFile) (inner : Forest) → names_of_files (opened_as [] file inner ∷ forest_files [] inner) ≡ job_names file.commands ++ seen_from inner
 top_names file inner =
     file_names (opened_as [] file inner) (forest_files [] inner)
     ∙ ap (λ (ns : List (List ℕ)). ns ++ names_of_files (forest_files [] inner)) (unprefixed (job_names file.commands))
@@ -121,7 +121,7 @@ spliced_bounded most name inner plain b =
 abbrev pub bound : ℕ → ℕ
 bound left = 256 * left + 255
 
-file_bounded : (left : ℕ) (file : Said) (inner : Forest) → IsLawful file inner → All (IsBounded (bound left)) (seen_from inner) → All (IsBounded (bound left)) (job_names file.commands ++ seen_from inner)
+file_bounded : (left : ℕ) (file : ParsedFile) (inner : Forest) → IsLawful file inner → All (IsBounded (bound left)) (seen_from inner) → All (IsBounded (bound left)) (job_names file.commands ++ seen_from inner)
 file_bounded left file inner law within =
     let enough : 255 ≤ bound left = omega arith in
     let jobs = job_names file.commands in
@@ -140,7 +140,7 @@ forest_bounded (suc left) (more name file inner others) plain (law, within, behi
     (All-weaker (IsBounded (bound left)) (λ n. IsBounded (bound (suc left)) (spliced name n)) (λ n b. wider (bound left + 256) (bound (suc left)) (spliced name n) wide (spliced_bounded (bound left) name n named b)) names here))
     (forest_bounded (suc left) others (All-tail IsPlain name (forest_names others) plain) behind)
 
-pub all_bounded : (left : ℕ) (file : Said) (inner : Forest) → IsLawful file inner → AreLawful left inner → All (IsBounded (bound left)) (job_names file.commands ++ seen_from inner)
+pub all_bounded : (left : ℕ) (file : ParsedFile) (inner : Forest) → IsLawful file inner → AreLawful left inner → All (IsBounded (bound left)) (job_names file.commands ++ seen_from inner)
 all_bounded left file inner law within = file_bounded left file inner law (forest_bounded left inner law.splices_plain within)
 
 -- And they differ: a plus ends the name of the splice.
@@ -203,7 +203,7 @@ with_plus name (more other file inner others) alone =
     (All-map (λ m. m ≢ name) (spliced other) (job_names file.commands ++ seen_from inner) (λ k d lt e. no_plus_inside other _ (subst NoPlus (sym e) alone)))
     (with_plus name others alone)
 
-file_apart : (file : Said) (inner : Forest) → IsLawful file inner → AreApart (seen_from inner) → AreApart (job_names file.commands ++ seen_from inner)
+file_apart : (file : ParsedFile) (inner : Forest) → IsLawful file inner → AreApart (seen_from inner) → AreApart (job_names file.commands ++ seen_from inner)
 file_apart file inner law within =
     let jobs = job_names file.commands in
     apart_append jobs (seen_from inner) law.jobs_apart within
@@ -221,5 +221,5 @@ forest_apart (suc left) (more name file inner others) plain (differ, apart) (law
     (flipped (map (spliced name) ns) (seen_from others)
     (All-map (λ x. All (λ m. m ≢ x) (seen_from others)) (spliced name) ns (λ k d lt. apart_from name _ others alone differ others_plain)))
 
-pub all_apart : (left : ℕ) (file : Said) (inner : Forest) → IsLawful file inner → AreLawful left inner → AreApart (job_names file.commands ++ seen_from inner)
+pub all_apart : (left : ℕ) (file : ParsedFile) (inner : Forest) → IsLawful file inner → AreLawful left inner → AreApart (job_names file.commands ++ seen_from inner)
 all_apart left file inner law within = file_apart file inner law (forest_apart left inner law.splices_plain law.splices_apart within)

@@ -9,7 +9,7 @@ use Rattle.dag_reader.proofs.LineTexts.{IsText, text_again}
 use Rattle.dag_reader.proofs.Parts.{chosen}
 use Rattle.splices_flat.specs.Dag.{Dag}
 use Rattle.rescue_file.specs.declared.fault.RescueFault.{RescueFault}
-use Rattle.rescue_file.specs.Reading.{◌>>=◌, number_of, last_name, name_behind, words_say, text_says, name_at, ordinary_of, said_of, line_at}
+use Rattle.rescue_file.specs.Reading.{◌>>=◌, number_of, last_name, name_behind, words_say_node, text_says_node, rescue_name_at, ordinary_of, said_of_line, rescue_line_at}
 
 abbrev some : {A : Type 0} → A → Option A
 some x = Some x
@@ -64,25 +64,25 @@ done_again keyword ws name (k, w, e, is, same) =
     let more : ws ≡ w ∷ [] = cc in
     (ap is_comment first ∙ no_comment k is, ap (λ (x : PlacedText). name_behind x ws) first ∙ ap (name_behind k) more ∙ rw is (ap some (sym same)))
 
-words_again : (number : ℕ) (ws : List PlacedText) (o : Option (List ℕ)) → WordsSay ws o → words_say number ws ≡ Ok o
+words_again : (number : ℕ) (ws : List PlacedText) (o : Option (List ℕ)) → WordsSay ws o → words_say_node number ws ≡ Ok o
 words_again number [] None says = refl
 words_again number [] (Some name) (k, w, e, is, same) = absurd cc
 words_again number (first ∷ ws) None says = rw says refl
 words_again number (first ∷ ws) (Some name) says = let p = done_again first ws name says in rw (p.0, p.1) refl
 
-name_again : (number : ℕ) (bytes : List ℕ) (o : Option (List ℕ)) → LineSays number bytes o → name_at number bytes ≡ Ok o
-unfolding name_at
-name_again number bytes o says = ap (text_says number) (text_again number bytes says.0) ∙ words_again number (words number 0 bytes) o says.1
+name_again : (number : ℕ) (bytes : List ℕ) (o : Option (List ℕ)) → LineSays number bytes o → rescue_name_at number bytes ≡ Ok o
+unfolding rescue_name_at
+name_again number bytes o says = ap (text_says_node number) (text_again number bytes says.0) ∙ words_again number (words number 0 bytes) o says.1
 
 abbrev to_node : Result ℕ RescueFault → Result (Option ℕ) RescueFault
 to_node r = r >>= λ node. Ok (Some node)
 
-pub says_again : (dag : Dag) (number : ℕ) (bytes : List ℕ) (o : Option ℕ) → Says dag number bytes o → line_at dag number bytes ≡ Ok o
-unfolding line_at
-says_again dag number bytes None says = ap (λ (q : Result (Option (List ℕ)) RescueFault). q >>= said_of dag number) (name_again number bytes None says)
+pub says_again : (dag : Dag) (number : ℕ) (bytes : List ℕ) (o : Option ℕ) → Says dag number bytes o → rescue_line_at dag number bytes ≡ Ok o
+unfolding rescue_line_at
+says_again dag number bytes None says = ap (λ (q : Result (Option (List ℕ)) RescueFault). q >>= said_of_line dag number) (name_again number bytes None says)
 says_again dag number bytes (Some node) (name, says, is) =
     let below = lt-ltb node (length dag.nodes) is.below in
-    ap (λ (q : Result (Option (List ℕ)) RescueFault). q >>= said_of dag number) (name_again number bytes (Some name) says)
+    ap (λ (q : Result (Option (List ℕ)) RescueFault). q >>= said_of_line dag number) (name_again number bytes (Some name) says)
     ∙ ap (λ (k : Option ℕ). to_node (ordinary_of dag number k)) is.named ∙ rw below refl
 
 -- The node that a line says is an ordinary one.
@@ -98,14 +98,14 @@ node_said : (r : Result ℕ RescueFault) (node : ℕ) → to_node r ≡ Ok (Some
 node_said (Ok n) node e = let same : n ≡ node = cc in ap (λ (m : ℕ). good m) same
 node_said (Err f) node e = absurd cc
 
-said_ordinary : (dag : Dag) (number : ℕ) (q : Result (Option (List ℕ)) RescueFault) (node : ℕ) → (q >>= said_of dag number) ≡ Ok (Some node) → node < length dag.nodes
+said_ordinary : (dag : Dag) (number : ℕ) (q : Result (Option (List ℕ)) RescueFault) (node : ℕ) → (q >>= said_of_line dag number) ≡ Ok (Some node) → node < length dag.nodes
 said_ordinary dag number (Ok None) node e = absurd cc
 said_ordinary dag number (Ok (Some name)) node e = ordinary_is dag number (number_of dag name) node (node_said (ordinary_of dag number (number_of dag name)) node e)
 said_ordinary dag number (Err f) node e = absurd cc
 
-pub line_ordinary : (dag : Dag) (number : ℕ) (bytes : List ℕ) (node : ℕ) → line_at dag number bytes ≡ Ok (Some node) → node < length dag.nodes
-unfolding line_at
-line_ordinary dag number bytes node e = said_ordinary dag number (name_at number bytes) node e
+pub line_ordinary : (dag : Dag) (number : ℕ) (bytes : List ℕ) (node : ℕ) → rescue_line_at dag number bytes ≡ Ok (Some node) → node < length dag.nodes
+unfolding rescue_line_at
+line_ordinary dag number bytes node e = said_ordinary dag number (rescue_name_at number bytes) node e
 
 -- What stands behind the first word.
 pub no_keyword : (keyword : PlacedText) (ws : List PlacedText) → is_keyword (codes "DONE") keyword ≡ false → None ≡ name_behind keyword ws

@@ -21,7 +21,7 @@ use Rattle.splices_flat.specs.Nodes.{job_names, jobs_in, splice_name, splice_nam
 use Rattle.splices_flat.specs.Forest.{Forest, none, more, Tree, tree_files}
 use Rattle.splices_flat.specs.OpenedFiles.{Spliced, splice_folder, splice_path}
 use Rattle.splices_flat.specs.Opened.{flat_of, dag_unless, dag_at}
-use Rattle.splices_flat.specs.Opening.{Files, Opener, in_file, says_at, check_final, check_lines, check_count, check_file, forest_declared, with_file, with_forest, with_splice, said_by, joined, enter_at, open_line, open_lines, open_said, open_file, opened_at}
+use Rattle.splices_flat.specs.Opening.{Files, Opener, in_file, says_at, check_final, check_lines, check_count, check_file, forest_declared, with_file, with_forest, with_splice, parsed_file, forests_joined, enter_at, open_line, open_lines, open_said, open_file, opened_at}
 use Rattle.splices_flat.proofs.Opened.{declared-joined}
 use Rattle.splices_flat.proofs.Own.{names-length}
 use Rattle.rescue_file.specs.Written.{ordinary_names}
@@ -46,12 +46,12 @@ record IsForest (left nodes : ℕ) (names : List (List ℕ)) (f : Forest) : Type
   pub named : forest_names f ≡ names
   pub few : nodes + forest_declared f ≤ 65536
 
-joined_lawful : (left : ℕ) (f g : Forest) → AreLawful left f → AreLawful left g → AreLawful left (joined f g)
+joined_lawful : (left : ℕ) (f g : Forest) → AreLawful left f → AreLawful left g → AreLawful left (forests_joined f g)
 joined_lawful left none g front back = back
 joined_lawful zero (more name file inner others) g front back = absurd front
 joined_lawful (suc left) (more name file inner others) g (law, within, behind) back = (law, within, joined_lawful (suc left) others g behind back)
 
-joined_names : (f g : Forest) → forest_names (joined f g) ≡ forest_names f ++ forest_names g
+joined_names : (f g : Forest) → forest_names (forests_joined f g) ≡ forest_names f ++ forest_names g
 joined_names none g = refl
 joined_names (more name file inner others) g = ap (λ (ns : List (List ℕ)). name ∷ ns) (joined_names others g)
 
@@ -88,7 +88,7 @@ module _ (opener : Opener) (left : ℕ) (each : (used : _) (above : List (List �
       let later = lines_forest cs (with_forest used first) above folder others rest here.few in
       let more_few = later.few in
       let count = declared-joined first others in
-      subst (IsForest left used.nodes (splice_name c ++ splice_names cs)) (given (joined first others) forest made)
+      subst (IsForest left used.nodes (splice_name c ++ splice_names cs)) (given (forests_joined first others) forest made)
       (record {
         lawful = joined_lawful left first others here.lawful later.lawful;
         named = joined_names first others ∙ ap (λ (ns : List (List ℕ)). ns ++ forest_names others) here.named ∙ ap (λ (ns : List (List ℕ)). splice_name c ++ ns) later.named;
@@ -133,7 +133,7 @@ file_tree files (suc left) used above folder path tree is =
     let plain = names_plain 1 (lines bytes) cs all in
     let apart = names_apart path cs names in
     let inner = lines_forest (open_file files left) left (file_tree files left) cs (with_file used cs) above folder forest opens (few_nodes used cs count) in
-    subst (IsTree (suc left) used.nodes) (given (record { file = said_by path folder cs; inner = forest }) tree made) (
+    subst (IsTree (suc left) used.nodes) (given (record { file = parsed_file path folder cs; inner = forest }) tree made) (
       record {
         jobs_plain = plain.0;
         jobs_apart = apart.0;

@@ -8,9 +8,9 @@ use Rattle.std.proofs.lemmas.Slice.Eq.{bytes_eq-Decides}
 use Rattle.std.specs.List.{All, range_with_len, position_or_len}
 use Rattle.splices_flat.specs.declared.flat.FlatNode.{FlatNode}
 use Rattle.splices_flat.specs.Dag.{Dag}
-use Rattle.dag_graph.specs.Graph.{names_of, final_names}
+use Rattle.dag_graph.specs.Graph.{names_of, names_with_final}
 use Rattle.rescue_file.specs.Written.{ordinary_names, marked, rescue_text_of}
-use Rattle.rescue_file.specs.Grammar.{SayAll}
+use Rattle.rescue_file.specs.Grammar.{SayNodes}
 use Rattle.rescue_file.specs.Reading.{number_of, rescued_of}
 use Rattle.rescue_file.specs.Fit.{IsFit, AreFit}
 use Rattle.rescue_file.proofs.LineReadings.{good, says_again}
@@ -37,9 +37,9 @@ placed dag fit i lt =
     let all = names_of dag in
     let name = get_or names i [] in
     let count : length names ≡ length dag.nodes = length-map dag.nodes (λ (n : FlatNode). n.name) in
-    let more = length-append names (final_names dag.final_node) in
+    let more = length-append names (names_with_final dag.final_node) in
     let inside : i < length all = omega arith in
-    let at = λ (k : ℕ) (below : k < length names). get_or_append_left names (final_names dag.final_node) [] k below in
+    let at = λ (k : ℕ) (below : k < length names). get_or_append_left names (names_with_final dag.final_node) [] k below in
     let before : (k : ℕ) → k < i → bytes_eq name (get_or all k []) ≡ false =
     λ k low. false_from_ne_true (bytes_eq name (get_or all k [])) (λ yes.
     fit.apart k i low lt (sym ((bytes_eq-Decides name (get_or all k [])).0 yes ∙ at k (omega arith)))) in
@@ -58,7 +58,7 @@ others_are : (dag : Dag) (at : ℕ) (name : List ℕ) (names : List (List ℕ)) 
 others_are dag at name names are = λ i lt. let below : at + suc i ≡ at + 1 + i = omega arith in are (suc i) (omega arith) ∙ ap (λ (k : ℕ). Some k) below
 
 done_say : (dag : Dag) (number at : ℕ) (names : List (List ℕ)) (marks : List Bool) → All IsFit names → AreFrom dag at names → at + length names ≤ length dag.nodes
-    → SayAll dag number (map done_words (marked names marks)) (marked (range_with_len at (length names)) marks)
+    → SayNodes dag number (map done_words (marked names marks)) (marked (range_with_len at (length names)) marks)
 done_say dag number at [] marks fit are within = refl
 done_say dag number at (name ∷ names) [] fit are within = refl
 done_say dag number at (name ∷ names) (true ∷ marks) fit are within = (
@@ -80,8 +80,8 @@ read_again dag marks fit =
     let done_few : length done ≤ 65536 = omega (arith, marked_few names marks) in
     let are : AreFrom dag 0 names = λ i lt. let zero_first : i ≡ 0 + i = omega arith in placed dag fit i (omega arith) ∙ ap (λ (k : ℕ). Some k) zero_first in
     let nodes = marked (range_with_len 0 (length names)) marks in
-    let says : SayAll dag 5 (map done_words done) nodes = done_say dag 5 0 names marks fit.fit are (omega arith) in
-    let all : SayAll dag 1 (title ∷ total_line (length names) ∷ premarked_line (length done) ∷ [] ∷ map done_words done) nodes =
+    let says : SayNodes dag 5 (map done_words done) nodes = done_say dag 5 0 names marks fit.fit are (omega arith) in
+    let all : SayNodes dag 1 (title ∷ total_line (length names) ∷ premarked_line (length done) ∷ [] ∷ map done_words done) nodes =
     (None, nodes, says_again dag 1 title None (title_says dag 1), (None, nodes, says_again dag 2 (total_line (length names)) None (total_says dag 2 (length names) total_few), (None, nodes, says_again dag 3 (premarked_line (length done)) None (premarked_says dag 3 (length done) done_few), (None, nodes, says_again dag 4 [] None (empty_says dag 4), says, refl), refl), refl), refl) in
-    lines_again dag 1 _ nodes (subst (λ (ls : List (List ℕ)). SayAll dag 1 ls nodes) (sym (written_lines (length names) (length done) done total_few done_few (marked_fit names marks fit.fit))) all)
+    lines_again dag 1 _ nodes (subst (λ (ls : List (List ℕ)). SayNodes dag 1 ls nodes) (sym (written_lines (length names) (length done) done total_few done_few (marked_fit names marks fit.fit))) all)
     ∙ ap (λ (n : ℕ). good (marked (range_with_len 0 n) marks)) count

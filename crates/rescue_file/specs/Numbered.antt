@@ -3,8 +3,8 @@ use Rattle.std.specs.Prelude.{◌≡◌, ◌≢◌, ℕ, ◌+◌, ◌/◌, ◌%�
 use Rattle.std.specs.List.{Contains}
 
 -- a number that a rescue file can have
-abbrev pub IsNumber : ℕ → Type 0
-IsNumber number = (1 ≤ number) × (number ≤ 999)
+abbrev pub IsFileNumber : ℕ → Type 0
+IsFileNumber number = (1 ≤ number) × (number ≤ 999)
 
 -- the last three digits (0 is 48), with leading zeros
 abbrev pub three_digits : ℕ → List ℕ
@@ -16,8 +16,8 @@ rescue_name_of top number = top ++ (codes ".rescue" ++ three_digits number)
 
 -- The number that these bytes spell, or none does.
 abbrev pub IsFound : (ℕ → List ℕ) → List ℕ → Option ℕ → Type 0
-IsFound spelled bytes None = (number : ℕ) → IsNumber number → spelled number ≢ bytes
-IsFound spelled bytes (Some number) = IsNumber number × (spelled number ≡ bytes)
+IsFound spelled bytes None = (number : ℕ) → IsFileNumber number → spelled number ≢ bytes
+IsFound spelled bytes (Some number) = IsFileNumber number × (spelled number ≡ bytes)
 
 -- The highest number of a rescue file that stands among the names, or 0 where none stands there.
 pub record IsHighest (names : List (List ℕ)) (top : List ℕ) (highest : ℕ) : Type 0 where

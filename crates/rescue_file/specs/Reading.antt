@@ -29,17 +29,17 @@ abbrev pub or_bad : ℕ → Option (List ℕ) → Result (Option (List ℕ)) Res
 or_bad number None = Err (BadLine number)
 or_bad number (Some name) = Ok (Some name)
 
-abbrev pub words_say : ℕ → List PlacedText → Result (Option (List ℕ)) RescueFault
-words_say number [] = Ok None
-words_say number (first ∷ ws) = if is_comment first then Ok None else or_bad number (name_behind first ws)
+abbrev pub words_say_node : ℕ → List PlacedText → Result (Option (List ℕ)) RescueFault
+words_say_node number [] = Ok None
+words_say_node number (first ∷ ws) = if is_comment first then Ok None else or_bad number (name_behind first ws)
 
-abbrev pub text_says : ℕ → Result (List ℕ) LineFault → Result (Option (List ℕ)) RescueFault
-text_says number (Ok text) = words_say number (words number 0 text)
-text_says number (Err fault) = Err (BadLine number)
+abbrev pub text_says_node : ℕ → Result (List ℕ) LineFault → Result (Option (List ℕ)) RescueFault
+text_says_node number (Ok text) = words_say_node number (words number 0 text)
+text_says_node number (Err fault) = Err (BadLine number)
 
 -- the name that a line says, if it says one
-unfoldable pub name_at : ℕ → List ℕ → Result (Option (List ℕ)) RescueFault
-name_at number bytes = text_says number (text_of number bytes)
+unfoldable pub rescue_name_at : ℕ → List ℕ → Result (Option (List ℕ)) RescueFault
+rescue_name_at number bytes = text_says_node number (text_of number bytes)
 
 -- The number of the first node with this name; the FINAL node's is the last one.
 abbrev pub number_of : Dag → List ℕ → Option ℕ
@@ -50,28 +50,28 @@ abbrev pub ordinary_of : Dag → ℕ → Option ℕ → Result ℕ RescueFault
 ordinary_of dag number None = Err (UnknownNode number)
 ordinary_of dag number (Some node) = if nat_lt node (length dag.nodes) then Ok node else Err (FinalDone number)
 
-abbrev pub node_of : Dag → ℕ → List ℕ → Result ℕ RescueFault
-node_of dag number name = ordinary_of dag number (number_of dag name)
+abbrev pub node_by_name : Dag → ℕ → List ℕ → Result ℕ RescueFault
+node_by_name dag number name = ordinary_of dag number (number_of dag name)
 
-abbrev pub said_of : Dag → ℕ → Option (List ℕ) → Result (Option ℕ) RescueFault
-said_of dag number None = Ok None
-said_of dag number (Some name) = node_of dag number name >>= λ node. Ok (Some node)
+abbrev pub said_of_line : Dag → ℕ → Option (List ℕ) → Result (Option ℕ) RescueFault
+said_of_line dag number None = Ok None
+said_of_line dag number (Some name) = node_by_name dag number name >>= λ node. Ok (Some node)
 
 -- the ordinary node that a line says is done, if it says one
-unfoldable pub line_at : Dag → ℕ → List ℕ → Result (Option ℕ) RescueFault
-line_at dag number bytes = name_at number bytes >>= said_of dag number
+unfoldable pub rescue_line_at : Dag → ℕ → List ℕ → Result (Option ℕ) RescueFault
+rescue_line_at dag number bytes = rescue_name_at number bytes >>= said_of_line dag number
 
 -- the nodes of lines, the first of which has this number
-unfoldable pub lines_at : Dag → ℕ → List (List ℕ) → Result (List ℕ) RescueFault
-lines_at dag number [] = Ok []
-lines_at dag number (line ∷ more) = do
-  first ← line_at dag number line
-  others ← lines_at dag (number + 1) more
+unfoldable pub rescue_lines_at : Dag → ℕ → List (List ℕ) → Result (List ℕ) RescueFault
+rescue_lines_at dag number [] = Ok []
+rescue_lines_at dag number (line ∷ more) = do
+  first ← rescue_line_at dag number line
+  others ← rescue_lines_at dag (number + 1) more
   Ok (option_to_list first ++ others)
 
 -- the nodes of a rescue file, or its first fault
 abbrev pub rescued_of : Dag → List ℕ → Result (List ℕ) RescueFault
-rescued_of dag bytes = lines_at dag 1 (lines bytes)
+rescued_of dag bytes = rescue_lines_at dag 1 (lines bytes)
 
 -- The fault that a refusal tells; for want of memory it tells none.
 abbrev pub told_fault : RescueFault → Option RescueFault

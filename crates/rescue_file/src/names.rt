@@ -2,7 +2,7 @@
 
 ghost use Rattle.std.specs.Prelude.{◌≡◌, ◌≢◌, ◌<◌, ◌≤◌, ◌+◌, ◌∷◌, [], ℕ, Ok, Err, MatchOption};
 ghost use Rattle.rescue_file.specs.Reading.{Gives};
-ghost use Rattle.rescue_file.specs.Numbered.{IsNumber, three_digits, rescue_name_of, IsFound, IsHighest};
+ghost use Rattle.rescue_file.specs.Numbered.{IsFileNumber, three_digits, rescue_name_of, IsFound, IsHighest};
 ghost use Rattle.rescue_file.specs.declared.fault.RescueFault.TheVariants.{NotThere};
 
 use crate::fault::RescueFault;
@@ -19,10 +19,10 @@ const LAST_NUMBER: u16 = 999;
 /// `NotThere` with the number where it is 0 or above 999, and else `Memory` where memory runs out.
 pub fn rescue_name(alloc: Global, top: &str, number: u16) -> Result<Text, RescueFault>
     // A number from 1 to 999 has this name.
-    ensures name { IsNumber number → Gives (λ name. name) result (Ok (rescue_name_of top.now number)) }
+    ensures name { IsFileNumber number → Gives (λ name. name) result (Ok (rescue_name_of top.now number)) }
 
     // Any other number is refused, whether there is memory or not.
-    ensures refused { ¬ (IsNumber number) → result ≡ Err (NotThere number) }
+    ensures refused { ¬ (IsFileNumber number) → result ≡ Err (NotThere number) }
 {
     if number == 0 || number > LAST_NUMBER {
         return Err(RescueFault::NotThere(number));

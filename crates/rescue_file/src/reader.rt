@@ -5,9 +5,9 @@ ghost use Rattle.std.specs.Option.{option_map};
 ghost use Rattle.std.specs.List.{All};
 ghost use Rattle.std.specs.Str.Lines.{lines};
 ghost use Rattle.dag_reader.specs.LineReader.{left_of, word_of};
-ghost use Rattle.rescue_file.specs.Grammar.{SayAll, IsFirstBad};
-ghost use Rattle.rescue_file.specs.Reading.{Gives, name_behind, name_at, node_of, line_at, rescued_of};
-ghost use Rattle.rescue_file.specs.Results.{seen_by};
+ghost use Rattle.rescue_file.specs.Grammar.{SayNodes, IsFirstBadName};
+ghost use Rattle.rescue_file.specs.Reading.{Gives, name_behind, rescue_name_at, node_by_name, rescue_line_at, rescued_of};
+ghost use Rattle.rescue_file.specs.Results.{viewed};
 ghost use Rattle.rescue_file.specs.declared.fault.RescueFault.{RescueFault};
 ghost use Rattle.rescue_file.specs.declared.fault.RescueFault.TheVariants.{Memory};
 
@@ -30,18 +30,18 @@ use std::alloc::Global;
 /// and `FinalDone` where it is the FINAL node's. `Memory` where memory runs out.
 pub fn read_rescue(alloc: Global, bytes: &[u8], graph: &Graph) -> Result<Vec<u32>, RescueFault>
     // The lines say the nodes that are read.
-    ensures found { IfOk result (λ nodes. SayAll graph.now.dag 1 (lines bytes.now) nodes.items) }
+    ensures found { IfOk result (λ nodes. SayNodes graph.now.dag 1 (lines bytes.now) nodes.items) }
 
     // Where the lines say nodes, these are read, unless memory runs out.
-    ensures only { (nodes : List ℕ) → SayAll graph.now.dag 1 (lines bytes.now) nodes
+    ensures only { (nodes : List ℕ) → SayNodes graph.now.dag 1 (lines bytes.now) nodes
         → Gives (λ found. found.items) result (Ok nodes) }
 
     // A fault other than want of memory is that of the first bad line.
     ensures fault { IfErr result
-        (λ fault. (fault ≡ Memory) ⊎ IsFirstBad graph.now.dag (lines bytes.now) fault) }
+        (λ fault. (fault ≡ Memory) ⊎ IsFirstBadName graph.now.dag (lines bytes.now) fault) }
 
     // The fault of the first bad line is given, unless memory runs out before.
-    ensures refused { (fault : RescueFault) → IsFirstBad graph.now.dag (lines bytes.now) fault
+    ensures refused { (fault : RescueFault) → IsFirstBadName graph.now.dag (lines bytes.now) fault
         → Gives (λ found. found.items) result (Err fault) }
 
     // They are ordinary nodes.
@@ -72,9 +72,9 @@ fn read_lines(alloc: Global, bytes: &[u8], graph: &Graph) -> Result<Vec<u32>, Re
 }
 
 /// The node that the line of this number says is done, if it says one.
-#[tactic(auto, unfolding(crate::specs::Reading::line_at))]
+#[tactic(auto, unfolding(crate::specs::Reading::rescue_line_at))]
 fn read_line(number: usize, bytes: &[u8], graph: &Graph) -> Result<Option<u32>, RescueFault>
-    ensures { result ≡ line_at graph.now.dag number bytes.now }
+    ensures { result ≡ rescue_line_at graph.now.dag number bytes.now }
 {
     match read_name(number, bytes)? {
         Some(name) => Ok(Some(ordinary_node(number, name, graph)?)),
@@ -83,9 +83,9 @@ fn read_line(number: usize, bytes: &[u8], graph: &Graph) -> Result<Option<u32>, 
 }
 
 /// The name of the node that the line of this number says is done, if it says one.
-#[tactic(auto, unfolding(crate::specs::Reading::name_at))]
+#[tactic(auto, unfolding(crate::specs::Reading::rescue_name_at))]
 fn read_name(number: usize, bytes: &[u8]) -> Result<Option<&str>, RescueFault>
-    ensures { seen_by (option_map (λ name. name.now)) result ≡ name_at number bytes.now }
+    ensures { viewed (option_map (λ name. name.now)) result ≡ rescue_name_at number bytes.now }
 {
     let Ok(text) = line_text(number, bytes) else {
         return Err(RescueFault::BadLine(number));
@@ -120,7 +120,7 @@ fn done_name<'a>(keyword: &Token<'a>, line: &mut LineReader<'a>) -> Option<&'a s
 
 /// The ordinary node of this name.
 fn ordinary_node(number: usize, name: &str, graph: &Graph) -> Result<u32, RescueFault>
-    ensures { result ≡ node_of graph.now.dag number name.now }
+    ensures { result ≡ node_by_name graph.now.dag number name.now }
 {
     match graph.node_named(name) {
         None => Err(RescueFault::UnknownNode(number)),

@@ -18,14 +18,14 @@ use Rattle.dag_graph.proofs.Told.{any_edge}
 use Rattle.run_plan_node.specs.Node.{Job, NodeSpec, no_node}
 use Rattle.run_plan.specs.Plan.{Plan, node_at, count_of, has_parents_below, IsRankedBy}
 use Rattle.run_plan.specs.Planned.{IsPlanned}
-use Rattle.run_plan_node.specs.Specs.{place_of, spec_of}
-use Rattle.run_plan.specs.Specs.{Sources, specs_from, final_spec, plan_of}
+use Rattle.run_plan_node.specs.Specs.{category_place, spec_of}
+use Rattle.run_plan.specs.Specs.{Sources, specs_from, final_spec, plan_from}
 
 pub specs-length : (dag : Dag) (sources : Sources) (number : ℕ) (nodes : List FlatNode) → length (specs_from dag sources number nodes) ≡ length nodes
 specs-length dag sources number [] = refl
 specs-length dag sources number (n ∷ ns) = ap (λ (k : ℕ). suc k) (specs-length dag sources (number + 1) ns)
 
-pub count-is : (graph : Network) (sources : Sources) (digest : List ℕ) → count_of (plan_of graph sources digest) ≡ length graph.dag.nodes
+pub count-is : (graph : Network) (sources : Sources) (digest : List ℕ) → count_of (plan_from graph sources digest) ≡ length graph.dag.nodes
 count-is graph sources digest = specs-length graph.dag sources 0 graph.dag.nodes
 
 -- the same of a plan that was made
@@ -106,9 +106,9 @@ all_get f (x ∷ xs) d e h zero = (and_parts _ _ e).0
 all_get f (x ∷ xs) d e h (suc i) = all_get f xs d (and_parts _ _ e).1 h i
 
 made-below : (graph : Network) (sources : Sources) (digest : List ℕ) (node : ℕ)
-    → has_parents_below (count_of (plan_of graph sources digest)) (node_at (plan_of graph sources digest) node) ≡ true
+    → has_parents_below (count_of (plan_from graph sources digest)) (node_at (plan_from graph sources digest) node) ≡ true
 made-below graph sources digest node =
-    let plan = plan_of graph sources digest in
+    let plan = plan_from graph sources digest in
     all_get (has_parents_below (count_of plan)) plan.nodes (unwrap_or plan.final_node no_node)
     (specs-below graph.dag sources (count_of plan) 0 graph.dag.nodes (count-is graph sources digest)) (final-below sources (count_of plan) graph.dag.final_node) node
 
@@ -117,7 +117,7 @@ abbrev place-below : ℕ → Option ℕ → Bool
 place-below n None = true
 place-below n (Some place) = nat_lt place n
 
-place-within : (limits : List CategoryLimit) (setting : Option CategorySetting) → place-below (length limits) (place_of limits setting) ≡ true
+place-within : (limits : List CategoryLimit) (setting : Option CategorySetting) → place-below (length limits) (category_place limits setting) ≡ true
 place-within limits None = refl
 place-within limits (Some s) = go (nat_lt (position_or_len (λ limit. bytes_eq s.name limit.name) limits) (length limits)) refl
   where
@@ -130,7 +130,7 @@ specs-placed : (dag : Dag) (sources : Sources) (number : ℕ) (nodes : List Flat
 specs-placed dag sources number [] = refl
 specs-placed dag sources number (x ∷ xs) = and_from _ _ (place-within dag.categories x.settings.category) (specs-placed dag sources (number + 1) xs)
 
-place-none : (n : ℕ) (setting : Option CategorySetting) → place-below n (place_of [] setting) ≡ true
+place-none : (n : ℕ) (setting : Option CategorySetting) → place-below n (category_place [] setting) ≡ true
 place-none n None = refl
 place-none n (Some s) = refl
 
@@ -139,9 +139,9 @@ final-placed sources n None = refl
 final-placed sources n (Some node) = place-none n node.settings.category
 
 made-placed : (graph : Network) (sources : Sources) (digest : List ℕ) (node : ℕ)
-    → place-below (length graph.dag.categories) (node_at (plan_of graph sources digest) node).category ≡ true
+    → place-below (length graph.dag.categories) (node_at (plan_from graph sources digest) node).category ≡ true
 made-placed graph sources digest node =
-    let plan = plan_of graph sources digest in
+    let plan = plan_from graph sources digest in
     all_get (λ (spec : NodeSpec). place-below (length graph.dag.categories) spec.category) plan.nodes (unwrap_or plan.final_node no_node)
     (specs-placed graph.dag sources 0 graph.dag.nodes) (final-placed sources (length graph.dag.categories) graph.dag.final_node) node
 
@@ -170,11 +170,11 @@ spec-parents dag sources number (x ∷ xs) (suc i) d small =
     let shift : number + 1 + i ≡ number + suc i = omega arith in
     spec-parents dag sources (number + 1) xs i d (omega arith) ∙ ap (parents_of dag) shift
 
-pub made-ranked : (graph : Network) (sources : Sources) (digest : List ℕ) → IsOrderOf graph.dag graph.order → IsRankedBy (rank_in graph.order) (plan_of graph sources digest)
+pub made-ranked : (graph : Network) (sources : Sources) (digest : List ℕ) → IsOrderOf graph.dag graph.order → IsRankedBy (rank_in graph.order) (plan_from graph sources digest)
 made-ranked graph sources digest order = λ node small parent among.
-    let n : count_of (plan_of graph sources digest) ≡ length graph.dag.nodes = count-is graph sources digest in
-    let here : (node_at (plan_of graph sources digest) node).parents ≡ parents_of graph.dag node =
-    spec-parents graph.dag sources 0 graph.dag.nodes node (unwrap_or (plan_of graph sources digest).final_node no_node) (omega arith)
+    let n : count_of (plan_from graph sources digest) ≡ length graph.dag.nodes = count-is graph sources digest in
+    let here : (node_at (plan_from graph sources digest) node).parents ≡ parents_of graph.dag node =
+    spec-parents graph.dag sources 0 graph.dag.nodes node (unwrap_or (plan_from graph sources digest).final_node no_node) (omega arith)
     ∙ ap (parents_of graph.dag) (let e : 0 + node ≡ node = omega arith in e) in
     let parents : Contains (parents_of graph.dag node) parent = subst (λ (ps : List ℕ). Contains ps parent) here among in
     let low : parent < length graph.dag.nodes = All-contains (λ p. p < length graph.dag.nodes) (parents_of graph.dag node) parent (parents-in graph.dag node) parents in
@@ -186,7 +186,7 @@ ranked plan is order = subst (IsRankedBy (rank_in plan.graph.order)) (sym is.mad
 -- the parents of an ordinary node are those of the graph
 pub parents-are : (plan : Plan) → IsPlanned plan → (node : ℕ) → node < count_of plan → (node_at plan node).parents ≡ parents_of plan.graph.dag node
 parents-are plan is node small =
-    let made = plan_of plan.graph is.sources plan.digest in
+    let made = plan_from plan.graph is.sources plan.digest in
     let n : count_of plan ≡ length plan.graph.dag.nodes = planned-count plan is in
     ap (λ (p : Plan). (node_at p node).parents) is.made
     ∙ spec-parents plan.graph.dag is.sources 0 plan.graph.dag.nodes node (unwrap_or made.final_node no_node) (omega (arith, small, n))

@@ -26,8 +26,8 @@ abbrev pub final_spec : Sources → FlatNode → NodeSpec
 final_spec sources node = spec_of sources.always_post [] [] (sources.job node) false node
 
 -- the plan of a graph
-abbrev pub plan_of : Network → Sources → List ℕ → Plan
-plan_of graph sources digest = record {
+abbrev pub plan_from : Network → Sources → List ℕ → Plan
+plan_from graph sources digest = record {
   nodes = specs_from graph.dag sources 0 graph.dag.nodes;
   final_node = option_map (final_spec sources) graph.dag.final_node;
   graph = graph;

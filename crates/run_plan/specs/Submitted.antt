@@ -26,13 +26,13 @@ use Rattle.run_plan.specs.Plan.{Plan}
 use Rattle.run_plan_node.specs.Commands.{scope_in, greatest, checked}
 use Rattle.run_plan.specs.Digest.{digest_of}
 use Rattle.run_plan_node.specs.Specs.{retries_of}
-use Rattle.run_plan.specs.Specs.{Sources, is_listed, plan_of}
+use Rattle.run_plan.specs.Specs.{Sources, is_listed, plan_from}
 
-abbrev pub fault_in : List ℕ → JobFault → PlanFault
-fault_in name job.Memory = Memory
-fault_in name (job.InMacro fault) = InMacro name fault
-fault_in name job.NoExecutable = NoExecutable name
-fault_in name job.BadUniverse = BadUniverse name
+abbrev pub fault_in_job : List ℕ → JobFault → PlanFault
+fault_in_job name job.Memory = Memory
+fault_in_job name (job.InMacro fault) = InMacro name fault
+fault_in_job name job.NoExecutable = NoExecutable name
+fault_in_job name job.BadUniverse = BadUniverse name
 
 abbrev pub macro_of_setting : MacroSetting → Macro
 macro_of_setting m = record { name = m.name; value = m.text; vars = true }
@@ -61,7 +61,7 @@ last_attempt node = record { retry = retries_of node.settings.retry; launch = gr
 
 abbrev pub kept : FlatNode → Job → Result (Unit {0}) JobFault → Result Job PlanFault
 kept node job (Ok done) = Ok job
-kept node job (Err fault) = Err (fault_in node.name fault)
+kept node job (Err fault) = Err (fault_in_job node.name fault)
 
 -- The job that a node's submit file and macros describe. Its texts are expanded for the last attempt that is allowed.
 abbrev pub described : FlatNode → List Macro → Result Job PlanFault
@@ -96,9 +96,9 @@ job_or_program node (Ok job) = job
 job_or_program node (Err fault) = Program node.file
 
 -- the first fault of nodes, in plan order
-abbrev pub first_fault : Option Files → List FlatNode → Result (Unit {0}) PlanFault
-first_fault files [] = Ok tt
-first_fault files (node ∷ nodes) = job_at files node >>= λ job. first_fault files nodes
+abbrev pub first_plan_fault : Option Files → List FlatNode → Result (Unit {0}) PlanFault
+first_plan_fault files [] = Ok tt
+first_plan_fault files (node ∷ nodes) = job_at files node >>= λ job. first_plan_fault files nodes
 
 -- FINAL is the last of all nodes
 abbrev pub all_nodes : Dag → List FlatNode
@@ -124,9 +124,9 @@ sources_of always_post files numbers = record {
 -- whether POST runs behind a failed PRE.
 unfoldable pub plan_at : Bool → Network → Option Files → Option (List ℕ) → List ℕ → Result Plan PlanFault
 plan_at always_post graph files rescue digest =
-    first_fault files (all_nodes graph.dag) >>= λ none. rescued_in graph.dag rescue >>= λ numbers.
-    Ok (plan_of graph (sources_of always_post files numbers) digest)
+    first_plan_fault files (all_nodes graph.dag) >>= λ none. rescued_in graph.dag rescue >>= λ numbers.
+    Ok (plan_from graph (sources_of always_post files numbers) digest)
 
 -- the plan of a graph whose submit files aren't read, with no rescue file
 abbrev pub bare_plan : Bool → Network → Plan
-bare_plan always_post graph = plan_of graph (sources_of always_post None []) (digest_of graph.dag.top [] None)
+bare_plan always_post graph = plan_from graph (sources_of always_post None []) (digest_of graph.dag.top [] None)

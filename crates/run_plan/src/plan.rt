@@ -6,11 +6,11 @@ ghost use Rattle.splices_flat.specs.FileSet.{bytes_of, entries_of};
 ghost use Rattle.dag_graph.specs.Graph.{rank_in};
 ghost use Rattle.rescue_file.specs.declared.fault.RescueFault.TheVariants as rescue;
 ghost use Rattle.run_plan.specs.declared.fault.PlanFault.TheVariants.{Memory, InRescue};
-ghost use Rattle.run_plan_node.specs.Commands.{command_of, is_sound, starts_child, uses_whole_run};
+ghost use Rattle.run_plan_node.specs.Commands.{command_of, is_expandable, starts_child, uses_whole_run};
 ghost use Rattle.run_plan.specs.Digest.{digest_of};
 ghost use Rattle.run_plan.specs.Plan.{node_at, count_of, has_parents_below, IsRankedBy};
 ghost use Rattle.run_plan.specs.PlanAnswers.{Gives, Fails};
-ghost use Rattle.run_plan.specs.Submitted.{plan_at, first_fault, rescued_in};
+ghost use Rattle.run_plan.specs.Submitted.{plan_at, first_plan_fault, rescued_in};
 ghost use Rattle.run_plan.specs.Specs.{specs_from, final_spec, is_listed};
 ghost use Rattle.run_plan.specs.Planned.{IsPlanned, marked_sources};
 
@@ -212,7 +212,7 @@ impl Plan {
         // Its category is one of those that have a limit.
         ensures category { IfSome (node_at self.now node).category (λ place. place < length self.now.graph.dag.categories) }
         // Each of its phases has a command in each attempt that is allowed (`run_plan_node::laws::commands_exist`).
-        ensures sound { IsTrue (is_sound (node_at self.now node)) }
+        ensures sound { IsTrue (is_expandable (node_at self.now node)) }
     {
         let index = node as usize;
         if index < self.nodes.len() {
@@ -354,7 +354,7 @@ fn specs_of(
     always_post: bool,
 ) -> Result<Vec<NodeSpec>, PlanFault>
     ensures specs { IfOk result (λ specs. specs.items ≡ specs_from graph.now.dag (marked_sources always_post (option_map (λ set. bytes_of set.now) files.entry) marks.now) 0 graph.now.dag.nodes) }
-    ensures faults { Gives (λ _. tt) result (first_fault (option_map (λ set. bytes_of set.now) files.entry) graph.now.dag.nodes) }
+    ensures faults { Gives (λ _. tt) result (first_plan_fault (option_map (λ set. bytes_of set.now) files.entry) graph.now.dag.nodes) }
 {
     let categories = Categories::new(alloc, graph.flat().categories())?;
     let mut specs = Vec::new(alloc);
@@ -379,7 +379,7 @@ fn final_of(
     always_post: bool,
 ) -> Result<Option<NodeSpec>, PlanFault>
     ensures spec { IfOk result (λ spec. spec ≡ option_map (λ n. final_spec (marked_sources always_post (option_map (λ set. bytes_of set.now) files.entry) []) n.now) node.entry) }
-    ensures fault { Gives (λ _. tt) result (first_fault (option_map (λ set. bytes_of set.now) files.entry) (option_to_list (option_map (λ n. n.now) node.entry))) }
+    ensures fault { Gives (λ _. tt) result (first_plan_fault (option_map (λ set. bytes_of set.now) files.entry) (option_to_list (option_map (λ n. n.now) node.entry))) }
 {
     let Some(node) = node else {
         return Ok(None);

@@ -8,7 +8,7 @@ ghost use Rattle.vars_macros.specs.declared.fault.MacroFault.TheVariants as macr
 ghost use Rattle.submit_file.specs.declared.fault.SubmitFault.TheVariants as submit;
 ghost use Rattle.run_plan.specs.declared.fault.PlanFault.TheVariants.{InSubmit, Memory};
 ghost use Rattle.run_plan_node.specs.Commands.{checked};
-ghost use Rattle.run_plan.specs.Submitted.{job_at, described_by, submit_at, assigned_to, fault_in, macro_of_setting, macro_of_assignment, has_placement, last_attempt};
+ghost use Rattle.run_plan.specs.Submitted.{job_at, described_by, submit_at, assigned_to, fault_in_job, macro_of_setting, macro_of_assignment, has_placement, last_attempt};
 ghost use Rattle.run_plan.specs.PlanAnswers.{Gives, IsFault};
 ghost use Rattle.run_plan_node.specs.JobAnswers as answers;
 
@@ -145,7 +145,7 @@ fn checked(alloc: Global, node: &FlatNode, macros: &Macros) -> Result<(), JobFau
 
 /// A fault of a job, with the name of its node.
 pub(crate) fn fault_in(alloc: Global, name: &str, fault: JobFault) -> PlanFault
-    ensures { IsFault result (fault_in name.now fault) }
+    ensures { IsFault result (fault_in_job name.now fault) }
 {
     let Ok(name) = Text::new(alloc, name) else {
         return PlanFault::Memory;

@@ -7,10 +7,10 @@ use Rattle.vars_macros.specs.declared.fault.MacroFault.TheVariants as macro
 use Rattle.run_plan_node.specs.declared.job.JobFault.{JobFault}
 use Rattle.run_plan_node.specs.declared.job.JobFault.TheVariants.{Memory, InMacro, NoExecutable, BadUniverse}
 use Rattle.vars_macros.specs.Expansion.{expansion}
-use Rattle.vars_macros.specs.Meaning.{Scope, last_of}
+use Rattle.vars_macros.specs.Meaning.{MacroScope, last_macro}
 use Rattle.vars_macros.specs.declared.assignment.Macro.{Macro}
 use Rattle.run_plan_node.specs.Commands.{◌>>=◌, in_macro, text_of_value, present, expanded, value_at, is_whole}
-use Rattle.run_plan_node.specs.JobAnswers.{Fails, Gives, fault_of}
+use Rattle.run_plan_node.specs.JobAnswers.{Fails, Gives, job_fault}
 
 -- a fault of a step is the fault of all
 pub fails_bind : {A B : Type 0} (fault : JobFault) (r : Result A JobFault) (f : A → Result B JobFault) → Fails fault r → Fails fault (r >>= f)
@@ -20,7 +20,7 @@ fails_bind NoExecutable r f fails = ap (λ x. x >>= f) fails
 fails_bind BadUniverse r f fails = ap (λ x. x >>= f) fails
 
 -- a fault of an expansion is one of the job
-pub macro_fails : {A : Type 0} (fault : MacroFault) (r : Result A MacroFault) → expanding.Fails fault r → Fails (fault_of fault) (in_macro r)
+pub macro_fails : {A : Type 0} (fault : MacroFault) (r : Result A MacroFault) → expanding.Fails fault r → Fails (job_fault fault) (in_macro r)
 macro_fails macro.Memory r fails = tt
 macro_fails macro.Unclosed r fails = ap in_macro fails
 macro_fails macro.Loop r fails = ap in_macro fails
@@ -28,7 +28,7 @@ macro_fails macro.TooLong r fails = ap in_macro fails
 macro_fails macro.BadQuote r fails = ap in_macro fails
 macro_fails macro.BadReference r fails = ap in_macro fails
 
-pub value_fails : (fault : MacroFault) (r : Result (Option Expansion) MacroFault) → expanding.Fails fault r → Fails (fault_of fault) (text_of_value r)
+pub value_fails : (fault : MacroFault) (r : Result (Option Expansion) MacroFault) → expanding.Fails fault r → Fails (job_fault fault) (text_of_value r)
 value_fails macro.Memory r fails = tt
 value_fails macro.Unclosed r fails = ap text_of_value fails
 value_fails macro.Loop r fails = ap text_of_value fails
@@ -54,11 +54,11 @@ pub given : {A : Type 0} (r : Result A MacroFault) (x : A) → r ≡ Ok x → in
 given r x is = ap in_macro is
 
 -- the value of a name to which something is assigned, and of one to which nothing is
-pub value_found : (s : Scope) (name : List ℕ) (m : Macro) → last_of s.assigned name ≡ Some m → value_at s name ≡ present (expansion s m.vars m.value)
+pub value_found : (s : MacroScope) (name : List ℕ) (m : Macro) → last_macro s.assigned name ≡ Some m → value_at s name ≡ present (expansion s m.vars m.value)
 unfolding value_at
 value_found s name m is = ap (expanded s) is
 
-pub value_missing : (s : Scope) (name : List ℕ) → last_of s.assigned name ≡ None → value_at s name ≡ Ok None
+pub value_missing : (s : MacroScope) (name : List ℕ) → last_macro s.assigned name ≡ None → value_at s name ≡ Ok None
 unfolding value_at
 value_missing s name is = ap (expanded s) is
 

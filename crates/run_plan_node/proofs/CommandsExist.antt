@@ -6,7 +6,7 @@ use Rattle.std.specs.List.{list_any, list_all}
 use Rattle.vars_macros.specs.Symbols.{arguments}
 use Rattle.vars_macros.specs.Cut.{begins_with}
 use Rattle.vars_macros.specs.Expansion.{Expansion, expansion}
-use Rattle.vars_macros.specs.Meaning.{Scope, last_of}
+use Rattle.vars_macros.specs.Meaning.{MacroScope, last_macro}
 use Rattle.vars_macros.specs.Numbers.{DifferInNumbers, AllDifferInNumbers, HasLesserNumbers}
 use Rattle.vars_macros.specs.declared.assignment.Macro.{Macro}
 use Rattle.vars_macros.specs.declared.fault.MacroFault.{MacroFault}
@@ -23,7 +23,7 @@ use Rattle.run_plan_node.specs.declared.job.JobFault.{JobFault}
 use Rattle.run_plan_node.specs.declared.job.JobFault.TheVariants.{InMacro}
 use Rattle.run_plan_node.specs.Node as plans
 use Rattle.run_plan_node.specs.Node.{NodeSpec, Program, Described}
-use Rattle.run_plan_node.specs.Commands.{◌>>=◌, in_macro, scope_in, greatest, present, expanded, value_at, text_of_value, text_at, program_in, words_in, is_setting, settings_in, environment_in, program_at, words_at, environment_at, places_at, job_command, bare_command, command_of_job, command_of_script, command_of, is_sound}
+use Rattle.run_plan_node.specs.Commands.{◌>>=◌, in_macro, scope_in, greatest, present, expanded, value_at, text_of_value, text_at, program_in, words_in, is_setting, settings_in, environment_in, program_at, words_at, environment_at, places_at, job_command, bare_command, command_of_job, command_of_script, command_of, is_expandable}
 
 -- The texts of a job in an attempt have lesser numbers than those in a later one.
 pub lesser_attempt : (name : List ℕ) (assigned : List Macro) (attempt retries launch most : ℕ) → attempt ≤ retries → launch ≤ most →
@@ -60,7 +60,7 @@ TextsAlike None (Some y) = ⊥
 TextsAlike (Some x) None = ⊥
 TextsAlike (Some x) (Some y) = DifferInNumbers x y
 
-expanded_follows : (small big : Scope) → HasLesserNumbers small big → (found : Option Macro) →
+expanded_follows : (small big : MacroScope) → HasLesserNumbers small big → (found : Option Macro) →
     Follows TextsAlike (text_of_value (expanded big found)) (text_of_value (expanded small found))
 expanded_follows small big h None = tt
 expanded_follows small big h (Some m) = by_answer (expansion big m.vars m.value) refl
@@ -71,11 +71,11 @@ expanded_follows small big h (Some m) = by_answer (expansion big m.vars m.value)
         subst (λ (r : Result Expansion MacroFault). Follows TextsAlike (Ok (Some e.text)) (text_of_value (present r))) (sym p.1) p.2.text
     by_answer (Err fault) is = tt
 
-text_follows : (small big : Scope) → HasLesserNumbers small big → (name : List ℕ) → Follows TextsAlike (text_at big name) (text_at small name)
+text_follows : (small big : MacroScope) → HasLesserNumbers small big → (name : List ℕ) → Follows TextsAlike (text_at big name) (text_at small name)
 unfolding text_at value_at
 text_follows small big h name =
-    subst (λ (ms : List Macro). Follows TextsAlike (text_of_value (expanded big (last_of big.assigned name))) (text_of_value (expanded small (last_of ms name)))) (sym h.assigned)
-    (expanded_follows small big h (last_of big.assigned name))
+    subst (λ (ms : List Macro). Follows TextsAlike (text_of_value (expanded big (last_macro big.assigned name))) (text_of_value (expanded small (last_macro ms name)))) (sym h.assigned)
+    (expanded_follows small big h (last_macro big.assigned name))
 
 -- No text is empty where the other is not.
 some_byte : (b : ℕ) (bs : List ℕ) → DifferInNumbers (b ∷ bs) [] → ⊥
@@ -151,7 +151,7 @@ environment_follows (Some (b ∷ bs)) (Some (c ∷ cs)) h =
     (both_chosen (Follows Any) (b == 34) _ (Err (InMacro BadQuote)) _ (Err (InMacro BadQuote)) (settings_follow _ _ (arguments_follow (b ∷ bs) (c ∷ cs) h)) tt)
 
 -- The command of a job, part by part.
-module _ (folder : List ℕ) (small big : Scope) (h : HasLesserNumbers small big) where
+module _ (folder : List ℕ) (small big : MacroScope) (h : HasLesserNumbers small big) where
   program_exists : Follows Any (program_at folder big) (program_at folder small)
   unfolding program_at
   program_exists = then_follows TextsAlike Any _ _ _ _ (text_follows small big h (codes "executable")) (program_follows folder)
@@ -187,10 +187,10 @@ job_command_exists folder (Described name assigned) attempt retries launch most 
     follows_exists Any (job_command folder (scope_in name assigned retries most)) (job_command folder (scope_in name assigned attempt launch))
     (command_exists folder _ _ (lesser_attempt name assigned attempt retries launch most earlier less)) sound
 
-pub each_command_exists : (node : NodeSpec) (attempt : ℕ) (phase : Phase) (facts : PhaseFacts) → is_sound node ≡ true → attempt ≤ node.course.retries → facts.launch ≤ greatest →
+pub each_command_exists : (node : NodeSpec) (attempt : ℕ) (phase : Phase) (facts : PhaseFacts) → is_expandable node ≡ true → attempt ≤ node.course.retries → facts.launch ≤ greatest →
     (command : ChildCommand) × (command_of node attempt phase facts ≡ Ok command)
-unfolding command_of is_sound
-each_command_exists node attempt Pre facts sound earlier less = (command_of_script node node.orders.pre attempt false facts, refl)
+unfolding command_of is_expandable
+each_command_exists node attempt Pre facts sound earlier less = (command_of_script node node.launch_spec.pre attempt false facts, refl)
 each_command_exists node attempt Job facts sound earlier less =
-    job_command_exists node.orders.folder node.orders.job attempt node.course.retries facts.launch greatest sound earlier less
-each_command_exists node attempt Post facts sound earlier less = (command_of_script node node.orders.post attempt true facts, refl)
+    job_command_exists node.launch_spec.folder node.launch_spec.job attempt node.course.retries facts.launch greatest sound earlier less
+each_command_exists node attempt Post facts sound earlier less = (command_of_script node node.launch_spec.post attempt true facts, refl)

@@ -6,7 +6,7 @@ use Rattle.std.specs.List.{list_any}
 use Rattle.node_machine.specs.declared.Phase.{Phase}
 use Rattle.node_machine.specs.declared.Phase.TheVariants.{Pre, Job, Post}
 use Rattle.vars_macros.specs.Expansion.{Expansion, expansion}
-use Rattle.vars_macros.specs.Meaning.{Scope, last_of}
+use Rattle.vars_macros.specs.Meaning.{MacroScope, last_macro}
 use Rattle.vars_macros.specs.Numbers.{HasLesserNumbers}
 use Rattle.vars_macros.specs.Script.{script_word, is_whole_run}
 use Rattle.vars_macros.specs.declared.assignment.Macro.{Macro}
@@ -18,7 +18,7 @@ use Rattle.run_plan_node.specs.declared.command.PhaseFacts.{PhaseFacts}
 use Rattle.run_plan_node.specs.declared.job.JobFault.{JobFault}
 use Rattle.run_plan_node.specs.Node as plans
 use Rattle.run_plan_node.specs.Node.{NodeSpec, Program, Described}
-use Rattle.run_plan_node.specs.Commands.{◌>>=◌, scope_in, greatest, present, expanded, value_at, text_of_value, text_at, program_in, words_in, environment_in, program_at, words_at, environment_at, places_at, job_command, command_of_job, words_of, command_of_words, script_facts, command_of_script, command_of, is_sound, is_whole, is_whole_at, reads_launch, job_reads_launch, uses_whole_run, HaveSameEnds}
+use Rattle.run_plan_node.specs.Commands.{◌>>=◌, scope_in, greatest, present, expanded, value_at, text_of_value, text_at, program_in, words_in, environment_in, program_at, words_at, environment_at, places_at, job_command, command_of_job, words_of, command_of_words, script_facts, command_of_script, command_of, is_expandable, is_whole, is_whole_at, reads_launch, job_reads_launch, uses_whole_run, HaveSameEnds}
 use Rattle.run_plan_node.proofs.CommandsExist.{lesser_attempt}
 
 -- Where the first is a value, the other two are the same.
@@ -41,13 +41,13 @@ then_same (Ok x) (Ok y) other h f g same next = subst (λ (s : Result _ JobFault
 then_same (Ok x) (Err fault) other h f g same next = subst (λ (s : Result _ JobFault). SameWhere (h x) (Err fault) (s >>= g)) same (same_itself (h x) (Err fault))
 
 -- The texts of a job, where they don't hold the launch number.
-expansion_same : (small big : Scope) → HasLesserNumbers small big → (launch : List ℕ) (vars : Bool) (text : List ℕ) (e : Expansion) →
+expansion_same : (small big : MacroScope) → HasLesserNumbers small big → (launch : List ℕ) (vars : Bool) (text : List ℕ) (e : Expansion) →
     expansion big vars text ≡ Ok e → e.whole_run ≡ false → expansion small vars text ≡ expansion (record small { launch = launch }) vars text
 expansion_same small big h launch vars text e is plain =
     let p = lesser_expansion small big h vars text e is in
     p.1 ∙ sym (launch_unread small vars text p.0 p.1 (p.2.whole_run ∙ plain) launch)
 
-expanded_same : (small big : Scope) → HasLesserNumbers small big → (launch : List ℕ) (found : Option Macro) → is_whole (expanded big found) ≡ false →
+expanded_same : (small big : MacroScope) → HasLesserNumbers small big → (launch : List ℕ) (found : Option Macro) → is_whole (expanded big found) ≡ false →
     SameWhere (text_of_value (expanded big found)) (text_of_value (expanded small found)) (text_of_value (expanded (record small { launch = launch }) found))
 expanded_same small big h launch None plain = refl
 expanded_same small big h launch (Some m) plain = by_answer (expansion big m.vars m.value) refl plain
@@ -57,15 +57,15 @@ expanded_same small big h launch (Some m) plain = by_answer (expansion big m.var
     by_answer (Ok e) is known = ap (λ (r : Result Expansion MacroFault). text_of_value (present r)) (expansion_same small big h launch m.vars m.value e is known)
     by_answer (Err fault) is known = tt
 
-text_same : (small big : Scope) → HasLesserNumbers small big → (launch name : List ℕ) → is_whole_at big name ≡ false →
+text_same : (small big : MacroScope) → HasLesserNumbers small big → (launch name : List ℕ) → is_whole_at big name ≡ false →
     SameWhere (text_at big name) (text_at small name) (text_at (record small { launch = launch }) name)
 unfolding text_at value_at is_whole_at
 text_same small big h launch name plain =
-    subst (λ (ms : List Macro). SameWhere (text_of_value (expanded big (last_of big.assigned name))) (text_of_value (expanded small (last_of ms name))) (text_of_value (expanded (record small { launch = launch }) (last_of ms name)))) (sym h.assigned)
-    (expanded_same small big h launch (last_of big.assigned name) plain)
+    subst (λ (ms : List Macro). SameWhere (text_of_value (expanded big (last_macro big.assigned name))) (text_of_value (expanded small (last_macro ms name))) (text_of_value (expanded (record small { launch = launch }) (last_macro ms name)))) (sym h.assigned)
+    (expanded_same small big h launch (last_macro big.assigned name) plain)
 
 -- each text that a command is made from
-record ReadsNoLaunch (s : Scope) : Type 0 where
+record ReadsNoLaunch (s : MacroScope) : Type 0 where
   executable : is_whole_at s (codes "executable") ≡ false
   arguments : is_whole_at s (codes "arguments") ≡ false
   input : is_whole_at s (codes "input") ≡ false
@@ -74,7 +74,7 @@ record ReadsNoLaunch (s : Scope) : Type 0 where
   initialdir : is_whole_at s (codes "initialdir") ≡ false
   environment : is_whole_at s (codes "environment") ≡ false
 
-reads_no_launch : (s : Scope) → reads_launch s ≡ false → ReadsNoLaunch s
+reads_no_launch : (s : MacroScope) → reads_launch s ≡ false → ReadsNoLaunch s
 unfolding reads_launch
 reads_no_launch s plain =
     let universe = or_parts (is_whole_at s (codes "universe")) _ plain in
@@ -87,7 +87,7 @@ reads_no_launch s plain =
     record { executable = executable.0; arguments = arguments.0; input = input.0; output = output.0; error = error.0; initialdir = rest.0; environment = rest.1 }
 
 -- The command of a job, part by part.
-module _ (folder : List ℕ) (small big : Scope) (lesser : HasLesserNumbers small big) (launch : List ℕ) (plain : ReadsNoLaunch big) where
+module _ (folder : List ℕ) (small big : MacroScope) (lesser : HasLesserNumbers small big) (launch : List ℕ) (plain : ReadsNoLaunch big) where
   program_same : SameWhere (program_at folder big) (program_at folder small) (program_at folder (record small { launch = launch }))
   unfolding program_at
   program_same = then_same (text_at big (codes "executable")) _ _ _ _ _ (text_same small big lesser launch (codes "executable") plain.executable) (λ x y. same_itself (program_in folder x) (program_in folder y))
@@ -134,41 +134,41 @@ known_words one other same (word ∷ words) known =
     let parts = or_parts (is_whole_run word) (list_any is_whole_run words) known in
     ap (λ (w : List ℕ). w ∷ map one words) (same word parts.0) ∙ ap (λ (ws : List (List ℕ)). other word ∷ ws) (known_words one other same words parts.1)
 
-pre_script_alike : (node : NodeSpec) (attempt : ℕ) (facts other : PhaseFacts) → list_any is_whole_run (words_of node.orders.pre) ≡ false →
-    command_of_script node node.orders.pre attempt false facts ≡ command_of_script node node.orders.pre attempt false other
+pre_script_alike : (node : NodeSpec) (attempt : ℕ) (facts other : PhaseFacts) → list_any is_whole_run (words_of node.launch_spec.pre) ≡ false →
+    command_of_script node node.launch_spec.pre attempt false facts ≡ command_of_script node node.launch_spec.pre attempt false other
 pre_script_alike node attempt facts other known =
     let one = script_facts node attempt false facts in
     let two = script_facts node attempt false other in
-    ap (command_of_words node.orders.folder) (known_words (script_word one) (script_word two)
-    (known_in_pre_script one two (record { name = refl; attempt = refl; retries = refl; post = refl }) refl) (words_of node.orders.pre) known)
+    ap (command_of_words node.launch_spec.folder) (known_words (script_word one) (script_word two)
+    (known_in_pre_script one two (record { name = refl; attempt = refl; retries = refl; post = refl }) refl) (words_of node.launch_spec.pre) known)
 
-post_script_alike : (node : NodeSpec) (attempt : ℕ) (facts other : PhaseFacts) → HaveSameEnds Post facts other → list_any is_whole_run (words_of node.orders.post) ≡ false →
-    command_of_script node node.orders.post attempt true facts ≡ command_of_script node node.orders.post attempt true other
+post_script_alike : (node : NodeSpec) (attempt : ℕ) (facts other : PhaseFacts) → HaveSameEnds Post facts other → list_any is_whole_run (words_of node.launch_spec.post) ≡ false →
+    command_of_script node node.launch_spec.post attempt true facts ≡ command_of_script node node.launch_spec.post attempt true other
 post_script_alike node attempt facts other ends known =
     let one = script_facts node attempt true facts in
     let two = script_facts node attempt true other in
-    ap (command_of_words node.orders.folder) (known_words (script_word one) (script_word two)
-    (known_word one two (record { name = refl; attempt = refl; retries = refl; post = refl }) (record { job_value = ends.0; pre_value = ends.1 })) (words_of node.orders.post) known)
+    ap (command_of_words node.launch_spec.folder) (known_words (script_word one) (script_word two)
+    (known_word one two (record { name = refl; attempt = refl; retries = refl; post = refl }) (record { job_value = ends.0; pre_value = ends.1 })) (words_of node.launch_spec.post) known)
 
 -- no order of the node is known in a whole run alone
 record IsPlain (node : NodeSpec) : Type 0 where
-  pre : list_any is_whole_run (words_of node.orders.pre) ≡ false
-  post : list_any is_whole_run (words_of node.orders.post) ≡ false
-  job : job_reads_launch node.orders.job node.course.retries ≡ false
+  pre : list_any is_whole_run (words_of node.launch_spec.pre) ≡ false
+  post : list_any is_whole_run (words_of node.launch_spec.post) ≡ false
+  job : job_reads_launch node.launch_spec.job node.course.retries ≡ false
 
 is_plain : (node : NodeSpec) → uses_whole_run node ≡ false → IsPlain node
 unfolding uses_whole_run
 is_plain node known =
-    let pre = or_parts (list_any is_whole_run (words_of node.orders.pre)) _ known in
-    let post = or_parts (list_any is_whole_run (words_of node.orders.post)) _ pre.1 in
+    let pre = or_parts (list_any is_whole_run (words_of node.launch_spec.pre)) _ known in
+    let post = or_parts (list_any is_whole_run (words_of node.launch_spec.post)) _ pre.1 in
     record { pre = pre.0; post = post.0; job = post.1 }
 
-pub plain_command_same : (node : NodeSpec) (attempt : ℕ) (phase : Phase) (facts other : PhaseFacts) → is_sound node ≡ true → uses_whole_run node ≡ false →
+pub plain_command_same : (node : NodeSpec) (attempt : ℕ) (phase : Phase) (facts other : PhaseFacts) → is_expandable node ≡ true → uses_whole_run node ≡ false →
     attempt ≤ node.course.retries → HaveSameEnds phase facts other → command_of node attempt phase facts ≡ command_of node attempt phase other
-unfolding command_of is_sound
+unfolding command_of is_expandable
 plain_command_same node attempt Pre facts other sound known earlier ends = ap Ok (pre_script_alike node attempt facts other (is_plain node known).pre)
 plain_command_same node attempt Job facts other sound known earlier ends =
     let plain = (is_plain node known).job in
-    sym (greatest_alike node.orders.folder node.orders.job attempt node.course.retries facts.launch sound plain earlier)
-    ∙ greatest_alike node.orders.folder node.orders.job attempt node.course.retries other.launch sound plain earlier
+    sym (greatest_alike node.launch_spec.folder node.launch_spec.job attempt node.course.retries facts.launch sound plain earlier)
+    ∙ greatest_alike node.launch_spec.folder node.launch_spec.job attempt node.course.retries other.launch sound plain earlier
 plain_command_same node attempt Post facts other sound known earlier ends = ap Ok (post_script_alike node attempt facts other ends (is_plain node known).post)

@@ -25,12 +25,12 @@ words_given folder folder' facts facts' script script' e f g = rw (e, f, g) refl
 
 pub script_gives : (node : NodeSpec) (script : Option (List (List ℕ))) (attempt : ℕ) (post : Bool) (facts : PhaseFacts)
     (folder : List ℕ) (read : Option (List (List ℕ))) (given : ScriptFacts) (r : Result ChildCommand JobFault)
-    → folder ≡ node.orders.folder → read ≡ script → given ≡ script_facts node attempt post facts
+    → folder ≡ node.launch_spec.folder → read ≡ script → given ≡ script_facts node attempt post facts
     → IfOk r (λ command. command ≡ command_of_words folder (map (λ word. script_word given word) (words_of read)))
     → IfErr r (λ fault. fault ≡ Memory)
     → Gives (λ command. command) r (Ok (command_of_script node script attempt post facts))
 script_gives node script attempt post facts folder read given r e g f ok err =
-    given_ok r (command_of_script node script attempt post facts) (subst (λ (x : ChildCommand). IfOk r (λ command. command ≡ x)) (words_given folder node.orders.folder given (script_facts node attempt post facts) read script e f g) ok) err
+    given_ok r (command_of_script node script attempt post facts) (subst (λ (x : ChildCommand). IfOk r (λ command. command ≡ x)) (words_given folder node.launch_spec.folder given (script_facts node attempt post facts) read script e f g) ok) err
 
 -- the command of a job that is read in a folder
 pub job_gives : (folder folder' : List ℕ) (job job' : plans.Job) (attempt launch : ℕ) (r : Result ChildCommand JobFault) → folder ≡ folder' → job ≡ job'

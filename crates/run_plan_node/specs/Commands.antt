@@ -7,7 +7,7 @@ use Rattle.splices_flat.specs.Paths.{join}
 pub use Rattle.dag_reader.specs.Results.{◌>>=◌}
 use Rattle.vars_macros.specs.Symbols.{arguments}
 use Rattle.vars_macros.specs.Expansion.{Expansion, expansion}
-use Rattle.vars_macros.specs.Meaning.{Scope, last_of}
+use Rattle.vars_macros.specs.Meaning.{MacroScope, last_macro}
 use Rattle.vars_macros.specs.Names.{same_name}
 use Rattle.vars_macros.specs.Script.{script_word, is_whole_run}
 use Rattle.vars_macros.specs.declared.assignment.Macro.{Macro}
@@ -20,7 +20,7 @@ use Rattle.run_plan_node.specs.declared.job.JobFault.{JobFault}
 use Rattle.run_plan_node.specs.declared.job.Places.{Places}
 use Rattle.run_plan_node.specs.declared.job.JobFault.TheVariants.{InMacro, NoExecutable, BadUniverse}
 use Rattle.run_plan_node.specs.Node as plans
-use Rattle.run_plan_node.specs.Node.{NodeSpec, Orders, Program, Described}
+use Rattle.run_plan_node.specs.Node.{NodeSpec, LaunchSpec, Program, Described}
 
 abbrev pub in_macro : {A : Type 0} → Result A MacroFault → Result A JobFault
 in_macro (Ok x) = Ok x
@@ -31,7 +31,7 @@ abbrev pub CommandOrFault : Type 0
 CommandOrFault = Result ChildCommand JobFault
 
 -- The texts of a job in one of its attempts, whose job has this launch number.
-abbrev pub scope_in : List ℕ → List Macro → ℕ → ℕ → Scope
+abbrev pub scope_in : List ℕ → List Macro → ℕ → ℕ → MacroScope
 scope_in name assigned attempt launch =
     record { assigned = assigned; job = name; retry = decimal attempt; launch = decimal launch }
 
@@ -44,19 +44,19 @@ present (Ok x) = Ok (Some x)
 present (Err fault) = Err fault
 
 -- the expansion of what is assigned to a name, if something is
-abbrev pub expanded : Scope → Option Macro → Result (Option Expansion) MacroFault
+abbrev pub expanded : MacroScope → Option Macro → Result (Option Expansion) MacroFault
 expanded s None = Ok None
 expanded s (Some m) = present (expansion s m.vars m.value)
 
-unfoldable pub value_at : Scope → List ℕ → Result (Option Expansion) MacroFault
-value_at s name = expanded s (last_of s.assigned name)
+unfoldable pub value_at : MacroScope → List ℕ → Result (Option Expansion) MacroFault
+value_at s name = expanded s (last_macro s.assigned name)
 
 abbrev pub text_of_value : Result (Option Expansion) MacroFault → Result (Option (List ℕ)) JobFault
 text_of_value (Ok value) = Ok (option_map (λ (e : Expansion). e.text) value)
 text_of_value (Err fault) = Err (InMacro fault)
 
 -- the same as a text
-unfoldable pub text_at : Scope → List ℕ → Result (Option (List ℕ)) JobFault
+unfoldable pub text_at : MacroScope → List ℕ → Result (Option (List ℕ)) JobFault
 text_at s name = text_of_value (value_at s name)
 
 -- All universes run as local children; a job without one is vanilla.
@@ -67,7 +67,7 @@ abbrev pub known_universe : Option (List ℕ) → Result (Unit {0}) JobFault
 known_universe None = Ok tt
 known_universe (Some text) = if is_universe text then Ok tt else Err BadUniverse
 
-unfoldable pub universe_of : Scope → Result (Unit {0}) JobFault
+unfoldable pub universe_of : MacroScope → Result (Unit {0}) JobFault
 universe_of s = text_at s (codes "universe") >>= known_universe
 
 -- the program, seen from the node's folder
@@ -101,13 +101,13 @@ path_at folder None = None
 path_at folder (Some []) = None
 path_at folder (Some (b ∷ bs)) = Some (join folder (b ∷ bs))
 
-unfoldable pub program_at : List ℕ → Scope → Result (List ℕ) JobFault
+unfoldable pub program_at : List ℕ → MacroScope → Result (List ℕ) JobFault
 program_at folder s = text_at s (codes "executable") >>= program_in folder
 
-unfoldable pub words_at : Scope → Result (List (List ℕ)) JobFault
+unfoldable pub words_at : MacroScope → Result (List (List ℕ)) JobFault
 words_at s = text_at s (codes "arguments") >>= words_in
 
-unfoldable pub environment_at : Scope → Result (List (List ℕ)) JobFault
+unfoldable pub environment_at : MacroScope → Result (List (List ℕ)) JobFault
 environment_at s = text_at s (codes "environment") >>= environment_in
 
 abbrev pub places_in : List ℕ → Option (List ℕ) → Option (List ℕ) → Option (List ℕ) → Places
@@ -115,7 +115,7 @@ places_in folder input output error =
     record { folder = folder; input = path_at folder input; output = path_at folder output; error = path_at folder error }
 
 -- the folder of the child, and its files seen from there
-unfoldable pub places_at : List ℕ → Scope → Result Places JobFault
+unfoldable pub places_at : List ℕ → MacroScope → Result Places JobFault
 places_at folder s =
     text_at s (codes "input") >>= λ input. text_at s (codes "output") >>= λ output. text_at s (codes "error") >>= λ error.
     text_at s (codes "initialdir") >>= λ dir. Ok (places_in (join folder (unwrap_or dir [])) input output error)
@@ -133,13 +133,13 @@ command_with program words places environment = record {
 
 -- The command of a job, or the first fault of its texts: executable, arguments, input, output, error, initialdir,
 -- environment, in this order.
-unfoldable pub job_command : List ℕ → Scope → Result ChildCommand JobFault
+unfoldable pub job_command : List ℕ → MacroScope → Result ChildCommand JobFault
 job_command folder s =
     program_at folder s >>= λ program. words_at s >>= λ words. places_at folder s >>= λ places.
     environment_at s >>= λ environment. Ok (command_with program words places environment)
 
 -- The texts of a job can be expanded: its universe first, then those of its command.
-abbrev pub checked : List ℕ → Scope → Result (Unit {0}) JobFault
+abbrev pub checked : List ℕ → MacroScope → Result (Unit {0}) JobFault
 checked folder s = universe_of s >>= λ known. job_command folder s >>= λ command. Ok tt
 
 -- a program alone, run in this folder
@@ -153,12 +153,12 @@ command_of_job folder (Program file) attempt launch = Ok (bare_command folder fi
 command_of_job folder (Described name assigned) attempt launch = job_command folder (scope_in name assigned attempt launch)
 
 -- the first word of a script is its program
-abbrev pub first_word : List (List ℕ) → List ℕ
-first_word [] = []
-first_word (word ∷ words) = word
+abbrev pub program_of : List (List ℕ) → List ℕ
+program_of [] = []
+program_of (word ∷ words) = word
 
 abbrev pub command_of_words : List ℕ → List (List ℕ) → ChildCommand
-command_of_words folder words = bare_command folder (join folder (first_word words)) (drop 1 words)
+command_of_words folder words = bare_command folder (join folder (program_of words)) (drop 1 words)
 
 -- what the words of a script can stand for
 abbrev pub script_facts : NodeSpec → ℕ → Bool → PhaseFacts → ScriptFacts
@@ -179,30 +179,30 @@ words_of script = unwrap_or script []
 
 abbrev pub command_of_script : NodeSpec → Option (List (List ℕ)) → ℕ → Bool → PhaseFacts → ChildCommand
 command_of_script node script attempt post facts =
-    command_of_words node.orders.folder (map (λ word. script_word (script_facts node attempt post facts) word) (words_of script))
+    command_of_words node.launch_spec.folder (map (λ word. script_word (script_facts node attempt post facts) word) (words_of script))
 
 -- The command of a phase in an attempt: a script with each of its words replaced by what it stands for, or the job with its
 -- texts expanded.
 unfoldable pub command_of : NodeSpec → ℕ → Phase → PhaseFacts → CommandOrFault
-command_of node attempt Pre facts = Ok (command_of_script node node.orders.pre attempt false facts)
-command_of node attempt Job facts = command_of_job node.orders.folder node.orders.job attempt facts.launch
-command_of node attempt Post facts = Ok (command_of_script node node.orders.post attempt true facts)
+command_of node attempt Pre facts = Ok (command_of_script node node.launch_spec.pre attempt false facts)
+command_of node attempt Job facts = command_of_job node.launch_spec.folder node.launch_spec.job attempt facts.launch
+command_of node attempt Post facts = Ok (command_of_script node node.launch_spec.post attempt true facts)
 
 -- The texts of the job can be expanded in the last attempt that is allowed, with the greatest launch number. So they can in
 -- each attempt (`laws::commands_exist`).
-unfoldable pub is_sound : NodeSpec → Bool
-is_sound node = is_ok (command_of_job node.orders.folder node.orders.job node.course.retries greatest)
+unfoldable pub is_expandable : NodeSpec → Bool
+is_expandable node = is_ok (command_of_job node.launch_spec.folder node.launch_spec.job node.course.retries greatest)
 
 abbrev pub is_whole : Result (Option Expansion) MacroFault → Bool
 is_whole (Ok (Some e)) = e.whole_run
 is_whole (Ok None) = false
 is_whole (Err fault) = false
 
-unfoldable pub is_whole_at : Scope → List ℕ → Bool
+unfoldable pub is_whole_at : MacroScope → List ℕ → Bool
 is_whole_at s name = is_whole (value_at s name)
 
 -- one of the job's texts holds the launch number
-unfoldable pub reads_launch : Scope → Bool
+unfoldable pub reads_launch : MacroScope → Bool
 reads_launch s =
     is_whole_at s (codes "universe") || (is_whole_at s (codes "executable") || (is_whole_at s (codes "arguments")
     || (is_whole_at s (codes "input") || (is_whole_at s (codes "output") || (is_whole_at s (codes "error")
@@ -212,15 +212,15 @@ abbrev pub job_reads_launch : plans.Job → ℕ → Bool
 job_reads_launch (Program file) retries = false
 job_reads_launch (Described name assigned) retries = reads_launch (scope_in name assigned retries greatest)
 
-abbrev pub orders_use_whole_run : Orders → ℕ → Bool
-orders_use_whole_run orders retries =
-    list_any is_whole_run (words_of orders.pre)
-    || (list_any is_whole_run (words_of orders.post) || job_reads_launch orders.job retries)
+abbrev pub launch_spec_uses_whole_run : LaunchSpec → ℕ → Bool
+launch_spec_uses_whole_run launch_spec retries =
+    list_any is_whole_run (words_of launch_spec.pre)
+    || (list_any is_whole_run (words_of launch_spec.post) || job_reads_launch launch_spec.job retries)
 
 -- A word of the node's commands is known in a whole run alone: it does not follow from the files, the attempt and the ends
 -- of its phases.
 unfoldable pub uses_whole_run : NodeSpec → Bool
-uses_whole_run node = orders_use_whole_run node.orders node.course.retries
+uses_whole_run node = launch_spec_uses_whole_run node.launch_spec node.course.retries
 
 -- this phase of the node starts a child
 abbrev pub starts_child : NodeSpec → Phase → Bool

@@ -6,13 +6,13 @@ use Rattle.vars_macros.specs.declared.fault.MacroFault.TheVariants as macro
 use Rattle.run_plan_node.specs.declared.job.JobFault.{JobFault}
 use Rattle.run_plan_node.specs.declared.job.JobFault.TheVariants.{Memory, InMacro}
 
-abbrev pub fault_of : MacroFault → JobFault
-fault_of macro.Memory = Memory
-fault_of macro.Unclosed = InMacro macro.Unclosed
-fault_of macro.Loop = InMacro macro.Loop
-fault_of macro.TooLong = InMacro macro.TooLong
-fault_of macro.BadQuote = InMacro macro.BadQuote
-fault_of macro.BadReference = InMacro macro.BadReference
+abbrev pub job_fault : MacroFault → JobFault
+job_fault macro.Memory = Memory
+job_fault macro.Unclosed = InMacro macro.Unclosed
+job_fault macro.Loop = InMacro macro.Loop
+job_fault macro.TooLong = InMacro macro.TooLong
+job_fault macro.BadQuote = InMacro macro.BadQuote
+job_fault macro.BadReference = InMacro macro.BadReference
 
 -- The fault that a refusal tells; for want of memory it tells none.
 abbrev pub told_fault : JobFault → Option JobFault

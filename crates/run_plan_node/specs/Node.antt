@@ -11,7 +11,7 @@ pub data Job : Type 0 where
 
 -- What the children of a node are started by: the node's folder, the words of its scripts, of which the first is the
 -- program, and its job.
-pub record Orders : Type 0 where
+pub record LaunchSpec : Type 0 where
   pub folder : List ℕ
   pub pre : Option (List (List ℕ))
   pub post : Option (List (List ℕ))
@@ -28,10 +28,10 @@ pub record NodeSpec : Type 0 where
   pub abort_return : Option ℕ
   pub priority : ℤ
   pub category : Option ℕ
-  pub orders : Orders
+  pub launch_spec : LaunchSpec
 
-abbrev pub no_orders : Orders
-no_orders = record { folder = []; pre = None; post = None; job = Program [] }
+abbrev pub no_launch_spec : LaunchSpec
+no_launch_spec = record { folder = []; pre = None; post = None; job = Program [] }
 
 -- no node
 abbrev pub no_node : NodeSpec
@@ -43,5 +43,5 @@ no_node = record {
   abort_return = None;
   priority = pos 0;
   category = None;
-  orders = no_orders;
+  launch_spec = no_launch_spec;
 }

@@ -10,7 +10,7 @@ use Rattle.splices_flat.specs.declared.flat.AbortSetting.{AbortSetting}
 use Rattle.splices_flat.specs.declared.flat.CategoryLimit.{CategoryLimit}
 use Rattle.splices_flat.specs.declared.flat.CategorySetting.{CategorySetting}
 use Rattle.splices_flat.specs.declared.flat.PrioritySetting.{PrioritySetting}
-use Rattle.run_plan_node.specs.Node.{Job, Orders, NodeSpec}
+use Rattle.run_plan_node.specs.Node.{Job, LaunchSpec, NodeSpec}
 
 -- without RETRY a node has one attempt
 abbrev pub retries_of : Option RetrySetting → ℕ
@@ -48,8 +48,8 @@ abbrev pub script_of : Option ScriptSetting → Option (List (List ℕ))
 script_of setting = option_map (λ s. s.words) setting
 
 -- what the children of a node with this job are started by
-abbrev pub orders_of : Job → FlatNode → Orders
-orders_of job node = record {
+abbrev pub launch_spec_of : Job → FlatNode → LaunchSpec
+launch_spec_of job node = record {
   folder = node.folder;
   pre = script_of node.settings.pre;
   post = script_of node.settings.post;
@@ -57,9 +57,9 @@ orders_of job node = record {
 }
 
 -- the place of a category among those that have a limit; none for another
-abbrev pub place_of : List CategoryLimit → Option CategorySetting → Option ℕ
-place_of limits None = None
-place_of limits (Some s) = position (λ limit. bytes_eq s.name limit.name) limits
+abbrev pub category_place : List CategoryLimit → Option CategorySetting → Option ℕ
+category_place limits None = None
+category_place limits (Some s) = position (λ limit. bytes_eq s.name limit.name) limits
 
 -- what the files say of a node with these parents and this job, which a rescue file may have marked as done
 abbrev pub spec_of : Bool → List CategoryLimit → List ℕ → Job → Bool → FlatNode → NodeSpec
@@ -70,6 +70,6 @@ spec_of always_post limits parents job marked node = record {
   parents = parents;
   abort_return = abort_return_of node.settings.abort;
   priority = priority_of node.settings.priority;
-  category = place_of limits node.settings.category;
-  orders = orders_of job node;
+  category = category_place limits node.settings.category;
+  launch_spec = launch_spec_of job node;
 }

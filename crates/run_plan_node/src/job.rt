@@ -10,7 +10,7 @@ ghost use Rattle.vars_macros.specs.Meaning.{scope_of};
 ghost use Rattle.vars_macros.specs.Output.{expansion_of};
 ghost use Rattle.vars_macros.specs.Answers as expanding;
 ghost use Rattle.run_plan_node.specs.Commands.{value_at, text_at, is_universe, known_universe, universe_of, program_in, program_at, words_in, words_at, settings_in, environment_in, environment_at, is_setting, path_at, places_in, places_at, job_command, is_whole_at, reads_launch};
-ghost use Rattle.run_plan_node.specs.JobAnswers.{Gives, fault_of};
+ghost use Rattle.run_plan_node.specs.JobAnswers.{Gives, job_fault};
 ghost use Rattle.run_plan_node.specs.declared.job.JobFault.TheVariants.{Memory};
 
 use crate::command::ChildCommand;
@@ -40,7 +40,7 @@ pub enum JobFault {
 }
 
 impl From<MacroFault> for JobFault {
-    ghost from_gives = { λ fault given. given ≡ fault_of fault };
+    ghost from_gives = { λ fault given. given ≡ job_fault fault };
 
     fn from(fault: MacroFault) -> JobFault {
         match fault {

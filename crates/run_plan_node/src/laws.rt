@@ -5,13 +5,13 @@ ghost use Rattle.node_machine.specs.declared.Phase.{Phase};
 ghost use Rattle.run_plan_node.specs.declared.command.ChildCommand.{ChildCommand};
 ghost use Rattle.run_plan_node.specs.declared.command.PhaseFacts.{PhaseFacts};
 ghost use Rattle.run_plan_node.specs.Node.{NodeSpec};
-ghost use Rattle.run_plan_node.specs.Commands.{command_of, is_sound, uses_whole_run, greatest, HaveSameEnds};
+ghost use Rattle.run_plan_node.specs.Commands.{command_of, is_expandable, uses_whole_run, greatest, HaveSameEnds};
 
 /// Where the texts of a node's job can be expanded in its last attempt with the greatest launch
 /// number, each of its phases has a command in each attempt that is allowed.
 pub fn commands_exist()
     ensures { (node : NodeSpec) (attempt : ℕ) (phase : Phase) (facts : PhaseFacts) →
-        is_sound node ≡ true → attempt ≤ node.course.retries → facts.launch ≤ greatest →
+        is_expandable node ≡ true → attempt ≤ node.course.retries → facts.launch ≤ greatest →
         (command : ChildCommand) × (command_of node attempt phase facts ≡ Ok command) }
 {}
 
@@ -19,7 +19,7 @@ pub fn commands_exist()
 /// before ended in it: what else is known of a run doesn't change them.
 pub fn plain_commands()
     ensures { (node : NodeSpec) (attempt : ℕ) (phase : Phase) (facts other : PhaseFacts) →
-        is_sound node ≡ true → uses_whole_run node ≡ false → attempt ≤ node.course.retries →
+        is_expandable node ≡ true → uses_whole_run node ≡ false → attempt ≤ node.course.retries →
         HaveSameEnds phase facts other →
         command_of node attempt phase facts ≡ command_of node attempt phase other }
 {}

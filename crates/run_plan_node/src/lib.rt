@@ -7,13 +7,13 @@
 mod categories;
 mod command;
 mod job;
+mod launch_spec;
 pub mod laws;
-mod orders;
 mod script;
 mod spec;
 
 pub use categories::Categories;
 pub use command::{ChildCommand, PhaseFacts};
 pub use job::{JobFault, check_universe, job_command};
-pub use orders::{Job, Source};
+pub use launch_spec::{Job, Source};
 pub use spec::{NodeSpec, retries_of};

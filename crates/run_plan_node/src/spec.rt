@@ -8,13 +8,13 @@ ghost use Rattle.vars_macros.specs.Script.{is_whole_run};
 ghost use Rattle.run_plan_node.specs.Node.{no_node};
 ghost use Rattle.run_plan_node.specs.Commands.{command_of, command_of_job, script_facts, words_of, job_reads_launch, uses_whole_run};
 ghost use Rattle.run_plan_node.specs.JobAnswers.{Gives};
-ghost use Rattle.run_plan_node.specs.Specs.{course_of, retries_of, unless_exit_of, abort_return_of, priority_of, place_of, spec_of};
+ghost use Rattle.run_plan_node.specs.Specs.{course_of, retries_of, unless_exit_of, abort_return_of, priority_of, category_place, spec_of};
 ghost use Rattle.run_plan_node.specs.declared.job.JobFault.TheVariants.{Memory};
 
 use crate::categories::Categories;
 use crate::command::{ChildCommand, PhaseFacts};
 use crate::job::{JobFault, job_command, reads_launch};
-use crate::orders::{Job, Orders, Source};
+use crate::launch_spec::{Job, LaunchSpec, Source};
 use crate::script::{bare_command, script_command};
 use dag_reader::{Text, Texts};
 use node_machine::{Course, Phase};
@@ -35,7 +35,7 @@ pub struct NodeSpec {
     abort_return: Option<u8>,
     priority: i32,
     category: Option<usize>,
-    orders: Orders,
+    launch_spec: LaunchSpec,
     /// whether one of its job's texts holds the launch number
     reads_launch: bool,
 }
@@ -51,7 +51,7 @@ impl Drop for NodeSpec {
             abort_return: _,
             priority: _,
             category: _,
-            orders: _,
+            launch_spec: _,
             reads_launch: _,
         } = self;
     }
@@ -72,10 +72,10 @@ impl Model for NodeSpec {
       abort_return = a.abort_return;
       priority = a.priority;
       category = a.category;
-      orders = a.orders;
+      launch_spec = a.launch_spec;
     } };
 
-    ghost invariant = { λ a. a.reads_launch ≡ job_reads_launch a.orders.job a.course.retries };
+    ghost invariant = { λ a. a.reads_launch ≡ job_reads_launch a.launch_spec.job a.course.retries };
 }
 
 impl NodeSpec {
@@ -134,8 +134,9 @@ impl NodeSpec {
     pub fn uses_whole_run(&self) -> bool
         ensures { result ≡ uses_whole_run self.now }
     {
-        let orders = &self.orders;
-        has_whole_run_word(orders.pre()) || (has_whole_run_word(orders.post()) || self.reads_launch)
+        let launch_spec = &self.launch_spec;
+        has_whole_run_word(launch_spec.pre())
+            || (has_whole_run_word(launch_spec.post()) || self.reads_launch)
     }
 
     /// What the files say of a node with these parents and this job, which a rescue file may have
@@ -157,8 +158,8 @@ impl NodeSpec {
         ensures err { IfErr result (λ fault. fault ≡ Memory) }
     {
         let course = course_of(node, always_post);
-        let orders = Orders::new(alloc, node, job)?;
-        let reads_launch = job_reads_launch(alloc, orders.job(), course.retries)?;
+        let launch_spec = LaunchSpec::new(alloc, node, job)?;
+        let reads_launch = job_reads_launch(alloc, launch_spec.job(), course.retries)?;
         Ok(NodeSpec {
             name: Text::new(alloc, node.name.as_str())?,
             course,
@@ -167,7 +168,7 @@ impl NodeSpec {
             abort_return: abort_return_of(&node.settings.abort),
             priority: priority_of(&node.settings.priority),
             category: category_of(limits, &node.settings.category),
-            orders,
+            launch_spec,
             reads_launch,
         })
     }
@@ -196,7 +197,7 @@ impl NodeSpec {
             abort_return: None,
             priority: 0,
             category: None,
-            orders: Orders::none(alloc)?,
+            launch_spec: LaunchSpec::none(alloc)?,
             reads_launch: false,
         })
     }
@@ -215,16 +216,22 @@ impl NodeSpec {
     ) -> Result<ChildCommand, JobFault>
         ensures { Gives (λ command. command) result (command_of self.now attempt phase facts.now) }
     {
-        let folder = self.orders.folder();
+        let folder = self.launch_spec.folder();
         match phase {
             Phase::Pre => {
                 let facts = self.script_facts(alloc, attempt, false, facts)?;
-                script_command(alloc, folder, self.orders.pre(), &facts)
+                script_command(alloc, folder, self.launch_spec.pre(), &facts)
             }
-            Phase::Job => command_of_job(alloc, folder, self.orders.job(), attempt, facts.launch),
+            Phase::Job => command_of_job(
+                alloc,
+                folder,
+                self.launch_spec.job(),
+                attempt,
+                facts.launch,
+            ),
             Phase::Post => {
                 let facts = self.script_facts(alloc, attempt, true, facts)?;
-                script_command(alloc, folder, self.orders.post(), &facts)
+                script_command(alloc, folder, self.launch_spec.post(), &facts)
             }
         }
     }
@@ -378,7 +385,7 @@ fn priority_of(setting: &Option<PrioritySetting>) -> i32
 
 /// The place of a category among those that have a limit.
 fn category_of(limits: &Categories<'_>, setting: &Option<CategorySetting>) -> Option<usize>
-    ensures { result ≡ place_of limits.now setting.now }
+    ensures { result ≡ category_place limits.now setting.now }
 {
     match setting {
         Some(category) => limits.place_of(category.name.as_str()),

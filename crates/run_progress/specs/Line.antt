@@ -16,8 +16,8 @@ clock_of seconds =
     else decimal (seconds / 3600) ++ (codes ":" ++ (two_digits ((seconds / 60) % 60) ++ (codes ":" ++ two_digits (seconds % 60))))
 
 -- how long a node runs: `n s`, and as `clock_of` from a minute on
-abbrev pub span_of : ℕ → List ℕ
-span_of seconds = if nat_lt seconds 60 then decimal seconds ++ codes " s" else clock_of seconds
+abbrev pub duration_of : ℕ → List ℕ
+duration_of seconds = if nat_lt seconds 60 then decimal seconds ++ codes " s" else clock_of seconds
 
 -- what stands before the names: how many nodes are done, of how many, where that is known, and how many run
 abbrev pub front_of : Option Counts → ℕ → List ℕ
@@ -32,12 +32,12 @@ back_of (Some counts) seconds =
     codes ", " ++ (decimal counts.ready ++ (codes " ready, " ++ (decimal counts.failed ++ (codes " failed  " ++ clock_of seconds))))
 
 -- a node that runs: its name and since when
-abbrev pub entry_of : List ℕ × ℕ → List ℕ
-entry_of (name, seconds) = name ++ (codes " " ++ span_of seconds)
+abbrev pub shown_node : List ℕ × ℕ → List ℕ
+shown_node (name, seconds) = name ++ (codes " " ++ duration_of seconds)
 
 -- further nodes, each behind a comma
-abbrev pub further : List (List ℕ × ℕ) → List ℕ
-further nodes = flat_map (λ node. codes ", " ++ entry_of node) nodes
+abbrev pub further_nodes : List (List ℕ × ℕ) → List ℕ
+further_nodes nodes = flat_map (λ node. codes ", " ++ shown_node node) nodes
 
 -- the end of a list of so many nodes where so many run
 abbrev pub list_end : (shown running : ℕ) → List ℕ
@@ -47,7 +47,7 @@ list_end shown running = if nat_lt shown running then codes ", ..)" else codes "
 abbrev pub list_of : List (List ℕ × ℕ) → (count running : ℕ) → List ℕ
 list_of [] count running = []
 list_of (first ∷ others) count running =
-    codes " (" ++ (entry_of first ++ (further (take (count - 1) others) ++ list_end count running))
+    codes " (" ++ (shown_node first ++ (further_nodes (take (count - 1) others) ++ list_end count running))
 
 -- the longest list of at most `count` nodes that takes no more columns than there is room; none where not even one node fits
 abbrev pub longest_list : List (List ℕ × ℕ) → (room running count : ℕ) → List ℕ
@@ -68,8 +68,8 @@ first_fitting width (text ∷ texts) =
 
 -- The line: its front, the longest list of names that there is room for, and its back. Where even that without names is too wide, it
 -- is cut.
-abbrev pub line_of : Option Counts → List (List ℕ × ℕ) → (running seconds width : ℕ) → List ℕ
-line_of counts nodes running seconds width =
+abbrev pub progress_line : Option Counts → List (List ℕ × ℕ) → (running seconds width : ℕ) → List ℕ
+progress_line counts nodes running seconds width =
     let front = front_of counts running in
     let back = back_of counts seconds in
     let names = longest_list nodes (width - (length front + length back)) running (length nodes) in

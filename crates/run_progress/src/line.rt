@@ -2,7 +2,7 @@
 
 ghost use Rattle.std.specs.Prelude.{◌≡◌, ◌≤◌, ◌-◌, ◌+◌, ◌<◌, ◌++◌, ◌∷◌, [], map, take, length, chars, OnOk, IfOk, option_map, string_bytes};
 ghost use Rattle.run_progress.specs.Columns.{columns};
-ghost use Rattle.run_progress.specs.Line.{two_digits, clock_of, span_of, front_of, back_of, entry_of, further, list_end, list_of, longest_list, cut_text, first_fitting, line_of};
+ghost use Rattle.run_progress.specs.Line.{two_digits, clock_of, duration_of, front_of, back_of, shown_node, further_nodes, list_end, list_of, longest_list, cut_text, first_fitting, progress_line};
 
 use crate::columns::fits;
 use std::alloc::{AllocError, Global};
@@ -63,7 +63,7 @@ fn push_clock(text: &mut String, seconds: u64) -> Result<(), AllocError>
 
 /// Adds how long a node runs: `n s`, and as `push_clock` from a minute on.
 fn push_span(text: &mut String, seconds: u64) -> Result<(), AllocError>
-    ensures { OnOk result (string_bytes text.new ≡ string_bytes text.old ++ span_of seconds) }
+    ensures { OnOk result (string_bytes text.new ≡ string_bytes text.old ++ duration_of seconds) }
 {
     if seconds < 60 {
         write!(text, "{seconds} s")
@@ -101,7 +101,7 @@ fn back_text(alloc: Global, counts: Option<Counts>, seconds: u64) -> Result<Stri
 /// Adds a node that runs.
 fn push_entry(text: &mut String, node: &RunningNode<'_>) -> Result<(), AllocError>
     ensures { OnOk result (string_bytes text.new
-        ≡ string_bytes text.old ++ entry_of (node.now.name.now, node.now.seconds)) }
+        ≡ string_bytes text.old ++ shown_node (node.now.name.now, node.now.seconds)) }
 {
     text.push_str(node.name)?;
     text.push_str(" ")?;
@@ -111,7 +111,7 @@ fn push_entry(text: &mut String, node: &RunningNode<'_>) -> Result<(), AllocErro
 /// Adds further nodes, each behind a comma.
 fn push_further(text: &mut String, nodes: &[RunningNode<'_>]) -> Result<(), AllocError>
     ensures { OnOk result (string_bytes text.new ≡ string_bytes text.old
-        ++ further (map (λ node. (node.name.now, node.seconds)) nodes.now)) }
+        ++ further_nodes (map (λ node. (node.name.now, node.seconds)) nodes.now)) }
 {
     for node in nodes {
         text.push_str(", ")?;
@@ -202,7 +202,7 @@ fn first_fitting(alloc: Global, width: usize, whole: String, bare: String, cut: 
 /// # Errors
 /// Want of memory.
 pub fn line_text(alloc: Global, line: &ProgressLine<'_>, width: usize) -> Result<String, AllocError>
-    ensures is { IfOk result (λ text. string_bytes text ≡ line_of line.now.counts
+    ensures is { IfOk result (λ text. string_bytes text ≡ progress_line line.now.counts
         (map (λ node. (node.name.now, node.seconds)) line.now.longest.now) line.now.running line.now.seconds width) }
     // It is never wider than the terminal.
     ensures fits { IfOk result (λ text. columns (chars (string_bytes text)) ≤ width) }

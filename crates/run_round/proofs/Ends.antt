@@ -1,4 +1,5 @@
 -- A run that is led to its end.
+use Rattle.event_journal_log.specs.declared.disk.Disk.{Ghosts}
 use Rattle.recovery_manager.specs.Chain.{commands_in}
 use Rattle.std.proofs.Common.{arith, inl, inr, Option, None, ◌≡◌, ◌&&◌, ℕ, true, false, List, [], ◌∷◌, ◌++◌, refl, sym, ap, ◌∙◌, subst}
 use Rattle.std.proofs.lemmas.Bool.{and_from}
@@ -16,17 +17,17 @@ use Rattle.sched_core.specs.Choices.{IsChoice}
 use Rattle.status_report.specs.Text.{run_text}
 use Rattle.job_starter_drive.specs.declared.Call.{Call}
 use Rattle.job_starter_drive.specs.Drives.{Drives, At, at_rest, IsHalted, IsStopped}
-use Rattle.job_starter_drive.specs.Handed.{HandsAll, HandsAllButSome}
+use Rattle.job_starter_drive.specs.Spawned.{SpawnsAll, SpawnsAllButSome}
 use Rattle.job_starter_drive.specs.declared.driving.DriveFault.{DriveFault}
 use Rattle.job_starter_drive.specs.Moments.{IsOlderPart, IsMore, MayHold, MayStand, ReadsBy, IsMomentOfRun}
 use Rattle.job_starter_drive.proofs.Cuts.{older-self, older-is, goes-records}
 use Rattle.job_starter_drive.proofs.Images.{may-older, moment_grows, last_at}
-use Rattle.event_journal_log.specs.Disk.{LeavesOnly}
+use Rattle.event_journal_log.specs.Crashes.{CrashesLeave}
 use Rattle.event_journal_log.specs.Image.{Header}
 use Rattle.event_journal_log.proofs.Moments as moments
-use Rattle.recovery_manager.specs.Managed.{Reads}
+use Rattle.recovery_manager.specs.Managed.{ReadsJournal}
 use Rattle.job_starter_drive.proofs.Handing.{driven}
-use Rattle.run_round.specs.Led.{GoOnFrom, IsLed, DrivesToEnd}
+use Rattle.run_round.specs.RunToEnd.{IsSuffix, IsRunToEnd, DrivesToEnd}
 use Rattle.run_round.specs.Moments.{IsMomentOfLead, IsLastOfLead}
 
 aborted-after : (plan : Plan) (past : List Record) (status : ℕ) → is_aborted plan (Finish status ∷ past) ≡ is_aborted plan past
@@ -42,26 +43,26 @@ is-led : (plan : Plan) (begun between records own : List Record) (text : List �
     → between ≡ own ++ begun → records ≡ Finish (exit_status plan between) ∷ between → is_lawful plan between ≡ true
     → may_follow plan between (Finish (exit_status plan between)) ≡ true
     → (is_aborted plan between ≡ false → AreFates plan (table_of records) (shown plan records))
-    → text ≡ run_text plan records status → status ≡ exit_status plan between → IsLed plan begun records text status
+    → text ≡ run_text plan records status → status ≡ exit_status plan between → IsRunToEnd plan begun records text status
 is-led plan begun between records own text status more is lawful may fates prints verdict = record {
   goes_on = (Finish (exit_status plan between) ∷ own, is ∙ ap (λ l. Finish (exit_status plan between) ∷ l) more);
   finished = subst (λ r. (is_over r && is_lawful plan r) ≡ true) (sym is) (and_from _ _ lawful may);
-  fates = λ calm. fates (sym (aborted-after plan between (exit_status plan between)) ∙ ap (is_aborted plan) (sym is) ∙ calm);
+  fates = λ abort_free. fates (sym (aborted-after plan between (exit_status plan between)) ∙ ap (is_aborted plan) (sym is) ∙ abort_free);
   text_is = prints;
   status_is = verdict ∙ sym (status-after plan between (exit_status plan between)) ∙ ap (exit_status plan) (sym is);
 }
 
 -- the same in the plans of the manager at each call
 pub led-by : (limits : Limits) (plan plan0 plan1 plan2 : Plan) → plan ≡ plan0 → plan1 ≡ plan0 → plan2 ≡ plan1
-    → (begun between records : List Record) (text : List ℕ) (status : ℕ) (tells : List Call → Key → Outcome → Type 0) (told heard : List Call)
-    → Drives limits plan0 tells begun told between heard → IsChoice limits plan0 between (choices.Finish status)
+    → (begun between records : List Record) (text : List ℕ) (status : ℕ) (tells : List Call → Key → Outcome → Type 0) (call_log later_log : List Call)
+    → Drives limits plan0 tells begun call_log between later_log → IsChoice limits plan0 between (choices.Finish status)
     → is_lawful plan1 between ≡ true → may_follow plan1 between (Finish (exit_status plan1 between)) ≡ true
     → records ≡ Finish (exit_status plan1 between) ∷ between
     → (is_aborted plan1 between ≡ false → AreFates plan1 (table_of records) (shown plan1 records))
-    → text ≡ run_text plan2 records status → IsLed plan begun records text status
-led-by limits plan plan0 plan1 plan2 own same last begun between records text status tells told heard steps chosen lawful may is fates prints =
+    → text ≡ run_text plan2 records status → IsRunToEnd plan begun records text status
+led-by limits plan plan0 plan1 plan2 own same last begun between records text status tells call_log later_log steps chosen lawful may is fates prints =
     let here : plan1 ≡ plan = same ∙ sym own in
-    let adds = goes-records limits plan0 tells (at_rest begun told) (at_rest between heard) steps in
+    let adds = goes-records limits plan0 tells (at_rest begun call_log) (at_rest between later_log) steps in
     is-led plan begun between records adds.0 text status adds.1
     (subst (λ (p : Plan). records ≡ Finish (exit_status p between) ∷ between) here is)
     (subst (λ (p : Plan). is_lawful p between ≡ true) here lawful)
@@ -72,10 +73,10 @@ led-by limits plan plan0 plan1 plan2 own same last begun between records text st
 
 -- the steps of a run and its end, in the plans of the manager at each call
 pub to-end : (limits : Limits) (plan plan' : Plan) → plan' ≡ plan → (may : List Call → Key → Outcome → Type 0)
-    (past between records : List Record) (told heard : List Call) (status : ℕ)
-    → Drives limits plan may past told between heard → IsChoice limits plan between (choices.Finish status)
-    → records ≡ Finish (exit_status plan' between) ∷ between → DrivesToEnd limits plan may past told records heard
-to-end limits plan plan' same may past between records told heard status steps chosen is = record {
+    (past between records : List Record) (call_log later_log : List Call) (status : ℕ)
+    → Drives limits plan may past call_log between later_log → IsChoice limits plan between (choices.Finish status)
+    → records ≡ Finish (exit_status plan' between) ∷ between → DrivesToEnd limits plan may past call_log records later_log
+to-end limits plan plan' same may past between records call_log later_log status steps chosen is = record {
   between = between;
   status = status;
   steps = steps;
@@ -83,22 +84,22 @@ to-end limits plan plan' same may past between records told heard status steps c
   ended = is ∙ ap (λ (p : Plan). Finish (exit_status p between) ∷ between) same ∙ ap (λ (n : ℕ). Finish n ∷ between) (sym chosen.2);
 }
 
-pub stopped-adds : (limits : Limits) (plan : Plan) (may : List Call → Key → Outcome → Type 0) (past : List Record) (told : List Call) (fault : DriveFault) (after : List Record) (last : List Call)
-    → IsStopped limits plan may past told fault after last → GoOnFrom past after
-stopped-adds limits plan may past told fault after last s =
-    goes-records limits plan may (at_rest past told) (At after s.rest s.halted.keys s.halted.owed) s.halted.steps
+pub stopped-adds : (limits : Limits) (plan : Plan) (may : List Call → Key → Outcome → Type 0) (past : List Record) (call_log : List Call) (fault : DriveFault) (after : List Record) (last : List Call)
+    → IsStopped limits plan may past call_log fault after last → IsSuffix past after
+stopped-adds limits plan may past call_log fault after last s =
+    goes-records limits plan may (at_rest past call_log) (At after s.rest s.halted.keys s.halted.owed) s.halted.steps
 
 -- the record of the end hands nothing over
-pub finished-adds : (past between after : List Record) (status : ℕ) → GoOnFrom past between → after ≡ Finish status ∷ between → GoOnFrom past after
+pub finished-adds : (past between after : List Record) (status : ℕ) → IsSuffix past between → after ≡ Finish status ∷ between → IsSuffix past after
 finished-adds past between after status on is = (Finish status ∷ on.0, is ∙ ap (λ l. Finish status ∷ l) on.1)
 
-pub finished-hands : (plan : Plan) (past between after : List Record) (status : ℕ) (told heard : List Call)
-    → HandsAll plan past between told heard → after ≡ Finish status ∷ between → HandsAll plan past after told heard
-finished-hands plan past between after status told heard h is =
-    subst (λ (l : List Record). HandsAll plan past l told heard) (sym is) (record { own = h.own; are = h.are; commands = h.commands })
+pub finished-hands : (plan : Plan) (past between after : List Record) (status : ℕ) (call_log later_log : List Call)
+    → SpawnsAll plan past between call_log later_log → after ≡ Finish status ∷ between → SpawnsAll plan past after call_log later_log
+finished-hands plan past between after status call_log later_log h is =
+    subst (λ (l : List Record). SpawnsAll plan past l call_log later_log) (sym is) (record { own = h.own; are = h.are; commands = h.commands })
 
-pub all-but-none : (plan : Plan) (past after : List Record) (told heard : List Call) → HandsAll plan past after told heard → HandsAllButSome plan past after told heard
-all-but-none plan past after told heard h = record {
+pub all-but-none : (plan : Plan) (past after : List Record) (call_log later_log : List Call) → SpawnsAll plan past after call_log later_log → SpawnsAllButSome plan past after call_log later_log
+all-but-none plan past after call_log later_log h = record {
   own = h.own;
   are = h.are;
   rest = [];
@@ -114,27 +115,27 @@ pub one-more : (entry : Record) (held kept : List Record) → kept ≡ held → 
 one-more entry held kept same = record { added = entry ∷ []; few = omega arith; is = ap (λ (l : List Record). entry ∷ l) (sym same) }
 
 -- behind all steps it may be halted
-pub at-steps : (limits : Limits) (plan : Plan) (may : List Call → Key → Outcome → Type 0) (past : List Record) (told : List Call) (after : List Record) (last : List Call)
-    → Drives limits plan may past told after last → IsHalted limits plan may past told after last
-at-steps limits plan may past told after last steps = record { keys = []; owed = []; steps = steps }
+pub at-steps : (limits : Limits) (plan : Plan) (may : List Call → Key → Outcome → Type 0) (past : List Record) (call_log : List Call) (after : List Record) (last : List Call)
+    → Drives limits plan may past call_log after last → IsHalted limits plan may past call_log after last
+at-steps limits plan may past call_log after last steps = record { keys = []; owed = []; steps = steps }
 
-module _ (limits : Limits) (plan : Plan) (may : List Call → Key → Outcome → Type 0) (past : List Record) (told : List Call) (header : Header) where
+module _ (limits : Limits) (plan : Plan) (may : List Call → Key → Outcome → Type 0) (past : List Record) (call_log : List Call) (header : Header) where
   -- The record of the end, behind the steps of the run: what they came to, without it and with it.
   pub record IsEndCall (by fault : Option DriveFault) (kept : List Record) (last : List Call) (between : List Record) (entry : Record) : Type 0 where
     pub lawful : is_lawful plan between ≡ true
     pub follows : may_follow plan between entry ≡ true
-    pub steps : Drives limits plan may past told between last
-    pub ended : DrivesToEnd limits plan may past told (entry ∷ between) last
+    pub steps : Drives limits plan may past call_log between last
+    pub ended : DrivesToEnd limits plan may past call_log (entry ∷ between) last
     pub part : MayHold fault kept between
     pub more : MayStand by → MayHold fault kept (entry ∷ between)
 
   pub end_moment : (by fault : Option DriveFault) (kept : List Record) (last : List Call) (between : List Record) (entry : Record) (image : List ℕ)
-      → IsEndCall by fault kept last between entry → ReadsBy by header between (entry ∷ between) image → IsMomentOfLead limits plan may past told fault kept last header image
+      → IsEndCall by fault kept last between entry → ReadsBy by header between (entry ∷ between) image → IsMomentOfLead limits plan may past call_log fault kept last header image
   end_moment by fault kept last between entry image call (inl reads) = inl (record {
     held = between;
-    heard = last;
+    later_log = last;
     lawful = call.lawful;
-    halted = at-steps limits plan may past told between last call.steps;
+    halted = at-steps limits plan may past call_log between last call.steps;
     part = call.part;
     answered = older-self last;
     reads = reads;
@@ -148,13 +149,13 @@ module _ (limits : Limits) (plan : Plan) (may : List Call → Key → Outcome �
   })
 
   pub end_last : (by fault : Option DriveFault) (kept : List Record) (last : List Call) (between : List Record) (entry : Record) (image : List ℕ)
-      → IsEndCall by fault kept last between entry → kept ≡ between → ReadsBy by header between (entry ∷ between) image → IsLastOfLead limits plan may past told fault kept last header image
+      → IsEndCall by fault kept last between entry → kept ≡ between → ReadsBy by header between (entry ∷ between) image → IsLastOfLead limits plan may past call_log fault kept last header image
   end_last by fault kept last between entry image call same (inl reads) = inl (record {
     moment = record {
       held = between;
-      heard = last;
+      later_log = last;
       lawful = call.lawful;
-      halted = at-steps limits plan may past told between last call.steps;
+      halted = at-steps limits plan may past call_log between last call.steps;
       part = call.part;
       answered = older-self last;
       reads = reads;
@@ -174,46 +175,46 @@ module _ (limits : Limits) (plan : Plan) (may : List Call → Key → Outcome �
 
   -- the end is recorded
   pub end_rest : (fault : Option DriveFault) (kept : List Record) (last : List Call) (image : List ℕ) → is_lawful plan kept ≡ true
-      → DrivesToEnd limits plan may past told kept last → Reads header kept image → IsLastOfLead limits plan may past told fault kept last header image
+      → DrivesToEnd limits plan may past call_log kept last → ReadsJournal header kept image → IsLastOfLead limits plan may past call_log fault kept last header image
   end_rest fault kept last image lawful ended reads =
       inr (record { held = kept; lawful = lawful; ended = ended; part = may-older fault kept kept (older-self kept); reads = reads }, older-self kept)
 
   -- the end is not recorded yet
   pub steps_rest : (fault : Option DriveFault) (kept : List Record) (last : List Call) (image : List ℕ) → is_lawful plan kept ≡ true
-      → Drives limits plan may past told kept last → Reads header kept image → IsLastOfLead limits plan may past told fault kept last header image
+      → Drives limits plan may past call_log kept last → ReadsJournal header kept image → IsLastOfLead limits plan may past call_log fault kept last header image
   steps_rest fault kept last image lawful steps reads =
-      inl (last_at limits plan may (at_rest past told) header (at_rest kept last) fault kept last image steps lawful (may-older fault kept kept (older-self kept)) (older-self last) (older-self kept) reads)
+      inl (last_at limits plan may (at_rest past call_log) header (at_rest kept last) fault kept last image steps lawful (may-older fault kept kept (older-self kept)) (older-self last) (older-self kept) reads)
 
-  module _ {D : Type 0} (moment : D → ℕ) (left_since : D → ℕ → List ℕ → Type 0) (fault : Option DriveFault) (kept : List Record) (last : List Call) where
-    pub lead_run : (old new : D) → LeavesOnly moment left_since old new (IsMomentOfRun limits plan may past told fault kept last header)
-        → LeavesOnly moment left_since old new (IsMomentOfLead limits plan may past told fault kept last header)
+  module _ {D : Type 0} (disks : Ghosts D) (fault : Option DriveFault) (kept : List Record) (last : List Call) where
+    pub lead_run : (old new : D) → CrashesLeave disks old new (IsMomentOfRun limits plan may past call_log fault kept last header)
+        → CrashesLeave disks old new (IsMomentOfLead limits plan may past call_log fault kept last header)
     lead_run old new leaves =
-        moments.weaker moment left_since old new (IsMomentOfRun limits plan may past told fault kept last header) (IsMomentOfLead limits plan may past told fault kept last header)
+        moments.weaker disks old new (IsMomentOfRun limits plan may past call_log fault kept last header) (IsMomentOfLead limits plan may past call_log fault kept last header)
         (λ image run. inl run) leaves
 
     -- a run that was driven, as its end may be recorded behind it
-    pub lead_grown : (old new : D) (between : List Record) → IsOlderPart between kept → LeavesOnly moment left_since old new (IsMomentOfRun limits plan may past told None between last header)
-        → LeavesOnly moment left_since old new (IsMomentOfLead limits plan may past told fault kept last header)
+    pub lead_grown : (old new : D) (between : List Record) → IsOlderPart between kept → CrashesLeave disks old new (IsMomentOfRun limits plan may past call_log None between last header)
+        → CrashesLeave disks old new (IsMomentOfLead limits plan may past call_log fault kept last header)
     lead_grown old new between grown leaves =
-        moments.weaker moment left_since old new (IsMomentOfRun limits plan may past told None between last header) (IsMomentOfLead limits plan may past told fault kept last header)
-        (λ image run. inl (moment_grows limits plan may (at_rest past told) header fault between last kept last grown (older-self last) image run)) leaves
+        moments.weaker disks old new (IsMomentOfRun limits plan may past call_log None between last header) (IsMomentOfLead limits plan may past call_log fault kept last header)
+        (λ image run. inl (moment_grows limits plan may (at_rest past call_log) header fault between last kept last grown (older-self last) image run)) leaves
 
     -- a crash while the end is recorded, behind the steps of the run
     pub then_end : (old mid new : D) (by : Option DriveFault) (between : List Record) (entry : Record) → IsEndCall by fault kept last between entry → IsOlderPart between kept
-        → LeavesOnly moment left_since old mid (IsMomentOfRun limits plan may past told None between last header) → LeavesOnly moment left_since mid new (ReadsBy by header between (entry ∷ between))
-        → LeavesOnly moment left_since old new (IsMomentOfLead limits plan may past told fault kept last header)
+        → CrashesLeave disks old mid (IsMomentOfRun limits plan may past call_log None between last header) → CrashesLeave disks mid new (ReadsBy by header between (entry ∷ between))
+        → CrashesLeave disks old new (IsMomentOfLead limits plan may past call_log fault kept last header)
     then_end old mid new by between entry call grown first second =
-        moments.joined moment left_since old mid new (IsMomentOfLead limits plan may past told fault kept last header) (lead_grown old mid between grown first)
-        (moments.weaker moment left_since mid new (ReadsBy by header between (entry ∷ between)) (IsMomentOfLead limits plan may past told fault kept last header)
+        moments.joined disks old mid new (IsMomentOfLead limits plan may past call_log fault kept last header) (lead_grown old mid between grown first)
+        (moments.weaker disks mid new (ReadsBy by header between (entry ∷ between)) (IsMomentOfLead limits plan may past call_log fault kept last header)
         (λ image. end_moment by fault kept last between entry image call) second)
 
 -- a moment of the end hands over what its steps did
-pub end-hands : (limits : Limits) (plan : Plan) (may : List Call → Key → Outcome → Type 0) (past : List Record) (told : List Call) (records : List Record) (heard : List Call)
-    → DrivesToEnd limits plan may past told records heard → HandsAll plan past records told heard
-end-hands limits plan may past told records heard d =
-    finished-hands plan past d.between records d.status told heard (driven limits plan may past told d.between heard d.steps) d.ended
+pub end-hands : (limits : Limits) (plan : Plan) (may : List Call → Key → Outcome → Type 0) (past : List Record) (call_log : List Call) (records : List Record) (later_log : List Call)
+    → DrivesToEnd limits plan may past call_log records later_log → SpawnsAll plan past records call_log later_log
+end-hands limits plan may past call_log records later_log d =
+    finished-hands plan past d.between records d.status call_log later_log (driven limits plan may past call_log d.between later_log d.steps) d.ended
 
-pub end-adds : (limits : Limits) (plan : Plan) (may : List Call → Key → Outcome → Type 0) (past : List Record) (told : List Call) (records : List Record) (heard : List Call)
-    → DrivesToEnd limits plan may past told records heard → GoOnFrom past records
-end-adds limits plan may past told records heard d =
-    finished-adds past d.between records d.status (goes-records limits plan may (at_rest past told) (at_rest d.between heard) d.steps) d.ended
+pub end-adds : (limits : Limits) (plan : Plan) (may : List Call → Key → Outcome → Type 0) (past : List Record) (call_log : List Call) (records : List Record) (later_log : List Call)
+    → DrivesToEnd limits plan may past call_log records later_log → IsSuffix past records
+end-adds limits plan may past call_log records later_log d =
+    finished-adds past d.between records d.status (goes-records limits plan may (at_rest past call_log) (at_rest d.between later_log) d.steps) d.ended

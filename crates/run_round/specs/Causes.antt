@@ -1,5 +1,6 @@
 -- Why a run is not led to its end.
 use Rattle.std.specs.Prelude.{◌≡◌, ◌⊎◌, ℕ, ◌<◌, List, length, Option, Some, IsTrue}
+use Rattle.event_journal_log.specs.declared.disk.Disk.{Ghosts}
 use Rattle.node_machine.specs.declared.Key.{Key}
 use Rattle.node_machine.specs.declared.Outcome.{Outcome}
 use Rattle.throttles.specs.declared.Limits.{Limits}
@@ -7,10 +8,11 @@ use Rattle.run_plan.specs.Plan.{Plan}
 use Rattle.node_machine.specs.declared.Record.{Record}
 use Rattle.node_machine.specs.declared.Record.TheVariants.{Finish}
 use Rattle.sched_core.specs.Run.{exit_status}
-use Rattle.event_journal_log.specs.Disk.{LeavesOnly, Rises}
+use Rattle.event_journal_log.specs.Crashes.{CrashesLeave}
+use Rattle.event_journal_log.specs.Disk.{Rises}
 use Rattle.event_journal_log.specs.declared.fault.JournalFault.TheVariants as journal
 use Rattle.event_journal_log.specs.declared.fault.JournalFault.{JournalFault}
-use Rattle.recovery_manager.specs.Faults.{IsImageFault, IsToldByDisk}
+use Rattle.recovery_manager.specs.Faults.{IsImageFault, IsFaultOfDisk}
 use Rattle.recovery_manager.specs.Managed.{Managed, plan_of, past_of, disk_of}
 use Rattle.recovery_manager.specs.Seal.{needs_rescue_now, IsRescued}
 use Rattle.recovery_manager.specs.Rescue.{rescue_text_for}
@@ -23,17 +25,17 @@ use Rattle.job_starter_drive.specs.Causes.{IsDriveFault, AreRefused}
 use Rattle.job_starter_drive.specs.declared.driving.DriveFault.{DriveFault}
 use Rattle.job_starter_drive.specs.declared.driving.DriveFault.TheVariants as drives
 use Rattle.run_round.specs.declared.rounds.Start.{Start}
-use Rattle.run_round.specs.Led.{DrivesToEnd, IsAtEnd}
-use Rattle.run_round.specs.Rounds.{IsMomentOfOpening, IsOpeningFault, IsOpened, IsRoundOnDisk}
+use Rattle.run_round.specs.RunToEnd.{DrivesToEnd, IsAtEnd}
+use Rattle.run_round.specs.Rounds.{IsMomentOfOpening, IsOpeningFault, IsRoundOpened, IsRoundOnDisk}
 
 -- Why the rescue file of these records isn't on its disk, and what is left of that: memory was refused for its text, and nothing was
 -- written; or the disk failed, or has no room for it.
-pub data IsSealFault {R : Type 0} (failures capacity : R → ℕ) (plan : Plan) (past : List Record) (disk left : R) : ManagerFault → Type 0 where
-  text_had_no_memory : left ≡ disk → IsSealFault failures capacity plan past disk left faults.Memory
-  rescue_failed : Rises (failures disk) (failures left) →
-      IsSealFault failures capacity plan past disk left (faults.Journal journal.Device)
-  rescue_had_no_room : capacity disk < length (rescue_text_for plan past) →
-      IsSealFault failures capacity plan past disk left (faults.Journal journal.DiskFull)
+pub data IsSealFault {R : Type 0} (disks : Ghosts R) (plan : Plan) (past : List Record) (disk left : R) : ManagerFault → Type 0 where
+  text_had_no_memory : left ≡ disk → IsSealFault disks plan past disk left faults.Memory
+  rescue_failed : Rises (disks.faults disk) (disks.faults left) →
+      IsSealFault disks plan past disk left (faults.Journal journal.Device)
+  rescue_had_no_room : disks.capacity disk < length (rescue_text_for plan past) →
+      IsSealFault disks plan past disk left (faults.Journal journal.DiskFull)
 
 -- the record of a run's end
 abbrev pub IsEndOf : Plan → List Record → Record → Type 0
@@ -43,23 +45,22 @@ IsEndOf plan past entry = entry ≡ Finish (exit_status plan past)
 -- there and that are left; and what was recorded and told until then. It was stopped on the way, and no rescue file was begun; or, behind
 -- all its steps, the rescue file that it needs isn't written; or that is written, and the run's end was refused as a record; or it ended, and
 -- memory was refused for its report. A run that needs no rescue file leaves none behind its steps.
-pub data IsLeadFault {D R : Type 0} (honest : D → Type 0) (failures capacity : D → ℕ) (rescue_honest : R → Type 0) (rescue_may_leave : R → List ℕ → Type 0)
-    (rescue_failures rescue_capacity : R → ℕ) (before now : ℕ)
-    (may : List Call → Key → Outcome → Type 0) (old manager : Managed D) (told heard : List Call) (disk : R) (left : Option R) : DriveFault → Type 0 where
-  stopped : {fault : DriveFault} → IsDriveFault honest failures capacity before now old manager fault →
-      IsStopped (limits_of old) (plan_of old) may (past_of old) told fault (past_of manager) heard → left ≡ Some disk →
-      IsLeadFault honest failures capacity rescue_honest rescue_may_leave rescue_failures rescue_capacity before now may old manager told heard disk left fault
-  not_sealed : {fault : ManagerFault} (rest : R) → left ≡ Some rest → IsAtEnd (limits_of old) (plan_of old) may (past_of old) told (past_of manager) heard →
+pub data IsRunToEndFault {D R : Type 0} (disks : Ghosts D) (rescues : Ghosts R) (before now : ℕ)
+    (may : List Call → Key → Outcome → Type 0) (old manager : Managed D) (call_log later_log : List Call) (disk : R) (left : Option R) : DriveFault → Type 0 where
+  stopped : {fault : DriveFault} → IsDriveFault disks before now old manager fault →
+      IsStopped (limits_of old) (plan_of old) may (past_of old) call_log fault (past_of manager) later_log → left ≡ Some disk →
+      IsRunToEndFault disks rescues before now may old manager call_log later_log disk left fault
+  not_sealed : {fault : ManagerFault} (rest : R) → left ≡ Some rest → IsAtEnd (limits_of old) (plan_of old) may (past_of old) call_log (past_of manager) later_log →
       IsTrue (needs_rescue_now (plan_of manager) (past_of manager)) →
-      IsSealFault rescue_failures rescue_capacity (plan_of manager) (past_of manager) disk rest fault →
-      IsLeadFault honest failures capacity rescue_honest rescue_may_leave rescue_failures rescue_capacity before now may old manager told heard disk left (drives.Manager fault)
-  end_refused : {fault : ManagerFault} → IsAtEnd (limits_of old) (plan_of old) may (past_of old) told (past_of manager) heard →
-      AreRefused honest failures capacity (IsEndOf (plan_of manager) (past_of manager)) old manager fault →
-      IsRescued rescue_honest rescue_may_leave (plan_of manager) (past_of manager) left →
-      IsLeadFault honest failures capacity rescue_honest rescue_may_leave rescue_failures rescue_capacity before now may old manager told heard disk left (drives.Manager fault)
-  no_memory_for_report : DrivesToEnd (limits_of old) (plan_of old) may (past_of old) told (past_of manager) heard →
-      IsRescued rescue_honest rescue_may_leave (plan_of manager) (past_of manager) left →
-      IsLeadFault honest failures capacity rescue_honest rescue_may_leave rescue_failures rescue_capacity before now may old manager told heard disk left drives.Memory
+      IsSealFault rescues (plan_of manager) (past_of manager) disk rest fault →
+      IsRunToEndFault disks rescues before now may old manager call_log later_log disk left (drives.Manager fault)
+  end_refused : {fault : ManagerFault} → IsAtEnd (limits_of old) (plan_of old) may (past_of old) call_log (past_of manager) later_log →
+      AreRefused disks (IsEndOf (plan_of manager) (past_of manager)) old manager fault →
+      IsRescued rescues (plan_of manager) (past_of manager) left →
+      IsRunToEndFault disks rescues before now may old manager call_log later_log disk left (drives.Manager fault)
+  no_memory_for_report : DrivesToEnd (limits_of old) (plan_of old) may (past_of old) call_log (past_of manager) later_log →
+      IsRescued rescues (plan_of manager) (past_of manager) left →
+      IsRunToEndFault disks rescues before now may old manager call_log later_log disk left drives.Memory
 
 -- the faults of a manager by which a round is stopped: those of the disks, and of what stands on the journal's
 pub data IsManagerStop : ManagerFault → Type 0 where
@@ -80,14 +81,13 @@ MayStop drives.Memory = Unit {0}
 
 -- Why a round isn't run to its end, and what is left of the journal's disk and of the rescue file's: its manager refuses to begin, or to
 -- go on, and nothing was handed over; or, begun on what stood there, it isn't led to its end.
-pub data IsRoundRefusal {D R : Type 0} (honest : D → Type 0) (seen : D → List ℕ) (may_leave : D → List ℕ → Type 0) (moment : D → ℕ) (left_since : D → ℕ → List ℕ → Type 0)
-    (failures capacity : D → ℕ) (rescue_honest : R → Type 0) (rescue_may_leave : R → List ℕ → Type 0) (rescue_failures rescue_capacity : R → ℕ) (before now : ℕ) (plan : Plan) (slots : ℕ) (start : Start) (limits : Limits)
-    (may : List Call → Key → Outcome → Type 0) (told heard : List Call) (disk left : D) (rescue : R) (rest : Option R) : DriveFault → Type 0 where
-  not_opened : {fault : ManagerFault} → heard ≡ told → rest ≡ Some rescue → IsOpeningFault failures capacity honest seen plan slots start disk left fault →
-      (honest disk → IsToldByDisk fault ⊎ IsUntouched seen may_leave moment left_since disk left) →
-      (honest disk → LeavesOnly moment left_since disk left (IsMomentOfOpening start plan (may_leave disk) (seen disk))) →
-      IsRoundRefusal honest seen may_leave moment left_since failures capacity rescue_honest rescue_may_leave rescue_failures rescue_capacity before now plan slots start limits may told heard disk left rescue rest (drives.Manager fault)
-  not_led : {fault : DriveFault} → (opened manager : Managed D) → IsOpened honest seen failures capacity plan slots start limits disk opened → disk_of manager ≡ left →
-      IsLeadFault honest failures capacity rescue_honest rescue_may_leave rescue_failures rescue_capacity before now may opened manager told heard rescue rest fault →
-      (honest disk → IsRoundOnDisk seen may_leave moment left_since start limits plan may (past_of opened) told (Some fault) (past_of manager) heard disk left) →
-      IsRoundRefusal honest seen may_leave moment left_since failures capacity rescue_honest rescue_may_leave rescue_failures rescue_capacity before now plan slots start limits may told heard disk left rescue rest fault
+pub data IsRoundRefusal {D R : Type 0} (disks : Ghosts D) (rescues : Ghosts R) (before now : ℕ) (plan : Plan) (slots : ℕ) (start : Start) (limits : Limits)
+    (may : List Call → Key → Outcome → Type 0) (call_log later_log : List Call) (disk left : D) (rescue : R) (rest : Option R) : DriveFault → Type 0 where
+  not_opened : {fault : ManagerFault} → later_log ≡ call_log → rest ≡ Some rescue → IsOpeningFault disks plan slots start disk left fault →
+      (disks.honest disk → IsFaultOfDisk fault ⊎ IsUntouched disks disk left) →
+      (disks.honest disk → CrashesLeave disks disk left (IsMomentOfOpening start plan (disks.may_leave disk) (disks.seen disk))) →
+      IsRoundRefusal disks rescues before now plan slots start limits may call_log later_log disk left rescue rest (drives.Manager fault)
+  not_led : {fault : DriveFault} → (opened manager : Managed D) → IsRoundOpened disks plan slots start limits disk opened → disk_of manager ≡ left →
+      IsRunToEndFault disks rescues before now may opened manager call_log later_log rescue rest fault →
+      (disks.honest disk → IsRoundOnDisk disks start limits plan may (past_of opened) call_log (Some fault) (past_of manager) later_log disk left) →
+      IsRoundRefusal disks rescues before now plan slots start limits may call_log later_log disk left rescue rest fault

@@ -1,4 +1,4 @@
-pub mod Led
+pub mod RunToEnd
 pub mod Moments
 pub mod Rounds
 pub mod Causes

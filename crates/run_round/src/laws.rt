@@ -6,7 +6,7 @@ ghost use Rattle.run_plan.specs.Plan.{Plan};
 ghost use Rattle.node_machine.specs.declared.Record.{Record};
 ghost use Rattle.node_machine.specs.declared.Record.TheVariants.{Life};
 ghost use Rattle.event_journal_log.specs.Image.{Header};
-ghost use Rattle.recovery_manager.specs.Chain.{ReadsForInputs, Leaves, life_records};
+ghost use Rattle.recovery_manager.specs.Chain.{ReadsForInputs, LeavesRecords, life_records};
 ghost use Rattle.recovery_manager.specs.Inputs.{IsHeaderOf};
 ghost use Rattle.job_starter_drive.specs.declared.Call.{Call};
 ghost use Rattle.job_starter_drive.specs.declared.driving.DriveFault.{DriveFault};
@@ -19,15 +19,15 @@ use job_starter_drive::Starter;
 /// (job_starter's law `stops`).
 pub fn stops_at_end<S: Starter>()
     ensures life { (limits : Limits) (plan : Plan) (starter : S) (past : List Record)
-        (told : List Call) (fault : Option DriveFault) (kept : List Record) (last : List Call)
+        (call_log : List Call) (fault : Option DriveFault) (kept : List Record) (last : List Call)
         (header : Header) (found image : List ℕ) →
         IsHeaderOf plan header → ReadsForInputs plan past found →
-        (stop : IsMomentOfEnd limits plan (S.may_tell starter) (Life ∷ past) told fault kept last header image) →
-        IsLifeAtEnd past told found image stop }
+        (stop : IsMomentOfEnd limits plan (S.may_return starter) (Life ∷ past) call_log fault kept last header image) →
+        IsLifeAtEnd past call_log found image stop }
     // Behind the call: by the records that it kept, an image is one that their life leaves.
     ensures leaves { (limits : Limits) (plan : Plan) (starter : S) (past : List Record)
-        (told : List Call) (fault : Option DriveFault) (kept : List Record) (last : List Call)
+        (call_log : List Call) (fault : Option DriveFault) (kept : List Record) (last : List Call)
         (header : Header) (image : List ℕ) → IsHeaderOf plan header →
-        IsLastOfLead limits plan (S.may_tell starter) (Life ∷ past) told fault kept last header image →
-        Leaves plan (life_records past kept) image }
+        IsLastOfLead limits plan (S.may_return starter) (Life ∷ past) call_log fault kept last header image →
+        LeavesRecords plan (life_records past kept) image }
 {}

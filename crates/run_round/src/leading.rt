@@ -1,15 +1,15 @@
 //! A manager that leads its run to the end.
 
 ghost use Rattle.std.specs.Prelude.{◌≡◌, [], IsTrue, IsFalse, IfOk, IfErr, OnOk, OnErr, string_bytes};
-ghost use Rattle.recovery_manager.specs.Managed.{plan_of, past_of};
+ghost use Rattle.recovery_manager.specs.Managed.{plan_of, past_of, KeepsDisk};
 ghost use Rattle.recovery_manager.specs.Seal.{IsSealOf, IsRescued, may_end, needs_rescue_now};
 ghost use Rattle.sched_core.specs.Run.{is_over};
 ghost use Rattle.job_starter_drive.specs.Drives.{AreInStep, limits_of};
 ghost use Rattle.job_starter_drive.specs.Calls.{running};
-ghost use Rattle.job_starter_drive.specs.Handed.{HandsAll, HandsAllButSome};
-ghost use Rattle.job_starter_drive.specs.Moments.{AtAnyMoment, AtTheEnd, UnlessDiskFault, StaysAcknowledged, KeepsDisk};
-ghost use Rattle.run_round.specs.Causes.{IsSealFault, IsLeadFault};
-ghost use Rattle.run_round.specs.Led.{GoOnFrom, IsLed, DrivesToEnd};
+ghost use Rattle.job_starter_drive.specs.Spawned.{SpawnsAll, SpawnsAllButSome};
+ghost use Rattle.job_starter_drive.specs.Moments.{AtAnyMoment, AtTheEnd, UnlessDiskFault, StaysAcknowledged};
+ghost use Rattle.run_round.specs.Causes.{IsSealFault, IsRunToEndFault};
+ghost use Rattle.run_round.specs.RunToEnd.{IsSuffix, IsRunToEnd, DrivesToEnd};
 ghost use Rattle.run_round.specs.Moments.{fault_behind, IsMomentOfLead, IsLastOfLead};
 
 use event_journal_log::Disk;
@@ -23,7 +23,7 @@ use std::alloc::Global;
 /// What a run prints that was led to its end, its exit status, and the disk of the rescue file, where
 /// one was needed.
 #[derive(Drop)]
-pub struct Led<R: Disk + Drop> {
+pub struct RunToEnd<R: Disk + Drop> {
     pub text: String,
     pub status: Verdict,
     pub rescue: Option<R>,
@@ -37,10 +37,10 @@ fn sealed<D: Disk + Drop, R: Disk + Drop>(
 ) -> Result<Sealed<R>, (R, ManagerFault)>
     requires ends { IsTrue (may_end (plan_of manager.now) (past_of manager.now)) }
     ensures sealed { IfOk result (λ seal.
-        IsSealOf R.honest R.may_leave (plan_of manager.now) (past_of manager.now) seal) }
+        IsSealOf R.Disk (plan_of manager.now) (past_of manager.now) seal) }
     ensures refused { IfErr result (λ e.
         IsTrue (needs_rescue_now (plan_of manager.now) (past_of manager.now))
-        × IsSealFault R.faults R.capacity (plan_of manager.now) (past_of manager.now) rescue e.0 e.1) }
+        × IsSealFault R.Disk (plan_of manager.now) (past_of manager.now) rescue e.0 e.1) }
 {
     if manager.core().needs_rescue() {
         return manager.write_rescue(alloc, rescue);
@@ -59,50 +59,49 @@ fn sealed<D: Disk + Drop, R: Disk + Drop>(
 /// run needs can't be written, and with that of `Manager::finish`; `Memory` for the text. What was
 /// recorded stays, and a later manager goes on from there; no child runs when the call returns. The
 /// rescue file's disk comes back, but where the run came to its last step and needs none.
-pub fn lead<D: Disk + Drop, R: Disk + Drop, S: Starter>(
+pub fn run_to_end<D: Disk + Drop, R: Disk + Drop, S: Starter>(
     alloc: Global,
     manager: &mut Manager<'_, D>,
     plan: &Plan,
     starter: &mut S,
     rescue: R,
-) -> Result<Led<R>, (Option<R>, DriveFault)>
+) -> Result<RunToEnd<R>, (Option<R>, DriveFault)>
     requires own { plan.now ≡ plan_of manager.old }
-    requires in_step { AreInStep (plan_of manager.old) (past_of manager.old) (S.told starter.old) }
+    requires in_step { AreInStep (plan_of manager.old) (past_of manager.old) (S.call_log starter.old) }
     requires unfinished { IsFalse (is_over (past_of manager.old)) }
     ensures led { IfOk result (λ led.
-        IsLed plan.now (past_of manager.old) (past_of manager.new) (string_bytes led.text) led.status) }
+        IsRunToEnd plan.now (past_of manager.old) (past_of manager.new) (string_bytes led.text) led.status) }
     // What was recorded and handed over, one step behind another, and then the end.
     ensures steps { OnOk result (DrivesToEnd (limits_of manager.old) (plan_of manager.old)
-        (S.may_tell starter.old) (past_of manager.old) (S.told starter.old)
-        (past_of manager.new) (S.told starter.new)) }
+        (S.may_return starter.old) (past_of manager.old) (S.call_log starter.old)
+        (past_of manager.new) (S.call_log starter.new)) }
     // Behind a fault too the records went on, and no child runs; the commands of the own launches were
     // handed over once each and in their order, behind a fault perhaps but the last, of one round.
     ensures plan { plan_of manager.new ≡ plan_of manager.old }
-    ensures goes_on { GoOnFrom (past_of manager.old) (past_of manager.new) }
-    ensures hands_over { OnOk result (HandsAll (plan_of manager.old) (past_of manager.old)
-        (past_of manager.new) (S.told starter.old) (S.told starter.new)) }
-    ensures hands_over_err { OnErr result (HandsAllButSome (plan_of manager.old) (past_of manager.old)
-        (past_of manager.new) (S.told starter.old) (S.told starter.new)) }
-    ensures none_left { running (S.told starter.new) ≡ [] }
+    ensures goes_on { IsSuffix (past_of manager.old) (past_of manager.new) }
+    ensures spawns { OnOk result (SpawnsAll (plan_of manager.old) (past_of manager.old)
+        (past_of manager.new) (S.call_log starter.old) (S.call_log starter.new)) }
+    ensures hands_over_err { OnErr result (SpawnsAllButSome (plan_of manager.old) (past_of manager.old)
+        (past_of manager.new) (S.call_log starter.old) (S.call_log starter.new)) }
+    ensures none_left { running (S.call_log starter.new) ≡ [] }
     // A crash at any moment of the call leaves what makes it a life of the run (job_starter's law
     // `stops`, and `stops_at_end`), and behind it none of the records that are kept is missing.
-    ensures any_moment { AtAnyMoment D.honest D.seen D.may_leave D.moment D.left_since
+    ensures any_moment { AtAnyMoment D.Disk
         manager.old manager.new (IsMomentOfLead (limits_of manager.old) (plan_of manager.old)
-        (S.may_tell starter.old) (past_of manager.old) (S.told starter.old) (fault_behind result)
-        (past_of manager.new) (S.told starter.new)) }
-    ensures left { AtTheEnd D.honest D.seen D.may_leave manager.old manager.new
+        (S.may_return starter.old) (past_of manager.old) (S.call_log starter.old) (fault_behind result)
+        (past_of manager.new) (S.call_log starter.new)) }
+    ensures left { AtTheEnd D.Disk manager.old manager.new
         (IsLastOfLead (limits_of manager.old) (plan_of manager.old)
-        (S.may_tell starter.old) (past_of manager.old) (S.told starter.old) (fault_behind result)
-        (past_of manager.new) (S.told starter.new)) }
+        (S.may_return starter.old) (past_of manager.old) (S.call_log starter.old) (fault_behind result)
+        (past_of manager.new) (S.call_log starter.new)) }
     ensures acknowledged { UnlessDiskFault (fault_behind result)
-        (StaysAcknowledged D.honest D.seen D.may_leave manager.old manager.new) }
-    ensures disk { KeepsDisk D.honest D.faults D.capacity manager.old manager.new }
-    ensures refused { IfErr result (λ e. IsLeadFault D.honest D.faults D.capacity R.honest R.may_leave
-        R.faults R.capacity (S.faults starter.old) (S.faults starter.new) (S.may_tell starter.old)
-        manager.old manager.new (S.told starter.old) (S.told starter.new) rescue e.0 e.1) }
+        (StaysAcknowledged D.Disk manager.old manager.new) }
+    ensures disk { KeepsDisk D.Disk manager.old.journal manager.new.journal }
+    ensures refused { IfErr result (λ e. IsRunToEndFault D.Disk R.Disk (S.faults starter.old) (S.faults starter.new) (S.may_return starter.old)
+        manager.old manager.new (S.call_log starter.old) (S.call_log starter.new) rescue e.0 e.1) }
     // The rescue file that the run owes is on its disk.
     ensures rescued { IfOk result (λ led.
-        IsRescued R.honest R.may_leave plan.now (past_of manager.new) led.rescue) }
+        IsRescued R.Disk plan.now (past_of manager.new) led.rescue) }
 {
     let end = match drive(alloc, manager, plan, starter) {
         Ok(end) => end,
@@ -118,7 +117,7 @@ pub fn lead<D: Disk + Drop, R: Disk + Drop, S: Starter>(
         Err((seal, fault)) => return Err((seal.into_disk(), DriveFault::Manager(fault))),
     };
     match run_text(alloc, manager.core(), end.verdict) {
-        Ok(text) => Ok(Led {
+        Ok(text) => Ok(RunToEnd {
             text,
             status: end.verdict,
             rescue,

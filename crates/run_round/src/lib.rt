@@ -6,5 +6,5 @@ pub mod laws;
 mod leading;
 mod rounds;
 
-pub use leading::{Led, lead};
+pub use leading::{RunToEnd, run_to_end};
 pub use rounds::{MOST_RECORDS, Start, open_round, run_round};

@@ -2,7 +2,7 @@
 
 ghost use Rattle.std.specs.Prelude.{◌≡◌, false, Some, length, IfOk, IfErr, string_bytes};
 ghost use Rattle.dag_main_files.specs.Beside.{IsFileFault};
-ghost use Rattle.run_times.specs.Told.{log_name_of, IsTable, IsTimesOf, IsTimesFrom, IsTimesFault};
+ghost use Rattle.run_times.specs.Answered.{log_name_of, IsTable, IsTimesOf, IsTimesFrom, IsTimesFault};
 
 use crate::critical::critical_marks;
 use crate::picture::picture_text;

@@ -5,11 +5,11 @@ use Rattle.event_journal_log.specs.declared.journal.Peek.{Peek}
 use Rattle.event_journal_log.specs.Image.{Header, Found, replay_of, IsRescueNumber}
 use Rattle.event_journal_log.specs.Peeks.{ReadsPeek}
 use Rattle.event_journal_log.proofs.Replays.{journals}
-use Rattle.salvage.specs.Round.{IsCutShort}
+use Rattle.salvage.specs.Round.{IsUnfinishedRound}
 
 pub cut-short : (journal digest : List ℕ) (peek : Peek) (used next : ℕ) → ReadsPeek (Some peek) (replay_of journal) → peek.finished ≡ false
     → (40 ≤ length journal → digest ≡ slice_range journal 8 40) → used ≡ peek.used → next ≡ peek.next → used ≤ 999 → IsRescueNumber next
-    → IsCutShort journal digest used next peek.always_post
+    → IsUnfinishedRound journal digest used next peek.always_post
 cut-short journal digest peek used next (found, reads, used_is, next_is, flag_is, finished_is) unfinished by u n most may =
     let j = journals journal found reads in
     let over : 64 < length journal = j.headed.long in

@@ -3,7 +3,7 @@ use Rattle.std.proofs.Common.{◌≡◌, ◌∙◌, ℕ, List, [], Bool, true, O
 use Rattle.std.specs.List.{count_by}
 use Rattle.run_plan.specs.Plan.{Plan}
 use Rattle.sched_core.specs.Core.{Progress}
-use Rattle.sched_core.specs.Run.{written, is_lawful}
+use Rattle.sched_core.specs.Run.{chronological, is_lawful}
 use Rattle.recovery_manager.specs.Rescue.{marks_of, rescue_text_for}
 use Rattle.dag_main_check.specs.declared.fault.RunFault.{RunFault}
 use Rattle.node_machine.specs.declared.Record.{Record}
@@ -11,25 +11,25 @@ use Rattle.event_journal_log.specs.Image.{Found, replay_of}
 use Rattle.event_journal_log.specs.Journal.{Replay}
 use Rattle.event_journal_log.specs.Reading.{ReadsRecords, replay_for}
 use Rattle.event_journal_log.proofs.Readings.{replay_for-ok}
-use Rattle.salvage.specs.Salvaged.{HasRecords, IsSalvaged}
+use Rattle.salvage.specs.Salvaged.{IsReplayOf, IsSalvaged}
 use Rattle.salvage.specs.declared.rescue.Salvaged.{Salvaged}
 
 -- the records that were read for some digest and some flag
 pub records-read : (digest : List ℕ) (flag : Bool) (bytes : List ℕ) (read : Option (List Record)) → ReadsRecords read (replay_for digest flag bytes)
-    → HasRecords (replay_of bytes) (unwrap_or read [])
-records-read digest flag bytes None is = subst (λ (r : Replay). HasRecords r []) (sym (replay_for-ok digest flag bytes None is)) refl
+    → IsReplayOf (replay_of bytes) (unwrap_or read [])
+records-read digest flag bytes None is = subst (λ (r : Replay). IsReplayOf r []) (sym (replay_for-ok digest flag bytes None is)) refl
 records-read digest flag bytes (Some records) (found, is, same) =
-    subst (λ (r : Replay). HasRecords r records) (sym (replay_for-ok digest flag bytes (Some found) is)) same
+    subst (λ (r : Replay). IsReplayOf r records) (sym (replay_for-ok digest flag bytes (Some found) is)) same
 
 -- what the text of a core's rescue file says of the records of a journal
-pub salvaged-of : (plan : Plan) (journal : List ℕ) (records : List Record) (core : Progress) → HasRecords (replay_of journal) records → core.plan ≡ plan
-    → records ≡ written core.past → is_lawful core.plan core.past ≡ true → (result : Result Salvaged RunFault)
+pub salvaged-of : (plan : Plan) (journal : List ℕ) (records : List Record) (core : Progress) → IsReplayOf (replay_of journal) records → core.plan ≡ plan
+    → records ≡ chronological core.past → is_lawful core.plan core.past ≡ true → (result : Result Salvaged RunFault)
     → IfOk result (λ (s : Salvaged). string_bytes s.text ≡ rescue_text_for core.plan core.past)
     → IfOk result (λ (s : Salvaged). s.done ≡ count_by (λ mark. mark) (marks_of core.plan core.past))
     → IfOk result (λ (s : Salvaged). IsSalvaged plan journal (string_bytes s.text) s.done)
 salvaged-of plan journal records core are p r lawful (Ok s) text done = record {
   past = core.past;
-  are_records = subst (HasRecords (replay_of journal)) r are;
+  are_records = subst (IsReplayOf (replay_of journal)) r are;
   lawful = subst (λ (q : Plan). is_lawful q core.past ≡ true) p lawful;
   text_is = text ∙ (λ j. rescue_text_for (p j) core.past);
   done_is = done ∙ (λ j. count_by (λ mark. mark) (marks_of (p j) core.past));

@@ -27,7 +27,7 @@ use Rattle.dag_main_check.specs.declared.fault.RunFault.TheVariants.{InManager, 
 use Rattle.splices_flat.specs.FileSet.{entries_of}
 use Rattle.splices_flat.specs.declared.file_set.FileSet.{FileSet}
 use Rattle.salvage.specs.Round.{IsSame}
-use Rattle.salvage.specs.Salvaged.{HasRecords}
+use Rattle.salvage.specs.Salvaged.{IsReplayOf}
 use Rattle.dag_main_files.specs.Journals.{read_fault}
 use Rattle.salvage.specs.Refused.{IsNoNumber, IsNotCutShort, has_ended, no_such_number, IsOtherFile, IsFirstOther, IsUnsalvaged, no_records, of_other_flag, foreign_record, salvaging_had_no_memory}
 use Rattle.salvage.specs.declared.inputs.Listed.{Listed}
@@ -115,13 +115,13 @@ module _ (plan : Plan) (journal digest : List ℕ) (always_post : Bool) (flag : 
 none-at : (place : ℕ) (entry : Record) → slice_get [] place ≡ Some entry → ⊥
 none-at place entry at = absurd cc
 
-found-at : (read : Result (Option Found) JournalFault) (records : List Record) (place : ℕ) (entry : Record) → HasRecords read records → slice_get records place ≡ Some entry
+found-at : (read : Result (Option Found) JournalFault) (records : List Record) (place : ℕ) (entry : Record) → IsReplayOf read records → slice_get records place ≡ Some entry
     → (found : Found) × (read ≡ Ok (Some found)) × (records ≡ found.records)
 found-at (Ok None) records place entry are at = absurd (none-at place entry (subst (λ (rs : List Record). slice_get rs place ≡ Some entry) are at))
 found-at (Ok (Some found)) records place entry are at = (found, refl, are)
 found-at (Err fault) records place entry are at = absurd are
 
-pub foreign-at : (plan : Plan) (journal : List ℕ) (records : List Record) (place slot : ℕ) → HasRecords (replay_of journal) records
+pub foreign-at : (plan : Plan) (journal : List ℕ) (records : List Record) (place slot : ℕ) → IsReplayOf (replay_of journal) records
     → IsReplayFault plan records (manager.Foreign place) → IsSlotAt (groups_in journal) place slot → IsUnsalvaged plan journal (InManager (manager.Foreign slot))
 foreign-at plan journal records place slot are why at =
     let first = first_at plan records place why in

@@ -26,8 +26,8 @@ escaped_byte byte =
     else if byte == 13 then 92 ∷ 114 ∷ []
     else byte ∷ []
 
-abbrev pub escaped : List ℕ → List ℕ
-escaped name = flat_map escaped_byte name
+abbrev pub escaped_path : List ℕ → List ℕ
+escaped_path name = flat_map escaped_byte name
 
 -- the line of a name with such bytes begins with a backslash
 abbrev pub escape_mark : List ℕ → List ℕ
@@ -35,15 +35,15 @@ escape_mark name = if list_any needs_escape name then 92 ∷ [] else []
 
 -- `SUM  path`
 abbrev pub listed_line : Listed → List ℕ
-listed_line file = escape_mark file.path ++ (encode_lower file.sum ++ (codes "  " ++ (escaped file.path ++ codes "\n")))
+listed_line file = escape_mark file.path ++ (encode_lower file.sum ++ (codes "  " ++ (escaped_path file.path ++ codes "\n")))
 
 -- `# dagrun inputs, digest DIGEST`
-abbrev pub head_line : List ℕ → List ℕ
-head_line digest = codes "# dagrun inputs, digest " ++ (encode_lower digest ++ codes "\n")
+abbrev pub inputs_head : List ℕ → List ℕ
+inputs_head digest = codes "# dagrun inputs, digest " ++ (encode_lower digest ++ codes "\n")
 
 -- the digest of a round's plan, and a line for each file
 abbrev pub inputs_text_of : List ℕ → List Listed → List ℕ
-inputs_text_of digest files = head_line digest ++ flat_map listed_line files
+inputs_text_of digest files = inputs_head digest ++ flat_map listed_line files
 
 -- `top.inputs`
 abbrev pub inputs_name_of : List ℕ → List ℕ

@@ -13,7 +13,7 @@ use Rattle.run_plan.specs.declared.fault.PlanFault.{PlanFault}
 use Rattle.event_journal_log.specs.declared.fault.JournalFault.{JournalFault}
 use Rattle.event_journal_log.specs.declared.fault.JournalFault.TheVariants as journals
 use Rattle.event_journal_log.specs.Image.{Found, replay_of, groups_in, IsRescueNumber}
-use Rattle.event_journal_log.specs.Peeks.{is_finished}
+use Rattle.event_journal_log.specs.Peeks.{ends_with_finish}
 use Rattle.event_journal_log.specs.Reading.{has_other_flag}
 use Rattle.recovery.specs.Replay.{IsForeignSlot}
 use Rattle.recovery_manager.specs.declared.fault.ManagerFault.TheVariants as manager
@@ -23,7 +23,7 @@ use Rattle.dag_main_check.specs.Planned.{IsGraphOf, IsGraphFault, rescue_line, n
 use Rattle.dag_main_files.specs.Beside.{journal_name_of, IsFileFault}
 use Rattle.dag_main_files.specs.Journals.{IsUnread}
 use Rattle.salvage.specs.Inputs.{inputs_name_of, inputs_text_of}
-use Rattle.salvage.specs.Round.{IsCutShort, sum_in, IsSame, IsSameRescue}
+use Rattle.salvage.specs.Round.{IsUnfinishedRound, sum_in, IsSame, IsSameRescue}
 use Rattle.salvage.specs.Salvaged.{IsBarePlan}
 use Rattle.salvage.specs.declared.inputs.Listed.{Listed}
 use Rattle.salvage.specs.declared.fault.SalvageFault.{SalvageFault}
@@ -38,9 +38,9 @@ pub data IsNoNumber (used next : ℕ) : RunFault → Type 0 where
 -- can't be read; or their header has a number that no rescue file has.
 pub data IsNotCutShort (path journal : List ℕ) : SalvageFault → Type 0 where
   not_begun : replay_of journal ≡ Ok None → IsNotCutShort path journal (NoJournal path)
-  has_ended : (found : Found) → replay_of journal ≡ Ok (Some found) → is_finished found.records ≡ true → IsNotCutShort path journal (Ended path)
+  has_ended : (found : Found) → replay_of journal ≡ Ok (Some found) → ends_with_finish found.records ≡ true → IsNotCutShort path journal (Ended path)
   not_read : (fault : RunFault) → IsUnread journal fault → IsNotCutShort path journal (Refused fault)
-  no_such_number : (found : Found) (fault : RunFault) → replay_of journal ≡ Ok (Some found) → is_finished found.records ≡ false →
+  no_such_number : (found : Found) (fault : RunFault) → replay_of journal ≡ Ok (Some found) → ends_with_finish found.records ≡ false →
       IsNoNumber found.header.used found.header.next fault → IsNotCutShort path journal (Refused fault)
 
 -- Why no round of the DAG file of this path was cut short: it has no journal; the system refuses it; or its bytes tell of none.
@@ -119,6 +119,6 @@ pub data IsCutShortFault (top journal digest : List ℕ) (used : ℕ) (always_po
 -- system refuses a file, as the lock that another manager has, or memory ran out.
 pub data IsSalvageFault (top : List ℕ) : SalvageFault → Type 0 where
   no_round : (fault : SalvageFault) → IsNoRound top fault → IsSalvageFault top fault
-  round_refused : (journal digest : List ℕ) (used next : ℕ) (always_post : Bool) (fault : SalvageFault) → IsCutShort journal digest used next always_post →
+  round_refused : (journal digest : List ℕ) (used next : ℕ) (always_post : Bool) (fault : SalvageFault) → IsUnfinishedRound journal digest used next always_post →
       IsCutShortFault top journal digest used always_post fault → IsSalvageFault top fault
   system_refuses : (fault : RunFault) → IsFileFault fault → IsSalvageFault top (Refused fault)

@@ -5,15 +5,15 @@ use Rattle.std.specs.Str.{bytes_eq}
 use Rattle.sha2.specs.Sha256.{sha256}
 use Rattle.rescue_file.specs.Numbered.{rescue_name_of}
 use Rattle.event_journal_log.specs.Image.{Found, replay_of, IsRescueNumber}
-use Rattle.event_journal_log.specs.Peeks.{is_finished}
+use Rattle.event_journal_log.specs.Peeks.{ends_with_finish}
 use Rattle.salvage.specs.declared.inputs.Listed.{Listed}
 
 -- A journal of these bytes is that of a round which has not ended, and its header has the digest of the round's plan, the number of the
 -- rescue file that the round read, 0 for none, that of the one which it would write, and whether POST runs behind a failed PRE.
-pub record IsCutShort (journal digest : List ℕ) (used next : ℕ) (always_post : Bool) : Type 0 where
+pub record IsUnfinishedRound (journal digest : List ℕ) (used next : ℕ) (always_post : Bool) : Type 0 where
   pub found : Found
   pub reads : replay_of journal ≡ Ok (Some found)
-  pub unfinished : is_finished found.records ≡ false
+  pub unfinished : ends_with_finish found.records ≡ false
   pub digest_is : digest ≡ found.header.digest
   pub used_is : used ≡ found.header.used
   pub next_is : next ≡ found.header.next

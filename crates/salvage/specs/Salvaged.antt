@@ -12,7 +12,7 @@ use Rattle.run_plan.specs.Digest.{digest_of}
 use Rattle.run_plan.specs.Plan.{Plan, count_of}
 use Rattle.run_plan.specs.Submitted.{plan_at}
 use Rattle.node_machine.specs.declared.Record.{Record}
-use Rattle.sched_core.specs.Run.{written, is_lawful}
+use Rattle.sched_core.specs.Run.{chronological, is_lawful}
 use Rattle.event_journal_log.specs.declared.fault.JournalFault.{JournalFault}
 use Rattle.event_journal_log.specs.Image.{Found, replay_of}
 use Rattle.recovery_manager.specs.Rescue.{marks_of, rescue_text_for}
@@ -21,22 +21,22 @@ use Rattle.dag_main_files.specs.Beside.{journal_name_of}
 use Rattle.dag_main_files.specs.Folder.{IsReadFrom, rescue_in}
 use Rattle.salvage.specs.Inputs.{inputs_name_of, inputs_text_of}
 use Rattle.dag_main_check.specs.Warnings.{warning_lines}
-use Rattle.salvage.specs.Round.{IsCutShort, IsSame, IsSameRescue}
+use Rattle.salvage.specs.Round.{IsUnfinishedRound, IsSame, IsSameRescue}
 use Rattle.salvage.specs.declared.inputs.Listed.{Listed}
 use Rattle.salvage.specs.declared.here.Change.{Change}
 use Rattle.salvage.specs.declared.here.Change.TheVariants.{Other, Missing}
 
 -- the records that reading gives, the oldest first; none of a place where no journal was begun
-abbrev pub HasRecords : Result (Option Found) JournalFault → List Record → Type 0
-HasRecords (Ok None) records = records ≡ []
-HasRecords (Ok (Some found)) records = records ≡ found.records
-HasRecords (Err fault) records = ⊥
+abbrev pub IsReplayOf : Result (Option Found) JournalFault → List Record → Type 0
+IsReplayOf (Ok None) records = records ≡ []
+IsReplayOf (Ok (Some found)) records = records ≡ found.records
+IsReplayOf (Err fault) records = ⊥
 
 -- The text of the rescue file of a plan's round whose journal has these bytes: it marks the nodes that are done by the records, which are
 -- those of a run of the plan, and so many are.
 pub record IsSalvaged (plan : Plan) (journal text : List ℕ) (done : ℕ) : Type 0 where
   pub past : List Record
-  pub are_records : HasRecords (replay_of journal) (written past)
+  pub are_records : IsReplayOf (replay_of journal) (chronological past)
   pub lawful : IsTrue (is_lawful plan past)
   pub text_is : text ≡ rescue_text_for plan past
   pub done_is : done ≡ count_by (λ mark. mark) (marks_of plan past)
@@ -81,7 +81,7 @@ report_line done total name = decimal done ++ (codes " of " ++ (decimal total ++
 -- of those files.
 pub record IsReadRound (path journal digest : List ℕ) (used next : ℕ) (always_post : Bool) (listed : List Listed) (files : FileSet) (rescue : Option (List ℕ))
     (plan : Plan) (rescue_text : List ℕ) (done : ℕ) : Type 0 where
-  pub cut_short : IsCutShort journal digest used next always_post
+  pub cut_short : IsUnfinishedRound journal digest used next always_post
   pub are_same : All (IsSame listed) (entries_of files)
   pub is_same : IsSameRescue listed path used rescue
   pub planned : IsBarePlan always_post (bytes_of files) path rescue plan

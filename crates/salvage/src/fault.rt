@@ -1,6 +1,6 @@
 //! Why a round is not salvaged.
 
-ghost use Rattle.std.specs.Prelude.{◌≡◌};
+ghost use Rattle.std.specs.Prelude.{◌≡◌, IsTrue, IfOk, IfErr, is_some};
 ghost use Rattle.dag_main_check.specs.declared.fault.RunFault.TheVariants.{Memory};
 ghost use Rattle.salvage.specs.Faults.{fault_text};
 ghost use Rattle.salvage.specs.declared.fault.SalvageFault.TheVariants.{Refused};
@@ -49,6 +49,28 @@ impl fmt::Display for SalvageFault {
             SalvageFault::OtherRound(path) => write!(f, "R5 OtherRound {}", path.as_str()),
             SalvageFault::Changed(path) => write!(f, "R6 Changed {}", path.as_str()),
             SalvageFault::NotListed(path) => write!(f, "R7 NotListed {}", path.as_str()),
+        }
+    }
+}
+
+impl SalvageFault {
+    /// This fault, where it is one that no other command has.
+    ///
+    /// # Errors
+    /// The fault of another command that it is, where it is one.
+    pub fn own(self) -> Result<SalvageFault, RunFault>
+        ensures own { IfOk result (λ fault. (fault ≡ self) × IsTrue (is_some (fault_text fault))) }
+        ensures other { IfErr result (λ fault. self ≡ Refused fault) }
+    {
+        match self {
+            SalvageFault::Refused(fault) => Err(fault),
+            SalvageFault::NoJournal(path) => Ok(SalvageFault::NoJournal(path)),
+            SalvageFault::Ended(path) => Ok(SalvageFault::Ended(path)),
+            SalvageFault::NoInputs(path) => Ok(SalvageFault::NoInputs(path)),
+            SalvageFault::BadInputs(path) => Ok(SalvageFault::BadInputs(path)),
+            SalvageFault::OtherRound(path) => Ok(SalvageFault::OtherRound(path)),
+            SalvageFault::Changed(path) => Ok(SalvageFault::Changed(path)),
+            SalvageFault::NotListed(path) => Ok(SalvageFault::NotListed(path)),
         }
     }
 }

@@ -4,7 +4,7 @@ ghost use Rattle.std.specs.Str.{bytes_eq};
 ghost use Rattle.sha2.specs.Sha256.{sha256};
 ghost use Rattle.std.specs.Prelude.{◌≡◌, ◌++◌, ◌≤◌, ℕ, List, Option, IfOk, IfErr, OnOk, string_bytes, option_map};
 ghost use Rattle.splices_flat.specs.FileSet.{bytes_of};
-ghost use Rattle.rescue_file.specs.Numbered.{IsNumber, rescue_name_of};
+ghost use Rattle.rescue_file.specs.Numbered.{IsFileNumber, rescue_name_of};
 ghost use Rattle.run_plan.specs.Plan.{count_of};
 ghost use Rattle.dag_main_check.specs.declared.fault.RunFault.TheVariants.{Memory};
 ghost use Rattle.dag_main_check.specs.Warnings.{warning_lines};
@@ -19,7 +19,7 @@ use crate::rescue::{Salvaged, salvage_text};
 use crate::rounds::{CutShort, check_files, cut_short, inputs_with, rescue_in};
 use dag_main_check::{Answer, RunFault, graph_of, warning_text};
 use dag_main_files::{
-    Folder, Place, Reading, bytes_of, files_of, journal_path, named, rescue_disk, rescue_path,
+    Folder, Place, Reading, files_of, journal_path, named, rescue_disk, rescue_path,
 };
 use event_journal_log::put_bytes;
 use run_plan::Plan;
@@ -134,7 +134,7 @@ fn report_of(
     done: usize,
     changes: &str,
 ) -> Result<Answer, RunFault>
-    requires { IsNumber next }
+    requires { IsFileNumber next }
     ensures text { IfOk result (λ answer. string_bytes answer.text
         ≡ report_line done (count_of plan.now) (rescue_name_of place.now.top.now next) ++ changes.now) }
     ensures warnings { IfOk result (λ answer. string_bytes answer.warnings ≡ warning_lines plan.now.graph.dag.warnings) }
@@ -164,7 +164,7 @@ fn write_rescue<R: Files<File = File> + AllocGlobal + Copy + Drop>(
     number: u16,
     text: &str,
 ) -> Result<(), RunFault>
-    requires { IsNumber number }
+    requires { IsFileNumber number }
     ensures { IfErr result IsFileFault }
 {
     let alloc = rt.alloc();
@@ -206,7 +206,7 @@ fn read_round<F: Folder>(alloc: Global, folder: &F, top: &str) -> Result<Found, 
     let files = files_of(alloc, folder, top, Reading::SplicesAlone)?;
     check_files(alloc, &inputs, &files)?;
     let rescue = rescue_in(alloc, folder, top, &inputs, round.used)?;
-    let plan = plan_of_round(alloc, top, &files, &round, bytes_of(&rescue))?;
+    let plan = plan_of_round(alloc, top, &files, &round, rescue.as_deref())?;
     let salvaged = salvage_text(alloc, &plan, round.journal.as_slice())?;
     Ok(Found {
         round,

@@ -5,7 +5,7 @@ ghost use Rattle.std.specs.List.{list_any, flat_map};
 ghost use Rattle.std.specs.Option.{option_map};
 ghost use Rattle.hex.specs.Hex.{encode_lower};
 ghost use Rattle.splices_flat.specs.FileSet.{entries_of};
-ghost use Rattle.salvage.specs.Inputs.{listed_of, rescue_entry, needs_escape, escape_mark, escaped_byte, escaped, listed_line, head_line, inputs_text_of};
+ghost use Rattle.salvage.specs.Inputs.{listed_of, rescue_entry, needs_escape, escape_mark, escaped_byte, escaped_path, listed_line, inputs_head, inputs_text_of};
 
 use dag_reader::Text;
 use sha2::{Digest, Sha256};
@@ -98,7 +98,7 @@ fn push_byte(text: &mut Vec<u8>, byte: u8) -> Result<(), AllocError>
 
 /// Adds a name.
 fn push_name(text: &mut Vec<u8>, name: &[u8]) -> Result<(), AllocError>
-    ensures { OnOk result (text.new.items ≡ text.old.items ++ escaped name.now) }
+    ensures { OnOk result (text.new.items ≡ text.old.items ++ escaped_path name.now) }
 {
     for byte in name {
         push_byte(text, *byte)?;
@@ -145,7 +145,7 @@ fn push_line(alloc: Global, text: &mut Vec<u8>, file: &Listed) -> Result<(), All
 
 /// Adds the comment that tells the digest.
 fn push_head(alloc: Global, text: &mut Vec<u8>, digest: &[u8; 32]) -> Result<(), AllocError>
-    ensures { OnOk result (text.new.items ≡ text.old.items ++ head_line digest.now) }
+    ensures { OnOk result (text.new.items ≡ text.old.items ++ inputs_head digest.now) }
 {
     text.extend_from_slice(b"# dagrun inputs, digest ")?;
     push_hex(alloc, text, &digest[..])?;

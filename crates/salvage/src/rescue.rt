@@ -3,10 +3,10 @@
 ghost use Rattle.std.specs.Prelude.{◌≡◌, IfOk, IfErr, string_bytes};
 ghost use Rattle.std.specs.List.{count_by};
 ghost use Rattle.event_journal_log.specs.Image.{replay_of};
-ghost use Rattle.sched_core.specs.Run.{written};
+ghost use Rattle.sched_core.specs.Run.{chronological};
 ghost use Rattle.recovery_manager.specs.Rescue.{marks_of, rescue_text_for};
 ghost use Rattle.dag_main_check.specs.declared.fault.RunFault.TheVariants.{Memory};
-ghost use Rattle.salvage.specs.Salvaged.{HasRecords, IsSalvaged};
+ghost use Rattle.salvage.specs.Salvaged.{IsReplayOf, IsSalvaged};
 ghost use Rattle.salvage.specs.Refused.{IsUnsalvaged};
 
 use crate::rounds::digest_in;
@@ -34,7 +34,7 @@ pub struct Salvaged {
 /// # Errors
 /// `InManager` with the fault of the journal, and `Memory`.
 fn records_in(alloc: Global, plan: &Plan, journal: &[u8]) -> Result<Vec<Record>, RunFault>
-    ensures records { IfOk result (λ records. HasRecords (replay_of journal.now) records.items) }
+    ensures records { IfOk result (λ records. IsReplayOf (replay_of journal.now) records.items) }
     ensures refused { IfErr result (IsUnsalvaged plan.now journal.now) }
 {
     match read_journal(alloc, journal, &digest_in(journal), plan.always_post()) {
@@ -55,9 +55,9 @@ fn core_of<'a>(
     journal: &[u8],
     records: &[Record],
 ) -> Result<Core<'a>, RunFault>
-    requires { HasRecords (replay_of journal.now) records.now }
+    requires { IsReplayOf (replay_of journal.now) records.now }
     ensures plan { IfOk result (λ core. core.plan ≡ plan.now) }
-    ensures records { IfOk result (λ core. records.now ≡ written core.past) }
+    ensures records { IfOk result (λ core. records.now ≡ chronological core.past) }
     ensures refused { IfErr result (IsUnsalvaged plan.now journal.now) }
 {
     match replay(alloc, plan, records) {

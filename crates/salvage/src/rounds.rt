@@ -3,7 +3,7 @@
 ghost use Rattle.std.specs.Prelude.{◌≡◌, ◌≤◌, ◌↔◌, Some, All, IsTrue, IfOk, IfErr, OnOk, is_some, length, slice_range, option_map};
 ghost use Rattle.splices_flat.specs.FileSet.{entries_of};
 ghost use Rattle.event_journal_log.specs.Image.{IsRescueNumber};
-ghost use Rattle.salvage.specs.Round.{IsCutShort, sum_in, IsSame, IsSameRescue};
+ghost use Rattle.salvage.specs.Round.{IsUnfinishedRound, sum_in, IsSame, IsSameRescue};
 ghost use Rattle.dag_main_files.specs.Beside.{journal_name_of};
 ghost use Rattle.dag_main_files.specs.Folder as held;
 ghost use Rattle.salvage.specs.Inputs.{inputs_name_of, inputs_text_of};
@@ -72,7 +72,7 @@ fn numbers_in(peek: &Peek) -> Result<(u16, u16), RunFault>
 /// A journal that can't be read (`Refused`), one that was not begun (`NoJournal`), one of a round that has
 /// ended (`Ended`), and a number in its header that no rescue file has (`Refused`).
 fn round_in(alloc: Global, name: Text, journal: Vec<u8>) -> Result<CutShort, SalvageFault>
-    ensures cut_short { IfOk result (λ round. IsCutShort round.journal.items round.digest round.used round.next round.always_post) }
+    ensures cut_short { IfOk result (λ round. IsUnfinishedRound round.journal.items round.digest round.used round.next round.always_post) }
     ensures kept { IfOk result (λ round. round.journal.items ≡ journal.items) }
     ensures refused { IfErr result (IsNotCutShort name journal.items) }
 {
@@ -101,7 +101,7 @@ pub(crate) fn cut_short<F: Folder>(
     folder: &F,
     top: &str,
 ) -> Result<CutShort, SalvageFault>
-    ensures cut_short { IfOk result (λ round. IsCutShort round.journal.items round.digest round.used round.next round.always_post) }
+    ensures cut_short { IfOk result (λ round. IsUnfinishedRound round.journal.items round.digest round.used round.next round.always_post) }
     // Its journal is the one that the folder holds.
     ensures held { F.honest folder.now → IfOk result (λ round.
         F.holds folder.now (journal_name_of top.now) ≡ Some round.journal.items) }

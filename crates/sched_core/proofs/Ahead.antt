@@ -20,7 +20,7 @@ use Rattle.sched_core.specs.declared.Choice.TheVariants as choices
 use Rattle.sched_core.specs.Run.{next, is_next, is_open, may_follow, outstanding, is_among, is_same, is_free, is_done, is_aborted, is_ready, is_final_ready, may_launch, job_launches, launch_number}
 use Rattle.sched_core.specs.Core.{jobs_after}
 use Rattle.sched_core.specs.Choices.{launchable, if_let_in, startable, IsChoice}
-use Rattle.sched_core.specs.Limits.{limits_of, running_in, throttled_in, lets_in}
+use Rattle.sched_core.specs.Limits.{limits_of_categories, running_in, throttled_in, lets_in}
 use Rattle.sched_core.specs.Ahead.{launch_of, launched, launches, may_launch_all, AreChosen, NothingToStart}
 use Rattle.sched_core.specs.Round.{IsRound}
 use Rattle.sched_core.proofs.Keys.{same-self, same-eq}
@@ -145,7 +145,7 @@ start-fewer limits categories r phase category placed own its h =
 module _ (limits : Limits) (plan : Plan) (planned : IsPlanned plan) where
   lets-before : (keys : List Key) (key own : Key) → lets_in limits plan (key ∷ keys) own ≡ true → lets_in limits plan keys own ≡ true
   lets-before keys key own h =
-      start-fewer limits (limits_of plan) (running_in plan keys) key.phase (node_at plan key.node).category (counted plan planned keys key.node) own.phase (node_at plan own.node).category h
+      start-fewer limits (limits_of_categories plan) (running_in plan keys) key.phase (node_at plan key.node).category (counted plan planned keys key.node) own.phase (node_at plan own.node).category h
 
   -- what may not be started may not be started behind a launch either
   pub still-none : (past : List Record) (key : Key) (number node : ℕ) → node < count_of plan → startable limits plan past node ≡ None → startable limits plan (Launch key number ∷ past) node ≡ None
@@ -207,9 +207,9 @@ module _ (limits : Limits) (plan : Plan) (past : List Record) (keys : List Key) 
       ∙ (λ j. if lets j then Some own else None)
 
 -- while an ordinary phase may be launched, FINAL's may not
-calm : (plan : Plan) (past : List Record) (node : ℕ) → is_ready plan past node ≡ true → is_aborted plan past ≡ false
+abort_free : (plan : Plan) (past : List Record) (node : ℕ) → is_ready plan past node ≡ true → is_aborted plan past ≡ false
 unfolding is_ready
-calm plan past node ready = not-true _ (and_parts _ _ (and_parts _ _ ready).0).0
+abort_free plan past node ready = not-true _ (and_parts _ _ (and_parts _ _ ready).0).0
 
 final-turn : (plan : Plan) (past : List Record) → is_final_ready plan past ≡ true → (is_aborted plan past || all_below (λ node. not (is_ready plan past node)) (count_of plan)) ≡ true
 unfolding is_final_ready
@@ -220,7 +220,7 @@ unfolding may_launch
 final-waits limits plan past node lt ready = go (startable limits plan past (count_of plan)) refl
   where
     turn : (a : Bool) → is_aborted plan past ≡ a → (a || all_below (λ n. not (is_ready plan past n)) (count_of plan)) ≡ true → ⊥
-    turn true e h = false≢true (sym (calm plan past node ready) ∙ e)
+    turn true e h = false≢true (sym (abort_free plan past node ready) ∙ e)
     turn false e h = false≢true (sym (ap not ready) ∙ all_below-at (λ n. not (is_ready plan past n)) (count_of plan) h node lt)
 
     final : (b : Bool) → nat_lt (count_of plan) (count_of plan) ≡ b

@@ -86,16 +86,16 @@ ready-before plan past key number node h = and_from _ _ (and_parts _ _ h).0 (fre
 module _ (plan : Plan) (past : List Record) (a : Alone plan past) (key : Key) (number : ℕ) where
   -- an ordinary phase is launched
   module _ (lt : key.node < count_of plan) (ready : is_ready plan past key.node ≡ true) where
-    calm : is_aborted plan past ≡ false
+    abort_free : is_aborted plan past ≡ false
     unfolding is_ready
-    calm = not-true _ (and_parts _ _ (and_parts _ _ ready).0).0
+    abort_free = not-true _ (and_parts _ _ (and_parts _ _ ready).0).0
 
     no-final : final_runs plan past ≡ true → ⊥
-    no-final h = false≢true (sym (ap not ready) ∙ all_below-at (λ node. not (is_ready plan past node)) (count_of plan) (calm-turn (is_aborted plan past) calm (a.turn h)) key.node lt)
+    no-final h = false≢true (sym (ap not ready) ∙ all_below-at (λ node. not (is_ready plan past node)) (count_of plan) (abort_free-turn (is_aborted plan past) abort_free (a.turn h)) key.node lt)
       where
-        calm-turn : (b : Bool) → b ≡ false → (b || all_below (λ node. not (is_ready plan past node)) (count_of plan)) ≡ true → all_below (λ node. not (is_ready plan past node)) (count_of plan) ≡ true
-        calm-turn true e h = absurd (false≢true (sym e))
-        calm-turn false e h = h
+        abort_free-turn : (b : Bool) → b ≡ false → (b || all_below (λ node. not (is_ready plan past node)) (count_of plan)) ≡ true → all_below (λ node. not (is_ready plan past node)) (count_of plan) ≡ true
+        abort_free-turn true e h = absurd (false≢true (sym e))
+        abort_free-turn false e h = h
 
     other : (key.node == count_of plan) ≡ false
     other = ne_eqb key.node (count_of plan) (λ e. omega arith)
@@ -106,7 +106,7 @@ module _ (plan : Plan) (past : List Record) (a : Alone plan past) (key : Key) (n
     alone-ordinary : Alone plan (Launch key number ∷ past)
     unfolding is_aborted
     alone-ordinary = record {
-      aborted = λ h. absurd (false≢true (sym calm ∙ h));
+      aborted = λ h. absurd (false≢true (sym abort_free ∙ h));
       others = λ h. absurd (still h);
       turn = λ h. absurd (still h);
       some = λ h. absurd (still h);

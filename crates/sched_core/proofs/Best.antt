@@ -17,7 +17,7 @@ use Rattle.sched_core.specs.declared.Choice.TheVariants as choices
 use Rattle.sched_core.specs.Run.{outstanding, is_nothing, is_open, may_launch, may_follow, launch_number}
 use Rattle.sched_core.specs.Core.{better_of, IsBestBelow}
 use Rattle.sched_core.specs.Choices.{launchable, nothing_launchable, if_let_in, startable, IsChoice}
-use Rattle.sched_core.specs.Limits.{limits_of, lets_in, IsBetter}
+use Rattle.sched_core.specs.Limits.{limits_of_categories, lets_in, IsBetter}
 use Rattle.sched_core.proofs.Sweeps.{all_below-from, all_below-not}
 use Rattle.sched_core.proofs.Leaf.{key-node}
 use Rattle.sched_core.proofs.Held.{launch-within}
@@ -155,9 +155,9 @@ none-lets limits categories Job (Some place) =
 
 lets-all : (limits : Limits) (plan : Plan) (key : Key) → lets_in limits plan [] key ≡ true
 lets-all limits plan key =
-    and_from _ _ (and_from _ _ (ap (is_below limits.children) (none-all (limits_of plan)) ∙ below-zero limits.children)
-    (ap (is_below (limit_of limits key.phase)) (none-kind (limits_of plan) key.phase) ∙ below-zero (limit_of limits key.phase)))
-    (none-lets limits (limits_of plan) key.phase (node_at plan key.node).category)
+    and_from _ _ (and_from _ _ (ap (is_below limits.children) (none-all (limits_of_categories plan)) ∙ below-zero limits.children)
+    (ap (is_below (limit_of limits key.phase)) (none-kind (limits_of_categories plan) key.phase) ∙ below-zero (limit_of limits key.phase)))
+    (none-lets limits (limits_of_categories plan) key.phase (node_at plan key.node).category)
 
 empty : (keys : List Key) → is_nothing keys ≡ true → keys ≡ []
 empty [] h = refl

@@ -7,22 +7,22 @@ use Rattle.node_machine.specs.declared.Record.{Record}
 use Rattle.node_machine.specs.declared.Record.TheVariants.{End}
 use Rattle.node_machine.specs.Story.{is_possible, may_end_with, value_after}
 use Rattle.node_machine.specs.declared.Course.{Course}
-use Rattle.node_machine.specs.declared.Stand.{Stand}
-use Rattle.node_machine.specs.Stand.{stand_before, step, stand_after}
+use Rattle.node_machine.specs.declared.MachineState.{MachineState}
+use Rattle.node_machine.specs.MachineState.{machine_before, machine_step, machine_after}
 use Rattle.node_machine.specs.NodeRun.{counted_at, ended_with}
 use Rattle.node_machine.proofs.Trees.{got}
 use Rattle.node_machine.proofs.Paces.{steps-push}
 use Rattle.node_machine.proofs.Beginnings.{seen}
 use Rattle.run_plan.specs.Plan.{Plan, node_at, count_of, all_below}
-use Rattle.sched_core.specs.Run.{history, next, value_in, outstanding, without, is_same, is_among, is_open, is_met, has_abort_value, is_aborted, is_lawful, may_follow}
-use Rattle.sched_core.specs.Core.{run_of}
+use Rattle.sched_core.specs.Run.{history, next, value_in, outstanding, without, is_same, is_among, is_open, setting_is_met, has_abort_value, is_aborted, is_lawful, may_follow}
+use Rattle.sched_core.specs.Core.{node_progress}
 use Rattle.sched_core.specs.Looks.{stops}
 use Rattle.sched_core.specs.Ahead.{added, may_follow_all, up_to_abort, fitting, ends_of, ended_in}
 use Rattle.sched_core.proofs.Aborts.{over-at}
 use Rattle.sched_core.proofs.Bounds.{not-false}
 use Rattle.sched_core.proofs.Finished.{all_below-at}
 use Rattle.sched_core.proofs.Keys.{same-eq, same-self, each_among}
-use Rattle.sched_core.proofs.Shown.{stand-value, next-phase}
+use Rattle.sched_core.proofs.Shown.{machine-value, next-phase}
 use Rattle.sched_core.proofs.Sound.{Held, sound, end-among, next-parts}
 use Rattle.sched_core.proofs.Sweeps.{all_below-from, all_below-not}
 
@@ -56,7 +56,7 @@ among-without key gone (other ∷ keys) = go (is_same gone other) refl (among-wi
 pub record IsBehind (plan : Plan) (past : List Record) (ends : List (Key × Outcome)) (now : List Record) : Type 0 where
   pub lawful : is_lawful plan now ≡ true
   pub begun : is_open now ≡ is_open past
-  pub calm : is_aborted plan now ≡ is_aborted plan past
+  pub abort_free : is_aborted plan now ≡ is_aborted plan past
   pub among : (key : Key) → is_among key (outstanding plan now) ≡ (is_among key (outstanding plan past) && not (is_among key (ended_in ends)))
   pub same : (key : Key) → is_among key (outstanding plan now) ≡ true → history now key.node ≡ history past key.node
 
@@ -64,7 +64,7 @@ nothing-behind : (plan : Plan) (past : List Record) → is_lawful plan past ≡ 
 nothing-behind plan past lawful = record {
   lawful = lawful;
   begun = refl;
-  calm = refl;
+  abort_free = refl;
   among = λ key. and_true (is_among key (outstanding plan past));
   same = λ key among. refl;
 }
@@ -92,10 +92,10 @@ module _ (plan : Plan) (past : List Record) (lawful : is_lawful plan past ≡ tr
   -- a node with the abort value has no next phase, so it is not this ending's
   still-aborted : is_aborted plan now ≡ false → is_aborted plan past ≡ false
   unfolding is_aborted
-  still-aborted calm = ap not (all_below-from (λ node. not (has_abort_value plan past node)) (count_of plan) (λ node lt. go node lt (has_abort_value plan past node) refl))
+  still-aborted abort_free = ap not (all_below-from (λ node. not (has_abort_value plan past node)) (count_of plan) (λ node lt. go node lt (has_abort_value plan past node) refl))
     where
       none : (node : ℕ) → node < count_of plan → has_abort_value plan now node ≡ false
-      none node lt = not-true _ (all_below-at (λ n. not (has_abort_value plan now n)) (count_of plan) (not-false _ calm) node lt)
+      none node lt = not-true _ (all_below-at (λ n. not (has_abort_value plan now n)) (count_of plan) (not-false _ abort_free) node lt)
 
       own : has_abort_value plan past key.node ≡ true → ⊥
       own met = some-none (sym (next-parts plan past key.node key (held key there)).1 ∙ over-at plan past lawful key.node met)
@@ -107,14 +107,14 @@ module _ (plan : Plan) (past : List Record) (lawful : is_lawful plan past ≡ tr
       at node lt met true same = own (subst (λ n. has_abort_value plan past n ≡ true) (sym (eqb-true key.node node same)) met)
       at node lt met false ne =
           false≢true (sym (none node lt)
-          ∙ (λ j. is_met (node_at plan node).course.abort_on (value_after (node_at plan node).course (other-history node ne j))) ∙ met)
+          ∙ (λ j. setting_is_met (node_at plan node).course.abort_on (value_after (node_at plan node).course (other-history node ne j))) ∙ met)
 
       go : (node : ℕ) → node < count_of plan → (b : Bool) → has_abort_value plan past node ≡ b → not (has_abort_value plan past node) ≡ true
       go node lt false e = ap not e
       go node lt true e = absurd (at node lt e (key.node == node) refl)
 
-  one-calm : is_aborted plan now ≡ is_aborted plan past
-  one-calm = go (is_aborted plan now) refl (is_aborted plan past) refl
+  one-abort_free : is_aborted plan now ≡ is_aborted plan past
+  one-abort_free = go (is_aborted plan now) refl (is_aborted plan past) refl
     where
       go : (a : Bool) → is_aborted plan now ≡ a → (b : Bool) → is_aborted plan past ≡ b → is_aborted plan now ≡ is_aborted plan past
       go false e b f = e ∙ sym (still-aborted e)
@@ -152,7 +152,7 @@ module _ (plan : Plan) (past : List Record) (lawful : is_lawful plan past ≡ tr
   behind-more ends last b = record {
     lawful = b.lawful;
     begun = b.begun ∙ one-open;
-    calm = b.calm ∙ one-calm;
+    abort_free = b.abort_free ∙ one-abort_free;
     among = λ other.
         b.among other ∙ ap (λ x. x && not (is_among other (ended_in ends))) (one-among other)
         ∙ both (is_among other (outstanding plan past)) (is_same other key) (is_among other (ended_in ends));
@@ -186,17 +186,17 @@ has_own plan past key outcome = nat_lt key.node (count_of plan) && has_abort_val
 -- of a run that was not aborted that alone decides whether its ending aborts it
 pub aborted-own : (plan : Plan) (past : List Record) (key : Key) (outcome : Outcome) → is_aborted plan past ≡ false → is_aborted plan (End key outcome ∷ past) ≡ has_own plan past key outcome
 unfolding is_aborted
-aborted-own plan past key outcome calm = go (nat_lt key.node (count_of plan)) refl (has_abort_value plan (End key outcome ∷ past) key.node) refl
+aborted-own plan past key outcome abort_free = go (nat_lt key.node (count_of plan)) refl (has_abort_value plan (End key outcome ∷ past) key.node) refl
   where
     test : ℕ → Bool
     test node = not (has_abort_value plan (End key outcome ∷ past) node)
 
     none : (node : ℕ) → node < count_of plan → has_abort_value plan past node ≡ false
-    none node lt = not-true _ (all_below-at (λ n. not (has_abort_value plan past n)) (count_of plan) (not-false _ calm) node lt)
+    none node lt = not-true _ (all_below-at (λ n. not (has_abort_value plan past n)) (count_of plan) (not-false _ abort_free) node lt)
 
     other : (node : ℕ) → node < count_of plan → (key.node == node) ≡ false → test node ≡ true
     other node lt ne =
-        (λ j. not (is_met (node_at plan node).course.abort_on (value_after (node_at plan node).course (if ne j then history past node ++ got key.attempt key.phase outcome ∷ [] else history past node))))
+        (λ j. not (setting_is_met (node_at plan node).course.abort_on (value_after (node_at plan node).course (if ne j then history past node ++ got key.attempt key.phase outcome ∷ [] else history past node))))
         ∙ ap not (none node lt)
 
     each : ((node : ℕ) → node < count_of plan → (key.node == node) ≡ true → test node ≡ true) → all_below test (count_of plan) ≡ true
@@ -239,7 +239,7 @@ module _ (plan : Plan) (past : List Record) (ends : List (Key × Outcome)) (now 
       own : has_own plan now key outcome ≡ has_own plan past key outcome
       own = λ j.
           nat_lt key.node (count_of plan)
-          && is_met (node_at plan key.node).course.abort_on
+          && setting_is_met (node_at plan key.node).course.abort_on
           (value_after (node_at plan key.node).course (if key.node == key.node then same j ++ got key.attempt key.phase outcome ∷ [] else same j))
 
       and_false : (x : Bool) → (x && false) ≡ false
@@ -248,10 +248,10 @@ module _ (plan : Plan) (past : List Record) (ends : List (Key × Outcome)) (now 
 
       go : (a : Bool) → is_aborted plan past ≡ a → stops plan now (End key outcome) ≡ stops plan past (End key outcome)
       go true e =
-          (λ j. is_aborted plan (End key outcome ∷ now) && not ((b.calm ∙ e) j)) ∙ and_false (is_aborted plan (End key outcome ∷ now))
+          (λ j. is_aborted plan (End key outcome ∷ now) && not ((b.abort_free ∙ e) j)) ∙ and_false (is_aborted plan (End key outcome ∷ now))
           ∙ sym ((λ j. is_aborted plan (End key outcome ∷ past) && not (e j)) ∙ and_false (is_aborted plan (End key outcome ∷ past)))
       go false e =
-          (λ j. aborted-own plan now key outcome (b.calm ∙ e) j && not (b.calm j))
+          (λ j. aborted-own plan now key outcome (b.abort_free ∙ e) j && not (b.abort_free j))
           ∙ (λ j. own j && not (is_aborted plan past))
           ∙ (λ j. sym (aborted-own plan past key outcome e) j && not (is_aborted plan past))
 
@@ -263,9 +263,9 @@ ends-more past (first ∷ ends) end = ends-more (End first.0 first.1 ∷ past) e
 pub on-more : (plan : Plan) (past : List Record) (ends : List (Key × Outcome)) (end : Key × Outcome) → goes_on plan past ends ≡ true
     → may_follow plan (added past (ends_of ends)) (End end.0 end.1) ≡ true → stops plan (added past (ends_of ends)) (End end.0 end.1) ≡ false → goes_on plan past (ends ++ end ∷ []) ≡ true
 unfolding goes_on
-on-more plan past [] end on follows calm = and_from _ _ (and_from _ _ follows (ap not calm)) refl
-on-more plan past (first ∷ ends) end on follows calm =
-    let p = and_parts _ _ on in and_from _ _ p.0 (on-more plan (End first.0 first.1 ∷ past) ends end p.1 follows calm)
+on-more plan past [] end on follows abort_free = and_from _ _ (and_from _ _ follows (ap not abort_free)) refl
+on-more plan past (first ∷ ends) end on follows abort_free =
+    let p = and_parts _ _ on in and_from _ _ p.0 (on-more plan (End first.0 first.1 ∷ past) ends end p.1 follows abort_free)
 
 -- what is to be recorded of endings of which the first go on
 module _ (plan : Plan) where
@@ -275,8 +275,8 @@ module _ (plan : Plan) where
   up-behind past [] rest on = refl
   up-behind past (end ∷ front) rest on =
       let p = and_parts _ _ on in
-      let calm : stops plan past (End end.0 end.1) ≡ false = not-true _ (and_parts _ _ p.0).1 in
-      (λ j. if calm j then End end.0 end.1 ∷ [] else End end.0 end.1 ∷ up_to_abort plan (End end.0 end.1 ∷ past) (ends_of (front ++ rest)))
+      let abort_free : stops plan past (End end.0 end.1) ≡ false = not-true _ (and_parts _ _ p.0).1 in
+      (λ j. if abort_free j then End end.0 end.1 ∷ [] else End end.0 end.1 ∷ up_to_abort plan (End end.0 end.1 ∷ past) (ends_of (front ++ rest)))
       ∙ ap (λ (l : List Record). End end.0 end.1 ∷ l) (up-behind (End end.0 end.1 ∷ past) front rest p.1)
 
   pub all-behind : (past : List Record) (front : List (Key × Outcome)) (rest : List Record) → goes_on plan past front ≡ true
@@ -340,23 +340,23 @@ module _ (plan : Plan) where
 
 -- the value that an ending leaves at its node
 pub own-value : (plan : Plan) (past : List Record) → is_lawful plan past ≡ true → (key : Key) (outcome : Outcome) → may_follow plan past (End key outcome) ≡ true
-    → (ended_with (run_of plan past key.node) outcome).stand.value ≡ value_in plan (End key outcome ∷ past) key.node
+    → (ended_with (node_progress plan past key.node) outcome).machine.value ≡ value_in plan (End key outcome ∷ past) key.node
 own-value plan past lawful key outcome follows =
-    (λ j. (step course own-stand (counted j)).value)
-    ∙ (λ j. (sym (steps-push course (stand_before course 0 None false) (history past key.node) (got key.attempt key.phase outcome)) j).value)
-    ∙ (λ j. (stand_after course (if sym (eq-eqb key.node key.node refl) j then history past key.node ++ got key.attempt key.phase outcome ∷ [] else history past key.node)).value)
-    ∙ stand-value plan (End key outcome ∷ past) (and_from _ _ lawful follows) key.node
+    (λ j. (machine_step course own-machine (counted j)).value)
+    ∙ (λ j. (sym (steps-push course (machine_before course 0 None false) (history past key.node) (got key.attempt key.phase outcome)) j).value)
+    ∙ (λ j. (machine_after course (if sym (eq-eqb key.node key.node refl) j then history past key.node ++ got key.attempt key.phase outcome ∷ [] else history past key.node)).value)
+    ∙ machine-value plan (End key outcome ∷ past) (and_from _ _ lawful follows) key.node
   where
     course : Course
     course = (node_at plan key.node).course
 
-    own-stand : Stand
-    own-stand = stand_after course (history past key.node)
+    own-machine : MachineState
+    own-machine = machine_after course (history past key.node)
 
     held : Held plan past key
     held = each_among (Held plan past) key (outstanding plan past) (sound plan past lawful).held (end-among plan past key outcome follows).0
 
-    counted : counted_at course own-stand.phase outcome ≡ outcome
+    counted : counted_at course own-machine.phase outcome ≡ outcome
     counted =
         (λ j. counted_at course (next-phase plan past lawful key held.is_next j) outcome)
         ∙ seen course key.phase outcome outcome (end-among plan past key outcome follows).1 (λ n. refl)

@@ -7,14 +7,14 @@ use Rattle.node_machine.specs.declared.Phase.{Phase}
 use Rattle.node_machine.specs.declared.Outcome.{Outcome}
 use Rattle.node_machine.specs.declared.Key.{Key}
 use Rattle.node_machine.specs.declared.Course.{Course}
-use Rattle.node_machine.specs.Story.{Table, story, last_of, is_good, attempts_after, next_after, is_good_after, value_after, attempts_ended_after}
+use Rattle.node_machine.specs.Story.{Table, story, newest_attempt, is_good, attempts_after, next_after, is_good_after, value_after, attempts_ended_after}
 use Rattle.node_machine.proofs.Beginnings.{Fits, whole-good, whole-phases, whole-count, whole-value, nil-next, nil-good, nil-count, nil-value}
 use Rattle.node_machine.specs.declared.Record.{Record}
 use Rattle.node_machine.specs.declared.Record.TheVariants.{Life, Launch, End, Finish}
 use Rattle.node_machine.specs.declared.State.TheVariants.{Done, Error, NotRun}
 use Rattle.run_plan.specs.Plan.{Plan, node_at, count_of, all_below, IsRankedBy}
 use Rattle.sched_core.specs.Run.{table_of, history, key_at, next, is_done, is_in_error, outstanding, is_aborted, may_follow, is_lawful, is_finished, may_launch, is_ready, is_final_ready, is_free, is_nothing, is_among}
-use Rattle.sched_core.specs.Fate.{Fate, is_done_state, without_attempts, told_by, fate_by, final_fate, AreFates, shown}
+use Rattle.sched_core.specs.Fate.{Fate, is_done_state, without_attempts, fate_by_story, fate_by, final_fate, AreFates, shown}
 use Rattle.std.specs.Prelude.{nat_le}
 use Rattle.sched_core.specs.Core.{is_running, has_key_of}
 use Rattle.sched_core.proofs.Sweeps.{all_below-from}
@@ -36,7 +36,7 @@ all_below-at test (suc n) h k lt = go (k == n) refl (λ less. all_below-at test 
 record Settled (plan : Plan) (past : List Record) : Type 0 where
   nothing : outstanding plan past ≡ []
   unready : (node : ℕ) → node < count_of plan → is_ready plan past node ≡ false
-  calm : is_aborted plan past ≡ false
+  abort_free : is_aborted plan past ≡ false
 
 module _ (plan : Plan) (past : List Record) where
   pub state-done : (node : ℕ) → is_done_state (shown plan past node).state ≡ is_done plan past node
@@ -83,9 +83,9 @@ module _ (plan : Plan) (past : List Record) (s : Sound plan past) (node : ℕ) w
       some = (λ j. is_none (if h j then None else key_at node (next_after course (empty j)))) ∙ none-at node (next_after course []) ∙ nil-next course
 
   whole : (column : ℕ → Phase → Outcome) → Fits course (history past node) column
-      → (node_at plan node).done ≡ false → next plan past node ≡ None → shown plan past node ≡ told_by (story course column)
+      → (node_at plan node).done ≡ false → next plan past node ≡ None → shown plan past node ≡ fate_by_story (story course column)
   whole column g h none =
-      fate-eq (shown plan past node) (told_by (story course column))
+      fate-eq (shown plan past node) (fate_by_story (story course column))
       (λ j. if (h j || whole-good course (history past node) (s.fits node) over column g j) then Done else if is_none (none j) then Error else NotRun)
       (whole-phases course (history past node) (s.fits node) over column g)
       (whole-count course (history past node) (s.fits node) over column g)
@@ -100,7 +100,7 @@ module _ (plan : Plan) (past : List Record) (s : Sound plan past) (node : ℕ) w
     no_next ready = go (next plan past node) refl
       where
         free : is_free plan past (next plan past node) ≡ false
-        free = (λ j. (not (sym q.calm j) && sym ready j) && is_free plan past (next plan past node)) ∙ q.unready node lt
+        free = (λ j. (not (sym q.abort_free j) && sym ready j) && is_free plan past (next plan past node)) ∙ q.unready node lt
 
         go : (o : Option Key) → next plan past node ≡ o → next plan past node ≡ None
         go None e = e
@@ -112,7 +112,7 @@ module _ (plan : Plan) (past : List Record) (s : Sound plan past) (node : ℕ) w
     settled-fate table f = go (node_at plan node).done refl (list_all (is_done plan past) (node_at plan node).parents) refl
       where
         told : Fate
-        told = told_by (story course (table node))
+        told = fate_by_story (story course (table node))
 
         go : (b : Bool) → (node_at plan node).done ≡ b → (c : Bool) → list_all (is_done plan past) (node_at plan node).parents ≡ c
             → shown plan past node ≡ (if (node_at plan node).done then without_attempts Done
@@ -131,13 +131,13 @@ may-launch plan past node lt = λ j. if lt-ltb node (count_of plan) lt j then is
 
 settled : (plan : Plan) (past : List Record) (status : ℕ) → may_follow plan past (Finish status) ≡ true → is_aborted plan past ≡ false → Settled plan past
 unfolding may_follow
-settled plan past status h calm =
+settled plan past status h abort_free =
     let p : (_ ≡ true) × (all_below (λ n. not (may_launch plan past n)) (suc (count_of plan)) ≡ true) = and_parts _ _ (and_parts _ _ h).0 in
     let q = and_parts _ (is_nothing (outstanding plan past)) p.0 in
     record {
       nothing = empty (outstanding plan past) q.1;
       unready = λ node lt. idle node lt (all_below-at (λ n. not (may_launch plan past n)) (suc (count_of plan)) p.1 node (omega arith));
-      calm = calm;
+      abort_free = abort_free;
     }
   where
     empty : (keys : List Key) → is_nothing keys ≡ true → keys ≡ []
@@ -155,13 +155,13 @@ aborted-silent plan past status = refl
 pub finished-fates : (plan : Plan) (records : List Record) (table : Table) → is_finished plan records ≡ true → is_aborted plan records ≡ false
     → ((node : ℕ) → Fits (node_at plan node).course (history records node) (table node))
     → AreFates plan table (shown plan records)
-finished-fates plan [] table h calm f node lt = absurd (false≢true h)
-finished-fates plan (Life ∷ past) table h calm f node lt = absurd (false≢true h)
-finished-fates plan (Launch key number ∷ past) table h calm f node lt = absurd (false≢true h)
-finished-fates plan (End key outcome ∷ past) table h calm f node lt = absurd (false≢true h)
-finished-fates plan (Finish status ∷ past) table h calm f node lt =
+finished-fates plan [] table h abort_free f node lt = absurd (false≢true h)
+finished-fates plan (Life ∷ past) table h abort_free f node lt = absurd (false≢true h)
+finished-fates plan (Launch key number ∷ past) table h abort_free f node lt = absurd (false≢true h)
+finished-fates plan (End key outcome ∷ past) table h abort_free f node lt = absurd (false≢true h)
+finished-fates plan (Finish status ∷ past) table h abort_free f node lt =
     let p = and_parts _ _ h in
-    let q = settled plan past status p.1 (sym (aborted-silent plan past status) ∙ calm) in
+    let q = settled plan past status p.1 (sym (aborted-silent plan past status) ∙ abort_free) in
     settled-fate plan past (sound plan past p.0) node q lt table (f node)
 
 pub lawful_part : (plan : Plan) (records : List Record) → is_finished plan records ≡ true → is_lawful plan records ≡ true
@@ -170,7 +170,7 @@ lawful_part plan records h = (and_parts _ _ h).1
 -- the fates by the list's own table
 pub own-fates : (plan : Plan) (records : List Record) → is_finished plan records ≡ true → is_aborted plan records ≡ false
     → AreFates plan (table_of records) (shown plan records)
-own-fates plan records h calm = finished-fates plan records (table_of records) h calm (sound plan records (lawful_part plan records h)).fits
+own-fates plan records h abort_free = finished-fates plan records (table_of records) h abort_free (sound plan records (lawful_part plan records h)).fits
 
 -- In a finished run FINAL has come to its end, with abort or without.
 nothing-left : (plan : Plan) (past : List Record) (status : ℕ) → may_follow plan past (Finish status) ≡ true
@@ -238,10 +238,10 @@ finished-final plan (Finish status ∷ past) table h some f = go (node_at plan (
     go : (b : Bool) → (node_at plan (count_of plan)).done ≡ b → shown plan past (count_of plan) ≡ final_fate plan table
     go true e =
         done-at_start plan past (sound plan past p.0) (count_of plan) e
-        ∙ (λ j. if sym e j then without_attempts Done else told_by (story (node_at plan (count_of plan)).course (table (count_of plan))))
+        ∙ (λ j. if sym e j then without_attempts Done else fate_by_story (story (node_at plan (count_of plan)).course (table (count_of plan))))
     go false e =
         whole plan past (sound plan past p.0) (count_of plan) (table (count_of plan)) (f (count_of plan)) e (final-over plan past status p.1 some)
-        ∙ (λ j. if sym e j then without_attempts Done else told_by (story (node_at plan (count_of plan)).course (table (count_of plan))))
+        ∙ (λ j. if sym e j then without_attempts Done else fate_by_story (story (node_at plan (count_of plan)).course (table (count_of plan))))
 
 -- no phase of FINAL is to come
 pub final-ended : (plan : Plan) (records : List Record) → is_finished plan records ≡ true → is_some plan.final_node ≡ true → next plan records (count_of plan) ≡ None
@@ -264,13 +264,13 @@ final-error plan records finished some =
 -- in a finished run without abort a node whose next phase is to come waits for its parents
 pub finished-waits : (plan : Plan) (records : List Record) → is_finished plan records ≡ true → is_aborted plan records ≡ false → (node : ℕ) → node < count_of plan
     → (key : Key) → next plan records node ≡ Some key → (is_running plan records node ≡ false) × (list_all (is_done plan records) (node_at plan node).parents ≡ false)
-finished-waits plan [] h calm node lt key e = absurd (false≢true h)
-finished-waits plan (Life ∷ past) h calm node lt key e = absurd (false≢true h)
-finished-waits plan (Launch k number ∷ past) h calm node lt key e = absurd (false≢true h)
-finished-waits plan (End k outcome ∷ past) h calm node lt key e = absurd (false≢true h)
-finished-waits plan (Finish status ∷ past) h calm node lt key e =
+finished-waits plan [] h abort_free node lt key e = absurd (false≢true h)
+finished-waits plan (Life ∷ past) h abort_free node lt key e = absurd (false≢true h)
+finished-waits plan (Launch k number ∷ past) h abort_free node lt key e = absurd (false≢true h)
+finished-waits plan (End k outcome ∷ past) h abort_free node lt key e = absurd (false≢true h)
+finished-waits plan (Finish status ∷ past) h abort_free node lt key e =
     let p = and_parts (is_lawful plan past) (may_follow plan past (Finish status)) h in
-    let q = settled plan past status p.1 (sym (aborted-silent plan past status) ∙ calm) in (
+    let q = settled plan past status p.1 (sym (aborted-silent plan past status) ∙ abort_free) in (
       ap (has_key_of node) q.nothing,
       go q p.0 (list_all (is_done plan past) (node_at plan node).parents) refl,
     )
@@ -287,10 +287,10 @@ none-is (Some p) e = absurd (false≢true e)
 module _ (plan : Plan) (records : List Record) (lawful : is_lawful plan records ≡ true) (table : Table)
     (fit : (node : ℕ) → Fits (node_at plan node).course (history records node) (table node))
     (rank : ℕ → ℕ) (ranked : IsRankedBy rank plan) (fates : ℕ → Fate) (are : AreFates plan table fates) where
-  ended-well : (node : ℕ) → is_good_after (node_at plan node).course (history records node) ≡ true → is_good (last_of (story (node_at plan node).course (table node))) ≡ true
+  ended-well : (node : ℕ) → is_good_after (node_at plan node).course (history records node) ≡ true → is_good (newest_attempt (story (node_at plan node).course (table node))) ≡ true
   unfolding is_good_after
   ended-well node good =
-      let over = none-is _ (and_parts (is_none (next_after (node_at plan node).course (history records node))) (is_good (last_of (attempts_after (node_at plan node).course (history records node)))) good).0 in
+      let over = none-is _ (and_parts (is_none (next_after (node_at plan node).course (history records node))) (is_good (newest_attempt (attempts_after (node_at plan node).course (history records node)))) good).0 in
       sym (whole-good (node_at plan node).course (history records node) ((sound plan records lawful).fits node) over (table node) (fit node)) ∙ good
 
   done-below : (bound node : ℕ) → rank node < bound → node < count_of plan → is_done plan records node ≡ true → is_done_state (fates node).state ≡ true
@@ -309,12 +309,12 @@ module _ (plan : Plan) (records : List Record) (lawful : is_lawful plan records 
       go : (b : Bool) → (node_at plan node).done ≡ b
           → (ParentsDone plan records node → list_all (λ parent. is_done_state (fates parent).state) (node_at plan node).parents ≡ true)
           → is_done_state (fate_by plan table fates node).state ≡ true
-      go true h tests = λ j. is_done_state (if h j then without_attempts Done else if list_all (λ parent. is_done_state (fates parent).state) (node_at plan node).parents then told_by (story (node_at plan node).course (table node)) else without_attempts NotRun).state
+      go true h tests = λ j. is_done_state (if h j then without_attempts Done else if list_all (λ parent. is_done_state (fates parent).state) (node_at plan node).parents then fate_by_story (story (node_at plan node).course (table node)) else without_attempts NotRun).state
       go false h tests =
           elim (s.begun node lt) [
             | inl empty ↦ absurd (false≢true (sym (ap (λ (f : Fate). is_done_state f.state) (not_begun plan records s node h empty)) ∙ state-done plan records node ∙ done))
             | inr ready ↦
-                (λ j. is_done_state (if h j then without_attempts Done else if tests ready j then told_by (story (node_at plan node).course (table node)) else without_attempts NotRun).state)
+                (λ j. is_done_state (if h j then without_attempts Done else if tests ready j then fate_by_story (story (node_at plan node).course (table node)) else without_attempts NotRun).state)
                 ∙ ap (λ good. is_done_state (if good then Done else Error)) (ended-well node ((λ j. sym h j || is_good_after (node_at plan node).course (history records node)) ∙ done))
           ]
 

@@ -2,7 +2,7 @@
 use Rattle.std.proofs.Common.{◌≡◌, ℕ, ◌<◌, Bool, true, false, not, ◌&&◌, ◌||◌, ◌==◌, List, length, Option, Some, None, refl, sym, ap, ◌∙◌, subst, arith, eqb-true}
 use Rattle.std.proofs.lemmas.Bool.{eqb-false, and_parts, and_from, not-true}
 use Rattle.node_machine.specs.NodeProgress.{NodeProgress}
-use Rattle.node_machine.specs.Stand.{stand_after}
+use Rattle.node_machine.specs.MachineState.{machine_after}
 use Rattle.node_machine.specs.declared.Key.{Key}
 use Rattle.node_machine.specs.declared.Phase.{Phase}
 use Rattle.node_machine.specs.declared.Phase.TheVariants.{Pre, Job, Post}
@@ -14,10 +14,10 @@ use Rattle.run_plan.specs.Planned.{IsPlanned}
 use Rattle.sched_core.specs.Run.{history, next, outstanding, is_among}
 use Rattle.sched_core.specs.Core.{Shows, run_at}
 use Rattle.sched_core.specs.Choices.{launchable, startable}
-use Rattle.sched_core.specs.Limits.{limits_of, throttled_in, lets_in}
+use Rattle.sched_core.specs.Limits.{limits_of_categories, throttled_in, lets_in}
 use Rattle.sched_core.specs.Notes.{AreNotes}
 use Rattle.sched_core.specs.States.{NodeStates, AreLeft, is_ready_at}
-use Rattle.sched_core.specs.Queued.{Classed, IsQueued, AreHeld, class_of, class_by, count_at, share_at, holds_class, holds_categories, holds_all}
+use Rattle.sched_core.specs.Queued.{Classed, IsQueued, AllThrottled, class_of, class_by, count_at, share_at, holds_class, holds_categories, holds_all}
 use Rattle.sched_core.specs.Ahead.{launched}
 use Rattle.sched_core.proofs.Ahead.{behind-none, behind-among, behind-held}
 use Rattle.sched_core.proofs.Leaf.{key-node}
@@ -83,16 +83,16 @@ module _ (plan : Plan) (planned : IsPlanned plan) (past : List Record) (states :
     (t : Throttled) where
   -- a node's class is that of its next phase
   class-own : (node : ℕ) (key : Key) → node < count_of plan → next plan past node ≡ Some key
-      → class_by (run_at states.runs node).stand.phase (node_at plan node).category ≡ class_of key.phase (node_at plan node).category
+      → class_by (run_at states.runs node).machine.phase (node_at plan node).category ≡ class_of key.phase (node_at plan node).category
   class-own node key lt comes =
       let own : key.node ≡ node = key-node plan past node key comes in
-      let phase : (run_at states.runs node).stand.phase ≡ Some key.phase =
-      ap (λ (r : NodeProgress). r.stand.phase) (s.runs_are node (omega (arith, lt)))
-      ∙ subst (λ n. (stand_after (node_at plan n).course (history past n)).phase ≡ Some key.phase) own (next-phase plan past s.lawful key (subst (λ n. next plan past n ≡ Some key) (sym own) comes)) in
+      let phase : (run_at states.runs node).machine.phase ≡ Some key.phase =
+      ap (λ (r : NodeProgress). r.machine.phase) (s.runs_are node (omega (arith, lt)))
+      ∙ subst (λ n. (machine_after (node_at plan n).course (history past n)).phase ≡ Some key.phase) own (next-phase plan past s.lawful key (subst (λ n. next plan past n ≡ Some key) (sym own) comes)) in
       ap (λ (o : Option Phase). class_by o (node_at plan node).category) phase
 
   -- where no class that has a member is let in, no ordinary phase that may be launched is
-  pub all-held : t.categories ≡ limits_of plan → holds_all classed.counts t ≡ true → AreHeld plan past t
+  pub all-held : t.categories ≡ limits_of_categories plan → holds_all classed.counts t ≡ true → AllThrottled plan past t
   all-held categories holds node key lt is =
       let category = (node_at plan node).category in
       let ready = ready-at plan planned past states aborted jobs s notes left node lt ∙ launchable-ready plan past node key lt is in
@@ -101,7 +101,7 @@ module _ (plan : Plan) (planned : IsPlanned plan) (past : List Record) (states :
       held-phase classed.counts t key.phase category (holds-at classed.counts t holds key.phase category place) some
 
   -- and where one is, some phase is
-  held-class : AreHeld plan past t → (phase : Phase) (category : Option ℕ) → holds_class classed.counts t phase category ≡ true
+  held-class : AllThrottled plan past t → (phase : Phase) (category : Option ℕ) → holds_class classed.counts t phase category ≡ true
   held-class held phase category = go (count_at classed.counts (class_of phase category) == 0) refl
     where
       go : (b : Bool) → (count_at classed.counts (class_of phase category) == 0) ≡ b → holds_class classed.counts t phase category ≡ true
@@ -113,20 +113,20 @@ module _ (plan : Plan) (planned : IsPlanned plan) (past : List Record) (states :
           let one = sum-some (share_at plan aborted states.runs states.left class) (count_of plan) (by_lt 0 (sum_below (share_at plan aborted states.runs states.left class) (count_of plan)) (λ l. l)
           (λ none. absurd (differs (omega (arith, sum, none))))) in
           let node = one.0 in
-          let own = share-some (is_ready_at plan aborted states.runs states.left node) (class_by (run_at states.runs node).stand.phase (node_at plan node).category) class one.2 in
+          let own = share-some (is_ready_at plan aborted states.runs states.left node) (class_by (run_at states.runs node).machine.phase (node_at plan node).category) class one.2 in
           let ready = sym (ready-at plan planned past states aborted jobs s notes left node one.1) ∙ own.0 in
           let key = ready-next plan past node ready in
           let shut = held node key.0 one.1 (ready-launchable plan past node key.0 one.1 ready key.1) in
           let same = sym own.1 ∙ class-own node key.0 one.1 key.1 in
           λ j. e j || not ((start-same t phase category key.0.phase (node_at plan node).category same ∙ shut) j)
 
-  pub held-all : AreHeld plan past t → holds_all classed.counts t ≡ true
+  pub held-all : AllThrottled plan past t → holds_all classed.counts t ≡ true
   held-all held =
       and_from _ _ (held-class held Pre None) (and_from _ _ (held-class held Post None) (and_from _ _ (held-class held Job None)
       (all_below-from (λ place. holds_class classed.counts t Job (Some place)) (length t.categories) (λ place lt. held-class held Job (Some place)))))
 
 -- so none may be started, once these are launched that the throttles count
-pub held-none : (limits : Limits) (plan : Plan) (past : List Record) (keys : List Key) (t : Throttled) → t ≡ throttled_in limits plan (outstanding plan (launched past keys)) → AreHeld plan past t
+pub held-none : (limits : Limits) (plan : Plan) (past : List Record) (keys : List Key) (t : Throttled) → t ≡ throttled_in limits plan (outstanding plan (launched past keys)) → AllThrottled plan past t
     → (node : ℕ) → node < count_of plan → startable limits plan (launched past keys) node ≡ None
 held-none limits plan past keys t counted held node lt = go (launchable plan past node) refl
   where

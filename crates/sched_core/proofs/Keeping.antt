@@ -10,7 +10,7 @@ use Rattle.run_plan.specs.Plan.{Plan, node_at, count_of, all_below}
 use Rattle.run_plan.specs.Planned.{IsPlanned}
 use Rattle.run_plan.proofs.PlanFacts.{parents-below}
 use Rattle.sched_core.specs.declared.states.Looked.{Looked}
-use Rattle.sched_core.specs.Bound.{all_nodes}
+use Rattle.sched_core.specs.Bound.{node_total}
 use Rattle.sched_core.specs.Core.{Shows, failed_after}
 use Rattle.node_machine.proofs.Beginnings.{nil-good}
 use Rattle.throttles.specs.Throttled.{Throttled}
@@ -24,12 +24,12 @@ use Rattle.sched_core.proofs.Taking.{fresh-noted}
 use Rattle.sched_core.specs.Kept.{IsKept, own_place, IsLookedFor}
 use Rattle.sched_core.specs.Looks.{stops, most_looks, further_looks}
 use Rattle.sched_core.specs.Notes.{AreNotes}
-use Rattle.sched_core.specs.Run.{written, is_done, is_aborted, has_abort_value, is_over, may_follow}
+use Rattle.sched_core.specs.Run.{chronological, is_done, is_aborted, has_abort_value, is_over, may_follow}
 use Rattle.sched_core.specs.States.{NodeStates, AreNew, AreLeft, IsStateOf, done_at}
 use Rattle.sched_core.specs.Turns.{IsLent, IsLentFor, IsOfTurn, has_abort_by, stuck_by}
 use Rattle.sched_core.proofs.Alone.{alone}
 use Rattle.sched_core.proofs.Held.{launched-within, end-within}
-use Rattle.sched_core.proofs.Shown.{stand-done}
+use Rattle.sched_core.proofs.Shown.{machine-done}
 use Rattle.sched_core.proofs.Tallies.{ended-undone, ended-going, ended-alone, fresh-tallied}
 use Rattle.sched_core.proofs.Undone.{undone-same}
 
@@ -43,7 +43,7 @@ own-place plan node lt = go (nat_lt node (count_of plan)) refl
 
 module _ (plan : Plan) (planned : IsPlanned plan) (past : List Record) (states : NodeStates) (aborted : Bool) (jobs : ℕ) (s : Shows plan past states.runs aborted jobs) where
   done-shown : (p : ℕ) → p < count_of plan → done_at plan states.runs p ≡ is_done plan past p
-  done-shown p low = (λ j. (node_at plan p).done || (is_none (s.runs_are p (omega (arith, low)) j).stand.phase && (s.runs_are p (omega (arith, low)) j).stand.good)) ∙ stand-done plan past s.lawful p
+  done-shown p low = (λ j. (node_at plan p).done || (is_none (s.runs_are p (omega (arith, low)) j).machine.phase && (s.runs_are p (omega (arith, low)) j).machine.good)) ∙ machine-done plan past s.lawful p
 
   module _ (notes : AreNotes plan past states.notes) (left : AreLeft plan aborted states.runs states.left) where
     lent-at : (node place : ℕ) (looked : Looked) → place ≡ node → node < suc (count_of plan) → (looked.node ≡ place) × IsStateOf plan past place looked.state → IsLent plan aborted states node looked
@@ -54,8 +54,8 @@ module _ (plan : Plan) (planned : IsPlanned plan) (past : List Record) (states :
           within = w;
           run = state.run ∙ sym (s.runs_are node w);
           notes = state.notes ∙ sym (notes.each node w);
-          left = λ calm lt. state.left (sym s.aborted_is ∙ calm) lt
-              ∙ sym (left.each calm node lt ∙ undone-same (done_at plan states.runs) (is_done plan past) (count_of plan) done-shown (node_at plan node).parents (parents-below plan planned node));
+          left = λ abort_free lt. state.left (sym s.aborted_is ∙ abort_free) lt
+              ∙ sym (left.each abort_free node lt ∙ undone-same (done_at plan states.runs) (is_done plan past) (count_of plan) done-shown (node_at plan node).parents (parents-below plan planned node));
         }
 
     -- the state that was lent for a record is its node's
@@ -75,8 +75,8 @@ module _ (plan : Plan) (planned : IsPlanned plan) (past : List Record) (states :
   turn-for (Launch key number) may = tt
   turn-for (Finish status) may = tt
   turn-for (End key outcome) may = record {
-    undone = (λ j. (node_at plan key.node).done || (is_none (s.runs_are key.node w j).stand.phase && (s.runs_are key.node w j).stand.good))
-        ∙ stand-done plan past s.lawful key.node ∙ ended-undone plan past s.lawful key outcome may;
+    undone = (λ j. (node_at plan key.node).done || (is_none (s.runs_are key.node w j).machine.phase && (s.runs_are key.node w j).machine.good))
+        ∙ machine-done plan past s.lawful key.node ∙ ended-undone plan past s.lawful key outcome may;
     going = λ lt. s.aborted_is ∙ ended-going plan past s.lawful key outcome may lt;
     idle = λ lt. ap (λ (r : NodeProgress). r.running) (s.runs_are (count_of plan) (omega arith)) ∙ ended-alone plan past s.lawful key outcome may lt;
   }
@@ -123,7 +123,7 @@ aborted-some plan past h = go (count_of plan) h
     go (suc n) e = omega arith
 
 -- with the look at the record's own node the bounds hold
-all-within : (plan : Plan) → count_of plan ≤ all_nodes plan
+all-within : (plan : Plan) → count_of plan ≤ node_total plan
 all-within plan = go (is_some plan.final_node)
   where
     go : (b : Bool) → count_of plan ≤ (if b then suc (count_of plan) else count_of plan)
@@ -138,7 +138,7 @@ most-one plan past (Finish status) never = omega arith
 most-one plan past (End key outcome) never = go (stops plan past (End key outcome)) refl
   where
     go : (b : Bool) → stops plan past (End key outcome) ≡ b
-        → (if b then count_of plan - 1 else length (children_of plan.graph.dag key.node)) + 1 ≤ (if b then all_nodes plan else 2 + length (children_of plan.graph.dag key.node))
+        → (if b then count_of plan - 1 else length (children_of plan.graph.dag key.node)) + 1 ≤ (if b then node_total plan else 2 + length (children_of plan.graph.dag key.node))
     go true t = let some = aborted-some plan (End key outcome ∷ past) (and_parts _ _ t).0 in let all = all-within plan in omega (arith, some, all)
     go false f = omega arith
 
@@ -154,7 +154,7 @@ life-follows plan past entry is = ap (may_follow plan past) is
 pub fresh-left : (plan : Plan) → IsPlanned plan → (states : NodeStates) → AreNew plan states → AreLeft plan false states.runs states.left
 fresh-left plan planned states new = record {
   many = new.left.many;
-  each = λ calm node lt. new.left.each node lt
+  each = λ abort_free node lt. new.left.each node lt
       ∙ undone-same (λ p. (node_at plan p).done) (done_at plan states.runs) (count_of plan)
       (λ p low. sym (done-shown plan planned [] states false 0 (fresh-shown plan states.runs new.runs) p low
       ∙ (λ j. (node_at plan p).done || nil-good (node_at plan p).course j) ∙ or-false (node_at plan p).done))
@@ -167,9 +167,9 @@ fresh-left plan planned states new = record {
 
 pub fresh-kept : (plan : Plan) → IsPlanned plan → (limits : Limits) (records : List Record) (states : NodeStates) (throttles : Throttled) (done : ℕ) (queue : Classed) → records ≡ [] → AreNew plan states
     → throttles ≡ throttled_in limits plan [] → IsQueued plan false states.runs states.left queue → done ≡ sum_below (λ node. if (node_at plan node).done then 1 else 0) (count_of plan)
-    → IsKept plan (written records) states false 1 0 throttles 0 done queue
+    → IsKept plan (chronological records) states false 1 0 throttles 0 done queue
 fresh-kept plan planned limits records states throttles done queue none new t queued d = record {
-  shows = subst (λ (l : List Record). Shows plan (written l) states.runs false 0) (sym none) (fresh-shown plan states.runs new.runs);
+  shows = subst (λ (l : List Record). Shows plan (chronological l) states.runs false 0) (sym none) (fresh-shown plan states.runs new.runs);
   throttled = fresh-throttled plan limits records throttles t none;
   noted = fresh-noted plan records states.notes none new.notes;
   tallied = fresh-tallied plan records done none d;

@@ -5,7 +5,7 @@ use Rattle.std.specs.List.{list_all, Contains}
 use Rattle.node_machine.specs.Story.{Table, story}
 use Rattle.node_machine.specs.declared.State.TheVariants.{Done, NotRun}
 use Rattle.run_plan.specs.Plan.{Plan, node_at, count_of, IsRankedBy, IsAtOrAbove, at, above}
-use Rattle.sched_core.specs.Fate.{Fate, is_done_state, without_attempts, told_by, fate_by, AreFates}
+use Rattle.sched_core.specs.Fate.{Fate, is_done_state, without_attempts, fate_by_story, fate_by, AreFates}
 use Rattle.sched_core.proofs.Tests.{all-at, all-from}
 use Rattle.sched_core.specs.Agree.{AgreeOnFates}
 
@@ -46,7 +46,7 @@ module _ (plan : Plan) (table : Table) (plan' : Plan) (table' : Table) (R : ℕ 
       let d = m.down parent c in
       up parent d.0 c d.1 d.2 ∙ all-at (λ parent. test (fates' parent)) (node_at plan' node').parents e d.0 d.1.0 d.1.1 d.1.2)) in
       are node lt
-      ∙ (λ j. if m.done j then without_attempts Done else if tests j then told_by (story (m.course j) (m.column j)) else without_attempts NotRun)
+      ∙ (λ j. if m.done j then without_attempts Done else if tests j then fate_by_story (story (m.course j) (m.column j)) else without_attempts NotRun)
       ∙ sym (are' node' lt')
 
   pub fates-match : (node node' : ℕ) → node < count_of plan → node' < count_of plan' → R node node' → fates node ≡ fates' node'
@@ -85,7 +85,7 @@ module _ (plan : Plan) (table : Table) (rank : ℕ → ℕ) (ranked : IsRankedBy
       same_bools _ _
       (λ e. all-from (λ parent. test (fates' parent)) (node_at plan node).parents (λ p c. ap test (sym (same p c)) ∙ all-at (λ parent. test (fates parent)) (node_at plan node).parents e p c.0 c.1 c.2))
       (λ e. all-from (λ parent. test (fates parent)) (node_at plan node).parents (λ p c. ap test (same p c) ∙ all-at (λ parent. test (fates' parent)) (node_at plan node).parents e p c.0 c.1 c.2)) in
-      λ j. if (node_at plan node).done then without_attempts Done else if tests j then told_by (story (node_at plan node).course (table node)) else without_attempts NotRun
+      λ j. if (node_at plan node).done then without_attempts Done else if tests j then fate_by_story (story (node_at plan node).course (table node)) else without_attempts NotRun
 
   fate-stable : (bound bound' node : ℕ) → node < count_of plan → rank node < bound → rank node < bound' → fate_at plan table bound node ≡ fate_at plan table bound' node
   unfolding fate_at

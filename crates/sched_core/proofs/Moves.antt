@@ -11,7 +11,7 @@ use Rattle.node_machine.specs.NodeProgress.{NodeProgress}
 use Rattle.node_machine.specs.declared.Record.{Record}
 use Rattle.sched_core.specs.declared.Choice.TheVariants as choices
 use Rattle.node_machine.specs.declared.Record.TheVariants.{Life, Launch, End, Finish}
-use Rattle.sched_core.specs.Run.{next, is_met, has_abort_value, is_aborted, outstanding, is_among, is_next, is_free, is_open, is_ready, is_final_ready, may_launch, may_follow, is_lawful, job_launches, launch_number, exit_status}
+use Rattle.sched_core.specs.Run.{next, setting_is_met, has_abort_value, is_aborted, outstanding, is_among, is_next, is_free, is_open, is_ready, is_final_ready, may_launch, may_follow, is_lawful, job_launches, launch_number, exit_status}
 use Rattle.sched_core.specs.Core.{Shows, AreFresh, is_running, runs_after, aborted_after, jobs_after}
 use Rattle.sched_core.specs.Choices.{IsChoice, launchable}
 use Rattle.sched_core.proofs.Keys.{each_among, same-self}
@@ -44,17 +44,17 @@ added-shown plan past now entry runs runs' aborted flag jobs jobs' s h r f g n =
     (subst (λ t. Shows plan (entry ∷ past) (runs_after plan runs aborted entry) (aborted_after plan runs aborted entry) t) (sym g)
     (shows-after plan past runs aborted jobs s entry h))))
 
-calm-at_first : (plan : Plan) → is_aborted plan [] ≡ false
+abort_free-at_first : (plan : Plan) → is_aborted plan [] ≡ false
 unfolding is_aborted
-calm-at_first plan =
+abort_free-at_first plan =
     ap not (all_below-from (λ node. not (has_abort_value plan [] node)) (count_of plan)
-    (λ node lt. λ j. not (is_met (node_at plan node).course.abort_on (nil-value (node_at plan node).course j))))
+    (λ node lt. λ j. not (setting_is_met (node_at plan node).course.abort_on (nil-value (node_at plan node).course j))))
 
 pub fresh-shown : (plan : Plan) (runs : List NodeProgress) → AreFresh plan runs → Shows plan [] runs false 0
 fresh-shown plan runs f = record {
   many = f.many;
   runs_are = f.each;
-  aborted_is = sym (calm-at_first plan);
+  aborted_is = sym (abort_free-at_first plan);
   jobs_are = refl;
   lawful = refl;
 }

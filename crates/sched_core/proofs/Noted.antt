@@ -6,10 +6,10 @@ use Rattle.node_machine.specs.declared.Phase.{Phase}
 use Rattle.node_machine.specs.declared.Phase.TheVariants.{Pre, Job, Post}
 use Rattle.node_machine.specs.declared.Outcome.{Outcome}
 use Rattle.node_machine.specs.declared.Key.{Key}
-use Rattle.node_machine.specs.declared.Stand.{Stand}
+use Rattle.node_machine.specs.declared.MachineState.{MachineState}
 use Rattle.node_machine.specs.declared.Course.{Course}
 use Rattle.node_machine.specs.Story.{phase_number, is_exit_0, skips, always_posts, value_of, is_set_to}
-use Rattle.node_machine.specs.Stand.{stand_before, pre_failed, step_at, stand_after, next_of, closed}
+use Rattle.node_machine.specs.MachineState.{machine_before, pre_failed, machine_step_at, machine_after, next_of, attempt_closed}
 use Rattle.node_machine.proofs.Standing.{steps-next}
 use Rattle.node_machine.proofs.Trees.{got}
 use Rattle.node_machine.proofs.Paces.{steps-push}
@@ -20,51 +20,51 @@ use Rattle.sched_core.specs.declared.notes.AttemptNotes.{AttemptNotes}
 use Rattle.sched_core.specs.Run.{history, outstanding, without, is_same, is_aborted, is_lawful, may_follow}
 use Rattle.sched_core.specs.Core.{has_key_of}
 use Rattle.sched_core.specs.Commands.{newest_launch}
-use Rattle.sched_core.specs.Notes.{ended_by, first_ended, newest_attempt, last_launch, phase_key, notes_in, notes_of, no_notes, notes_at, launched_in, with_launch, with_end, notes_after, AreNotes}
+use Rattle.sched_core.specs.Notes.{ended_by, first_ended, newest_launch_attempt, last_launch, phase_key, notes_in, notes_of, no_notes, notes_at, launched_in, with_launch, with_phase_outcome, notes_after, AreNotes}
 use Rattle.sched_core.proofs.FactsLemmas.{keep}
 use Rattle.sched_core.proofs.Keys.{same-self, Each, each_among, each_without}
 use Rattle.sched_core.proofs.Sound.{Held, next-parts, end-among, launch-held}
 use Rattle.sched_core.proofs.Held.{histories-are, launched-idle, launched-within, end-within}
 
 -- the attempt of what comes next
-attempt-of : (stand : Stand) (o : Option Phase) (i : ℕ) (phase : Phase) → next_of stand o ≡ Some (i, phase) → stand.attempt ≡ i
-attempt-of stand None i phase e = absurd cc
-attempt-of stand (Some other) i phase e =
-    let left : ℕ × Phase = (stand.attempt, other) in
+attempt-of : (machine : MachineState) (o : Option Phase) (i : ℕ) (phase : Phase) → next_of machine o ≡ Some (i, phase) → machine.attempt ≡ i
+attempt-of machine None i phase e = absurd cc
+attempt-of machine (Some other) i phase e =
+    let left : ℕ × Phase = (machine.attempt, other) in
     let right : ℕ × Phase = (i, phase) in
     let k : left ≡ right = cc in
     λ j. (k j).0
 
 -- a step leads to no earlier attempt
-closed-later : (course : Course) (i : ℕ) (value : ℤ) (good : Bool) → i ≤ (closed course i value good).attempt
+closed-later : (course : Course) (i : ℕ) (value : ℤ) (good : Bool) → i ≤ (attempt_closed course i value good).attempt
 closed-later course i value good = go (good || is_set_to course.unless_exit value || is_set_to course.abort_on value) (i == course.retries)
   where
-    go : (a b : Bool) → i ≤ (if a || b then record { attempt = i; phase = None; value = Some value; good = good } else stand_before course (suc i) (Some value) good).attempt
+    go : (a b : Bool) → i ≤ (if a || b then record { attempt = i; phase = None; value = Some value; good = good } else machine_before course (suc i) (Some value) good).attempt
     go true b = omega arith
     go false true = omega arith
     go false false = omega arith
 
-step-later : (course : Course) (stand : Stand) (o : Option Phase) (outcome : Outcome) → stand.attempt ≤ (step_at course stand o outcome).attempt
-step-later course stand None outcome = omega arith
-step-later course stand (Some Pre) outcome = go (skips course outcome) (is_exit_0 outcome)
+step-later : (course : Course) (machine : MachineState) (o : Option Phase) (outcome : Outcome) → machine.attempt ≤ (machine_step_at course machine o outcome).attempt
+step-later course machine None outcome = omega arith
+step-later course machine (Some Pre) outcome = go (skips course outcome) (is_exit_0 outcome)
   where
-    failed : (c : Bool) → stand.attempt ≤ (if c then record stand { phase = Some Post } else closed course stand.attempt (value_of outcome) false).attempt
+    failed : (c : Bool) → machine.attempt ≤ (if c then record machine { phase = Some Post } else attempt_closed course machine.attempt (value_of outcome) false).attempt
     failed true = omega arith
-    failed false = closed-later course stand.attempt (value_of outcome) false
+    failed false = closed-later course machine.attempt (value_of outcome) false
 
-    go : (a b : Bool) → stand.attempt ≤ (if a then closed course stand.attempt (pos 0) true else if b then record stand { phase = Some Job } else pre_failed course stand outcome).attempt
-    go true b = closed-later course stand.attempt (pos 0) true
+    go : (a b : Bool) → machine.attempt ≤ (if a then attempt_closed course machine.attempt (pos 0) true else if b then record machine { phase = Some Job } else pre_failed course machine outcome).attempt
+    go true b = closed-later course machine.attempt (pos 0) true
     go false true = omega arith
     go false false = failed (always_posts course)
-step-later course stand (Some Job) outcome = go course.post
+step-later course machine (Some Job) outcome = go course.post
   where
-    go : (a : Bool) → stand.attempt ≤ (if a then record stand { phase = Some Post } else closed course stand.attempt (value_of outcome) (int_eq (value_of outcome) (pos 0))).attempt
+    go : (a : Bool) → machine.attempt ≤ (if a then record machine { phase = Some Post } else attempt_closed course machine.attempt (value_of outcome) (int_eq (value_of outcome) (pos 0))).attempt
     go true = omega arith
-    go false = closed-later course stand.attempt (value_of outcome) (int_eq (value_of outcome) (pos 0))
-step-later course stand (Some Post) outcome = closed-later course stand.attempt (value_of outcome) (int_eq (value_of outcome) (pos 0))
+    go false = closed-later course machine.attempt (value_of outcome) (int_eq (value_of outcome) (pos 0))
+step-later course machine (Some Post) outcome = closed-later course machine.attempt (value_of outcome) (int_eq (value_of outcome) (pos 0))
 
-abbrev standing : Plan → List Record → ℕ → Stand
-standing plan past node = stand_after (node_at plan node).course (history past node)
+abbrev standing : Plan → List Record → ℕ → MachineState
+standing plan past node = machine_after (node_at plan node).course (history past node)
 
 -- what is launched is of the attempt where its node stands
 held-attempt : (plan : Plan) (past : List Record) → is_lawful plan past ≡ true → (key : Key) → Held plan past key → (standing plan past key.node).attempt ≡ key.attempt
@@ -74,7 +74,7 @@ held-attempt plan past lawful key held =
     ∙ (next-parts plan past key.node key held.is_next).1)
 
 -- no node has been launched beyond where it stands
-reached : (plan : Plan) (past : List Record) → is_lawful plan past ≡ true → (node : ℕ) → newest_attempt past node ≤ (standing plan past node).attempt
+reached : (plan : Plan) (past : List Record) → is_lawful plan past ≡ true → (node : ℕ) → newest_launch_attempt past node ≤ (standing plan past node).attempt
 reached plan [] h node = omega arith
 reached plan (Life ∷ past) h node = reached plan past (and_parts _ _ h).0 node
 reached plan (Finish status ∷ past) h node = reached plan past (and_parts _ _ h).0 node
@@ -83,19 +83,19 @@ reached plan (Launch key number ∷ past) h node = go (key.node == node) refl (r
     p : (is_lawful plan past ≡ true) × (may_follow plan past (Launch key number) ≡ true)
     p = and_parts _ _ h
 
-    go : (b : Bool) → (key.node == node) ≡ b → newest_attempt past node ≤ (standing plan past node).attempt
-        → (if b then key.attempt else newest_attempt past node) ≤ (standing plan past node).attempt
+    go : (b : Bool) → (key.node == node) ≡ b → newest_launch_attempt past node ≤ (standing plan past node).attempt
+        → (if b then key.attempt else newest_launch_attempt past node) ≤ (standing plan past node).attempt
     go true e before =
         subst (λ n. key.attempt ≤ (standing plan past n).attempt) (eqb-true key.node node e)
         (let a = held-attempt plan past p.0 key (launch-held plan past key number p.1) in omega arith)
     go false e before = before
 reached plan (End key outcome ∷ past) h node = go (key.node == node) (reached plan past (and_parts _ _ h).0 node)
   where
-    go : (b : Bool) → newest_attempt past node ≤ (standing plan past node).attempt
-        → newest_attempt past node ≤ (stand_after (node_at plan node).course (if b then history past node ++ got key.attempt key.phase outcome ∷ [] else history past node)).attempt
+    go : (b : Bool) → newest_launch_attempt past node ≤ (standing plan past node).attempt
+        → newest_launch_attempt past node ≤ (machine_after (node_at plan node).course (if b then history past node ++ got key.attempt key.phase outcome ∷ [] else history past node)).attempt
     go true before =
         let later = step-later (node_at plan node).course (standing plan past node) (standing plan past node).phase outcome in
-        let push = ap (λ (s : Stand). s.attempt) (steps-push (node_at plan node).course (stand_before (node_at plan node).course 0 None false) (history past node) (got key.attempt key.phase outcome)) in
+        let push = ap (λ (s : MachineState). s.attempt) (steps-push (node_at plan node).course (machine_before (node_at plan node).course 0 None false) (history past node) (got key.attempt key.phase outcome)) in
         omega (arith, before, later, push)
     go false before = before
 
@@ -112,7 +112,7 @@ apart-attempt key node attempt phase ne = go (key.node == node) ne
 
 -- an outstanding key is that of its node's newest launch
 abbrev pub IsNewest : List Record → Key → Type 0
-IsNewest past key = (newest_attempt past key.node ≡ key.attempt) × (last_launch past key.node ≡ newest_launch past key)
+IsNewest past key = (newest_launch_attempt past key.node ≡ key.attempt) × (last_launch past key.node ≡ newest_launch past key)
 
 or-parts : (a b : Bool) → (a || b) ≡ false → (a ≡ false) × (b ≡ false)
 or-parts true b h = absurd cc
@@ -124,7 +124,7 @@ newest-kept past key number (other ∷ keys) none e =
     let apart = or-parts (other.node == key.node) (has_key_of key.node keys) none in
     let ne : (key.node == other.node) ≡ false = false_from_ne_true _ (λ t. let o = eqb-false other.node key.node apart.0 in o (sym (eqb-true key.node other.node t))) in (
       (
-        (λ j. if ne j then key.attempt else newest_attempt past other.node) ∙ e.0.0,
+        (λ j. if ne j then key.attempt else newest_launch_attempt past other.node) ∙ e.0.0,
         (λ j. if ne j then number else last_launch past other.node) ∙ e.0.1
             ∙ sym (λ j. if apart-node key other.node other.attempt other.phase ne j then number else newest_launch past other),
       ),
@@ -142,7 +142,7 @@ outstanding-newest plan (Finish status ∷ past) h = same (outstanding plan past
 outstanding-newest plan (Launch key number ∷ past) h =
     let p = and_parts _ _ h in (
       (
-        (λ j. if eq-eqb key.node key.node refl j then key.attempt else newest_attempt past key.node),
+        (λ j. if eq-eqb key.node key.node refl j then key.attempt else newest_launch_attempt past key.node),
         (λ j. if eq-eqb key.node key.node refl j then number else last_launch past key.node)
             ∙ sym (λ j. if same-self key j then number else newest_launch past key),
       ),
@@ -156,10 +156,10 @@ outstanding-newest plan (End key outcome ∷ past) h = go (is_aborted plan (End 
 
 -- nothing is launched of a later attempt than a node's newest, and nothing of one has ended
 abbrev Nothing : List Record → ℕ → Type 0
-Nothing past node = (attempt : ℕ) (phase : Phase) → newest_attempt past node < attempt
+Nothing past node = (attempt : ℕ) (phase : Phase) → newest_launch_attempt past node < attempt
     → (newest_launch past (phase_key node attempt phase) ≡ 0) × (first_ended past (phase_key node attempt phase) ≡ None)
 
-end-newest : (plan : Plan) (past : List Record) (key : Key) (outcome : Outcome) → is_lawful plan past ≡ true → may_follow plan past (End key outcome) ≡ true → newest_attempt past key.node ≡ key.attempt
+end-newest : (plan : Plan) (past : List Record) (key : Key) (outcome : Outcome) → is_lawful plan past ≡ true → may_follow plan past (End key outcome) ≡ true → newest_launch_attempt past key.node ≡ key.attempt
 end-newest plan past key outcome lawful may =
     (each_among (IsNewest past) key (outstanding plan past) (outstanding-newest plan past lawful) (end-among plan past key outcome may).0).0
 
@@ -176,21 +176,21 @@ nothing-later plan (Launch key number ∷ past) h node attempt phase lt =
     p = and_parts _ _ h
 
     Older : Type 0
-    Older = newest_attempt past node < attempt → (newest_launch past (phase_key node attempt phase) ≡ 0) × (first_ended past (phase_key node attempt phase) ≡ None)
+    Older = newest_launch_attempt past node < attempt → (newest_launch past (phase_key node attempt phase) ≡ 0) × (first_ended past (phase_key node attempt phase) ≡ None)
 
-    other : Older → is_same key (phase_key node attempt phase) ≡ false → newest_attempt past node < attempt
+    other : Older → is_same key (phase_key node attempt phase) ≡ false → newest_launch_attempt past node < attempt
         → (newest_launch (Launch key number ∷ past) (phase_key node attempt phase) ≡ 0) × (first_ended (Launch key number ∷ past) (phase_key node attempt phase) ≡ None)
     other older ne less =
         let n = older less in
         ((λ j. if ne j then number else newest_launch past (phase_key node attempt phase)) ∙ n.0, sym (keep _) ∙ n.1)
 
-    go : Older → (b : Bool) → (key.node == node) ≡ b → (if b then key.attempt else newest_attempt past node) < attempt
+    go : Older → (b : Bool) → (key.node == node) ≡ b → (if b then key.attempt else newest_launch_attempt past node) < attempt
         → (newest_launch (Launch key number ∷ past) (phase_key node attempt phase) ≡ 0) × (first_ended (Launch key number ∷ past) (phase_key node attempt phase) ≡ None)
     go older false e less = other older (apart-node key node attempt phase e) less
     go older true e less =
         let same = eqb-true key.node node e in
         let stands = held-attempt plan past p.0 key (launch-held plan past key number p.1) in
-        let old = subst (λ n. newest_attempt past n ≤ (standing plan past key.node).attempt) same (reached plan past p.0 key.node) in
+        let old = subst (λ n. newest_launch_attempt past n ≤ (standing plan past key.node).attempt) same (reached plan past p.0 key.node) in
         other older (apart-attempt key node attempt phase (false_from_ne_true _ (λ t. let a = eqb-true key.attempt attempt t in omega (arith, a, less)))) (omega (arith, stands, old, less))
 nothing-later plan (End key outcome ∷ past) h node attempt phase lt = go (nothing-later plan past (and_parts _ _ h).0 node attempt phase lt) (key.node == node) refl
   where
@@ -212,21 +212,21 @@ nothing-later plan (End key outcome ∷ past) h node attempt phase lt = go (noth
     go n false e = other n (apart-node key node attempt phase e)
     go n true e =
         let same = eqb-true key.node node e in
-        let a = subst (λ m. newest_attempt past m ≡ key.attempt) same (end-newest plan past key outcome p.0 p.1) in
+        let a = subst (λ m. newest_launch_attempt past m ≡ key.attempt) same (end-newest plan past key outcome p.0 p.1) in
         other n (apart-attempt key node attempt phase (false_from_ne_true _ (λ t. let b = eqb-true key.attempt attempt t in omega (arith, a, b, lt))))
 
 -- notes of a record that says nothing of the node
-quiet : (past : List Record) (node : ℕ) (newest : Record) → newest_attempt (newest ∷ past) node ≡ newest_attempt past node → last_launch (newest ∷ past) node ≡ last_launch past node
+quiet : (past : List Record) (node : ℕ) (newest : Record) → newest_launch_attempt (newest ∷ past) node ≡ newest_launch_attempt past node → last_launch (newest ∷ past) node ≡ last_launch past node
     → ((attempt : ℕ) (phase : Phase) → newest_launch (newest ∷ past) (phase_key node attempt phase) ≡ newest_launch past (phase_key node attempt phase))
     → ((attempt : ℕ) (phase : Phase) → first_ended (newest ∷ past) (phase_key node attempt phase) ≡ first_ended past (phase_key node attempt phase))
     → notes_of past node ≡ notes_of (newest ∷ past) node
 quiet past node newest attempt launch launched ended =
     (λ j. record {
-      attempt = newest_attempt past node;
+      attempt = newest_launch_attempt past node;
       launch = newest_number j;
-      job_launch = sym (launched (newest_attempt past node) Job) j;
-      pre = sym (ended (newest_attempt past node) Pre) j;
-      job = sym (ended (newest_attempt past node) Job) j;
+      job_launch = sym (launched (newest_launch_attempt past node) Job) j;
+      pre = sym (ended (newest_launch_attempt past node) Pre) j;
+      job = sym (ended (newest_launch_attempt past node) Job) j;
     })
     ∙ (λ j. notes_in (newest ∷ past) node (sym attempt j) (last_launch (newest ∷ past) node))
   where
@@ -244,7 +244,7 @@ module _ (plan : Plan) (past : List Record) (lawful : is_lawful plan past ≡ tr
 
     launch-other : (node : ℕ) → (key.node == node) ≡ false → notes_of past node ≡ notes_of launched node
     launch-other node ne =
-        quiet past node (Launch key number) (λ j. if ne j then key.attempt else newest_attempt past node) (λ j. if ne j then number else last_launch past node)
+        quiet past node (Launch key number) (λ j. if ne j then key.attempt else newest_launch_attempt past node) (λ j. if ne j then number else last_launch past node)
         (λ attempt phase j. if apart-node key node attempt phase ne j then number else newest_launch past (phase_key node attempt phase))
         (λ attempt phase. ended-silent (Launch key number) (phase_key node attempt phase) refl)
 
@@ -277,21 +277,21 @@ module _ (plan : Plan) (past : List Record) (lawful : is_lawful plan past ≡ tr
           pre = first_ended launched (phase_key key.node key.attempt Pre);
           job = first_ended launched (phase_key key.node key.attempt Job);
         })
-        ∙ (λ j. notes_in launched key.node (if sym same-node j then key.attempt else newest_attempt past key.node) (if sym same-node j then number else last_launch past key.node))
+        ∙ (λ j. notes_in launched key.node (if sym same-node j then key.attempt else newest_launch_attempt past key.node) (if sym same-node j then number else last_launch past key.node))
 
     launch-own : with_launch (notes_of past key.node) key number ≡ notes_of launched key.node
-    launch-own = go (key.attempt == newest_attempt past key.node) refl
+    launch-own = go (key.attempt == newest_launch_attempt past key.node) refl
       where
-        go : (b : Bool) → (key.attempt == newest_attempt past key.node) ≡ b → launched_in (if b then notes_of past key.node else no_notes key.attempt) key.phase number ≡ notes_of launched key.node
+        go : (b : Bool) → (key.attempt == newest_launch_attempt past key.node) ≡ b → launched_in (if b then notes_of past key.node else no_notes key.attempt) key.phase number ≡ notes_of launched key.node
         go true e =
-            let same : newest_attempt past key.node ≡ key.attempt = sym (eqb-true key.attempt (newest_attempt past key.node) e) in
+            let same : newest_launch_attempt past key.node ≡ key.attempt = sym (eqb-true key.attempt (newest_launch_attempt past key.node) e) in
             over (notes_of past key.node) same (ap (λ a. newest_launch past (phase_key key.node a Job)) same)
             (ap (λ a. first_ended past (phase_key key.node a Pre)) same) (ap (λ a. first_ended past (phase_key key.node a Job)) same)
         go false e =
             let r = reached plan past lawful key.node in
             let stands = held-attempt plan past lawful key (launch-held plan past key number may) in
-            let differs = eqb-false key.attempt (newest_attempt past key.node) e in
-            let none = λ (phase : Phase). nothing-later plan past lawful key.node key.attempt phase (less (newest_attempt past key.node) key.attempt (omega (arith, r, stands)) differs) in
+            let differs = eqb-false key.attempt (newest_launch_attempt past key.node) e in
+            let none = λ (phase : Phase). nothing-later plan past lawful key.node key.attempt phase (less (newest_launch_attempt past key.node) key.attempt (omega (arith, r, stands)) differs) in
             over (no_notes key.attempt) refl (sym (none Job).0) (sym (none Pre).1) (sym (none Job).1)
           where
             less : (a b : ℕ) → a ≤ b → (b ≡ a → ⊥) → a < b
@@ -309,42 +309,42 @@ module _ (plan : Plan) (past : List Record) (lawful : is_lawful plan past ≡ tr
         quiet past node (End key outcome) refl refl (λ attempt phase. refl)
         (λ attempt phase. ended-silent (End key outcome) (phase_key node attempt phase) (λ j. if apart-node key node attempt phase ne j then Some outcome else None))
 
-    attempt-is : newest_attempt past key.node ≡ key.attempt
+    attempt-is : newest_launch_attempt past key.node ≡ key.attempt
     attempt-is = end-newest plan past key outcome lawful may
 
     -- of the same attempt
     abbrev said : Phase → Option Outcome
     said phase = if phase_number key.phase == phase_number phase then Some outcome else None
 
-    said-is : (phase : Phase) → ended_by (End key outcome) (phase_key key.node (newest_attempt past key.node) phase) ≡ said phase
-    said-is phase = λ j. if eq-eqb key.node key.node refl j && (eq-eqb key.attempt (newest_attempt past key.node) (sym attempt-is)) j && (phase_number key.phase == phase_number phase) then Some outcome else None
+    said-is : (phase : Phase) → ended_by (End key outcome) (phase_key key.node (newest_launch_attempt past key.node) phase) ≡ said phase
+    said-is phase = λ j. if eq-eqb key.node key.node refl j && (eq-eqb key.attempt (newest_launch_attempt past key.node) (sym attempt-is)) j && (phase_number key.phase == phase_number phase) then Some outcome else None
 
     abbrev first : Phase → Option Outcome
-    first phase = first_ended past (phase_key key.node (newest_attempt past key.node) phase)
+    first phase = first_ended past (phase_key key.node (newest_launch_attempt past key.node) phase)
 
-    now-is : (phase : Phase) → first_ended ended (phase_key key.node (newest_attempt past key.node) phase) ≡ (if is_none (first phase) then said phase else first phase)
+    now-is : (phase : Phase) → first_ended ended (phase_key key.node (newest_launch_attempt past key.node) phase) ≡ (if is_none (first phase) then said phase else first phase)
     now-is phase = λ j. if is_none (first phase) then said-is phase j else first phase
 
-    with-first : (pre job : Option Outcome) → first_ended ended (phase_key key.node (newest_attempt past key.node) Pre) ≡ pre
-        → first_ended ended (phase_key key.node (newest_attempt past key.node) Job) ≡ job
-        → record { attempt = newest_attempt past key.node; launch = last_launch past key.node; job_launch = newest_launch past (phase_key key.node (newest_attempt past key.node) Job); pre = pre; job = job }
+    with-first : (pre job : Option Outcome) → first_ended ended (phase_key key.node (newest_launch_attempt past key.node) Pre) ≡ pre
+        → first_ended ended (phase_key key.node (newest_launch_attempt past key.node) Job) ≡ job
+        → record { attempt = newest_launch_attempt past key.node; launch = last_launch past key.node; job_launch = newest_launch past (phase_key key.node (newest_launch_attempt past key.node) Job); pre = pre; job = job }
         ≡ notes_of ended key.node
     with-first pre job p q = λ j. record {
-      attempt = newest_attempt past key.node;
+      attempt = newest_launch_attempt past key.node;
       launch = last_launch past key.node;
-      job_launch = newest_launch past (phase_key key.node (newest_attempt past key.node) Job);
+      job_launch = newest_launch past (phase_key key.node (newest_launch_attempt past key.node) Job);
       pre = sym p j;
       job = sym q j;
     }
 
-    end-own : with_end (notes_of past key.node) key.phase outcome ≡ notes_of ended key.node
+    end-own : with_phase_outcome (notes_of past key.node) key.phase outcome ≡ notes_of ended key.node
     end-own = go key.phase refl
       where
-        at : (own phase : Phase) → key.phase ≡ own → first_ended ended (phase_key key.node (newest_attempt past key.node) phase)
+        at : (own phase : Phase) → key.phase ≡ own → first_ended ended (phase_key key.node (newest_launch_attempt past key.node) phase)
             ≡ (if is_none (first phase) then (if phase_number own == phase_number phase then Some outcome else None) else first phase)
         at own phase e = now-is phase ∙ (λ j. if is_none (first phase) then (if phase_number (e j) == phase_number phase then Some outcome else None) else first phase)
 
-        go : (own : Phase) → key.phase ≡ own → with_end (notes_of past key.node) own outcome ≡ notes_of ended key.node
+        go : (own : Phase) → key.phase ≡ own → with_phase_outcome (notes_of past key.node) own outcome ≡ notes_of ended key.node
         go Pre e = with-first _ _ (at Pre Pre e) (at Pre Job e ∙ sym (keep (first Job)))
         go Job e = with-first _ _ (at Job Pre e ∙ sym (keep (first Pre))) (at Job Job e)
         go Post e = with-first _ _ (at Post Pre e ∙ sym (keep (first Pre))) (at Post Job e ∙ sym (keep (first Job)))
@@ -391,5 +391,5 @@ module _ (plan : Plan) (past : List Record) (lawful : is_lawful plan past ≡ tr
   notes-next (End key outcome) may =
       let within = end-within plan past key outcome lawful may in
       set-notes (End key outcome) key.node _ within
-      (ap (λ (n : AttemptNotes). with_end n key.phase outcome) (are.each key.node within) ∙ end-own plan past lawful key outcome may)
+      (ap (λ (n : AttemptNotes). with_phase_outcome n key.phase outcome) (are.each key.node within) ∙ end-own plan past lawful key outcome may)
       (end-other plan past lawful key outcome may)

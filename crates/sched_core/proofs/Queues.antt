@@ -7,8 +7,8 @@ use Rattle.std.proofs.lemmas.List.{get_or_default}
 use Rattle.std.proofs.lemmas.List.Elements.{Contains-get_or}
 use Rattle.node_machine.specs.declared.Key.{Key}
 use Rattle.node_machine.specs.declared.Phase.{Phase}
-use Rattle.node_machine.specs.declared.Stand.{Stand}
-use Rattle.node_machine.specs.Stand.{next_of}
+use Rattle.node_machine.specs.declared.MachineState.{MachineState}
+use Rattle.node_machine.specs.MachineState.{next_of}
 use Rattle.ready_queue.specs.declared.Member.{Member}
 use Rattle.ready_queue.specs.Queue.{ComesBefore, IsOrdered}
 use Rattle.ready_queue.proofs.Places.{trans, not-itself}
@@ -18,7 +18,7 @@ use Rattle.run_plan.specs.Planned.{IsPlanned}
 use Rattle.run_plan.proofs.PlanFacts.{parents-below}
 use Rattle.node_machine.specs.declared.Record.{Record}
 use Rattle.sched_core.specs.Run.{key_at, next, is_done, outstanding, is_among, is_free, is_nothing, is_aborted, is_ready, is_final_ready, may_launch, is_lawful}
-use Rattle.sched_core.specs.Core.{Shows, run_of, run_at, is_running, IsBestBelow}
+use Rattle.sched_core.specs.Core.{Shows, node_progress, run_at, is_running, IsBestBelow}
 use Rattle.sched_core.specs.Choices.{launchable, startable}
 use Rattle.sched_core.specs.Limits.{member_of, IsBetter}
 use Rattle.sched_core.specs.Notes.{AreNotes, notes_at}
@@ -30,7 +30,7 @@ use Rattle.sched_core.proofs.Sweeps.{all_below-from, all_below-not, all_below-sa
 use Rattle.sched_core.proofs.Held.{Within, outstanding-within}
 use Rattle.sched_core.proofs.Best.{startable-parts, startable-node}
 use Rattle.sched_core.proofs.Sound.{Held, sound}
-use Rattle.sched_core.proofs.Shown.{stand-next, stand-done}
+use Rattle.sched_core.proofs.Shown.{machine-next, machine-done}
 use Rattle.sched_core.proofs.Moves.{launchable-next}
 use Rattle.sched_core.proofs.Leaf.{free-shown}
 use Rattle.ready_queue.proofs.Edits.{by_lt}
@@ -43,43 +43,43 @@ pub state-shown : (plan : Plan) → IsPlanned plan → (past : List Record) (sta
 state-shown plan planned past states aborted jobs s notes left node state w at = record {
   run = at.run ∙ s.runs_are node w;
   notes = at.notes ∙ notes.each node w;
-  left = λ calm lt. at.left ∙ left.each (s.aborted_is ∙ calm) node lt
+  left = λ abort_free lt. at.left ∙ left.each (s.aborted_is ∙ abort_free) node lt
       ∙ undone-same (done_at plan states.runs) (is_done plan past) (count_of plan)
-      (λ p low. (λ j. (node_at plan p).done || (is_none (s.runs_are p (omega (arith, low)) j).stand.phase && (s.runs_are p (omega (arith, low)) j).stand.good)) ∙ stand-done plan past s.lawful p)
+      (λ p low. (λ j. (node_at plan p).done || (is_none (s.runs_are p (omega (arith, low)) j).machine.phase && (s.runs_are p (omega (arith, low)) j).machine.good)) ∙ machine-done plan past s.lawful p)
       (node_at plan node).parents (parents-below plan planned node);
 }
 
 -- whether an ordinary node is ready is read from its state
-none-key : (node : ℕ) (stand : Stand) (o : Option Phase) → is_none (key_at node (next_of stand o)) ≡ is_none o
-none-key node stand None = refl
-none-key node stand (Some phase) = refl
+none-key : (node : ℕ) (machine : MachineState) (o : Option Phase) → is_none (key_at node (next_of machine o)) ≡ is_none o
+none-key node machine None = refl
+none-key node machine (Some phase) = refl
 
 free-by : (plan : Plan) (past : List Record) → is_lawful plan past ≡ true → (node : ℕ)
-    → (not (node_at plan node).done && (not (is_none (run_of plan past node).stand.phase) && not (is_running plan past node))) ≡ is_free plan past (next plan past node)
+    → (not (node_at plan node).done && (not (is_none (node_progress plan past node).machine.phase) && not (is_running plan past node))) ≡ is_free plan past (next plan past node)
 free-by plan past lawful node = go (next plan past node) refl
   where
-    stand : Stand
-    stand = (run_of plan past node).stand
+    machine : MachineState
+    machine = (node_progress plan past node).machine
 
-    none-is : (not (node_at plan node).done && not (is_none stand.phase)) ≡ not (is_none (next plan past node))
-    none-is = cases (node_at plan node).done ∙ ap (λ (o : Option Key). not (is_none o)) (stand-next plan past lawful node)
+    none-is : (not (node_at plan node).done && not (is_none machine.phase)) ≡ not (is_none (next plan past node))
+    none-is = cases (node_at plan node).done ∙ ap (λ (o : Option Key). not (is_none o)) (machine-next plan past lawful node)
       where
-        cases : (d : Bool) → (not d && not (is_none stand.phase)) ≡ not (is_none (if d then None else key_at node (next_of stand stand.phase)))
+        cases : (d : Bool) → (not d && not (is_none machine.phase)) ≡ not (is_none (if d then None else key_at node (next_of machine machine.phase)))
         cases true = refl
-        cases false = ap not (sym (none-key node stand stand.phase))
+        cases false = ap not (sym (none-key node machine machine.phase))
 
     assoc : (a b c : Bool) → (a && (b && c)) ≡ ((a && b) && c)
     assoc true b c = refl
     assoc false b c = refl
 
     go : (o : Option Key) → next plan past node ≡ o
-        → (not (node_at plan node).done && (not (is_none stand.phase) && not (is_running plan past node))) ≡ is_free plan past (next plan past node)
+        → (not (node_at plan node).done && (not (is_none machine.phase) && not (is_running plan past node))) ≡ is_free plan past (next plan past node)
     go None e =
-        assoc (not (node_at plan node).done) (not (is_none stand.phase)) (not (is_running plan past node))
+        assoc (not (node_at plan node).done) (not (is_none machine.phase)) (not (is_running plan past node))
         ∙ (λ j. (none-is ∙ ap (λ (o : Option Key). not (is_none o)) e) j && not (is_running plan past node))
         ∙ ap (is_free plan past) (sym e)
     go (Some key) e =
-        assoc (not (node_at plan node).done) (not (is_none stand.phase)) (not (is_running plan past node))
+        assoc (not (node_at plan node).done) (not (is_none machine.phase)) (not (is_running plan past node))
         ∙ (λ j. (none-is ∙ ap (λ (o : Option Key). not (is_none o)) e) j && not (is_running plan past node))
         ∙ sym (free-shown plan past lawful node key e)
 
@@ -91,7 +91,7 @@ ready-shown plan past lawful node lt state is aborted flag =
     ∙ go (is_aborted plan past) refl
   where
     rest : Bool
-    rest = not (node_at plan node).done && (not (is_none (run_of plan past node).stand.phase) && not (is_running plan past node))
+    rest = not (node_at plan node).done && (not (is_none (node_progress plan past node).machine.phase) && not (is_running plan past node))
 
     go : (a : Bool) → is_aborted plan past ≡ a
         → (not (is_aborted plan past) && ((state.parents_left == 0) && rest)) ≡ (not (is_aborted plan past) && list_all (is_done plan past) (node_at plan node).parents && is_free plan past (next plan past node))

@@ -8,19 +8,19 @@ use Rattle.node_machine.specs.declared.Ended.{Ended}
 use Rattle.node_machine.specs.declared.Course.{Course}
 use Rattle.node_machine.specs.declared.Outcome.{Outcome}
 use Rattle.node_machine.specs.declared.Key.{Key}
-use Rattle.node_machine.specs.Story.{Table, value_of, ends_with, outcome_in, has_ended, ended, decided_by, with_job, with_failed_pre, with_pre, attempt, skips, is_exit_0, always_posts, is_last, attempts_from, story, phases_of}
+use Rattle.node_machine.specs.Story.{Table, value_of, ends_with, outcome_in, has_ended, ended, decided_by, with_job, with_failed_pre, with_pre, attempt, skips, is_exit_0, always_posts, is_final_attempt, attempts_from, story, phases_of}
 use Rattle.node_machine.specs.declared.State.TheVariants.{Done, NotRun}
 use Rattle.node_machine.proofs.Trees.{Told}
 use Rattle.node_machine.proofs.Beginnings.{masked, next-some}
 use Rattle.run_plan_node.specs.declared.command.PhaseFacts.{PhaseFacts}
 use Rattle.run_plan_node.specs.Node.{NodeSpec}
 use Rattle.run_plan.specs.Plan.{Plan, node_at, count_of, IsRankedBy, at}
-use Rattle.run_plan_node.specs.Commands.{command_of, starts_child, is_sound, uses_whole_run, HaveSameEnds}
+use Rattle.run_plan_node.specs.Commands.{command_of, starts_child, is_expandable, uses_whole_run, HaveSameEnds}
 use Rattle.run_plan_node.proofs.PlainCommands.{plain_command_same}
 use Rattle.node_machine.specs.declared.Record.{Record}
 use Rattle.node_machine.specs.declared.Record.TheVariants.{Launch}
 use Rattle.sched_core.specs.Run.{history, is_lawful, may_follow}
-use Rattle.sched_core.specs.Fate.{Fate, is_done_state, without_attempts, told_by, fate_by, AreFates}
+use Rattle.sched_core.specs.Fate.{Fate, is_done_state, without_attempts, fate_by_story, fate_by, AreFates}
 use Rattle.sched_core.specs.Agree.{IsAlike, HaveSameCommands, Agree}
 use Rattle.sched_core.specs.Lives.{HasOutcomesOf}
 use Rattle.sched_core.specs.Commands.{plain_facts, is_without_job, job_value_of, pre_value_of, facts_by, command_by, with_commands, facts_in}
@@ -72,7 +72,7 @@ module _ (course : Course) (es : List Ended) (column : ℕ → Phase → Outcome
 -- a launch is started by the command of the table
 pub launch-command : (plan : Plan) (table : Table) (newer past : List Record) (key : Key) (number : ℕ)
     → is_lawful plan (newer ++ Launch key number ∷ past) ≡ true → HasOutcomesOf plan table past
-    → is_sound (node_at plan key.node) ≡ true → uses_whole_run (node_at plan key.node) ≡ false
+    → is_expandable (node_at plan key.node) ≡ true → uses_whole_run (node_at plan key.node) ≡ false
     → command_of (node_at plan key.node) key.attempt key.phase (facts_in plan (Launch key number ∷ past) key)
     ≡ command_by plan table key.node key.attempt key.phase
 launch-command plan table newer past key number h o sound_texts plain =
@@ -152,7 +152,7 @@ of-attempt P course i outcomes own = pre course.pre
 from-allowed : (course : Course) (outcomes : ℕ → Phase → Outcome) (n i left : ℕ) → i + left ≤ n → EachOf (λ e. e.attempt ≤ n) (phases_of (attempts_from course outcomes i left))
 from-allowed course outcomes n i zero fits =
     each-append (λ e. e.attempt ≤ n) (attempt course i (outcomes i)).ended [] (of-attempt (λ e. e.attempt ≤ n) course i (outcomes i) (λ phase. omega (arith, fits))) tt
-from-allowed course outcomes n i (suc left) fits = go (is_last course (attempt course i (outcomes i))) (from-allowed course outcomes n (suc i) left (omega (arith, fits)))
+from-allowed course outcomes n i (suc left) fits = go (is_final_attempt course (attempt course i (outcomes i))) (from-allowed course outcomes n (suc i) left (omega (arith, fits)))
   where
     own : EachOf (λ e. e.attempt ≤ n) (attempt course i (outcomes i)).ended
     own = of-attempt (λ e. e.attempt ≤ n) course i (outcomes i) (λ phase. omega (arith, fits))
@@ -170,7 +170,7 @@ fate-allowed : (plan : Plan) (table : Table) (fates : ℕ → Fate) (node : ℕ)
 fate-allowed plan table fates node = go (node_at plan node).done (list_all (λ parent. is_done_state (fates parent).state) (node_at plan node).parents)
   where
     go : (a b : Bool) → EachOf (λ e. e.attempt ≤ (node_at plan node).course.retries)
-        (if a then without_attempts Done else if b then told_by (story (node_at plan node).course (table node)) else without_attempts NotRun).history
+        (if a then without_attempts Done else if b then fate_by_story (story (node_at plan node).course (table node)) else without_attempts NotRun).history
     go true b = tt
     go false true = story-allowed (node_at plan node).course (table node)
     go false false = tt

@@ -48,11 +48,11 @@ ready-other plan aborted runs left node run l n ne =
 module _ (plan : Plan) (aborted : Bool) (runs : List NodeProgress) (left : List ℕ) (node : ℕ) (run : NodeProgress) (l : ℕ) where
   -- another node's share
   share-other : (class n : ℕ) → (node ≡ n → ⊥) → share_at plan aborted (slice_set runs node run) (slice_set left node l) class n ≡ share_at plan aborted runs left class n
-  share-other class n ne = λ j. share (ready-other plan aborted runs left node run l n ne j) (class_by (run_at-other runs node run n ne j).stand.phase (node_at plan n).category) class
+  share-other class n ne = λ j. share (ready-other plan aborted runs left node run l n ne j) (class_by (run_at-other runs node run n ne j).machine.phase (node_at plan n).category) class
 
   -- the counts, where the node's old share is taken out and its new one is put in
   counts-settled : (old new : List ℕ) → length runs ≡ suc (count_of plan) → length left ≡ suc (count_of plan) → node < count_of plan → (was : Bool) (before : ℕ) (now : Bool) (class : ℕ)
-      → was ≡ is_ready_at plan aborted runs left node → before ≡ class_by (run_at runs node).stand.phase (node_at plan node).category → now ≡ is_ready_by (node_at plan node).done aborted run l → class ≡ class_by run.stand.phase (node_at plan node).category
+      → was ≡ is_ready_at plan aborted runs left node → before ≡ class_by (run_at runs node).machine.phase (node_at plan node).category → now ≡ is_ready_by (node_at plan node).done aborted run l → class ≡ class_by run.machine.phase (node_at plan node).category
       → ((k : ℕ) → count_at old k ≡ sum_below (share_at plan aborted runs left k) (count_of plan)) → ((k : ℕ) → count_at new k + share was before k ≡ count_at old k + share now class k)
       → (k : ℕ) → count_at new k ≡ sum_below (share_at plan aborted (slice_set runs node run) (slice_set left node l) k) (count_of plan)
   counts-settled old new many many' lt was before now class w b n c counted moves k =
@@ -60,7 +60,7 @@ module _ (plan : Plan) (aborted : Bool) (runs : List NodeProgress) (left : List 
       let out : share was before k ≡ share_at plan aborted runs left k node = (λ j. share (w j) (b j) k) in
       let back : share now class k ≡ share_at plan aborted (slice_set runs node run) (slice_set left node l) k node =
       (λ j. share ((n ∙ sym (ready-own plan aborted runs left node run l (omega (arith, lt, many)) (omega (arith, lt, many')))) j)
-      ((c ∙ sym (ap (λ (r : NodeProgress). class_by r.stand.phase (node_at plan node).category) (run_at-same runs node run (omega (arith, lt, many))))) j) k) in
+      ((c ∙ sym (ap (λ (r : NodeProgress). class_by r.machine.phase (node_at plan node).category) (run_at-same runs node run (omega (arith, lt, many))))) j) k) in
       let is = counted k in let move = moves k in
       omega (arith, moved, out, back, is, move)
 
@@ -69,7 +69,7 @@ module _ (plan : Plan) (aborted : Bool) (runs : List NodeProgress) (left : List 
   -- an ordinary node's
   pub settled : node < count_of plan → AreMembers plan new.queue → IsSet plan node (is_ready_by (node_at plan node).done aborted run l) old.queue.members new.queue.members
       → length new.counts ≡ length old.counts → (was : Bool) (before : ℕ) (now : Bool) (class : ℕ)
-      → was ≡ is_ready_at plan aborted runs left node → before ≡ class_by (run_at runs node).stand.phase (node_at plan node).category → now ≡ is_ready_by (node_at plan node).done aborted run l → class ≡ class_by run.stand.phase (node_at plan node).category
+      → was ≡ is_ready_at plan aborted runs left node → before ≡ class_by (run_at runs node).machine.phase (node_at plan node).category → now ≡ is_ready_by (node_at plan node).done aborted run l → class ≡ class_by run.machine.phase (node_at plan node).category
       → ((k : ℕ) → count_at new.counts k + share was before k ≡ count_at old.counts k + share now class k)
       → IsQueued plan aborted (slice_set runs node run) (slice_set left node l) new
   settled lt are one long was before now class w b n c moves = record {
@@ -107,7 +107,7 @@ module _ (plan : Plan) (aborted : Bool) (runs : List NodeProgress) (left : List 
 -- a node that is ready counts for its class
 pub counted-some : (plan : Plan) (aborted : Bool) (runs : List NodeProgress) (left : List ℕ) (counts : List ℕ) (node class : ℕ)
     → ((k : ℕ) → count_at counts k ≡ sum_below (share_at plan aborted runs left k) (count_of plan)) → node < count_of plan
-    → is_ready_at plan aborted runs left node ≡ true → class_by (run_at runs node).stand.phase (node_at plan node).category ≡ class → 0 < count_at counts class
+    → is_ready_at plan aborted runs left node ≡ true → class_by (run_at runs node).machine.phase (node_at plan node).category ≡ class → 0 < count_at counts class
 counted-some plan aborted runs left counts node class counted lt ready is =
     let one : share_at plan aborted runs left class node ≡ 1 = (λ j. share (is_ready_at plan aborted runs left node) (is j) class) ∙ share-own (is_ready_at plan aborted runs left node) class ready in
     let some = sum-has (share_at plan aborted runs left class) node (count_of plan) lt in
@@ -118,7 +118,7 @@ counted-some plan aborted runs left counts node class counted lt ready is =
 pub counted-few : (plan : Plan) (aborted : Bool) (runs : List NodeProgress) (left : List ℕ) (counts : List ℕ)
     → ((k : ℕ) → count_at counts k ≡ sum_below (share_at plan aborted runs left k) (count_of plan)) → (class : ℕ) → count_at counts class ≤ count_of plan
 counted-few plan aborted runs left counts counted class =
-    let few = sum-few (share_at plan aborted runs left class) (λ k. share-few (is_ready_at plan aborted runs left k) (class_by (run_at runs k).stand.phase (node_at plan k).category) class) (count_of plan) in
+    let few = sum-few (share_at plan aborted runs left class) (λ k. share-few (is_ready_at plan aborted runs left k) (class_by (run_at runs k).machine.phase (node_at plan k).category) class) (count_of plan) in
     let sum = counted class in
     omega (arith, few, sum)
 
@@ -160,12 +160,12 @@ fill-none plan runs left classed are none counts = record {
 
 pub fill-few : (plan : Plan) (runs : List NodeProgress) (left : List ℕ) (n : ℕ) (classed : Classed) → IsFilled plan runs left n classed → n ≤ count_of plan → (class : ℕ) → count_at classed.counts class ≤ count_of plan
 fill-few plan runs left n classed filled le class =
-    let few = sum-few (share_at plan false runs left class) (λ k. share-few (is_ready_at plan false runs left k) (class_by (run_at runs k).stand.phase (node_at plan k).category) class) n in
+    let few = sum-few (share_at plan false runs left class) (λ k. share-few (is_ready_at plan false runs left k) (class_by (run_at runs k).machine.phase (node_at plan k).category) class) n in
     let sum = filled.counted class in
     omega (arith, few, sum, le)
 
 pub fill-more : (plan : Plan) (runs : List NodeProgress) (left : List ℕ) (i : ℕ) (old new : Classed) → IsFilled plan runs left i old → AreMembers plan new.queue
-    → IsSet plan i (is_ready_at plan false runs left i) old.queue.members new.queue.members → length new.counts ≡ length old.counts → (class : ℕ) → class ≡ class_by (run_at runs i).stand.phase (node_at plan i).category
+    → IsSet plan i (is_ready_at plan false runs left i) old.queue.members new.queue.members → length new.counts ≡ length old.counts → (class : ℕ) → class ≡ class_by (run_at runs i).machine.phase (node_at plan i).category
     → ((k : ℕ) → count_at new.counts k ≡ count_at old.counts k + share (is_ready_at plan false runs left i) class k)
     → IsFilled plan runs left (i + 1) new
 fill-more plan runs left i old new before are one long class is moves = record {

@@ -5,7 +5,7 @@ use Rattle.std.specs.List.{list_all}
 use Rattle.node_machine.specs.declared.Phase.{Phase}
 use Rattle.node_machine.specs.declared.Outcome.{Outcome}
 use Rattle.node_machine.specs.declared.Key.{Key}
-use Rattle.node_machine.specs.Story.{outcome_in, attempts_after, next_after, is_good_after, may_end_with, last_of, is_good}
+use Rattle.node_machine.specs.Story.{outcome_in, attempts_after, next_after, is_good_after, may_end_with, newest_attempt, is_good}
 use Rattle.node_machine.proofs.Beginnings.{Fits, fits-nil, fits-next}
 use Rattle.node_machine.proofs.Trees.{got}
 use Rattle.node_machine.specs.declared.Record.{Record}
@@ -123,7 +123,7 @@ module _ (plan : Plan) (past : List Record) (key : Key) (outcome : Outcome) (s :
 
   stuck : is_done plan past key.node ≡ false
   unfolding is_good_after
-  stuck = λ j. (undone j) || (is_none (next-is.1 j) && is_good (last_of (attempts_after (node_at plan key.node).course (history past key.node))))
+  stuck = λ j. (undone j) || (is_none (next-is.1 j) && is_good (newest_attempt (attempts_after (node_at plan key.node).course (history past key.node))))
 
   end-done : (node : ℕ) → is_done plan past node ≡ true → is_done plan now node ≡ true
   end-done node e = go (key.node == node) refl

@@ -7,28 +7,28 @@ use Rattle.node_machine.specs.declared.Phase.TheVariants.{Pre, Job}
 use Rattle.node_machine.specs.declared.Outcome.TheVariants.{Exit}
 use Rattle.node_machine.specs.declared.Outcome.{Outcome}
 use Rattle.node_machine.specs.declared.Key.{Key}
-use Rattle.node_machine.specs.declared.Stand.{Stand}
+use Rattle.node_machine.specs.declared.MachineState.{MachineState}
 use Rattle.node_machine.specs.declared.Ended.{Ended}
 use Rattle.node_machine.proofs.Trees.{got}
 use Rattle.node_machine.specs.NodeProgress.{NodeProgress}
 use Rattle.node_machine.specs.Story.{next_after, is_good_after}
 use Rattle.node_machine.specs.NodeRun.{ended_with}
-use Rattle.node_machine.specs.Stand.{next_of, stand_after}
+use Rattle.node_machine.specs.MachineState.{next_of, machine_after}
 use Rattle.node_machine.proofs.Standing.{steps-next}
 use Rattle.run_plan.specs.Plan.{Plan, node_at, count_of, all_below}
 use Rattle.node_machine.specs.declared.Record.{Record}
 use Rattle.node_machine.specs.declared.Record.TheVariants.{Life, Launch, End, Finish}
-use Rattle.sched_core.specs.Run.{written, history, key_at, next, is_done, is_in_error, is_met, has_abort_value, is_aborted, outstanding, is_among, is_lawful, may_follow}
-use Rattle.sched_core.specs.Core.{Shows, Takes, run_at, aborted_in, has_abort_at, is_stuck_at, failed_after}
+use Rattle.sched_core.specs.Run.{chronological, history, key_at, next, is_done, is_in_error, setting_is_met, has_abort_value, is_aborted, outstanding, is_among, is_lawful, may_follow}
+use Rattle.sched_core.specs.Core.{Shows, TakesRecord, run_at, aborted_in, has_abort_at, is_stuck_at, failed_after}
 use Rattle.sched_core.specs.Commands.{failed_in, dag_status_in, newest_launch, job_value_of, pre_value_of, facts_in}
 use Rattle.sched_core.specs.Bound.{sum_below}
 use Rattle.node_machine.proofs.Beginnings.{nil-next}
 use Rattle.sched_core.specs.declared.notes.AttemptNotes.{AttemptNotes}
-use Rattle.sched_core.specs.Notes.{first_ended, phase_key, noted_facts, notes_of, notes_at, notes_after, with_launch, with_end, AreNotes, IsNoted}
+use Rattle.sched_core.specs.Notes.{first_ended, phase_key, noted_facts, notes_of, notes_at, notes_after, with_launch, with_phase_outcome, AreNotes, IsNoted}
 use Rattle.sched_core.proofs.Keys.{each_among}
 use Rattle.sched_core.proofs.Sound.{Held, sound, end-among, next-parts, launch-held}
 use Rattle.sched_core.proofs.Held.{histories-are, end-within, launched-within, launched-idle, ended-runs}
-use Rattle.sched_core.proofs.Shown.{stand-next, stand-done, stand-value, aborted-is, shows-after}
+use Rattle.sched_core.proofs.Shown.{machine-next, machine-done, machine-value, aborted-is, shows-after}
 use Rattle.sched_core.proofs.Sweeps.{all_below-same, run_at-other}
 use Rattle.sched_core.proofs.Aborts.{over-at}
 use Rattle.sched_core.proofs.FactsLemmas.{first-outcome, among-within}
@@ -77,19 +77,19 @@ all_below-one test other k same passed (suc n) = go (k == n) refl (all_below-one
 -- the flag for an abort follows from the node whose phase ended
 pub one-abort : (plan : Plan) (runs : List NodeProgress) (node : ℕ) (now : NodeProgress) → node < length runs → has_abort_at plan runs node ≡ false
     → aborted_in plan (slice_set runs node now) ≡ (aborted_in plan runs || has_abort_at plan (slice_set runs node now) node)
-one-abort plan runs node now within calm = go (nat_lt node (count_of plan)) refl
+one-abort plan runs node now within abort_free = go (nat_lt node (count_of plan)) refl
   where
     after : List NodeProgress
     after = slice_set runs node now
 
     calm_before : ℕ → Bool
-    calm_before k = not (is_met (node_at plan k).course.abort_on (run_at runs k).stand.value)
+    calm_before k = not (setting_is_met (node_at plan k).course.abort_on (run_at runs k).machine.value)
 
     calm_after : ℕ → Bool
-    calm_after k = not (is_met (node_at plan k).course.abort_on (run_at after k).stand.value)
+    calm_after k = not (setting_is_met (node_at plan k).course.abort_on (run_at after k).machine.value)
 
     others : (m : ℕ) → (node == m) ≡ false → calm_after m ≡ calm_before m
-    others m ne = λ j. not (is_met (node_at plan m).course.abort_on (run_at-other runs node now m (eqb-false node m ne) j).stand.value)
+    others m ne = λ j. not (setting_is_met (node_at plan m).course.abort_on (run_at-other runs node now m (eqb-false node m ne) j).machine.value)
 
     not-and : (a b : Bool) → not (a && not b) ≡ (not a || b)
     not-and true true = refl
@@ -100,27 +100,27 @@ one-abort plan runs node now within calm = go (nat_lt node (count_of plan)) refl
     or-false true = refl
     or-false false = refl
 
-    go : (b : Bool) → nat_lt node (count_of plan) ≡ b → aborted_in plan after ≡ (aborted_in plan runs || (nat_lt node (count_of plan) && is_met (node_at plan node).course.abort_on (run_at after node).stand.value))
+    go : (b : Bool) → nat_lt node (count_of plan) ≡ b → aborted_in plan after ≡ (aborted_in plan runs || (nat_lt node (count_of plan) && setting_is_met (node_at plan node).course.abort_on (run_at after node).machine.value))
     go true t =
-        let passed : calm_before node ≡ true = ap not ((λ j. sym t j && is_met (node_at plan node).course.abort_on (run_at runs node).stand.value) ∙ calm) in
+        let passed : calm_before node ≡ true = ap not ((λ j. sym t j && setting_is_met (node_at plan node).course.abort_on (run_at runs node).machine.value) ∙ abort_free) in
         ap not (all_below-one calm_before calm_after node others passed (count_of plan) ∙ (λ j. all_below calm_before (count_of plan) && (not (t j) || calm_after node)))
-        ∙ not-and (all_below calm_before (count_of plan)) (is_met (node_at plan node).course.abort_on (run_at after node).stand.value)
-        ∙ (λ j. aborted_in plan runs || (sym t j && is_met (node_at plan node).course.abort_on (run_at after node).stand.value))
+        ∙ not-and (all_below calm_before (count_of plan)) (setting_is_met (node_at plan node).course.abort_on (run_at after node).machine.value)
+        ∙ (λ j. aborted_in plan runs || (sym t j && setting_is_met (node_at plan node).course.abort_on (run_at after node).machine.value))
     go false f =
         ap not (all_below-same calm_after calm_before (count_of plan) (λ m lt. others m (false_from_ne_true _ (λ t. let e = eqb-true node m t in let ge = ltb-false node (count_of plan) f in omega (arith, e, ge, lt)))))
         ∙ or-false (aborted_in plan runs)
-        ∙ (λ j. aborted_in plan runs || (sym f j && is_met (node_at plan node).course.abort_on (run_at after node).stand.value))
+        ∙ (λ j. aborted_in plan runs || (sym f j && setting_is_met (node_at plan node).course.abort_on (run_at after node).machine.value))
 
 -- what a record takes
 pub shows-takes : (plan : Plan) (past : List Record) (runs : List NodeProgress) (aborted : Bool) (jobs : ℕ) → Shows plan past runs aborted jobs
-    → (entry : Record) → may_follow plan past entry ≡ true → Takes plan runs entry
+    → (entry : Record) → may_follow plan past entry ≡ true → TakesRecord plan runs entry
 shows-takes plan past runs aborted jobs s Life h = tt
 shows-takes plan past runs aborted jobs s (Launch key number) h =
     let w = launched-within plan past key number h in
     let r = s.runs_are key.node w in (
       w,
       ap (λ (t : NodeProgress). t.running) r ∙ launched-idle plan past key number s.lawful h,
-      ap (λ (t : NodeProgress). next_of t.stand t.stand.phase) r
+      ap (λ (t : NodeProgress). next_of t.machine t.machine.phase) r
           ∙ sym (steps-next (node_at plan key.node).course (history past key.node) (histories-are plan past s.lawful key.node))
           ∙ (next-parts plan past key.node key (launch-held plan past key number h).is_next).1,
     )
@@ -128,8 +128,8 @@ shows-takes plan past runs aborted jobs s (End key outcome) h =
     let w = end-within plan past key outcome s.lawful h in (
       w,
       ap (λ (t : NodeProgress). t.running) (s.runs_are key.node w) ∙ ended-runs plan past key outcome s.lawful h,
-      (λ j. nat_lt key.node (count_of plan) && is_met (node_at plan key.node).course.abort_on ((ap (λ (t : NodeProgress). t.stand.value) (s.runs_are key.node w) ∙ stand-value plan past s.lawful key.node) j))
-          ∙ (λ j. nat_lt key.node (count_of plan) && calm j) ∙ and-false (nat_lt key.node (count_of plan)),
+      (λ j. nat_lt key.node (count_of plan) && setting_is_met (node_at plan key.node).course.abort_on ((ap (λ (t : NodeProgress). t.machine.value) (s.runs_are key.node w) ∙ machine-value plan past s.lawful key.node) j))
+          ∙ (λ j. nat_lt key.node (count_of plan) && abort_free j) ∙ and-false (nat_lt key.node (count_of plan)),
     )
   where
     and-false : (b : Bool) → (b && false) ≡ false
@@ -139,33 +139,33 @@ shows-takes plan past runs aborted jobs s (End key outcome) h =
     held : Held plan past key
     held = each_among (Held plan past) key (outstanding plan past) (sound plan past s.lawful).held (end-among plan past key outcome h).0
 
-    calm : has_abort_value plan past key.node ≡ false
-    calm = false_from_ne_true _ (λ t.
+    abort_free : has_abort_value plan past key.node ≡ false
+    abort_free = false_from_ne_true _ (λ t.
         let bad : None ≡ Some (key.attempt, key.phase) = sym (over-at plan past s.lawful key.node t) ∙ (next-parts plan past key.node key held.is_next).1 in cc)
 shows-takes plan past runs aborted jobs s (Finish status) h = tt
 
 -- the flag for an abort is that of the nodes
 pub flag-shown : (plan : Plan) (past : List Record) (runs : List NodeProgress) (aborted : Bool) (jobs : ℕ) → Shows plan past runs aborted jobs → aborted ≡ aborted_in plan runs
 flag-shown plan past runs aborted jobs s =
-    s.aborted_is ∙ sym (aborted-is plan past s.lawful runs (λ node lt. ap (λ (r : NodeProgress). r.stand) (s.runs_are node lt)))
+    s.aborted_is ∙ sym (aborted-is plan past s.lawful runs (λ node lt. ap (λ (r : NodeProgress). r.machine) (s.runs_are node lt)))
 
 -- an ordinary node that is stuck is in error
-none-key : (node : ℕ) (stand : Stand) (o : Option Phase) → is_none (key_at node (next_of stand o)) ≡ is_none o
-none-key node stand None = refl
-none-key node stand (Some phase) = refl
+none-key : (node : ℕ) (machine : MachineState) (o : Option Phase) → is_none (key_at node (next_of machine o)) ≡ is_none o
+none-key node machine None = refl
+none-key node machine (Some phase) = refl
 
 stuck-error : (plan : Plan) (past : List Record) (runs : List NodeProgress) (aborted : Bool) (jobs : ℕ) → Shows plan past runs aborted jobs
     → (node : ℕ) → node < suc (count_of plan) → is_stuck_at plan runs node ≡ (nat_lt node (count_of plan) && is_in_error plan past node)
 stuck-error plan past runs aborted jobs s node lt =
     (λ j. nat_lt node (count_of plan) && (not (node_at plan node).done && (is_none (stand_is j).phase && not (stand_is j).good)))
-    ∙ (λ j. nat_lt node (count_of plan) && both (node_at plan node).done (is_none stand.phase) stand.good j)
-    ∙ (λ j. nat_lt node (count_of plan) && (not (stand-done plan past s.lawful node j) && (own-next j)))
+    ∙ (λ j. nat_lt node (count_of plan) && both (node_at plan node).done (is_none machine.phase) machine.good j)
+    ∙ (λ j. nat_lt node (count_of plan) && (not (machine-done plan past s.lawful node j) && (own-next j)))
   where
-    stand : Stand
-    stand = stand_after (node_at plan node).course (history past node)
+    machine : MachineState
+    machine = machine_after (node_at plan node).course (history past node)
 
-    stand_is : (run_at runs node).stand ≡ stand
-    stand_is = ap (λ (r : NodeProgress). r.stand) (s.runs_are node lt)
+    stand_is : (run_at runs node).machine ≡ machine
+    stand_is = ap (λ (r : NodeProgress). r.machine) (s.runs_are node lt)
 
     -- done, no phase, good
     both : (d n g : Bool) → (not d && (n && not g)) ≡ (not (d || (n && g)) && (if d then true else n))
@@ -174,12 +174,12 @@ stuck-error plan past runs aborted jobs s node lt =
     both false true false = refl
     both false false g = refl
 
-    own-next : (if (node_at plan node).done then true else is_none stand.phase) ≡ is_none (next plan past node)
-    own-next = cases (node_at plan node).done ∙ ap is_none (stand-next plan past s.lawful node)
+    own-next : (if (node_at plan node).done then true else is_none machine.phase) ≡ is_none (next plan past node)
+    own-next = cases (node_at plan node).done ∙ ap is_none (machine-next plan past s.lawful node)
       where
-        cases : (d : Bool) → (if d then true else is_none stand.phase) ≡ is_none (if d then None else key_at node (next_of stand stand.phase))
+        cases : (d : Bool) → (if d then true else is_none machine.phase) ≡ is_none (if d then None else key_at node (next_of machine machine.phase))
         cases true = refl
-        cases false = sym (none-key node stand stand.phase)
+        cases false = sym (none-key node machine machine.phase)
 
 -- a sum in which one number rose from 0
 pub sum-one : (f g : ℕ → ℕ) (k : ℕ) → ((m : ℕ) → (k == m) ≡ false → g m ≡ f m) → f k ≡ 0
@@ -277,10 +277,10 @@ none-at node None = refl
 none-at node (Some next) = refl
 
 -- before any record none is in error
-pub fresh-noted : (plan : Plan) (records : List Record) (notes : List AttemptNotes) → records ≡ [] → AreNotes plan [] notes → IsNoted plan (written records) notes 0
-fresh-noted plan records notes none are = subst (λ (l : List Record). IsNoted plan (written l) notes 0) (sym none) (record {
+pub fresh-noted : (plan : Plan) (records : List Record) (notes : List AttemptNotes) → records ≡ [] → AreNotes plan [] notes → IsNoted plan (chronological records) notes 0
+fresh-noted plan records notes none are = subst (λ (l : List Record). IsNoted plan (chronological l) notes 0) (sym none) (record {
   are_notes = are;
-  failed_is = sym (calm (count_of plan));
+  failed_is = sym (abort_free (count_of plan));
 })
   where
     unstuck : (node : ℕ) → is_in_error plan [] node ≡ false
@@ -292,9 +292,9 @@ fresh-noted plan records notes none are = subst (λ (l : List Record). IsNoted p
             (λ j. not (is_good_after (node_at plan node).course []) && (none-at node (next_after (node_at plan node).course []) ∙ nil-next (node_at plan node).course) j)
             ∙ none-and (not (is_good_after (node_at plan node).course []))
 
-    calm : (n : ℕ) → sum_below (λ node. if is_in_error plan [] node then 1 else 0) n ≡ 0
-    calm zero = refl
-    calm (suc n) = (λ j. (if unstuck n j then 1 else 0) + calm n j)
+    abort_free : (n : ℕ) → sum_below (λ node. if is_in_error plan [] node then 1 else 0) n ≡ 0
+    abort_free zero = refl
+    abort_free (suc n) = (λ j. (if unstuck n j then 1 else 0) + abort_free n j)
 
 -- what is noted when a record is added
 pub noted-added : (plan : Plan) (past now : List Record) (entry : Record) (runs runs' : List NodeProgress) (aborted aborted' : Bool) (jobs jobs' failed failed' : ℕ) (notes notes' : List AttemptNotes)
@@ -359,17 +359,17 @@ facts-noted plan past notes failed lawful is key among own own_is aborted aborte
 pub notes-many : (notes : List AttemptNotes) (entry : Record) → length (notes_after notes entry) ≡ length notes
 notes-many notes Life = refl
 notes-many notes (Launch key number) = length-set notes key.node (with_launch (notes_at notes key.node) key number)
-notes-many notes (End key outcome) = length-set notes key.node (with_end (notes_at notes key.node) key.phase outcome)
+notes-many notes (End key outcome) = length-set notes key.node (with_phase_outcome (notes_at notes key.node) key.phase outcome)
 notes-many notes (Finish status) = refl
 
 -- a run that is aborted stays so
 pub aborted-stays : (plan : Plan) (past : List Record) (runs : List NodeProgress) (aborted : Bool) (jobs : ℕ) → Shows plan past runs aborted jobs
     → (key : Key) (outcome : Outcome) → may_follow plan past (End key outcome) ≡ true → is_aborted plan (End key outcome ∷ past) ≡ false → is_aborted plan past ≡ false
-aborted-stays plan past runs aborted jobs s key outcome may calm =
+aborted-stays plan past runs aborted jobs s key outcome may abort_free =
     let after = shows-after plan past runs aborted jobs s (End key outcome) may in
     let takes = shows-takes plan past runs aborted jobs s (End key outcome) may in
     let one = one-abort plan runs key.node (ended_with (run_at runs key.node) outcome) (let w = takes.0 in let m = s.many in omega (arith, w, m)) takes.2 in
-    sym s.aborted_is ∙ flag-shown plan past runs aborted jobs s ∙ left (aborted_in plan runs) _ (sym one ∙ after.aborted_is ∙ calm)
+    sym s.aborted_is ∙ flag-shown plan past runs aborted jobs s ∙ left (aborted_in plan runs) _ (sym one ∙ after.aborted_is ∙ abort_free)
   where
     left : (a b : Bool) → (a || b) ≡ false → a ≡ false
     left true b h = absurd (false≢true (sym h))

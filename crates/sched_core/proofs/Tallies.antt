@@ -14,9 +14,9 @@ use Rattle.node_machine.specs.declared.Record.TheVariants.{Life, Launch, End, Fi
 use Rattle.run_plan.specs.Plan.{Plan, node_at, count_of, all_below}
 use Rattle.sched_core.specs.Bound.{sum_below}
 use Rattle.sched_core.specs.Core.{Shows, run_at, is_running, has_abort_at}
-use Rattle.node_machine.specs.declared.Stand.{Stand}
-use Rattle.node_machine.specs.Stand.{stand_after}
-use Rattle.sched_core.specs.Run.{written, history, next, is_done, is_aborted, is_met, has_abort_value, outstanding, status_of_abort, may_follow, is_lawful}
+use Rattle.node_machine.specs.declared.MachineState.{MachineState}
+use Rattle.node_machine.specs.MachineState.{machine_after}
+use Rattle.sched_core.specs.Run.{chronological, history, next, is_done, is_aborted, setting_is_met, has_abort_value, outstanding, status_of_abort, may_follow, is_lawful}
 use Rattle.sched_core.specs.States.{done_at}
 use Rattle.sched_core.specs.Tally.{IsTallied, done_in, status_of_node, stop_status}
 use Rattle.sched_core.specs.Turns.{done_by, has_abort_by}
@@ -26,7 +26,7 @@ use Rattle.sched_core.proofs.Aborts.{over-at}
 use Rattle.sched_core.proofs.Keys.{each_among}
 use Rattle.sched_core.proofs.Sound.{Held, sound, end-among, next-parts}
 use Rattle.sched_core.proofs.Held.{end-within}
-use Rattle.sched_core.proofs.Shown.{stand-done, stand-value, next-phase}
+use Rattle.sched_core.proofs.Shown.{machine-done, machine-value, next-phase}
 use Rattle.sched_core.proofs.Sweeps.{all_below-from}
 use Rattle.sched_core.proofs.Taking.{sum-one}
 
@@ -83,11 +83,11 @@ fresh-done plan = same (count_of plan)
         not-good n = nil-good (node_at plan n).course
 
 -- no abort, no status of one
-pub calm-status : (plan : Plan) (past : List Record) (n : ℕ) → all_below (λ node. not (has_abort_value plan past node)) n ≡ true → status_of_abort plan past n ≡ 1
-calm-status plan past zero h = refl
-calm-status plan past (suc n) h =
+pub abort_free-status : (plan : Plan) (past : List Record) (n : ℕ) → all_below (λ node. not (has_abort_value plan past node)) n ≡ true → status_of_abort plan past n ≡ 1
+abort_free-status plan past zero h = refl
+abort_free-status plan past (suc n) h =
     let parts = and_parts _ _ h in
-    (λ j. if not-true-false (has_abort_value plan past n) parts.0 j then status_of_node plan n else status_of_abort plan past n) ∙ calm-status plan past n parts.1
+    (λ j. if not-true-false (has_abort_value plan past n) parts.0 j then status_of_node plan n else status_of_abort plan past n) ∙ abort_free-status plan past n parts.1
   where
     not-true-false : (b : Bool) → not b ≡ true → b ≡ false
     not-true-false true e = absurd (false≢true e)
@@ -95,12 +95,12 @@ calm-status plan past (suc n) h =
 
 -- before any record
 pub fresh-tallied : (plan : Plan) (records : List Record) (done : ℕ) → records ≡ [] → done ≡ sum_below (λ node. if (node_at plan node).done then 1 else 0) (count_of plan)
-    → IsTallied plan (written records) done 1
-fresh-tallied plan records done none is = subst (λ (l : List Record). IsTallied plan (written l) done 1) (sym none) (record {
+    → IsTallied plan (chronological records) done 1
+fresh-tallied plan records done none is = subst (λ (l : List Record). IsTallied plan (chronological l) done 1) (sym none) (record {
   done_is = is ∙ fresh-done plan;
-  status_is = sym (calm-status plan [] (count_of plan)
+  status_is = sym (abort_free-status plan [] (count_of plan)
       (all_below-from (λ node. not (has_abort_value plan [] node)) (count_of plan)
-      (λ node lt. λ j. not (is_met (node_at plan node).course.abort_on (nil-value (node_at plan node).course j)))));
+      (λ node lt. λ j. not (setting_is_met (node_at plan node).course.abort_on (nil-value (node_at plan node).course j)))));
 })
 
 -- a node whose phase is to come is not done
@@ -108,8 +108,8 @@ pub going-undone : (plan : Plan) (past : List Record) → is_lawful plan past �
 going-undone plan past lawful key is =
     let phase = next-phase plan past lawful key is in
     let undone = (next-parts plan past key.node key is).0 in
-    sym (stand-done plan past lawful key.node)
-    ∙ (λ j. undone j || (ap is_none phase j && (stand_after (node_at plan key.node).course (history past key.node)).good))
+    sym (machine-done plan past lawful key.node)
+    ∙ (λ j. undone j || (ap is_none phase j && (machine_after (node_at plan key.node).course (history past key.node)).good))
 
 -- where nodes have their abort values alike, the status is one
 same-status : (plan : Plan) (past now : List Record) (n : ℕ) → ((k : ℕ) → k < n → has_abort_value plan now k ≡ has_abort_value plan past k) → status_of_abort plan now n ≡ status_of_abort plan past n
@@ -166,10 +166,10 @@ module _ (plan : Plan) (past : List Record) (lawful : is_lawful plan past ≡ tr
   other-done m ne = λ j. (node_at plan m).done || is_good_after (node_at plan m).course (hist m (ne j))
 
   other-abort : (m : ℕ) → (key.node == m) ≡ false → has_abort_value plan now m ≡ has_abort_value plan past m
-  other-abort m ne = λ j. is_met (node_at plan m).course.abort_on (value_after (node_at plan m).course (hist m (ne j)))
+  other-abort m ne = λ j. setting_is_met (node_at plan m).course.abort_on (value_after (node_at plan m).course (hist m (ne j)))
 
-  own-calm : has_abort_value plan past key.node ≡ false
-  own-calm = false_from_ne_true _ (λ t.
+  own-abort_free : has_abort_value plan past key.node ≡ false
+  own-abort_free = false_from_ne_true _ (λ t.
       let bad : None ≡ Some (key.attempt, key.phase) = sym (over-at plan past lawful key.node t) ∙ (next-parts plan past key.node key ended-held.is_next).1 in absurd cc)
 
   pub done-ended : done_in plan now ≡ (if nat_lt key.node (count_of plan) then (if is_done plan now key.node then 1 else 0) else 0) + done_in plan past
@@ -182,10 +182,10 @@ module _ (plan : Plan) (past : List Record) (lawful : is_lawful plan past ≡ tr
   status-ended true t =
       let parts = and_parts _ _ t in
       let lt = ltb-true key.node (count_of plan) parts.0 in
-      sym (one-status plan now key.node (count_of plan) lt parts.1 (λ m less ne. other-abort m ne ∙ calm m less (ended-going lt)))
+      sym (one-status plan now key.node (count_of plan) lt parts.1 (λ m less ne. other-abort m ne ∙ abort_free m less (ended-going lt)))
     where
-      calm : (m : ℕ) → m < count_of plan → is_aborted plan past ≡ false → has_abort_value plan past m ≡ false
-      calm m less going = turn (has_abort_value plan past m) (all_below-at (λ node. not (has_abort_value plan past node)) (count_of plan) (turn' (all_below (λ node. not (has_abort_value plan past node)) (count_of plan)) going) m less)
+      abort_free : (m : ℕ) → m < count_of plan → is_aborted plan past ≡ false → has_abort_value plan past m ≡ false
+      abort_free m less going = turn (has_abort_value plan past m) (all_below-at (λ node. not (has_abort_value plan past node)) (count_of plan) (turn' (all_below (λ node. not (has_abort_value plan past node)) (count_of plan)) going) m less)
         where
           turn : (b : Bool) → not b ≡ true → b ≡ false
           turn true e = absurd (false≢true e)
@@ -201,7 +201,7 @@ module _ (plan : Plan) (past : List Record) (lawful : is_lawful plan past ≡ tr
       go k lt true e =
           let is : key.node ≡ k = eqb-true key.node k e in
           let own : has_abort_value plan now key.node ≡ false = (λ j. sym (lt-ltb key.node (count_of plan) (omega (arith, is, lt))) j && has_abort_value plan now key.node) ∙ f in
-          subst (λ m. has_abort_value plan now m ≡ has_abort_value plan past m) is (own ∙ sym own-calm)
+          subst (λ m. has_abort_value plan now m ≡ has_abort_value plan past m) is (own ∙ sym own-abort_free)
 
 -- the counts behind a record
 pub tallied-next : (plan : Plan) (past now : List Record) (entry : Record) (runs : List NodeProgress) (aborted : Bool) (jobs done done' status status' : ℕ) → is_lawful plan past ≡ true
@@ -230,14 +230,14 @@ tallied-next plan past now (End key outcome) runs aborted jobs done done' status
     next_shown : Shows plan (End key outcome ∷ past) runs aborted jobs
     next_shown = subst (λ (l : List Record). Shows plan l runs aborted jobs) n shown
 
-    stand_is : (run_at runs key.node).stand ≡ stand_after (node_at plan key.node).course (history (End key outcome ∷ past) key.node)
-    stand_is = ap (λ (r : NodeProgress). r.stand) (next_shown.runs_are key.node (end-within plan past key outcome lawful may))
+    stand_is : (run_at runs key.node).machine ≡ machine_after (node_at plan key.node).course (history (End key outcome ∷ past) key.node)
+    stand_is = ap (λ (r : NodeProgress). r.machine) (next_shown.runs_are key.node (end-within plan past key outcome lawful may))
 
     done_here : done_at plan runs key.node ≡ is_done plan (End key outcome ∷ past) key.node
-    done_here = (λ j. (node_at plan key.node).done || (is_none (stand_is j).phase && (stand_is j).good)) ∙ stand-done plan (End key outcome ∷ past) next_shown.lawful key.node
+    done_here = (λ j. (node_at plan key.node).done || (is_none (stand_is j).phase && (stand_is j).good)) ∙ machine-done plan (End key outcome ∷ past) next_shown.lawful key.node
 
     abort_here : has_abort_at plan runs key.node ≡ (nat_lt key.node (count_of plan) && has_abort_value plan (End key outcome ∷ past) key.node)
-    abort_here = λ j. nat_lt key.node (count_of plan) && is_met (node_at plan key.node).course.abort_on ((ap (λ (s : Stand). s.value) stand_is ∙ stand-value plan (End key outcome ∷ past) next_shown.lawful key.node) j)
+    abort_here = λ j. nat_lt key.node (count_of plan) && setting_is_met (node_at plan key.node).course.abort_on ((ap (λ (s : MachineState). s.value) stand_is ∙ machine-value plan (End key outcome ∷ past) next_shown.lawful key.node) j)
 
     counted : (a b : Bool) → (if a && b then suc (done_in plan past) else done_in plan past) ≡ (if a then (if b then 1 else 0) else 0) + done_in plan past
     counted true true = (let e : suc (done_in plan past) ≡ 1 + done_in plan past = omega arith in e)

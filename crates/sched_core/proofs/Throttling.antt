@@ -15,7 +15,7 @@ use Rattle.node_machine.specs.declared.Record.{Record}
 use Rattle.node_machine.specs.declared.Record.TheVariants.{Life, Launch, End, Finish}
 use Rattle.sched_core.specs.Run.{outstanding, is_nothing, without, is_same, is_among, is_aborted, is_lawful, may_follow}
 use Rattle.sched_core.specs.Core.{has_key_of}
-use Rattle.sched_core.specs.Limits.{limits_of, running_in, throttled_in, throttled_after, IsThrottled, IsOfNode, IsCounted}
+use Rattle.sched_core.specs.Limits.{limits_of_categories, running_in, throttled_in, throttled_after, IsThrottled, IsOfNode, IsCounted}
 use Rattle.sched_core.proofs.Keys.{same-eq}
 use Rattle.sched_core.proofs.Sound.{end-among}
 use Rattle.sched_core.proofs.Held.{launched-idle, launched-within, end-within}
@@ -89,11 +89,11 @@ outstanding-few plan (End key outcome ∷ past) = go (is_aborted plan (End key o
     go false h = let f = few-without key (outstanding plan past) in omega arith
 
 module _ (plan : Plan) (planned : IsPlanned plan) where
-  running-length : (keys : List Key) → length (running_in plan keys).category_jobs ≡ length (limits_of plan)
-  running-length [] = none-length (limits_of plan)
+  running-length : (keys : List Key) → length (running_in plan keys).category_jobs ≡ length (limits_of_categories plan)
+  running-length [] = none-length (limits_of_categories plan)
   running-length (key ∷ keys) = with-length (running_in plan keys) key.phase (node_at plan key.node).category ∙ running-length keys
 
-  pub placed : (node : ℕ) → IsPlace (limits_of plan) (node_at plan node).category
+  pub placed : (node : ℕ) → IsPlace (limits_of_categories plan) (node_at plan node).category
   placed node =
       subst (λ n. IfSome (node_at plan node).category (λ place. place < n)) (sym (length-map plan.graph.dag.categories (λ (category : CategoryLimit). category.limit)))
       (category-placed plan planned node)
@@ -102,7 +102,7 @@ module _ (plan : Plan) (planned : IsPlanned plan) where
   counted keys node = subst (λ n. IfSome (node_at plan node).category (λ place. place < n)) (sym (running-length keys)) (placed node)
 
   pub running-all : (keys : List Key) → all_in (running_in plan keys) ≡ length keys
-  running-all [] = none-all (limits_of plan)
+  running-all [] = none-all (limits_of_categories plan)
   running-all (key ∷ keys) =
       let h = running-all keys in
       let w = with-all (running_in plan keys) key.phase (node_at plan key.node).category (counted keys key.node) in
@@ -141,13 +141,13 @@ module _ (plan : Plan) (planned : IsPlanned plan) where
           ∙ sym (swap-one (running_in plan keys) other.phase key.phase (node_at plan other.node).category (node_at plan key.node).category (counted keys other.node) (running-there key keys later))
 
   module _ (past : List Record) (throttled : Throttled) (is : IsThrottled plan past throttled) where
-    categories-are : throttled.categories ≡ limits_of plan
+    categories-are : throttled.categories ≡ limits_of_categories plan
     categories-are = ap (λ (t : Throttled). t.categories) is
 
     running-is : throttled.running ≡ running_in plan (outstanding plan past)
     running-is = ap (λ (t : Throttled). t.running) is
 
-    pub same-categories : throttled.categories ≡ limits_of plan
+    pub same-categories : throttled.categories ≡ limits_of_categories plan
     same-categories = categories-are
 
     -- nothing runs where nothing is outstanding

@@ -12,8 +12,8 @@ use Rattle.run_plan.specs.Plan.{Plan, node_at, count_of}
 use Rattle.run_plan.specs.Planned.{IsPlanned}
 use Rattle.run_plan.proofs.PlanFacts.{planned-count, parents-below}
 use Rattle.sched_core.specs.Core.{run_at, aborted_in, has_abort_at}
-use Rattle.sched_core.specs.Bound.{all_nodes}
-use Rattle.sched_core.specs.Run.{is_met}
+use Rattle.sched_core.specs.Bound.{node_total}
+use Rattle.sched_core.specs.Run.{setting_is_met}
 use Rattle.sched_core.specs.States.{AreLeft, left_at, done_at, undone_in}
 use Rattle.sched_core.specs.Turns.{times}
 use Rattle.ready_queue.proofs.Edits.{by_lt}
@@ -57,7 +57,7 @@ ext-runs (x ∷ xs) (y ∷ ys) long each =
     λ j. each 0 (omega arith) j ∷ tail j
 
 pub idle-stopped : (r : NodeProgress) → r.running ≡ false → r ≡ stopped r
-idle-stopped r h = λ j. record { course = r.course; stand = r.stand; running = h j }
+idle-stopped r h = λ j. record { course = r.course; machine = r.machine; running = h j }
 
 pub stopped-all : (init now : List NodeProgress) (n : ℕ) → length now ≡ length init → ((k : ℕ) → run_at now k ≡ stopped_below init n k)
     → ((k : ℕ) → n ≤ k → k < length init → (run_at init k).running ≡ false) → now ≡ map stopped init
@@ -76,12 +76,12 @@ same-left : (plan : Plan) (aborted aborted' : Bool) (runs runs' : List NodeProgr
     → (aborted ≡ false → (n : ℕ) → n < count_of plan → left_at left' n ≡ left_at left n) → AreLeft plan aborted' runs' left'
 same-left plan aborted aborted' runs runs' left left' planned are flag same many counters = record {
   many = many;
-  each = λ calm n lt. counters (flag calm) n lt ∙ are.each (flag calm) n lt
+  each = λ abort_free n lt. counters (flag abort_free) n lt ∙ are.each (flag abort_free) n lt
       ∙ undone-same (done_at plan runs) (done_at plan runs') (count_of plan) same (node_at plan n).parents (parents-below plan planned n);
 }
 
-done-by-stand : (plan : Plan) (runs runs' : List NodeProgress) (p : ℕ) → (run_at runs p).stand ≡ (run_at runs' p).stand → done_at plan runs p ≡ done_at plan runs' p
-done-by-stand plan runs runs' p e = λ j. (node_at plan p).done || (is_none (e j).phase && (e j).good)
+done-by-machine : (plan : Plan) (runs runs' : List NodeProgress) (p : ℕ) → (run_at runs p).machine ≡ (run_at runs' p).machine → done_at plan runs p ≡ done_at plan runs' p
+done-by-machine plan runs runs' p e = λ j. (node_at plan p).done || (is_none (e j).phase && (e j).good)
 
 own-left : (left : List ℕ) (node l n count : ℕ) → node < suc count → length left ≡ suc count → (node < count → l ≡ left_at left node) → n < count → left_at (slice_set left node l) n ≡ left_at left n
 own-left left node l n count w long own lt = by_same node n
@@ -93,45 +93,45 @@ pub left-launched : (plan : Plan) (aborted : Bool) (runs : List NodeProgress) (l
     → node < suc (count_of plan) → length runs ≡ suc (count_of plan) → (aborted ≡ false → node < count_of plan → l ≡ left_at left node)
     → AreLeft plan aborted (slice_set runs node (started (run_at runs node))) (slice_set left node l)
 left-launched plan aborted runs left node l planned are w many own =
-    same-left plan aborted aborted runs (slice_set runs node (started (run_at runs node))) left (slice_set left node l) planned are (λ calm. calm)
-    (λ p lt. done-by-stand plan runs (slice_set runs node (started (run_at runs node))) p (stand p))
-    (length-set left node l ∙ are.many) (λ calm n lt. own-left left node l n (count_of plan) w are.many (own calm) lt)
+    same-left plan aborted aborted runs (slice_set runs node (started (run_at runs node))) left (slice_set left node l) planned are (λ abort_free. abort_free)
+    (λ p lt. done-by-machine plan runs (slice_set runs node (started (run_at runs node))) p (machine p))
+    (length-set left node l ∙ are.many) (λ abort_free n lt. own-left left node l n (count_of plan) w are.many (own abort_free) lt)
   where
-    stand : (p : ℕ) → (run_at runs p).stand ≡ (run_at (slice_set runs node (started (run_at runs node))) p).stand
-    stand p = by_same node p
-        (λ same. subst (λ m. (run_at runs m).stand ≡ (run_at (slice_set runs node (started (run_at runs node))) m).stand) same
-        (ap (λ (r : NodeProgress). r.stand) (sym (run_at-same runs node (started (run_at runs node)) (omega (arith, w, many))))))
-        (λ ne. ap (λ (r : NodeProgress). r.stand) (sym (run_at-other runs node (started (run_at runs node)) p ne)))
+    machine : (p : ℕ) → (run_at runs p).machine ≡ (run_at (slice_set runs node (started (run_at runs node))) p).machine
+    machine p = by_same node p
+        (λ same. subst (λ m. (run_at runs m).machine ≡ (run_at (slice_set runs node (started (run_at runs node))) m).machine) same
+        (ap (λ (r : NodeProgress). r.machine) (sym (run_at-same runs node (started (run_at runs node)) (omega (arith, w, many))))))
+        (λ ne. ap (λ (r : NodeProgress). r.machine) (sym (run_at-other runs node (started (run_at runs node)) p ne)))
 
 pub left-stopped : (plan : Plan) (aborted : Bool) (runs runs' : List NodeProgress) (left left' : List ℕ) → IsPlanned plan → AreLeft plan aborted runs left
     → runs' ≡ map stopped runs → left' ≡ left → AreLeft plan aborted runs' left'
 left-stopped plan aborted runs runs' left left' planned are r l =
-    same-left plan aborted aborted runs runs' left left' planned are (λ calm. calm)
-    (λ p lt. done-by-stand plan runs runs' p (ap (λ (x : NodeProgress). x.stand) (sym (run_at-stopped runs p) ∙ ap (λ (rs : List NodeProgress). run_at rs p) (sym r))))
-    (ap (λ (xs : List ℕ). length xs) l ∙ are.many) (λ calm n lt. ap (λ (xs : List ℕ). left_at xs n) l)
+    same-left plan aborted aborted runs runs' left left' planned are (λ abort_free. abort_free)
+    (λ p lt. done-by-machine plan runs runs' p (ap (λ (x : NodeProgress). x.machine) (sym (run_at-stopped runs p) ∙ ap (λ (rs : List NodeProgress). run_at rs p) (sym r))))
+    (ap (λ (xs : List ℕ). length xs) l ∙ are.many) (λ abort_free n lt. ap (λ (xs : List ℕ). left_at xs n) l)
 
 module _ (plan : Plan) (planned : IsPlanned plan) (runs : List NodeProgress) (left : List ℕ) (node l : ℕ) (run : NodeProgress)
     (w : node < suc (count_of plan)) (many : length runs ≡ suc (count_of plan)) (undone : done_at plan runs node ≡ false) where
   other-done : (m : ℕ) → (node == m) ≡ false → done_at plan (slice_set runs node run) m ≡ done_at plan runs m
-  other-done m ne = done-by-stand plan (slice_set runs node run) runs m (ap (λ (r : NodeProgress). r.stand) (run_at-other runs node run m (eqb-false node m ne)))
+  other-done m ne = done-by-machine plan (slice_set runs node run) runs m (ap (λ (r : NodeProgress). r.machine) (run_at-other runs node run m (eqb-false node m ne)))
 
-  own-done : done_at plan (slice_set runs node run) node ≡ ((node_at plan node).done || (is_none run.stand.phase && run.stand.good))
-  own-done = ap (λ (r : NodeProgress). (node_at plan node).done || (is_none r.stand.phase && r.stand.good)) (run_at-same runs node run (omega (arith, w, many)))
+  own-done : done_at plan (slice_set runs node run) node ≡ ((node_at plan node).done || (is_none run.machine.phase && run.machine.good))
+  own-done = ap (λ (r : NodeProgress). (node_at plan node).done || (is_none r.machine.phase && r.machine.good)) (run_at-same runs node run (omega (arith, w, many)))
 
   -- where the node whose phase ended is not done behind it
   pub left-ended : (aborted aborted' : Bool) → AreLeft plan aborted runs left → (aborted' ≡ false → aborted ≡ false) → (aborted ≡ false → node < count_of plan → l ≡ left_at left node)
-      → (nat_lt node (count_of plan) && ((node_at plan node).done || (is_none run.stand.phase && run.stand.good))) ≡ false
+      → (nat_lt node (count_of plan) && ((node_at plan node).done || (is_none run.machine.phase && run.machine.good))) ≡ false
       → AreLeft plan aborted' (slice_set runs node run) (slice_set left node l)
   left-ended aborted aborted' are flag own still =
       same-left plan aborted aborted' runs (slice_set runs node run) left (slice_set left node l) planned are flag
       (λ p lt. by_same node p
       (λ same. subst (λ m. done_at plan runs m ≡ done_at plan (slice_set runs node run) m) same
       (undone ∙ sym (own-done ∙ here (lt-ltb node (count_of plan) (omega (arith, same, lt))))))
-      (λ ne. sym (done-by-stand plan (slice_set runs node run) runs p (ap (λ (r : NodeProgress). r.stand) (run_at-other runs node run p ne)))))
-      (length-set left node l ∙ are.many) (λ calm n lt. own-left left node l n (count_of plan) w are.many (own calm) lt)
+      (λ ne. sym (done-by-machine plan (slice_set runs node run) runs p (ap (λ (r : NodeProgress). r.machine) (run_at-other runs node run p ne)))))
+      (length-set left node l ∙ are.many) (λ abort_free n lt. own-left left node l n (count_of plan) w are.many (own abort_free) lt)
     where
-      here : nat_lt node (count_of plan) ≡ true → ((node_at plan node).done || (is_none run.stand.phase && run.stand.good)) ≡ false
-      here t = (λ j. sym t j && ((node_at plan node).done || (is_none run.stand.phase && run.stand.good))) ∙ still
+      here : nat_lt node (count_of plan) ≡ true → ((node_at plan node).done || (is_none run.machine.phase && run.machine.good)) ≡ false
+      here t = (λ j. sym t j && ((node_at plan node).done || (is_none run.machine.phase && run.machine.good))) ∙ still
 
   -- each child counts the node
   times-undone : (f : ℕ → Bool) (k : ℕ) → f k ≡ false → (xs : List ℕ) → times k xs ≤ undone_in f xs
@@ -162,12 +162,12 @@ module _ (plan : Plan) (planned : IsPlanned plan) (runs : List NodeProgress) (le
 
   -- where it is done, each child counts one less
   pub left-done : (aborted : Bool) (left' : List ℕ) → AreLeft plan false runs left → node < count_of plan → l ≡ left_at left node
-      → ((node_at plan node).done || (is_none run.stand.phase && run.stand.good)) ≡ true → length left' ≡ suc (count_of plan)
+      → ((node_at plan node).done || (is_none run.machine.phase && run.machine.good)) ≡ true → length left' ≡ suc (count_of plan)
       → ((child : ℕ) → left_at left' child + times child (children_of plan.graph.dag node) ≡ left_at (slice_set left node l) child)
       → AreLeft plan aborted (slice_set runs node run) left'
   left-done aborted left' are lt own now long down = record {
     many = long;
-    each = λ calm n less.
+    each = λ abort_free n less.
         let turned = times-turned plan planned node n lt less in
         let one = undone-less (done_at plan runs) (done_at plan (slice_set runs node run)) node other-done undone (own-done ∙ now) (node_at plan n).parents in
         let is = are.each refl n less in
@@ -179,17 +179,17 @@ module _ (plan : Plan) (planned : IsPlanned plan) (runs : List NodeProgress) (le
 -- an abort by the end of a phase is that of its node
 pub aborts-own : (plan : Plan) (runs : List NodeProgress) (node : ℕ) (run : NodeProgress) (aborted : Bool) → node < length runs → has_abort_at plan runs node ≡ false → aborted ≡ aborted_in plan runs
     → (node < count_of plan → aborted ≡ false)
-    → ((aborted_in plan (slice_set runs node run) && not aborted) ≡ (nat_lt node (count_of plan) && is_met (node_at plan node).course.abort_on run.stand.value))
-    × ((aborted || (nat_lt node (count_of plan) && is_met (node_at plan node).course.abort_on run.stand.value)) ≡ aborted_in plan (slice_set runs node run))
-aborts-own plan runs node run aborted inside calm flag going =
-    let one : aborted_in plan (slice_set runs node run) ≡ (aborted || has) = one-abort plan runs node run inside calm ∙ (λ j. sym flag j || own j) in
+    → ((aborted_in plan (slice_set runs node run) && not aborted) ≡ (nat_lt node (count_of plan) && setting_is_met (node_at plan node).course.abort_on run.machine.value))
+    × ((aborted || (nat_lt node (count_of plan) && setting_is_met (node_at plan node).course.abort_on run.machine.value)) ≡ aborted_in plan (slice_set runs node run))
+aborts-own plan runs node run aborted inside abort_free flag going =
+    let one : aborted_in plan (slice_set runs node run) ≡ (aborted || has) = one-abort plan runs node run inside abort_free ∙ (λ j. sym flag j || own j) in
     ((λ j. one j && not aborted) ∙ alone aborted going, sym one)
   where
     has : Bool
-    has = nat_lt node (count_of plan) && is_met (node_at plan node).course.abort_on run.stand.value
+    has = nat_lt node (count_of plan) && setting_is_met (node_at plan node).course.abort_on run.machine.value
 
     own : has_abort_at plan (slice_set runs node run) node ≡ has
-    own = ap (λ (r : NodeProgress). nat_lt node (count_of plan) && is_met (node_at plan node).course.abort_on r.stand.value) (run_at-same runs node run inside)
+    own = ap (λ (r : NodeProgress). nat_lt node (count_of plan) && setting_is_met (node_at plan node).course.abort_on r.machine.value) (run_at-same runs node run inside)
 
     alone : (a : Bool) → (node < count_of plan → a ≡ false) → ((a || has) && not a) ≡ has
     alone true g = sym (false_from_ne_true _ (λ t. false≢true (sym (g (ltb-true node (count_of plan) (and_parts _ _ t).0)))))
@@ -262,7 +262,7 @@ count-step init now items i child l is lt w less before k = by_same child k
     omega (arith, b, d, o, at))
 
 -- a place behind all nodes is FINAL's, where there is none
-pub past-all : (plan : Plan) (n k : ℕ) → all_nodes plan ≤ n → n ≤ k → k < suc (count_of plan) → (is_some plan.final_node ≡ false) × (count_of plan ≡ k)
+pub past-all : (plan : Plan) (n k : ℕ) → node_total plan ≤ n → n ≤ k → k < suc (count_of plan) → (is_some plan.final_node ≡ false) × (count_of plan ≡ k)
 past-all plan n k all le lt = go (is_some plan.final_node) refl all
   where
     go : (b : Bool) → is_some plan.final_node ≡ b → (if b then suc (count_of plan) else count_of plan) ≤ n → (is_some plan.final_node ≡ false) × (count_of plan ≡ k)
@@ -270,13 +270,13 @@ past-all plan n k all le lt = go (is_some plan.final_node) refl all
     go false e a = (e, omega (arith, a, le, lt))
 
 -- how the node stands whose phase ended, where others are stopped and where none is
-pub turned-stand : (runs now : List NodeProgress) (node : ℕ) (run : NodeProgress) (stops : Bool) → node < length runs
-    → now ≡ (if stops then map stopped (slice_set runs node run) else slice_set runs node run) → (run_at now node).stand ≡ run.stand
-turned-stand runs now node run stops w is = ap (λ (rs : List NodeProgress). (run_at rs node).stand) is ∙ go stops
+pub turned-machine : (runs now : List NodeProgress) (node : ℕ) (run : NodeProgress) (stops : Bool) → node < length runs
+    → now ≡ (if stops then map stopped (slice_set runs node run) else slice_set runs node run) → (run_at now node).machine ≡ run.machine
+turned-machine runs now node run stops w is = ap (λ (rs : List NodeProgress). (run_at rs node).machine) is ∙ go stops
   where
-    own : (run_at (slice_set runs node run) node).stand ≡ run.stand
-    own = ap (λ (r : NodeProgress). r.stand) (run_at-same runs node run w)
+    own : (run_at (slice_set runs node run) node).machine ≡ run.machine
+    own = ap (λ (r : NodeProgress). r.machine) (run_at-same runs node run w)
 
-    go : (b : Bool) → (run_at (if b then map stopped (slice_set runs node run) else slice_set runs node run) node).stand ≡ run.stand
-    go true = ap (λ (r : NodeProgress). r.stand) (run_at-stopped (slice_set runs node run) node) ∙ own
+    go : (b : Bool) → (run_at (if b then map stopped (slice_set runs node run) else slice_set runs node run) node).machine ≡ run.machine
+    go true = ap (λ (r : NodeProgress). r.machine) (run_at-stopped (slice_set runs node run) node) ∙ own
     go false = own

@@ -7,12 +7,12 @@ use Rattle.node_machine.specs.declared.Outcome.{Outcome}
 use Rattle.node_machine.specs.declared.Outcome.TheVariants.{Exit}
 use Rattle.node_machine.specs.declared.Ended.{Ended}
 use Rattle.node_machine.specs.declared.Course.{Course}
-use Rattle.node_machine.specs.Story.{Attempt, skips, is_exit_0, always_posts, is_last, phase_number, is_phase, outcome_in, has_ended, next_after, is_history}
-use Rattle.node_machine.specs.Stand.{next_of, stand_after}
+use Rattle.node_machine.specs.Story.{Attempt, skips, is_exit_0, always_posts, is_final_attempt, phase_number, is_phase, outcome_in, has_ended, next_after, is_history}
+use Rattle.node_machine.specs.MachineState.{next_of, machine_after}
 use Rattle.sched_core.specs.Commands.{is_without_job}
 use Rattle.node_machine.proofs.Trees.{Tree, Over, Ask, got, job_tree, failed_tree, attempt_tree, tree_from, after, Plays, Told, one_of}
 use Rattle.node_machine.proofs.Beginnings.{phase-eq, tree_of, masked}
-use Rattle.node_machine.proofs.Paces.{stand-attempt}
+use Rattle.node_machine.proofs.Paces.{machine-attempt}
 use Rattle.node_machine.proofs.Standing.{steps-next}
 
 -- what comes before this phase in its attempt has ended
@@ -93,8 +93,8 @@ module _ (course : Course) (i : ℕ) (next : Attempt → Tree) (later : (a : Att
 order-from : (course : Course) (done : List Attempt) (i left : ℕ) (es : List Ended) → AsksInOrder course es (tree_from course done i left)
 order-from course done i zero es = order-attempt course i (λ a. Over (done ++ a ∷ [])) (λ a es. tt) es
 order-from course done i (suc left) es =
-    order-attempt course i (λ a. if is_last course a then Over (done ++ a ∷ []) else tree_from course (done ++ a ∷ []) (suc i) left)
-    (λ a es. one_of (AsksInOrder course es) (is_last course a) tt (order-from course (done ++ a ∷ []) (suc i) left es)) es
+    order-attempt course i (λ a. if is_final_attempt course a then Over (done ++ a ∷ []) else tree_from course (done ++ a ∷ []) (suc i) left)
+    (λ a es. one_of (AsksInOrder course es) (is_final_attempt course a) tt (order-from course (done ++ a ∷ []) (suc i) left es)) es
 
 -- what the tree asks for behind what was played
 order-played : (course : Course) (tree : Tree) (es before : List Ended) (i : ℕ) (phase : Phase) (next : Outcome → Tree)
@@ -135,16 +135,16 @@ pre-kept course column i = go course.noop
 
 -- no attempt comes behind the last that is allowed
 pub turn-allowed : (course : Course) (es : List Ended) → is_history course es ≡ true → (next : ℕ × Phase) → next_after course es ≡ Some next → next.0 ≤ course.retries
-turn-allowed course es h next n = go (stand_after course es).phase refl
+turn-allowed course es h next n = go (machine_after course es).phase refl
   where
-    stands : next_of (stand_after course es) (stand_after course es).phase ≡ Some next
+    stands : next_of (machine_after course es) (machine_after course es).phase ≡ Some next
     stands = sym (steps-next course es h) ∙ n
 
-    go : (o : Option Phase) → (stand_after course es).phase ≡ o → next.0 ≤ course.retries
+    go : (o : Option Phase) → (machine_after course es).phase ≡ o → next.0 ≤ course.retries
     go None is =
-        let bad : None ≡ Some next = sym (ap (next_of (stand_after course es)) is) ∙ stands in
+        let bad : None ≡ Some next = sym (ap (next_of (machine_after course es)) is) ∙ stands in
         absurd cc
     go (Some phase) is =
-        let one : Some ((stand_after course es).attempt, phase) ≡ Some next = sym (ap (next_of (stand_after course es)) is) ∙ stands in
-        let same : ((stand_after course es).attempt, phase) ≡ next = cc in
-        subst (λ k. k ≤ course.retries) (ap (λ (p : ℕ × Phase). p.0) same) (stand-attempt course es)
+        let one : Some ((machine_after course es).attempt, phase) ≡ Some next = sym (ap (next_of (machine_after course es)) is) ∙ stands in
+        let same : ((machine_after course es).attempt, phase) ≡ next = cc in
+        subst (λ k. k ≤ course.retries) (ap (λ (p : ℕ × Phase). p.0) same) (machine-attempt course es)

@@ -8,7 +8,7 @@ use Rattle.run_plan.specs.Plan.{Plan, node_at, count_of}
 use Rattle.node_machine.specs.declared.Record.{Record}
 use Rattle.node_machine.specs.declared.Record.TheVariants.{Life, Launch, End, Finish}
 use Rattle.sched_core.specs.Run.{is_aborted}
-use Rattle.sched_core.specs.Core.{run_of}
+use Rattle.sched_core.specs.Core.{node_progress}
 
 -- the sum over the numbers below n
 abbrev pub sum_below : (ℕ → ℕ) → ℕ → ℕ
@@ -24,12 +24,12 @@ abbrev pub phases_of_node : Plan → ℕ → ℕ
 phases_of_node plan node = phases_in (node_at plan node).course * suc (node_at plan node).course.retries
 
 -- the nodes of a plan, FINAL among them where there is one
-abbrev pub all_nodes : Plan → ℕ
-all_nodes plan = if is_some plan.final_node then suc (count_of plan) else count_of plan
+abbrev pub node_total : Plan → ℕ
+node_total plan = if is_some plan.final_node then suc (count_of plan) else count_of plan
 
 -- the sum over the nodes of phases times (retries + 1)
 abbrev pub all_phases : Plan → ℕ
-all_phases plan = sum_below (phases_of_node plan) (all_nodes plan)
+all_phases plan = sum_below (phases_of_node plan) (node_total plan)
 
 -- these records hold no Life
 abbrev pub has_no_life : List Record → Bool
@@ -51,17 +51,17 @@ phases_left course attempt None = 0
 phases_left course attempt (Some phase) = phases_from course phase + phases_in course * (course.retries - attempt)
 
 -- a phase that is to come is launched and ends, one that is outstanding only ends
-abbrev pub records_of : NodeProgress → ℕ
-records_of run = 2 * phases_left run.course run.stand.attempt run.stand.phase - (if run.running then 1 else 0)
+abbrev pub records_to_come : NodeProgress → ℕ
+records_to_come run = 2 * phases_left run.course run.machine.attempt run.machine.phase - (if run.running then 1 else 0)
 
 -- a node can still have phases: it is not done from the start, and behind an abort it is FINAL
-abbrev pub may_go_on : Plan → List Record → ℕ → Bool
-may_go_on plan past node =
+abbrev pub may_still_run : Plan → List Record → ℕ → Bool
+may_still_run plan past node =
     not (node_at plan node).done && (if nat_lt node (count_of plan) then not (is_aborted plan past) else is_some plan.final_node)
 
 -- the records that a node can still add in this life
 abbrev pub node_records_left : Plan → List Record → ℕ → ℕ
-node_records_left plan past node = if may_go_on plan past node then records_of (run_of plan past node) else 0
+node_records_left plan past node = if may_still_run plan past node then records_to_come (node_progress plan past node) else 0
 
 -- the records that the nodes can still add in this life
 unfoldable pub records_left : Plan → List Record → ℕ

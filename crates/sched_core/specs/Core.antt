@@ -2,7 +2,7 @@
 use Rattle.std.specs.Prelude.{◌≡◌, ℕ, suc, ◌+◌, ◌<◌, Bool, true, false, not, ◌&&◌, ◌||◌, List, [], ◌∷◌, length, map, Option, Some, None, is_none, nat_lt, unwrap_or, slice_get, slice_set, IsTrue, int_lt, ◌==◌, if◌then◌else◌}
 use Rattle.node_machine.specs.declared.Key.{Key}
 use Rattle.node_machine.specs.Story.{phase_number}
-use Rattle.node_machine.specs.Stand.{stand_after, stand_before, next_of}
+use Rattle.node_machine.specs.MachineState.{machine_after, machine_before, next_of}
 use Rattle.node_machine.specs.NodeRun.{started, stopped, ended_with}
 use Rattle.throttles.specs.declared.Limits.{Limits}
 use Rattle.sched_core.specs.Limits.{IsBetter}
@@ -14,7 +14,7 @@ use Rattle.sched_core.specs.declared.CoreFault.{CoreFault}
 use Rattle.sched_core.specs.declared.CoreFault.TheVariants.{NotLawful, Finished}
 use Rattle.node_machine.specs.declared.Record.{Record}
 use Rattle.node_machine.specs.declared.Record.TheVariants.{Life, Launch, End, Finish}
-use Rattle.sched_core.specs.Run.{history, next, is_done, outstanding, is_aborted, is_lawful, job_launches, is_met, is_over}
+use Rattle.sched_core.specs.Run.{history, next, is_done, outstanding, is_aborted, is_lawful, job_launches, setting_is_met, is_over}
 
 -- the plan, the limits, the records, the newest first, how many more need no memory, and how many states of nodes were looked
 -- at to apply records
@@ -35,15 +35,15 @@ abbrev pub is_running : Plan → List Record → ℕ → Bool
 is_running plan past node = has_key_of node (outstanding plan past)
 
 -- what a core keeps of a node
-abbrev pub run_of : Plan → List Record → ℕ → NodeProgress
-run_of plan past node = record {
+abbrev pub node_progress : Plan → List Record → ℕ → NodeProgress
+node_progress plan past node = record {
   course = (node_at plan node).course;
-  stand = stand_after (node_at plan node).course (history past node);
+  machine = machine_after (node_at plan node).course (history past node);
   running = is_running plan past node;
 }
 
 abbrev pub idle : NodeProgress
-idle = record { course = no_node.course; stand = stand_before no_node.course 0 None false; running = false }
+idle = record { course = no_node.course; machine = machine_before no_node.course 0 None false; running = false }
 
 abbrev pub run_at : List NodeProgress → ℕ → NodeProgress
 run_at runs node = unwrap_or (slice_get runs node) idle
@@ -51,19 +51,19 @@ run_at runs node = unwrap_or (slice_get runs node) idle
 -- whether an ordinary node's abort value stands there
 abbrev pub aborted_in : Plan → List NodeProgress → Bool
 aborted_in plan runs =
-    not (all_below (λ node. not (is_met (node_at plan node).course.abort_on (run_at runs node).stand.value))
+    not (all_below (λ node. not (setting_is_met (node_at plan node).course.abort_on (run_at runs node).machine.value))
     (count_of plan))
 
 -- an ordinary node's abort value stands there
 abbrev pub has_abort_at : Plan → List NodeProgress → ℕ → Bool
 has_abort_at plan runs node =
-    nat_lt node (count_of plan) && is_met (node_at plan node).course.abort_on (run_at runs node).stand.value
+    nat_lt node (count_of plan) && setting_is_met (node_at plan node).course.abort_on (run_at runs node).machine.value
 
 -- an ordinary node is in error there
 abbrev pub is_stuck_at : Plan → List NodeProgress → ℕ → Bool
 is_stuck_at plan runs node =
     nat_lt node (count_of plan)
-    && (not (node_at plan node).done && (is_none (run_at runs node).stand.phase && not (run_at runs node).stand.good))
+    && (not (node_at plan node).done && (is_none (run_at runs node).machine.phase && not (run_at runs node).machine.good))
 
 -- what a record makes of the nodes, of the flag for an abort, and of the number of job launches
 abbrev pub runs_ended : Plan → List NodeProgress → Record → List NodeProgress
@@ -101,20 +101,20 @@ failed_after plan runs failed (Finish status) = failed
 
 -- a launch is of a node of the plan and of its next phase, while none runs; an ending is of one that runs,
 -- whose abort value doesn't stand there
-abbrev pub Takes : Plan → List NodeProgress → Record → Type 0
-Takes plan runs Life = Unit {0}
-Takes plan runs (Launch key number) =
+abbrev pub TakesRecord : Plan → List NodeProgress → Record → Type 0
+TakesRecord plan runs Life = Unit {0}
+TakesRecord plan runs (Launch key number) =
     (key.node < suc (count_of plan)) × ((run_at runs key.node).running ≡ false)
-    × (next_of (run_at runs key.node).stand (run_at runs key.node).stand.phase ≡ Some (key.attempt, key.phase))
-Takes plan runs (End key outcome) =
+    × (next_of (run_at runs key.node).machine (run_at runs key.node).machine.phase ≡ Some (key.attempt, key.phase))
+TakesRecord plan runs (End key outcome) =
     (key.node < suc (count_of plan)) × ((run_at runs key.node).running ≡ true)
     × (has_abort_at plan runs key.node ≡ false)
-Takes plan runs (Finish status) = Unit {0}
+TakesRecord plan runs (Finish status) = Unit {0}
 
 -- what a core keeps is what its records say, and these are lawful
 pub record Shows (plan : Plan) (past : List Record) (runs : List NodeProgress) (aborted : Bool) (jobs : ℕ) : Type 0 where
   pub many : length runs ≡ suc (count_of plan)
-  pub runs_are : (node : ℕ) → node < suc (count_of plan) → run_at runs node ≡ run_of plan past node
+  pub runs_are : (node : ℕ) → node < suc (count_of plan) → run_at runs node ≡ node_progress plan past node
   pub aborted_is : aborted ≡ is_aborted plan past
   pub jobs_are : jobs ≡ job_launches past
   pub lawful : IsTrue (is_lawful plan past)
@@ -122,7 +122,7 @@ pub record Shows (plan : Plan) (past : List Record) (runs : List NodeProgress) (
 -- what a core keeps before any record
 pub record AreFresh (plan : Plan) (runs : List NodeProgress) : Type 0 where
   pub many : length runs ≡ suc (count_of plan)
-  pub each : (node : ℕ) → node < suc (count_of plan) → run_at runs node ≡ run_of plan [] node
+  pub each : (node : ℕ) → node < suc (count_of plan) → run_at runs node ≡ node_progress plan [] node
 
 -- why a record is refused
 abbrev pub fault_after : List Record → CoreFault
@@ -142,6 +142,6 @@ better_of plan (Some best) None = Some best
 better_of plan (Some best) (Some next) = if int_lt (node_at plan best.node).priority (node_at plan next.node).priority then Some next else Some best
 
 -- one mark for each ordinary node: whether it is done
-pub record AreMarks (plan : Plan) (past : List Record) (marks : List Bool) : Type 0 where
+pub record AreDoneMarks (plan : Plan) (past : List Record) (marks : List Bool) : Type 0 where
   pub many : length marks ≡ count_of plan
   pub each : (node : ℕ) → node < count_of plan → unwrap_or (slice_get marks node) false ≡ is_done plan past node

@@ -10,16 +10,16 @@ use Rattle.node_machine.specs.Story.{Table}
 use Rattle.node_machine.specs.declared.Record.{Record}
 use Rattle.node_machine.specs.declared.Record.TheVariants.{Life, Launch, End, Finish}
 use Rattle.dag_graph.specs.Graph.{Network}
-use Rattle.run_plan_node.specs.Node.{NodeSpec, Program, no_orders}
+use Rattle.run_plan_node.specs.Node.{NodeSpec, Program, no_launch_spec}
 use Rattle.run_plan.specs.Plan.{Plan}
-use Rattle.sched_core.specs.Run.{written}
+use Rattle.sched_core.specs.Run.{chronological}
 use Rattle.sched_core.specs.Rounds.{Round}
 
 abbrev pub job_alone : ℕ → Bool → Course
 job_alone retries post = record { pre = false; noop = false; post = post; always_post = false; retries = retries; unless_exit = None; pre_skip = None; abort_on = None }
 
 abbrev pub node : ℕ → Course → Bool → List ℕ → NodeSpec
-node name course done parents = record { name = name ∷ []; course = course; done = done; parents = parents; abort_return = None; priority = pos 0; category = None; orders = no_orders }
+node name course done parents = record { name = name ∷ []; course = course; done = done; parents = parents; abort_return = None; priority = pos 0; category = None; launch_spec = no_launch_spec }
 
 -- these plans come from no files
 abbrev pub no_graph : Network
@@ -61,14 +61,14 @@ diamond = record {
 
 -- a crash once the launch of B is recorded, and one once the end of B is
 abbrev pub diamond_run : List Record
-diamond_run = written (
+diamond_run = chronological (
     Life ∷ Launch (key 0 0 Job) 1 ∷ End (key 0 0 Job) (Exit 0) ∷ Launch (key 1 0 Job) 2
     ∷ Life ∷ Launch (key 1 0 Job) 3 ∷ Launch (key 2 0 Job) 4 ∷ End (key 1 0 Job) (Exit 0)
     ∷ Life ∷ Launch (key 2 0 Job) 5 ∷ End (key 2 0 Job) (Exit 0) ∷ Launch (key 3 0 Job) 6 ∷ End (key 3 0 Job) (Exit 0) ∷ Finish 0 ∷ [])
 
 -- the same in one life
 abbrev pub diamond_life : List Record
-diamond_life = written (
+diamond_life = chronological (
     Life ∷ Launch (key 0 0 Job) 1 ∷ End (key 0 0 Job) (Exit 0) ∷ Launch (key 1 0 Job) 2 ∷ Launch (key 2 0 Job) 3
     ∷ End (key 1 0 Job) (Exit 0) ∷ End (key 2 0 Job) (Exit 0) ∷ Launch (key 3 0 Job) 4 ∷ End (key 3 0 Job) (Exit 0) ∷ Finish 0 ∷ [])
 
@@ -85,7 +85,7 @@ abort_plan = record {
 }
 
 abbrev pub abort_run : List Record
-abort_run = written (
+abort_run = chronological (
     Life ∷ Launch (key 0 0 Job) 1 ∷ Launch (key 1 0 Job) 2 ∷ End (key 0 0 Job) (Exit 7)
     ∷ Launch (key 2 0 Job) 3 ∷ End (key 2 0 Job) (Exit 0) ∷ Finish 0 ∷ [])
 
@@ -107,7 +107,7 @@ noop_table node attempt Job = if node == 0 && (attempt == 0) then Exit 7 else Ex
 noop_table node attempt Post = if node == 0 && (attempt == 0) then Exit 2 else Exit 0
 
 abbrev pub noop_run : List Record
-noop_run = written (
+noop_run = chronological (
     Life ∷ Launch (key 0 0 Pre) 0 ∷ Launch (key 2 0 Job) 1 ∷ End (key 0 0 Pre) (Exit 0) ∷ Launch (key 0 0 Job) 2
     ∷ End (key 0 0 Job) (Exit 0) ∷ Launch (key 0 0 Post) 0 ∷ End (key 0 0 Post) (Exit 2) ∷ End (key 2 0 Job) (Exit 0) ∷ Finish 1 ∷ [])
 
@@ -125,7 +125,7 @@ always_plan = record {
 
 -- PRE fails, no job of A runs, and POST is good
 abbrev pub always_run : List Record
-always_run = written (
+always_run = chronological (
     Life ∷ Launch (key 0 0 Pre) 0 ∷ End (key 0 0 Pre) (Exit 5) ∷ Launch (key 0 0 Post) 0 ∷ End (key 0 0 Post) (Exit 0)
     ∷ Launch (key 1 0 Job) 1 ∷ End (key 1 0 Job) (Exit 0) ∷ Finish 0 ∷ [])
 
@@ -163,7 +163,7 @@ first_fails b node attempt Post = Exit 0
 abbrev pub scripted : List (List ℕ) → Plan
 scripted words = record {
   nodes = record (node 65 (record { pre = true; noop = false; post = false; always_post = false; retries = 1; unless_exit = None; pre_skip = None; abort_on = None }) false [])
-      { orders = record { folder = codes "work"; pre = Some words; post = None; job = Program (codes "A.sub") } } ∷ [];
+      { launch_spec = record { folder = codes "work"; pre = Some words; post = None; job = Program (codes "A.sub") } } ∷ [];
   final_node = None;
   graph = no_graph;
   digest = [];
@@ -182,7 +182,7 @@ told_0 = scripted (codes "check.sh" ∷ codes "0" ∷ [])
 
 -- PRE and the job of A end well at once
 abbrev pub told_run : List Record
-told_run = written (
+told_run = chronological (
     Life ∷ Launch (key 0 0 Pre) 0 ∷ End (key 0 0 Pre) (Exit 0) ∷ Launch (key 0 0 Job) 1 ∷ End (key 0 0 Job) (Exit 0) ∷ Finish 0 ∷ [])
 
 -- A, which may be done from the start, above B, which aborts at 7
@@ -206,7 +206,7 @@ abbrev pub stopped_round : Round
 stopped_round = record {
   plan = stopped_plan false;
   table = b_ends (Exit 7);
-  records = written (
+  records = chronological (
       Life ∷ Launch (key 0 0 Job) 1 ∷ End (key 0 0 Job) (Exit 0)
       ∷ Launch (key 1 0 Job) 2 ∷ End (key 1 0 Job) (Exit 7) ∷ Finish 7 ∷ []);
 }
@@ -215,7 +215,7 @@ abbrev pub next_round : Round
 next_round = record {
   plan = stopped_plan true;
   table = b_ends (Exit 0);
-  records = written (Life ∷ Launch (key 1 0 Job) 1 ∷ End (key 1 0 Job) (Exit 0) ∷ Finish 0 ∷ []);
+  records = chronological (Life ∷ Launch (key 1 0 Job) 1 ∷ End (key 1 0 Job) (Exit 0) ∷ Finish 0 ∷ []);
 }
 
 -- a job that fails in one round and is good in the next
@@ -223,7 +223,7 @@ abbrev pub one_job : Plan
 one_job = record { nodes = node 65 (job_alone 0 false) false [] ∷ []; final_node = None; graph = no_graph; digest = []; always_post = false }
 
 abbrev pub run_to : Outcome → ℕ → List Record
-run_to outcome status = written (Life ∷ Launch (key 0 0 Job) 1 ∷ End (key 0 0 Job) outcome ∷ Finish status ∷ [])
+run_to outcome status = chronological (Life ∷ Launch (key 0 0 Job) 1 ∷ End (key 0 0 Job) outcome ∷ Finish status ∷ [])
 
 abbrev pub round_of : Outcome → ℕ → Round
 round_of outcome status = record {

@@ -2,7 +2,7 @@
 use Rattle.std.specs.Prelude.{◌≡◌, ℕ, ◌<◌, ℤ, Bool, true, false, List, [], length, Option, None, is_none, if◌then◌else◌}
 use Rattle.std.specs.List.{list_all}
 use Rattle.node_machine.specs.declared.Ended.{Ended}
-use Rattle.node_machine.specs.Story.{Table, Attempt, story, phases_of, last_of, is_good, value_if_any}
+use Rattle.node_machine.specs.Story.{Table, Attempt, story, phases_of, newest_attempt, is_good, value_if_any}
 use Rattle.node_machine.specs.declared.Record.{Record}
 use Rattle.node_machine.specs.declared.State.{State}
 use Rattle.node_machine.specs.declared.State.TheVariants.{Done, Error, NotRun}
@@ -27,13 +27,13 @@ abbrev pub without_attempts : State → Fate
 without_attempts state = record { state = state; history = []; attempts = 0; value = None }
 
 -- the fate of a node whose parents are all done: its story
-abbrev pub told_by : List Attempt → Fate
-told_by attempts =
+abbrev pub fate_by_story : List Attempt → Fate
+fate_by_story attempts =
     record {
-      state = if is_good (last_of attempts) then Done else Error;
+      state = if is_good (newest_attempt attempts) then Done else Error;
       history = phases_of attempts;
       attempts = length attempts;
-      value = value_if_any (last_of attempts);
+      value = value_if_any (newest_attempt attempts);
     }
 
 -- the fate of a node by the fates of its parents
@@ -41,7 +41,7 @@ abbrev pub fate_by : Plan → Table → (ℕ → Fate) → ℕ → Fate
 fate_by plan table fates node =
     if (node_at plan node).done then without_attempts Done
     else if list_all (λ parent. is_done_state (fates parent).state) (node_at plan node).parents
-    then told_by (story (node_at plan node).course (table node))
+    then fate_by_story (story (node_at plan node).course (table node))
     else without_attempts NotRun
 
 -- the fates of all ordinary nodes, by the outcomes of a table
@@ -52,7 +52,7 @@ AreFates plan table fates = (node : ℕ) → node < count_of plan → fates node
 abbrev pub final_fate : Plan → Table → Fate
 final_fate plan table =
     if (node_at plan (count_of plan)).done then without_attempts Done
-    else told_by (story (node_at plan (count_of plan)).course (table (count_of plan)))
+    else fate_by_story (story (node_at plan (count_of plan)).course (table (count_of plan)))
 
 -- what the records show of a node
 abbrev pub shown : Plan → List Record → ℕ → Fate

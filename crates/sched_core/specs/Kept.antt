@@ -26,11 +26,11 @@ abbrev pub own_place : Plan → ℕ → ℕ
 own_place plan node = if nat_lt node (count_of plan) then node else count_of plan
 
 -- the place by whose state a record is judged: its node's, and FINAL's for the end of the run
-abbrev pub place_of : Plan → Record → ℕ
-place_of plan Life = count_of plan
-place_of plan (Launch key number) = own_place plan key.node
-place_of plan (End key outcome) = own_place plan key.node
-place_of plan (Finish status) = count_of plan
+abbrev pub judged_place : Plan → Record → ℕ
+judged_place plan Life = count_of plan
+judged_place plan (Launch key number) = own_place plan key.node
+judged_place plan (End key outcome) = own_place plan key.node
+judged_place plan (Finish status) = count_of plan
 
 -- a node's state, lent
 abbrev pub IsLookedAt : Plan → List Record → ℕ → Option Looked → Type 0
@@ -40,6 +40,6 @@ IsLookedAt plan past node (Some looked) = (looked.node ≡ node) × IsStateOf pl
 -- that of the place of a record, but of a life
 abbrev pub IsLookedFor : Plan → List Record → Record → Option Looked → Type 0
 IsLookedFor plan past Life looked = looked ≡ None
-IsLookedFor plan past (Launch key number) looked = IsLookedAt plan past (place_of plan (Launch key number)) looked
-IsLookedFor plan past (End key outcome) looked = IsLookedAt plan past (place_of plan (End key outcome)) looked
+IsLookedFor plan past (Launch key number) looked = IsLookedAt plan past (judged_place plan (Launch key number)) looked
+IsLookedFor plan past (End key outcome) looked = IsLookedAt plan past (judged_place plan (End key outcome)) looked
 IsLookedFor plan past (Finish status) looked = IsLookedAt plan past (count_of plan) looked

@@ -12,16 +12,16 @@ use Rattle.node_machine.specs.declared.Record.TheVariants.{Life, Launch, End, Fi
 use Rattle.sched_core.specs.Run.{outstanding}
 
 -- the limits of the categories that have one, by their places
-abbrev pub limits_of : Plan → List ℕ
-limits_of plan = map (λ (category : CategoryLimit). category.limit) plan.graph.dag.categories
+abbrev pub limits_of_categories : Plan → List ℕ
+limits_of_categories plan = map (λ (category : CategoryLimit). category.limit) plan.graph.dag.categories
 
 -- what runs where these phases are outstanding; the job of a NOOP is one of them
 abbrev pub running_in : Plan → List Key → Running
-running_in plan [] = none_running (limits_of plan)
+running_in plan [] = none_running (limits_of_categories plan)
 running_in plan (key ∷ keys) = with_one (running_in plan keys) key.phase (node_at plan key.node).category
 
 abbrev pub throttled_in : Limits → Plan → List Key → Throttled
-throttled_in limits plan keys = record { limits = limits; categories = limits_of plan; running = running_in plan keys }
+throttled_in limits plan keys = record { limits = limits; categories = limits_of_categories plan; running = running_in plan keys }
 
 -- where these phases are outstanding, no limit that counts this one is reached
 abbrev pub lets_in : Limits → Plan → List Key → Key → Bool

@@ -27,12 +27,12 @@ first_ended [] key = None
 first_ended (newest ∷ past) key = if is_none (first_ended past key) then ended_by newest key else first_ended past key
 
 -- the attempt of a node's newest launch, and its number; 0 where there is none
-abbrev pub newest_attempt : List Record → ℕ → ℕ
-newest_attempt [] node = 0
-newest_attempt (Launch key number ∷ past) node = if key.node == node then key.attempt else newest_attempt past node
-newest_attempt (Life ∷ past) node = newest_attempt past node
-newest_attempt (End key outcome ∷ past) node = newest_attempt past node
-newest_attempt (Finish status ∷ past) node = newest_attempt past node
+abbrev pub newest_launch_attempt : List Record → ℕ → ℕ
+newest_launch_attempt [] node = 0
+newest_launch_attempt (Launch key number ∷ past) node = if key.node == node then key.attempt else newest_launch_attempt past node
+newest_launch_attempt (Life ∷ past) node = newest_launch_attempt past node
+newest_launch_attempt (End key outcome ∷ past) node = newest_launch_attempt past node
+newest_launch_attempt (Finish status ∷ past) node = newest_launch_attempt past node
 
 abbrev pub last_launch : List Record → ℕ → ℕ
 last_launch [] node = 0
@@ -56,7 +56,7 @@ notes_in past node attempt launch = record {
 
 -- what they say of a node's newest attempt
 abbrev pub notes_of : List Record → ℕ → AttemptNotes
-notes_of past node = notes_in past node (newest_attempt past node) (last_launch past node)
+notes_of past node = notes_in past node (newest_launch_attempt past node) (last_launch past node)
 
 -- what is noted of an attempt before anything of it is launched
 abbrev pub no_notes : ℕ → AttemptNotes
@@ -74,15 +74,15 @@ abbrev pub with_launch : AttemptNotes → Key → ℕ → AttemptNotes
 with_launch notes key number =
     launched_in (if key.attempt == notes.attempt then notes else no_notes key.attempt) key.phase number
 
-abbrev pub with_end : AttemptNotes → Phase → Outcome → AttemptNotes
-with_end notes Pre outcome = record notes { pre = if is_none notes.pre then Some outcome else notes.pre }
-with_end notes Job outcome = record notes { job = if is_none notes.job then Some outcome else notes.job }
-with_end notes Post outcome = notes
+abbrev pub with_phase_outcome : AttemptNotes → Phase → Outcome → AttemptNotes
+with_phase_outcome notes Pre outcome = record notes { pre = if is_none notes.pre then Some outcome else notes.pre }
+with_phase_outcome notes Job outcome = record notes { job = if is_none notes.job then Some outcome else notes.job }
+with_phase_outcome notes Post outcome = notes
 
 abbrev pub notes_after : List AttemptNotes → Record → List AttemptNotes
 notes_after notes Life = notes
 notes_after notes (Launch key number) = slice_set notes key.node (with_launch (notes_at notes key.node) key number)
-notes_after notes (End key outcome) = slice_set notes key.node (with_end (notes_at notes key.node) key.phase outcome)
+notes_after notes (End key outcome) = slice_set notes key.node (with_phase_outcome (notes_at notes key.node) key.phase outcome)
 notes_after notes (Finish status) = notes
 
 -- the facts of a launch, by what is noted of its attempt; a job that did not end has the value 0, and -1004 behind a failed PRE

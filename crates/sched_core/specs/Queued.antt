@@ -54,7 +54,7 @@ share ready own class = if ready && (own == class) then 1 else 0
 
 abbrev pub share_at : Plan → Bool → List NodeProgress → List ℕ → ℕ → ℕ → ℕ
 share_at plan aborted runs left class node =
-    share (is_ready_at plan aborted runs left node) (class_by (run_at runs node).stand.phase (node_at plan node).category) class
+    share (is_ready_at plan aborted runs left node) (class_by (run_at runs node).machine.phase (node_at plan node).category) class
 
 -- Where the nodes stand so and have so many parents that are not done, the members are those that are ready, and each class's
 -- count is of the ready nodes of this class.
@@ -84,8 +84,8 @@ holds_all counts throttled =
     && (holds_class counts throttled Post None && (holds_class counts throttled Job None && holds_categories counts throttled))
 
 -- throttles hold each ordinary phase that may be launched
-abbrev pub AreHeld : Plan → List Record → Throttled → Type 0
-AreHeld plan past throttled =
+abbrev pub AllThrottled : Plan → List Record → Throttled → Type 0
+AllThrottled plan past throttled =
     (node : ℕ) (key : Key) → node < count_of plan → launchable plan past node ≡ Some key
     → may_start throttled key.phase (node_at plan node).category ≡ false
 

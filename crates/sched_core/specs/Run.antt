@@ -11,8 +11,8 @@ use Rattle.run_plan.specs.Plan.{Plan, node_at, count_of, all_below}
 
 -- A run's records as a journal writes them and a core lends them: the oldest first. What is written so, turned once more,
 -- is the run's again (law `writing`).
-abbrev pub written : List Record → List Record
-written past = reverse past
+abbrev pub chronological : List Record → List Record
+chronological past = reverse past
 
 -- a node's phases that ended, the oldest first
 abbrev pub history : List Record → ℕ → List Ended
@@ -57,13 +57,13 @@ abbrev pub is_in_error : Plan → List Record → ℕ → Bool
 is_in_error plan past node = not (is_done plan past node) && is_none (next plan past node)
 
 -- a setting that is there and has this value
-abbrev pub is_met : Option ℤ → Option ℤ → Bool
-is_met setting None = false
-is_met setting (Some value) = is_set_to setting value
+abbrev pub setting_is_met : Option ℤ → Option ℤ → Bool
+setting_is_met setting None = false
+setting_is_met setting (Some value) = is_set_to setting value
 
 -- the last attempt of a node that ended has its abort value; none follows it
 abbrev pub has_abort_value : Plan → List Record → ℕ → Bool
-has_abort_value plan past node = is_met (node_at plan node).course.abort_on (value_in plan past node)
+has_abort_value plan past node = setting_is_met (node_at plan node).course.abort_on (value_in plan past node)
 
 -- an ordinary node's abort value ended the run
 unfoldable pub is_aborted : Plan → List Record → Bool

@@ -4,7 +4,7 @@ use Rattle.node_machine.specs.NodeProgress.{NodeProgress}
 use Rattle.run_plan.specs.Plan.{Plan, node_at, count_of}
 use Rattle.sched_core.specs.declared.notes.AttemptNotes.{AttemptNotes}
 use Rattle.sched_core.specs.declared.states.NodeState.{NodeState}
-use Rattle.sched_core.specs.Core.{run_at, run_of, AreFresh}
+use Rattle.sched_core.specs.Core.{run_at, node_progress, AreFresh}
 use Rattle.sched_core.specs.Notes.{notes_at, notes_of, AreNotes}
 use Rattle.sched_core.specs.Run.{is_aborted, is_done}
 use Rattle.node_machine.specs.declared.Record.{Record}
@@ -23,7 +23,7 @@ left_at left node = unwrap_or (slice_get left node) 0
 -- where the nodes stand so, a node is done
 abbrev pub done_at : Plan → List NodeProgress → ℕ → Bool
 done_at plan runs node =
-    (node_at plan node).done || (is_none (run_at runs node).stand.phase && (run_at runs node).stand.good)
+    (node_at plan node).done || (is_none (run_at runs node).machine.phase && (run_at runs node).machine.good)
 
 -- how many of these are not done
 abbrev pub undone_in : (ℕ → Bool) → List ℕ → ℕ
@@ -34,7 +34,7 @@ undone_in done (node ∷ nodes) = (if done node then 0 else 1) + undone_in done 
 -- parents are not done
 abbrev pub is_ready_by : Bool → Bool → NodeProgress → ℕ → Bool
 is_ready_by done aborted run left =
-    not aborted && ((left == 0) && (not done && (not (is_none run.stand.phase) && not run.running)))
+    not aborted && ((left == 0) && (not done && (not (is_none run.machine.phase) && not run.running)))
 
 abbrev pub is_ready_at : Plan → Bool → List NodeProgress → List ℕ → ℕ → Bool
 is_ready_at plan aborted runs left node =
@@ -60,7 +60,7 @@ pub record IsStateAt (states : NodeStates) (node : ℕ) (state : NodeState) : Ty
 
 -- and as the records have it
 pub record IsStateOf (plan : Plan) (past : List Record) (node : ℕ) (state : NodeState) : Type 0 where
-  pub run : state.run ≡ run_of plan past node
+  pub run : state.run ≡ node_progress plan past node
   pub notes : state.notes ≡ notes_of past node
   pub left : is_aborted plan past ≡ false → node < count_of plan
       → state.parents_left ≡ undone_in (is_done plan past) (node_at plan node).parents

@@ -8,7 +8,7 @@ use Rattle.sched_core.specs.declared.states.Looked.{Looked}
 use Rattle.sched_core.specs.declared.advancing.Turn.{Turn}
 use Rattle.sched_core.specs.Core.{run_at, has_abort_at, is_stuck_at}
 use Rattle.sched_core.specs.Notes.{notes_at}
-use Rattle.sched_core.specs.Run.{is_met}
+use Rattle.sched_core.specs.Run.{setting_is_met}
 use Rattle.sched_core.specs.States.{NodeStates, left_at, done_at}
 
 -- how often a number stands among these
@@ -52,9 +52,9 @@ IsOfTurn plan aborted runs (Finish status) = Unit {0}
 -- what an ordinary node comes to where it stands so
 abbrev pub turn_of : Plan → ℕ → NodeProgress → Turn
 turn_of plan node run = record {
-  aborts = nat_lt node (count_of plan) && is_met (node_at plan node).course.abort_on run.stand.value;
-  is_done = nat_lt node (count_of plan) && ((node_at plan node).done || (is_none run.stand.phase && run.stand.good));
-  is_stuck = nat_lt node (count_of plan) && (not (node_at plan node).done && (is_none run.stand.phase && not run.stand.good));
+  aborts = nat_lt node (count_of plan) && setting_is_met (node_at plan node).course.abort_on run.machine.value;
+  is_done = nat_lt node (count_of plan) && ((node_at plan node).done || (is_none run.machine.phase && run.machine.good));
+  is_stuck = nat_lt node (count_of plan) && (not (node_at plan node).done && (is_none run.machine.phase && not run.machine.good));
 }
 
 -- the ordinary node whose phase a record ends has its abort value, is done, is in error

@@ -4,12 +4,12 @@ ghost use Rattle.std.specs.Prelude.{◌≡◌, ℕ, ◌<◌, ◌≤◌, ◌+◌,
 ghost use Rattle.dag_graph.specs.Graph.{children_of};
 ghost use Rattle.node_machine.specs.NodeRun.{started, stopped, ended_with};
 ghost use Rattle.run_plan.specs.Plan.{node_at, count_of};
-ghost use Rattle.sched_core.specs.Core.{Takes, run_at, aborted_in, runs_after, aborted_after};
-ghost use Rattle.sched_core.specs.Notes.{notes_at, notes_after, with_launch, with_end};
+ghost use Rattle.sched_core.specs.Core.{TakesRecord, run_at, aborted_in, runs_after, aborted_after};
+ghost use Rattle.sched_core.specs.Notes.{notes_at, notes_after, with_launch, with_phase_outcome};
 ghost use Rattle.sched_core.specs.States.{AreMany, AreLeft, left_at};
 ghost use Rattle.sched_core.specs.Queued.{IsQueued};
 ghost use Rattle.sched_core.specs.Turns.{IsLent, IsEnding, IsIdleFinal, IsOfTurn, IsLentFor, times, done_by, stuck_by, has_abort_by, turn_of};
-ghost use Rattle.sched_core.specs.Bound.{all_nodes};
+ghost use Rattle.sched_core.specs.Bound.{node_total};
 ghost use Rattle.sched_core.specs.Looks.{further_looks};
 
 use crate::nodes::{is_done_at, is_met_by};
@@ -59,7 +59,7 @@ fn turn_of(plan: &Plan, node: u32, run: &NodeRun) -> Turn
 
 /// How many nodes there are, FINAL among them.
 fn count_all(plan: &Plan) -> u32
-    ensures is { result ≡ all_nodes plan.now }
+    ensures is { result ≡ node_total plan.now }
     ensures most { result ≤ suc (count_of plan.now) }
 {
     if plan.has_final() {
@@ -80,7 +80,7 @@ fn launch(
     number: u64,
 )
     requires many { AreMany plan.now states.old }
-    requires takes { Takes plan.now states.old.runs (Record.Launch key number) }
+    requires takes { TakesRecord plan.now states.old.runs (Record.Launch key number) }
     requires lent { IsLent plan.now aborted states.old key.node looked }
     requires queued { IsQueued plan.now aborted states.old.runs states.old.left queue.old }
     requires left { AreLeft plan.now aborted states.old.runs states.old.left }
@@ -107,7 +107,7 @@ fn forget_launches(plan: &Plan, aborted: bool, states: &mut States, queue: &mut 
     requires left { AreLeft plan.now aborted states.old.runs states.old.left }
     ensures runs { states.new.runs ≡ map stopped states.old.runs }
     ensures notes { states.new.notes ≡ states.old.notes }
-    ensures looks { states.new.looks ≤ states.old.looks + all_nodes plan.now }
+    ensures looks { states.new.looks ≤ states.old.looks + node_total plan.now }
     ensures many { AreMany plan.now states.new }
     ensures queued { IsQueued plan.now aborted states.new.runs states.new.left queue.new }
     ensures left { AreLeft plan.now aborted states.new.runs states.new.left }
@@ -191,7 +191,7 @@ fn end(
     outcome: Outcome,
 ) -> Turn
     requires many { AreMany plan.now states.old }
-    requires takes { Takes plan.now states.old.runs (Record.End key outcome) }
+    requires takes { TakesRecord plan.now states.old.runs (Record.End key outcome) }
     requires ending { IsEnding plan.now aborted states.old.runs key.node }
     requires lent { IsLent plan.now aborted states.old key.node looked }
     requires queued { IsQueued plan.now aborted states.old.runs states.old.left queue.old }
@@ -200,7 +200,7 @@ fn end(
     ensures runs { states.new.runs ≡ (if result.aborts
         then map stopped (slice_set states.old.runs key.node (ended_with (run_at states.old.runs key.node) outcome))
         else slice_set states.old.runs key.node (ended_with (run_at states.old.runs key.node) outcome)) }
-    ensures notes { states.new.notes ≡ slice_set states.old.notes key.node (with_end (notes_at states.old.notes key.node) key.phase outcome) }
+    ensures notes { states.new.notes ≡ slice_set states.old.notes key.node (with_phase_outcome (notes_at states.old.notes key.node) key.phase outcome) }
     ensures looks { states.new.looks ≤ states.old.looks + further_looks plan.now (Record.End key outcome) result.aborts }
     ensures many { AreMany plan.now states.new }
     ensures queued { IsQueued plan.now (aborted || result.aborts) states.new.runs states.new.left queue.new }
@@ -232,7 +232,7 @@ pub fn advance(
     entry: Record,
 ) -> Turn
     requires many { AreMany plan.now states.old }
-    requires takes { Takes plan.now states.old.runs entry }
+    requires takes { TakesRecord plan.now states.old.runs entry }
     requires turn { IsOfTurn plan.now aborted states.old.runs entry }
     requires lent { IsLentFor plan.now aborted states.old entry looked }
     requires flag { aborted ≡ aborted_in plan.now states.old.runs }

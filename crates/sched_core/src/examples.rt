@@ -13,7 +13,7 @@ ghost use Rattle.node_machine.specs.declared.Phase.TheVariants.{Pre, Job, Post};
 ghost use Rattle.node_machine.specs.declared.Outcome.TheVariants.{Exit, Signal};
 ghost use Rattle.node_machine.specs.declared.State.TheVariants.{Done, Error, NotRun};
 ghost use Rattle.run_plan.specs.Plan.{Plan, node_at, count_of, IsRankedBy};
-ghost use Rattle.run_plan_node.specs.Commands.{bare_command, command_of, is_sound, uses_whole_run};
+ghost use Rattle.run_plan_node.specs.Commands.{bare_command, command_of, is_expandable, uses_whole_run};
 ghost use Rattle.sched_core.specs.Run.{table_of, history, is_done, is_lawful, is_finished, is_aborted, is_launched, may_follow};
 ghost use Rattle.sched_core.specs.Fate.{Fate, AreFates, shown, is_done_state};
 ghost use Rattle.sched_core.specs.Bound.{all_phases};
@@ -53,7 +53,7 @@ pub fn examples()
     ensures told_agree { Agree told_attempt first_good told_attempt first_good 0 0 }
     ensures noop { IsTrue (is_finished noop_plan noop_run) }
     ensures noop_outcomes { IsRunBy noop_plan noop_table noop_run }
-    ensures noop_sound { is_sound (node_at noop_plan 0) ≡ true }
+    ensures noop_sound { is_expandable (node_at noop_plan 0) ≡ true }
     ensures noop_plain { uses_whole_run (node_at noop_plan 0) ≡ false }
     // Behind a PRE that failed, POST's value is the attempt's, and its words tell that no job ran.
     ensures always { IsTrue (is_finished always_plan always_run) }

@@ -16,8 +16,8 @@ ghost use Rattle.node_machine.specs.declared.Phase.TheVariants.{Job};
 ghost use Rattle.node_machine.specs.declared.Outcome.TheVariants.{Exit};
 ghost use Rattle.node_machine.specs.declared.State.TheVariants.{Done, Error, NotRun};
 ghost use Rattle.run_plan.specs.Plan.{Plan, node_at, count_of, IsRankedBy};
-ghost use Rattle.run_plan_node.specs.Commands.{command_of, is_sound, uses_whole_run};
-ghost use Rattle.sched_core.specs.Run.{written, table_of, history, is_done, is_lawful, is_finished, is_aborted, is_launched, is_open, launch_number, may_follow};
+ghost use Rattle.run_plan_node.specs.Commands.{command_of, is_expandable, uses_whole_run};
+ghost use Rattle.sched_core.specs.Run.{chronological, table_of, history, is_done, is_lawful, is_finished, is_aborted, is_launched, is_open, launch_number, may_follow};
 ghost use Rattle.sched_core.specs.Fate.{Fate, AreFates, final_fate, shown, is_done_state};
 ghost use Rattle.sched_core.specs.Agree.{AgreeOnFates, Agree};
 ghost use Rattle.sched_core.specs.Commands.{command_by, with_commands, facts_in, is_launch};
@@ -78,7 +78,7 @@ pub fn launches()
         HasOutcomesOf plan table past → IsTurnOf plan table key (history past key.node) }
     ensures commands { (plan : Plan) (table : Table) (newer past : List Record) (key : Key)
         (number : ℕ) → IsTrue (is_lawful plan (newer ++ Launch key number ∷ past)) →
-        HasOutcomesOf plan table past → is_sound (node_at plan key.node) ≡ true →
+        HasOutcomesOf plan table past → is_expandable (node_at plan key.node) ≡ true →
         uses_whole_run (node_at plan key.node) ≡ false →
         command_of (node_at plan key.node) key.attempt key.phase
         (facts_in plan (Launch key number ∷ past) key)
@@ -173,10 +173,10 @@ pub fn choices()
 /// What is written begins with the oldest record, each newer one stands behind it, and read from the
 /// end it is the run's records again.
 pub fn writing()
-    ensures none { written [] ≡ [] }
+    ensures none { chronological [] ≡ [] }
     ensures newest { (newest : Record) (past : List Record) →
-        written (newest ∷ past) ≡ written past ++ newest ∷ [] }
-    ensures again { (past : List Record) → written (written past) ≡ past }
+        chronological (newest ∷ past) ≡ chronological past ++ newest ∷ [] }
+    ensures again { (past : List Record) → chronological (chronological past) ≡ past }
 {}
 
 /// In a lawful list the phases of a node that ended are a history: each is the next of the node's

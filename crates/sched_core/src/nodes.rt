@@ -2,14 +2,14 @@
 
 ghost use Rattle.std.specs.Prelude.{None, Some, true, false, IfOk, IfErr, ◌≡◌, ℕ, ◌+◌, ◌^◌, ◌<◌, ◌≤◌, ◌++◌, ◌∷◌, [], ◌==◌, ◌||◌, ◌&&◌, suc, map, length, not, slice_set, vec_len, vec_capacity, is_none, IsTrue, if◌then◌else◌};
 ghost use Rattle.node_machine.specs.Story.{phase_number, is_possible, may_end_with};
-ghost use Rattle.node_machine.specs.Stand.{next_of};
+ghost use Rattle.node_machine.specs.MachineState.{next_of};
 ghost use Rattle.run_plan.specs.Plan.{node_at, count_of};
 ghost use Rattle.sched_core.specs.Ahead.{ended_in};
 ghost use Rattle.sched_core.specs.declared.CoreFault.TheVariants.{NotLawful, Finished};
-ghost use Rattle.sched_core.specs.Run.{written, history, key_at, is_next, is_among, is_same, is_met, is_over, is_open, abort_status};
+ghost use Rattle.sched_core.specs.Run.{chronological, history, key_at, is_next, is_among, is_same, setting_is_met, is_over, is_open, abort_status};
 ghost use Rattle.splices_flat.specs.declared.flat.CategoryLimit.{CategoryLimit};
 ghost use Rattle.throttles.specs.Throttled.{all_in};
-ghost use Rattle.sched_core.specs.Limits.{limits_of, throttled_in, throttled_after, IsOfNode, IsCounted};
+ghost use Rattle.sched_core.specs.Limits.{limits_of_categories, throttled_in, throttled_after, IsOfNode, IsCounted};
 ghost use Rattle.sched_core.specs.Core.{AreFresh, run_at, jobs_after};
 ghost use Rattle.sched_core.specs.Tally.{stop_status};
 ghost use Rattle.sched_core.specs.Bound.{sum_below};
@@ -109,13 +109,13 @@ pub fn count_both(keys: &[Key], records: &[Record]) -> u64
 
 /// Whether the last attempt of a node was good and ended its story.
 fn is_good(run: &NodeRun) -> bool
-    ensures { result ≡ (is_none run.now.stand.phase && run.now.stand.good) }
+    ensures { result ≡ (is_none run.now.machine.phase && run.now.machine.good) }
 {
     matches!(run.state(), State::Done)
 }
 
 pub fn is_done_at(spec: &NodeSpec, run: &NodeRun) -> bool
-    ensures { result ≡ (spec.now.done || (is_none run.now.stand.phase && run.now.stand.good)) }
+    ensures { result ≡ (spec.now.done || (is_none run.now.machine.phase && run.now.machine.good)) }
 {
     spec.is_done() || is_good(run)
 }
@@ -135,7 +135,7 @@ fn key_of(node: u32, next: Option<(u32, Phase)>) -> Option<Key>
 
 pub fn next_at(spec: &NodeSpec, node: u32, run: &NodeRun) -> Option<Key>
     ensures { result ≡ (if spec.now.done then None
-        else key_at node (next_of run.now.stand run.now.stand.phase)) }
+        else key_at node (next_of run.now.machine run.now.machine.phase)) }
 {
     if spec.is_done() {
         None
@@ -146,7 +146,7 @@ pub fn next_at(spec: &NodeSpec, node: u32, run: &NodeRun) -> Option<Key>
 
 /// Whether Finish is the newest record, the last of these.
 pub fn last_is_finish(records: &[Record]) -> bool
-    ensures { result ≡ is_over (written records.now) }
+    ensures { result ≡ is_over (chronological records.now) }
 {
     match records.last() {
         Some(Record::Finish(_)) => true,
@@ -156,7 +156,7 @@ pub fn last_is_finish(records: &[Record]) -> bool
 
 /// Whether there are records and Finish is not the newest.
 pub fn last_is_open(records: &[Record]) -> bool
-    ensures { result ≡ is_open (written records.now) }
+    ensures { result ≡ is_open (chronological records.now) }
 {
     match records.last() {
         None => false,
@@ -203,7 +203,7 @@ pub fn status_by(abort_return: Option<u8>, value: Option<i32>) -> u8
 
 /// Whether a setting is there and has this value.
 pub fn is_met_by(setting: Option<i32>, value: Option<i32>) -> bool
-    ensures { result ≡ is_met setting value }
+    ensures { result ≡ setting_is_met setting value }
 {
     match (setting, value) {
         (Some(wanted), Some(given)) => wanted == given,
@@ -314,7 +314,7 @@ pub fn fresh_throttles(alloc: Global, plan: &Plan, limits: Limits) -> Result<Thr
 /// What a record makes of the throttles.
 pub fn throttle(plan: &Plan, throttles: &mut Throttles, entry: Record, stops: bool)
     requires node { IsOfNode plan.now entry }
-    requires categories { throttles.old.categories ≡ limits_of plan.now }
+    requires categories { throttles.old.categories ≡ limits_of_categories plan.now }
     requires room { all_in throttles.old.running + 1 < 2 ^ 64 }
     requires counted { IsCounted plan.now throttles.old entry }
     ensures { throttles.new ≡ throttled_after plan.now throttles.old entry stops }
@@ -362,7 +362,7 @@ pub fn done_at_first(plan: &Plan) -> u32
 
 /// The phases of a node that ended, the oldest first.
 pub fn history_of(alloc: Global, records: &[Record], node: u32) -> Result<Vec<Ended>, AllocError>
-    ensures { IfOk result (λ phases. phases.items ≡ history (written records.now) node) }
+    ensures { IfOk result (λ phases. phases.items ≡ history (chronological records.now) node) }
 {
     let mut phases = Vec::new(alloc);
     for entry in records {

@@ -1,7 +1,7 @@
 //! What a core notes of each node's newest attempt.
 
 ghost use Rattle.std.specs.Prelude.{◌≡◌, ◌<◌, [], length, slice_set, is_none, if◌then◌else◌, IfOk};
-ghost use Rattle.sched_core.specs.Notes.{AreNotes, no_notes, notes_at, with_launch, with_end};
+ghost use Rattle.sched_core.specs.Notes.{AreNotes, no_notes, notes_at, with_launch, with_phase_outcome};
 
 use crate::nodes::is_job;
 use node_machine::{Key, Outcome, Phase};
@@ -68,7 +68,7 @@ pub fn with_launch(notes: AttemptNotes, key: Key, number: u64) -> AttemptNotes
 
 /// What the end of a phase makes of the notes.
 pub fn with_end(notes: AttemptNotes, phase: Phase, outcome: Outcome) -> AttemptNotes
-    ensures { result ≡ with_end notes phase outcome }
+    ensures { result ≡ with_phase_outcome notes phase outcome }
 {
     match phase {
         Phase::Pre => AttemptNotes {

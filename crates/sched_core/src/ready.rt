@@ -98,7 +98,7 @@ fn class_of(phase: Phase, category: Option<usize>) -> usize
 /// The class of a node by the phase that comes next: 0 too where none does.
 fn class_by(plan: &Plan, node: u32, run: &NodeRun) -> usize
     requires { node ≤ count_of plan.now }
-    ensures is { result ≡ class_by run.now.stand.phase (node_at plan.now node).category }
+    ensures is { result ≡ class_by run.now.machine.phase (node_at plan.now node).category }
     ensures within { result < classes_of plan.now }
 {
     let _most = count_classes(plan);

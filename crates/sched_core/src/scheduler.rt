@@ -4,17 +4,17 @@ ghost use Rattle.std.specs.Prelude.{◌≡◌, ℕ, ◌+◌, ◌^◌, ◌<◌, �
 ghost use Rattle.std.specs.List.{list_all};
 ghost use Rattle.node_machine.specs.Story.{may_end_with, phase_number};
 ghost use Rattle.run_plan.specs.Plan.{node_at, count_of, all_below};
-ghost use Rattle.sched_core.specs.Run.{written, history, next, is_done, is_in_error, attempts_in, value_in, has_abort_value, is_aborted, outstanding, is_among, is_free, is_nothing, is_ready, is_final_ready, may_launch, job_launches, launch_number, status_of_abort, exit_status, is_over, is_open, may_follow, is_lawful, needs_rescue};
+ghost use Rattle.sched_core.specs.Run.{chronological, history, next, is_done, is_in_error, attempts_in, value_in, has_abort_value, is_aborted, outstanding, is_among, is_free, is_nothing, is_ready, is_final_ready, may_launch, job_launches, launch_number, status_of_abort, exit_status, is_over, is_open, may_follow, is_lawful, needs_rescue};
 ghost use Rattle.sched_core.specs.Fate.{shown};
-ghost use Rattle.sched_core.specs.Core.{Progress, is_running, fault_after, better_of, AreMarks, IsBestBelow};
+ghost use Rattle.sched_core.specs.Core.{Progress, is_running, fault_after, better_of, AreDoneMarks, IsBestBelow};
 ghost use Rattle.sched_core.specs.States.{IsStateOf};
-ghost use Rattle.sched_core.specs.Kept.{place_of, IsLookedFor};
+ghost use Rattle.sched_core.specs.Kept.{judged_place, IsLookedFor};
 ghost use Rattle.sched_core.specs.Looks.{stops, most_looks, further_looks};
 ghost use Rattle.sched_core.specs.Choices.{launchable, startable, IsChoice};
 ghost use Rattle.sched_core.specs.Limits.{lets_in};
-ghost use Rattle.sched_core.specs.Queued.{AreWaiting, AreHeld};
+ghost use Rattle.sched_core.specs.Queued.{AreWaiting, AllThrottled};
 ghost use Rattle.sched_core.specs.Ahead.{launch_of, launched, launches, may_launch_all, fitting, ends_of, AreChosen, NothingToStart};
-ghost use Rattle.sched_core.specs.Limits.{limits_of, throttled_in};
+ghost use Rattle.sched_core.specs.Limits.{limits_of_categories, throttled_in};
 ghost use Rattle.sched_core.specs.Round.{IsRound};
 ghost use Rattle.throttles.specs.Throttled.{with_one};
 ghost use Rattle.sched_core.specs.Commands.{facts_in};
@@ -75,7 +75,7 @@ impl Drop for Core<'_> {
 
 impl<'a> Model for Core<'a> {
     ghost use Rattle.std.specs.Prelude.{◌-◌, vec_len, vec_capacity};
-    ghost use Rattle.sched_core.specs.Run.{written};
+    ghost use Rattle.sched_core.specs.Run.{chronological};
     ghost use Rattle.sched_core.specs.Core.{Progress};
     ghost use Rattle.sched_core.specs.Kept.{IsKept};
 
@@ -84,12 +84,12 @@ impl<'a> Model for Core<'a> {
     ghost view = { λ a. record {
       plan = a.plan.now;
       limits = a.throttles.limits;
-      past = written a.records.items;
+      past = chronological a.records.items;
       room = vec_capacity a.records - vec_len a.records;
       looks = a.states.looks;
     } };
 
-    ghost invariant = { λ a. IsKept a.plan.now (written a.records.items) a.states a.aborted a.stop_status a.jobs a.throttles a.failed a.done a.queue };
+    ghost invariant = { λ a. IsKept a.plan.now (chronological a.records.items) a.states a.aborted a.stop_status a.jobs a.throttles a.failed a.done a.queue };
 }
 
 /// The better of two phases, of which the second is of a later node.
@@ -137,7 +137,7 @@ impl<'a> Core<'a> {
 
     /// The records, the oldest first.
     pub fn records(&self) -> &[Record]
-        ensures { result.now ≡ written self.now.past }
+        ensures { result.now ≡ chronological self.now.past }
     {
         &self.records
     }
@@ -456,7 +456,7 @@ impl<'a> Core<'a> {
 
     /// The place of the node that a record is judged by: its own, and FINAL's for the end of the run.
     fn place_of(&self, entry: &Record) -> u32
-        ensures is { result ≡ place_of self.now.plan entry.now }
+        ensures is { result ≡ judged_place self.now.plan entry.now }
         ensures within { result ≤ count_of self.now.plan }
     {
         let count = self.plan().count();
@@ -471,7 +471,7 @@ impl<'a> Core<'a> {
     /// Whether a record may follow, by the state of its place.
     #[tactic(auto, unfolding(crate::specs::Run::may_follow))]
     fn follows(&self, entry: &Record, state: &NodeState) -> bool
-        requires { IsStateOf self.now.plan self.now.past (place_of self.now.plan entry.now) state.now }
+        requires { IsStateOf self.now.plan self.now.past (judged_place self.now.plan entry.now) state.now }
         ensures { result ≡ may_follow self.now.plan self.now.past entry.now }
     {
         match entry {
@@ -489,7 +489,7 @@ impl<'a> Core<'a> {
 
     #[tactic(auto, unfolding(crate::specs::Run::may_follow))]
     fn launch_follows(&self, key: &Key, number: u64, state: &NodeState) -> bool
-        requires { IsStateOf self.now.plan self.now.past (place_of self.now.plan (Record.Launch key.now number)) state.now }
+        requires { IsStateOf self.now.plan self.now.past (judged_place self.now.plan (Record.Launch key.now number)) state.now }
         ensures { result ≡ may_follow self.now.plan self.now.past (Record.Launch key.now number) }
     {
         if key.node > self.plan().count() {
@@ -503,7 +503,7 @@ impl<'a> Core<'a> {
 
     #[tactic(auto, unfolding(crate::specs::Run::may_follow))]
     fn end_follows(&self, key: &Key, outcome: Outcome, state: &NodeState) -> bool
-        requires { IsStateOf self.now.plan self.now.past (place_of self.now.plan (Record.End key.now outcome)) state.now }
+        requires { IsStateOf self.now.plan self.now.past (judged_place self.now.plan (Record.End key.now outcome)) state.now }
         ensures { result ≡ may_follow self.now.plan self.now.past (Record.End key.now outcome) }
     {
         let _records = &self.records;
@@ -695,8 +695,8 @@ impl<'a> Core<'a> {
     /// Whether these throttles hold each ordinary phase that may be launched: no node waits whose
     /// next phase is of a kind, or of a job's category, that they let in. It goes over no nodes.
     fn is_held(&self, throttles: &Throttles) -> bool
-        requires { throttles.now.categories ≡ limits_of self.now.plan }
-        ensures { IsTrue result ↔ AreHeld self.now.plan self.now.past throttles.now }
+        requires { throttles.now.categories ≡ limits_of_categories self.now.plan }
+        ensures { IsTrue result ↔ AllThrottled self.now.plan self.now.past throttles.now }
     {
         let _records = &self.records;
         let _graph = self.plan.graph();
@@ -974,7 +974,7 @@ impl<'a> Core<'a> {
 
     /// Which ordinary nodes are done.
     pub fn marks(&self, alloc: Global) -> Result<Vec<bool>, CoreFault>
-        ensures ok { IfOk result (λ marks. AreMarks self.now.plan self.now.past marks.items) }
+        ensures ok { IfOk result (λ marks. AreDoneMarks self.now.plan self.now.past marks.items) }
         ensures err { IfErr result (λ fault. fault ≡ CoreFault.Memory) }
     {
         let mut marks = Vec::new(alloc);

@@ -17,13 +17,13 @@ use Rattle.splices_flat.specs.declared.fault.DagFault.{DagFault}
 use Rattle.splices_flat.specs.declared.flat.Settings.{Settings}
 use Rattle.splices_flat.specs.declared.used.Used.{Used}
 use Rattle.splices.specs.Acting.{acting, is_all, is_for_all}
-use Rattle.splices_flat.specs.Edges.{Scope, line_edges}
+use Rattle.splices_flat.specs.Edges.{NodeScope, line_edges}
 use Rattle.splices_flat.specs.Faults.{Names, first_some, line_fault}
 use Rattle.splices_flat.specs.Forest.{Forest, none}
 use Rattle.splices_flat.specs.Nodes.{Declared, final_in, final_names, finals_in, job_in, job_names, jobs_in, names_in, node_names, own_count, splice_name, splice_names}
-use Rattle.splices_flat.specs.Opening.{◌>>=◌, Opener, check_line, check_lines, has_final, is_declared, once, open_line, open_lines, with_forest, joined}
-use Rattle.splices_flat.specs.Settings.{is_for, no_settings, settings_at, target_of, with_line}
-use Rattle.splices_flat.specs.Warnings.{Told, each_once, replaced_in, replaced_lines, tell_file, tell_line, tell_lines}
+use Rattle.splices_flat.specs.Opening.{◌>>=◌, Opener, check_line, check_lines, has_final, is_declared, once, open_line, open_lines, with_forest, forests_joined}
+use Rattle.splices_flat.specs.Settings.{is_for, no_settings, settings_at, setting_target, with_line}
+use Rattle.splices_flat.specs.Warnings.{Warned, each_once, replaced_in, replaced_lines, warn_file, warn_line, warn_lines}
 use Rattle.splices_flat.proofs.Opened.{used-none}
 
 abbrev keeps : Command → Bool
@@ -52,7 +52,7 @@ silent_splice : (c : Command) → is_for_all c ≡ true → splice_name c ≡ []
 silent_splice (Splice name file dir) reaches_all = absurd cc
 silent_splice c reaches_all = refl
 
-silent_edges : (scope : Scope) (c : Command) → is_for_all c ≡ true → line_edges scope c ≡ []
+silent_edges : (scope : NodeScope) (c : Command) → is_for_all c ≡ true → line_edges scope c ≡ []
 silent_edges scope (ParentChild parents children) reaches_all = absurd cc
 silent_edges scope c reaches_all = refl
 
@@ -92,7 +92,7 @@ finals_same = flat_same final_in silent_final
 splices_same : (cs : List Command) → splice_names (filter keeps cs) ≡ splice_names cs
 splices_same = flat_same splice_name silent_splice
 
-edges_same : (scope : Scope) (cs : List Command) → flat_map (line_edges scope) (filter keeps cs) ≡ flat_map (line_edges scope) cs
+edges_same : (scope : NodeScope) (cs : List Command) → flat_map (line_edges scope) (filter keeps cs) ≡ flat_map (line_edges scope) cs
 edges_same scope = flat_same (line_edges scope) (silent_edges scope)
 
 fault_same : (names : Names) (cs : List Command) → first_some (line_fault names) (filter keeps cs) ≡ first_some (line_fault names) cs
@@ -117,13 +117,13 @@ module _ (opener : Opener) (above : List (List ℕ)) (folder : List ℕ) where
   skip_open c xs ys reaches_all same = λ used.
       same used
       ∙ sym
-      (ap (λ (r : Result Forest DagFault). r >>= λ first. open_lines opener (with_forest used first) above folder ys >>= λ others. Ok (joined first others)) (silent_open opener used above folder c reaches_all)
+      (ap (λ (r : Result Forest DagFault). r >>= λ first. open_lines opener (with_forest used first) above folder ys >>= λ others. Ok (forests_joined first others)) (silent_open opener used above folder c reaches_all)
       ∙ ap (λ (u : Used). open_lines opener u above folder ys >>= λ (others : Forest). Ok others) (used-none used) ∙ given_back (open_lines opener used above folder ys))
 
   opens_same : (cs : List Command) → Opens (filter keeps cs) cs
   opens_same =
       each Opens (λ used. refl)
-      (λ c xs ys same used. bind_same (open_line opener used above folder c) _ _ (λ first. ap (λ (r : Result Forest DagFault). r >>= λ others. Ok (joined first others)) (same (with_forest used first))))
+      (λ c xs ys same used. bind_same (open_line opener used above folder c) _ _ (λ first. ap (λ (r : Result Forest DagFault). r >>= λ others. Ok (forests_joined first others)) (same (with_forest used first))))
       skip_open
 
 -- names
@@ -195,26 +195,26 @@ flat_none : {X Y : Type 0} (f : X → List Y) (xs : List X) → ((x : X) → f x
 flat_none f [] silent = refl
 flat_none f (x ∷ xs) silent = ap (λ zs. zs ++ flat_map f xs) (silent x) ∙ flat_none f xs silent
 
-tell_silent : (path prefix : List ℕ) (told : Told) (c : Command) → is_for_all c ≡ true → tell_line path prefix told c [] ≡ told
-tell_silent path prefix told (MaxJobs category n) reaches_all = absurd cc
-tell_silent path prefix told (Ignored span) reaches_all = absurd cc
-tell_silent path prefix told c reaches_all = refl
+warn_silent : (path prefix : List ℕ) (warned : Warned) (c : Command) → is_for_all c ≡ true → warn_line path prefix warned c [] ≡ warned
+warn_silent path prefix warned (MaxJobs category n) reaches_all = absurd cc
+warn_silent path prefix warned (Ignored span) reaches_all = absurd cc
+warn_silent path prefix warned c reaches_all = refl
 
 module _ (prefix : List ℕ) (cs : List Command) (no_jobs : jobs_in cs ≡ []) where
   abbrev ls : List Command
   ls = filter keeps cs
 
   abbrev step : List Declared → List Declared → ℕ → Settings → Command → Settings
-  step jobs finals place s c = if is_for (names_in jobs) (names_in finals) (target_of c) place then with_line prefix s c else s
+  step jobs finals place s c = if is_for (names_in jobs) (names_in finals) (setting_target c) place then with_line prefix s c else s
 
-  idle : (c : Command) (place : ℕ) → is_for_all c ≡ true → is_for (job_names cs) (final_names cs) (target_of c) place ≡ false
-  idle c place reaches_all = ap (λ (js : List Declared). is_for (names_in js) (final_names cs) (target_of c) place) no_jobs ∙ for_all_none (target_of c) (final_names cs) place reaches_all
+  idle : (c : Command) (place : ℕ) → is_for_all c ≡ true → is_for (job_names cs) (final_names cs) (setting_target c) place ≡ false
+  idle c place reaches_all = ap (λ (js : List Declared). is_for (names_in js) (final_names cs) (setting_target c) place) no_jobs ∙ for_all_none (setting_target c) (final_names cs) place reaches_all
 
   same_step : (place : ℕ) → step (jobs_in ls) (finals_in ls) place ≡ step (jobs_in cs) (finals_in cs) place
   same_step place = ap (λ js. step js (finals_in ls) place) (jobs_same cs) ∙ ap (λ fs. step (jobs_in cs) fs place) (finals_same cs)
 
   idle_step : (place : ℕ) (s : Settings) (c : Command) → is_for_all c ≡ true → step (jobs_in cs) (finals_in cs) place s c ≡ s
-  idle_step place s c reaches_all = cond-false (is_for (job_names cs) (final_names cs) (target_of c) place) (with_line prefix s c) s (idle c place reaches_all)
+  idle_step place s c reaches_all = cond-false (is_for (job_names cs) (final_names cs) (setting_target c) place) (with_line prefix s c) s (idle c place reaches_all)
 
   folded : (place : ℕ) (lines : List Command) (s : Settings) → fold (step (jobs_in cs) (finals_in cs) place) s (filter keeps lines) ≡ fold (step (jobs_in cs) (finals_in cs) place) s lines
   folded place =
@@ -239,30 +239,30 @@ module _ (prefix : List ℕ) (cs : List Command) (no_jobs : jobs_in cs ≡ []) w
 
   abbrev lines_of : List Declared → List Declared → (ℕ → Settings) → Command → List ℕ
   lines_of jobs finals settings c =
-      flat_map (λ place. if is_for (names_in jobs) (names_in finals) (target_of c) place then replaced_in (settings place) c else []) (range_with_len 0 (length (names_in jobs ++ names_in finals)))
+      flat_map (λ place. if is_for (names_in jobs) (names_in finals) (setting_target c) place then replaced_in (settings place) c else []) (range_with_len 0 (length (names_in jobs ++ names_in finals)))
 
   replaced_same : (front back : List Command) (c : Command) → SameSettings front back → replaced_lines prefix ls front c ≡ replaced_lines prefix cs back c
   replaced_same front back c same =
       ap (λ js. each_once (lines_of js (finals_in ls) (settings_at prefix ls front) c)) (jobs_same cs) ∙ ap (λ fs. each_once (lines_of (jobs_in cs) fs (settings_at prefix ls front) c)) (finals_same cs)
-      ∙ ap each_once (flat_ext _ _ (range_with_len 0 (length (node_names cs))) (λ place. ap (λ s. if is_for (job_names cs) (final_names cs) (target_of c) place then replaced_in s c else []) (same place)))
+      ∙ ap each_once (flat_ext _ _ (range_with_len 0 (length (node_names cs))) (λ place. ap (λ s. if is_for (job_names cs) (final_names cs) (setting_target c) place then replaced_in s c else []) (same place)))
 
   none_replaced : (back : List Command) (c : Command) → is_for_all c ≡ true → replaced_lines prefix cs back c ≡ []
   none_replaced back c reaches_all =
-      ap each_once (flat_none _ (range_with_len 0 (length (node_names cs))) (λ place. cond-false (is_for (job_names cs) (final_names cs) (target_of c) place) (replaced_in (settings_at prefix cs back place) c) [] (idle c place reaches_all)))
+      ap each_once (flat_none _ (range_with_len 0 (length (node_names cs))) (λ place. cond-false (is_for (job_names cs) (final_names cs) (setting_target c) place) (replaced_in (settings_at prefix cs back place) c) [] (idle c place reaches_all)))
 
   module _ (path : List ℕ) where
     abbrev Tells : List Command → List Command → Type 0
-    Tells xs ys = (front back : List Command) (told : Told) → SameSettings front back → tell_lines path prefix ls front told xs ≡ tell_lines path prefix cs back told ys
+    Tells xs ys = (front back : List Command) (warned : Warned) → SameSettings front back → warn_lines path prefix ls front warned xs ≡ warn_lines path prefix cs back warned ys
 
-    tell_same : (lines : List Command) → Tells (filter keeps lines) lines
-    tell_same =
-        each Tells (λ front back told same. refl)
-        (λ c xs ys rest front back told same.
-        ap (λ r. tell_lines path prefix ls (front ++ c ∷ []) (tell_line path prefix told c r) xs) (replaced_same front back c same)
-        ∙ rest (front ++ c ∷ []) (back ++ c ∷ []) (tell_line path prefix told c (replaced_lines prefix cs back c)) (settings_next front back c same))
-        (λ c xs ys reaches_all rest front back told same.
-        rest front (back ++ c ∷ []) told (settings_idle front back c reaches_all same)
-        ∙ sym (ap (λ t. tell_lines path prefix cs (back ++ c ∷ []) t ys) (ap (tell_line path prefix told c) (none_replaced back c reaches_all) ∙ tell_silent path prefix told c reaches_all)))
+    warn_same : (lines : List Command) → Tells (filter keeps lines) lines
+    warn_same =
+        each Tells (λ front back warned same. refl)
+        (λ c xs ys rest front back warned same.
+        ap (λ r. warn_lines path prefix ls (front ++ c ∷ []) (warn_line path prefix warned c r) xs) (replaced_same front back c same)
+        ∙ rest (front ++ c ∷ []) (back ++ c ∷ []) (warn_line path prefix warned c (replaced_lines prefix cs back c)) (settings_next front back c same))
+        (λ c xs ys reaches_all rest front back warned same.
+        rest front (back ++ c ∷ []) warned (settings_idle front back c reaches_all same)
+        ∙ sym (ap (λ t. warn_lines path prefix cs (back ++ c ∷ []) t ys) (ap (warn_line path prefix warned c) (none_replaced back c reaches_all) ∙ warn_silent path prefix warned c reaches_all)))
 
 -- What is the same of two lists of lines, for whoever opens a file.
 pub record Acts (xs ys : List Command) : Type 0 where
@@ -271,10 +271,10 @@ pub record Acts (xs ys : List Command) : Type 0 where
   pub splices : splice_names xs ≡ splice_names ys
   pub checks : (path : List ℕ) → check_lines path [] xs ≡ check_lines path [] ys
   pub opens : (opener : Opener) (used : Used) (above : List (List ℕ)) (folder : List ℕ) → open_lines opener used above folder xs ≡ open_lines opener used above folder ys
-  pub edges : (scope : Scope) → flat_map (line_edges scope) xs ≡ flat_map (line_edges scope) ys
+  pub edges : (scope : NodeScope) → flat_map (line_edges scope) xs ≡ flat_map (line_edges scope) ys
   pub fault : (names : Names) → first_some (line_fault names) xs ≡ first_some (line_fault names) ys
   pub settings : (prefix : List ℕ) (place : ℕ) → settings_at prefix xs xs place ≡ settings_at prefix ys ys place
-  pub told : (path prefix : List ℕ) (told : Told) → tell_file path prefix xs told ≡ tell_file path prefix ys told
+  pub warned : (path prefix : List ℕ) (warned : Warned) → warn_file path prefix xs warned ≡ warn_file path prefix ys warned
 
 whole : (cs : List Command) → Acts cs cs
 whole cs = record {
@@ -286,7 +286,7 @@ whole cs = record {
   edges = λ scope. refl;
   fault = λ names. refl;
   settings = λ prefix place. refl;
-  told = λ path prefix told. refl;
+  warned = λ path prefix warned. refl;
 }
 
 filtered : (cs : List Command) → jobs_in cs ≡ [] → Acts (filter keeps cs) cs
@@ -299,7 +299,7 @@ filtered cs no_jobs = record {
   edges = λ scope. edges_same scope cs;
   fault = λ names. fault_same names cs;
   settings = λ prefix place. settings_same prefix cs no_jobs place;
-  told = λ path prefix told. tell_same prefix cs no_jobs path cs [] [] told (λ place. refl);
+  warned = λ path prefix warned. warn_same prefix cs no_jobs path cs [] [] warned (λ place. refl);
 }
 
 no_length : {X : Type 0} (xs : List X) → (length xs == 0) ≡ true → xs ≡ []

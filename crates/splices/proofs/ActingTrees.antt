@@ -8,20 +8,20 @@ use Rattle.splices_flat.specs.declared.fault.DagFault.TheVariants.{TooManyNodes}
 use Rattle.splices_flat.specs.declared.fault.SpliceFault.{SpliceFault}
 use Rattle.splices_flat.specs.declared.flat.EdgeGroup.{EdgeGroup}
 use Rattle.splices_flat.specs.declared.flat.Settings.{Settings}
-use Rattle.splices.specs.declared.open.Draft.{Draft}
+use Rattle.splices.specs.declared.open.DagBuilder.{DagBuilder}
 use Rattle.splices.specs.declared.open.Found.{Found}
 use Rattle.splices_flat.specs.declared.used.Used.{Used}
 use Rattle.splices_flat.specs.declared.part.Part.{Part}
 use Rattle.splices.specs.Acting.{acting}
 use Rattle.splices.specs.Adds.{Fails, AddsTree, SameButEdges}
-use Rattle.splices_flat.specs.Edges.{Scope, line_edges, part_of, tree_part}
+use Rattle.splices_flat.specs.Edges.{NodeScope, line_edges, part_of, tree_part}
 use Rattle.splices_flat.specs.Faults.{Names, files_fault, first_some, line_fault}
 use Rattle.splices_flat.specs.Forest.{Tree, tree_files}
-use Rattle.splices_flat.specs.Nodes.{Declared, final_names, finals_in, job_names, jobs_in, names_in, nodes_of, splice_names}
+use Rattle.splices_flat.specs.Nodes.{Declared, final_names, finals_in, job_names, jobs_in, names_in, declared_nodes, splice_names}
 use Rattle.splices_flat.specs.Opening.{◌>>=◌, Files, check_count, check_file, check_final, check_lines, final_fault, open_file, open_lines, open_said, says_at, with_file}
 use Rattle.splices_flat.specs.Settings.{settings_at}
 use Rattle.splices.proofs.ActingLines.{Acts, acts}
-use Rattle.splices.proofs.Drafts.{fails_bind, open_deeper}
+use Rattle.splices.proofs.DagBuilders.{fails_bind, open_deeper}
 use Rattle.splices.proofs.Trees.{Begun, Inner, tree_fails, tree_opens}
 
 finals_check : (above : List (List ℕ)) (path : List ℕ) (xs ys : List Command) → Acts xs ys → check_final above path xs ≡ check_final above path ys
@@ -45,19 +45,19 @@ file_check used above path xs ys a =
     ∙ ap (λ (r : Result (Unit {0}) DagFault). check_final above path ys >>= λ _. r >>= λ _. check_count used xs) (a.checks path)
     ∙ ap (λ (r : Result (Unit {0}) DagFault). check_final above path ys >>= λ _. check_lines path [] ys >>= λ _. r) (count_same used xs ys a)
 
-begun_same : (prefix folder path : List ℕ) (xs ys : List Command) (old mid : Draft) → Acts xs ys → Begun prefix folder path xs old mid → Begun prefix folder path ys old mid
+begun_same : (prefix folder path : List ℕ) (xs ys : List Command) (old mid : DagBuilder) → Acts xs ys → Begun prefix folder path xs old mid → Begun prefix folder path ys old mid
 begun_same prefix folder path xs ys old mid a b =
     let settings : settings_at prefix xs xs ≡ settings_at prefix ys ys = λ i place. a.settings prefix place i in
     record {
       files = λ counts.
           let f = b.files counts in
           record {
-            nodes = f.nodes ∙ ap (λ (s : ℕ → Settings). old.nodes.items ++ (nodes_of prefix folder s 0 (jobs_in xs) ++ [])) settings
-                ∙ ap (λ (js : List Declared). old.nodes.items ++ (nodes_of prefix folder (settings_at prefix ys ys) 0 js ++ [])) a.jobs;
-            finals = f.finals ∙ ap (λ (s : ℕ → Settings). old.finals.items ++ (nodes_of prefix folder s (length (jobs_in xs)) (finals_in xs) ++ [])) settings
-                ∙ ap (λ (js : List Declared). old.finals.items ++ (nodes_of prefix folder (settings_at prefix ys ys) (length js) (finals_in xs) ++ [])) a.jobs
-                ∙ ap (λ (fs : List Declared). old.finals.items ++ (nodes_of prefix folder (settings_at prefix ys ys) (length (jobs_in ys)) fs ++ [])) a.finals;
-            told = f.told ∙ a.told path prefix old.told;
+            nodes = f.nodes ∙ ap (λ (s : ℕ → Settings). old.nodes.items ++ (declared_nodes prefix folder s 0 (jobs_in xs) ++ [])) settings
+                ∙ ap (λ (js : List Declared). old.nodes.items ++ (declared_nodes prefix folder (settings_at prefix ys ys) 0 js ++ [])) a.jobs;
+            finals = f.finals ∙ ap (λ (s : ℕ → Settings). old.finals.items ++ (declared_nodes prefix folder s (length (jobs_in xs)) (finals_in xs) ++ [])) settings
+                ∙ ap (λ (js : List Declared). old.finals.items ++ (declared_nodes prefix folder (settings_at prefix ys ys) (length js) (finals_in xs) ++ [])) a.jobs
+                ∙ ap (λ (fs : List Declared). old.finals.items ++ (declared_nodes prefix folder (settings_at prefix ys ys) (length (jobs_in ys)) fs ++ [])) a.finals;
+            warned = f.warned ∙ a.warned path prefix old.warned;
           };
       edges = b.edges;
       used = b.used ∙ used_same old.used xs ys a;
@@ -78,7 +78,7 @@ acting_fails files left used mid above folder path contents kept lines e a some 
     tree_fails files left used mid above folder path contents contents e some says refl (sym (ap (check_file used above path) are ∙ file_check used above path kept contents a) ∙ right)
     (mid_is ∙ used_same used kept contents a) (subst (Fails e) (ap (open_lines (open_file files (left - 1)) mid above folder) are ∙ a.opens (open_file files (left - 1)) mid above folder) fails)
 
-pub acting_opens : (files : Files) (left : ℕ) (above : List (List ℕ)) (folder path prefix : List ℕ) (contents kept lines : List Command) (old mid inner new : Draft) (parts : List Part) (jobs finals splices : List (List ℕ)) (first start : ℕ) (found : Found) (own fault : Option DagFault) → Acts kept contents
+pub acting_opens : (files : Files) (left : ℕ) (above : List (List ℕ)) (folder path prefix : List ℕ) (contents kept lines : List Command) (old mid inner new : DagBuilder) (parts : List Part) (jobs finals splices : List (List ℕ)) (first start : ℕ) (found : Found) (own fault : Option DagFault) → Acts kept contents
     → 0 < left → says_at path (files path) ≡ Ok contents → lines ≡ kept → check_file old.used above path lines ≡ Ok tt
     → jobs ≡ job_names lines → finals ≡ final_names lines → splices ≡ splice_names lines → first ≡ length old.nodes.items → start ≡ length old.edges.items
     → Begun prefix folder path kept old mid
@@ -92,7 +92,7 @@ pub acting_opens : (files : Files) (left : ℕ) (above : List (List ℕ)) (folde
     × (found.fault ≡ files_fault (tree_files prefix tree))
 acting_opens files left above folder path prefix contents kept lines old mid inner new parts jobs finals splices first start found own fault a some says are right jobs_are finals_are splices_are first_is start_is begun (forest, opened, adds, parts_are, faults) same edges part_was own_is fault_is =
     let opener = open_file files (left - 1) in
-    let scope : Scope = record { first = first; jobs = jobs; splices = splices; parts = parts } in
+    let scope : NodeScope = record { first = first; jobs = jobs; splices = splices; parts = parts } in
     let names : Names = record { path = path; jobs = jobs; finals = finals; splices = splices; counts = map (λ (p : Part). p.count) parts } in
     tree_opens files left above folder path prefix contents contents old mid inner new parts jobs finals splices first start found own fault some says refl
     (sym (ap (check_file old.used above path) are ∙ file_check old.used above path kept contents a) ∙ right)

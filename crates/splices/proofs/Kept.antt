@@ -8,7 +8,7 @@ use Rattle.splices.specs.contracts.notices.NoticePartialEq.TheImpl as kept
 use Rattle.splices.specs.declared.notices.Notice.{Notice as KeptNotice}
 use Rattle.splices_flat.specs.declared.flat.DagWarning.{DagWarning}
 use Rattle.splices_flat.specs.Notices.{Notice, same_notice, same_place, warning_of}
-use Rattle.splices.specs.NoticeSets.{notice_of, place_of}
+use Rattle.splices.specs.NoticeSets.{notice_of, notice_place}
 
 any_same : {X Y : Type 0} (f : X → Y) (p : X → Bool) (q : Y → Bool) (xs : List X) → ((x : X) → p x ≡ q (f x)) → list_any p xs ≡ list_any q (map f xs)
 any_same f p q [] same = refl
@@ -34,7 +34,7 @@ bool_same false false = refl
 
 -- what `==` says of notices
 pub notice_same : (a b : KeptNotice) → (kept.ghosts).eq a b ≡ same_notice (notice_of a) (notice_of b)
-notice_same a b = ap (λ same. same_place (place_of a.told) (place_of b.told) && (same_place (place_of a.by) (place_of b.by) && same)) (bool_same a.is_ignored b.is_ignored)
+notice_same a b = ap (λ same. same_place (notice_place a.warned) (notice_place b.warned) && (same_place (notice_place a.by) (notice_place b.by) && same)) (bool_same a.is_ignored b.is_ignored)
 
 twice : {X Y Z : Type 0} (f : X → Y) (g : Y → Z) (xs : List X) → map (λ x. g (f x)) xs ≡ map g (map f xs)
 twice f g [] = refl

@@ -2,8 +2,8 @@ pub mod Positions
 pub mod LineLists
 pub mod Kept
 pub mod NodeSteps
-pub mod TellSteps
-pub mod Drafts
+pub mod WarnSteps
+pub mod DagBuilders
 pub mod OwnNodes
 pub mod Trees
 pub mod ActingLines

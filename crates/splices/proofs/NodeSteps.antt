@@ -8,10 +8,10 @@ use Rattle.std.specs.List.{flat_map, range_with_len}
 use Rattle.dag_reader.specs.declared.command.Command.{Command}
 use Rattle.splices_flat.specs.declared.flat.FlatNode.{FlatNode}
 use Rattle.splices_flat.specs.declared.flat.Settings.{Settings}
-use Rattle.splices_flat.specs.Nodes.{Declared, final_names, finals_in, job_names, jobs_in, node_names, node_of, nodes_of}
+use Rattle.splices_flat.specs.Nodes.{Declared, final_names, finals_in, job_names, jobs_in, node_names, node_of, declared_nodes}
 use Rattle.splices.specs.NodeChanges.{changed_where, given_where, is_between, plain_node, replaced_among, set_node}
-use Rattle.splices_flat.specs.Settings.{is_for, no_settings, settings_at, target_of, with_line}
-use Rattle.splices_flat.specs.Warnings.{each_once, joined, replaced_in, replaced_lines}
+use Rattle.splices_flat.specs.Settings.{is_for, no_settings, settings_at, setting_target, with_line}
+use Rattle.splices_flat.specs.Warnings.{each_once, with_numbers, replaced_in, replaced_lines}
 use Rattle.splices.proofs.LineLists.{joined-append}
 
 not_both : (b : Bool) → (not b && b) ≡ false
@@ -104,7 +104,7 @@ changed_more from k prefix c start nodes d settings le lt so is =
     ∙ ap (λ n. slice_set nodes k (set_node prefix c n)) here
     ∙ ap (λ s. slice_set nodes k (record (get_or nodes k d) { settings = s })) (sym is)
 
-pub replaced_more : (from k : ℕ) (prefix : List ℕ) (c : Command) (start nodes : List FlatNode) (d : FlatNode) (lines after : List ℕ) → from ≤ k → k < length nodes → changed_where (is_between from k) (set_node prefix c) 0 start ≡ nodes → replaced_among (is_between from k) c start ≡ lines → after ≡ joined lines (replaced_in (get_or nodes k d).settings c) →
+pub replaced_more : (from k : ℕ) (prefix : List ℕ) (c : Command) (start nodes : List FlatNode) (d : FlatNode) (lines after : List ℕ) → from ≤ k → k < length nodes → changed_where (is_between from k) (set_node prefix c) 0 start ≡ nodes → replaced_among (is_between from k) c start ≡ lines → after ≡ with_numbers lines (replaced_in (get_or nodes k d).settings c) →
     replaced_among (is_between from (k + 1)) c start ≡ after
 replaced_more from k prefix c start nodes d lines after le lt so was is =
     let give = λ (node : FlatNode). replaced_in node.settings c in
@@ -112,41 +112,41 @@ replaced_more from k prefix c start nodes d lines after le lt so was is =
     let here : get_or start k d ≡ get_or nodes k d = sym (still from k k (set_node prefix c) 0 start d (omega arith)) ∙ ap (λ ns. get_or ns k d) so in
     ap each_once (given_one from k k give 0 start d (omega arith) le within)
     ∙ joined-append [] (given_where (is_between from k) give 0 start) (give (get_or start k d))
-    ∙ ap (λ ls. joined ls (give (get_or start k d))) was ∙ ap (λ n. joined lines (give n)) here ∙ sym is
+    ∙ ap (λ ls. with_numbers ls (give (get_or start k d))) was ∙ ap (λ n. with_numbers lines (give n)) here ∙ sym is
 
 -- the nodes of a file before its lines
-pub plain_nodes : (prefix folder : List ℕ) (commands : List Command) (place : ℕ) (ds : List Declared) → map (plain_node prefix folder) ds ≡ nodes_of prefix folder (settings_at prefix commands []) place ds
+pub plain_nodes : (prefix folder : List ℕ) (commands : List Command) (place : ℕ) (ds : List Declared) → map (plain_node prefix folder) ds ≡ declared_nodes prefix folder (settings_at prefix commands []) place ds
 plain_nodes prefix folder commands place [] = refl
 plain_nodes prefix folder commands place (d ∷ ds) = ap (λ ns. plain_node prefix folder d ∷ ns) (plain_nodes prefix folder commands (place + 1) ds)
 
 -- the settings at a place after one more line
-settings_more : (prefix : List ℕ) (commands lines : List Command) (c : Command) (place : ℕ) → settings_at prefix commands (lines ++ c ∷ []) place ≡ (if is_for (job_names commands) (final_names commands) (target_of c) place then with_line prefix (settings_at prefix commands lines place) c else settings_at prefix commands lines place)
-settings_more prefix commands lines c place = fold-append (λ s d. if is_for (job_names commands) (final_names commands) (target_of d) place then with_line prefix s d else s) no_settings lines (c ∷ [])
+settings_more : (prefix : List ℕ) (commands lines : List Command) (c : Command) (place : ℕ) → settings_at prefix commands (lines ++ c ∷ []) place ≡ (if is_for (job_names commands) (final_names commands) (setting_target c) place then with_line prefix (settings_at prefix commands lines place) c else settings_at prefix commands lines place)
+settings_more prefix commands lines c place = fold-append (λ s d. if is_for (job_names commands) (final_names commands) (setting_target d) place then with_line prefix s d else s) no_settings lines (c ∷ [])
 
 set_or_not : (prefix folder : List ℕ) (c : Command) (b : Bool) (s : Settings) (d : Declared) → (if b then set_node prefix c (node_of prefix folder s d) else node_of prefix folder s d) ≡ node_of prefix folder (if b then with_line prefix s c else s) d
 set_or_not prefix folder c true s d = refl
 set_or_not prefix folder c false s d = refl
 
-nodes_at : (prefix folder : List ℕ) (c : Command) (r : ℕ → Bool) (before after : ℕ → Settings) (place : ℕ) (ds : List Declared) → ((q : ℕ) → after q ≡ (if r q then with_line prefix (before q) c else before q)) → changed_where r (set_node prefix c) place (nodes_of prefix folder before place ds) ≡ nodes_of prefix folder after place ds
+nodes_at : (prefix folder : List ℕ) (c : Command) (r : ℕ → Bool) (before after : ℕ → Settings) (place : ℕ) (ds : List Declared) → ((q : ℕ) → after q ≡ (if r q then with_line prefix (before q) c else before q)) → changed_where r (set_node prefix c) place (declared_nodes prefix folder before place ds) ≡ declared_nodes prefix folder after place ds
 nodes_at prefix folder c r before after place [] h = refl
 nodes_at prefix folder c r before after place (d ∷ ds) h =
-    ap (λ n. n ∷ changed_where r (set_node prefix c) (place + 1) (nodes_of prefix folder before (place + 1) ds)) (set_or_not prefix folder c (r place) (before place) d ∙ ap (λ s. node_of prefix folder s d) (sym (h place)))
+    ap (λ n. n ∷ changed_where r (set_node prefix c) (place + 1) (declared_nodes prefix folder before (place + 1) ds)) (set_or_not prefix folder c (r place) (before place) d ∙ ap (λ s. node_of prefix folder s d) (sym (h place)))
     ∙ ap (λ ns. node_of prefix folder (after place) d ∷ ns) (nodes_at prefix folder c r before after (place + 1) ds h)
 
-lines_at : (prefix folder : List ℕ) (c : Command) (r : ℕ → Bool) (before : ℕ → Settings) (place : ℕ) (ds : List Declared) → given_where r (λ node. replaced_in node.settings c) place (nodes_of prefix folder before place ds) ≡ flat_map (λ q. if r q then replaced_in (before q) c else []) (range_with_len place (length ds))
+lines_at : (prefix folder : List ℕ) (c : Command) (r : ℕ → Bool) (before : ℕ → Settings) (place : ℕ) (ds : List Declared) → given_where r (λ node. replaced_in node.settings c) place (declared_nodes prefix folder before place ds) ≡ flat_map (λ q. if r q then replaced_in (before q) c else []) (range_with_len place (length ds))
 lines_at prefix folder c r before place [] = refl
 lines_at prefix folder c r before place (d ∷ ds) =
     ap (λ ls. (if r place then replaced_in (before place) c else []) ++ ls) (lines_at prefix folder c r before (place + 1) ds)
 
 -- a file's nodes after one more line
-pub nodes_set : (prefix folder : List ℕ) (commands lines after_lines : List Command) (c : Command) (jobs finals : List (List ℕ)) (ds : List Declared) (nodes after : List FlatNode) → jobs ≡ job_names commands → finals ≡ final_names commands → nodes ≡ nodes_of prefix folder (settings_at prefix commands lines) 0 ds → after ≡ changed_where (is_for jobs finals (target_of c)) (set_node prefix c) 0 nodes → after_lines ≡ lines ++ c ∷ [] →
-    after ≡ nodes_of prefix folder (settings_at prefix commands after_lines) 0 ds
+pub nodes_set : (prefix folder : List ℕ) (commands lines after_lines : List Command) (c : Command) (jobs finals : List (List ℕ)) (ds : List Declared) (nodes after : List FlatNode) → jobs ≡ job_names commands → finals ≡ final_names commands → nodes ≡ declared_nodes prefix folder (settings_at prefix commands lines) 0 ds → after ≡ changed_where (is_for jobs finals (setting_target c)) (set_node prefix c) 0 nodes → after_lines ≡ lines ++ c ∷ [] →
+    after ≡ declared_nodes prefix folder (settings_at prefix commands after_lines) 0 ds
 nodes_set prefix folder commands lines after_lines c jobs finals ds nodes after j f so is more =
-    is ∙ ap (changed_where (is_for jobs finals (target_of c)) (set_node prefix c) 0) so
-    ∙ ap (λ (js : List (List ℕ)). changed_where (is_for js finals (target_of c)) (set_node prefix c) 0 (nodes_of prefix folder (settings_at prefix commands lines) 0 ds)) j
-    ∙ ap (λ (fs : List (List ℕ)). changed_where (is_for (job_names commands) fs (target_of c)) (set_node prefix c) 0 (nodes_of prefix folder (settings_at prefix commands lines) 0 ds)) f
-    ∙ nodes_at prefix folder c (is_for (job_names commands) (final_names commands) (target_of c)) (settings_at prefix commands lines) (settings_at prefix commands (lines ++ c ∷ [])) 0 ds (settings_more prefix commands lines c)
-    ∙ ap (λ ls. nodes_of prefix folder (settings_at prefix commands ls) 0 ds) (sym more)
+    is ∙ ap (changed_where (is_for jobs finals (setting_target c)) (set_node prefix c) 0) so
+    ∙ ap (λ (js : List (List ℕ)). changed_where (is_for js finals (setting_target c)) (set_node prefix c) 0 (declared_nodes prefix folder (settings_at prefix commands lines) 0 ds)) j
+    ∙ ap (λ (fs : List (List ℕ)). changed_where (is_for (job_names commands) fs (setting_target c)) (set_node prefix c) 0 (declared_nodes prefix folder (settings_at prefix commands lines) 0 ds)) f
+    ∙ nodes_at prefix folder c (is_for (job_names commands) (final_names commands) (setting_target c)) (settings_at prefix commands lines) (settings_at prefix commands (lines ++ c ∷ [])) 0 ds (settings_more prefix commands lines c)
+    ∙ ap (λ ls. declared_nodes prefix folder (settings_at prefix commands ls) 0 ds) (sym more)
 
 pub declared_count : (commands : List Command) → length (jobs_in commands ++ finals_in commands) ≡ length (node_names commands)
 declared_count commands =
@@ -156,12 +156,12 @@ declared_count commands =
     ∙ sym (length-append (job_names commands) (final_names commands))
 
 -- the lines that one more line replaces
-pub lines_replaced : (prefix folder : List ℕ) (commands lines : List Command) (c : Command) (jobs finals : List (List ℕ)) (nodes : List FlatNode) → jobs ≡ job_names commands → finals ≡ final_names commands → nodes ≡ nodes_of prefix folder (settings_at prefix commands lines) 0 (jobs_in commands ++ finals_in commands) →
-    replaced_among (is_for jobs finals (target_of c)) c nodes ≡ replaced_lines prefix commands lines c
+pub lines_replaced : (prefix folder : List ℕ) (commands lines : List Command) (c : Command) (jobs finals : List (List ℕ)) (nodes : List FlatNode) → jobs ≡ job_names commands → finals ≡ final_names commands → nodes ≡ declared_nodes prefix folder (settings_at prefix commands lines) 0 (jobs_in commands ++ finals_in commands) →
+    replaced_among (is_for jobs finals (setting_target c)) c nodes ≡ replaced_lines prefix commands lines c
 lines_replaced prefix folder commands lines c jobs finals nodes j f so =
     let ds = jobs_in commands ++ finals_in commands in
-    ap (replaced_among (is_for jobs finals (target_of c)) c) so
-    ∙ ap (λ (js : List (List ℕ)). replaced_among (is_for js finals (target_of c)) c (nodes_of prefix folder (settings_at prefix commands lines) 0 ds)) j
-    ∙ ap (λ (fs : List (List ℕ)). replaced_among (is_for (job_names commands) fs (target_of c)) c (nodes_of prefix folder (settings_at prefix commands lines) 0 ds)) f
-    ∙ ap each_once (lines_at prefix folder c (is_for (job_names commands) (final_names commands) (target_of c)) (settings_at prefix commands lines) 0 ds
-    ∙ ap (λ n. flat_map (λ q. if is_for (job_names commands) (final_names commands) (target_of c) q then replaced_in (settings_at prefix commands lines q) c else []) (range_with_len 0 n)) (declared_count commands))
+    ap (replaced_among (is_for jobs finals (setting_target c)) c) so
+    ∙ ap (λ (js : List (List ℕ)). replaced_among (is_for js finals (setting_target c)) c (declared_nodes prefix folder (settings_at prefix commands lines) 0 ds)) j
+    ∙ ap (λ (fs : List (List ℕ)). replaced_among (is_for (job_names commands) fs (setting_target c)) c (declared_nodes prefix folder (settings_at prefix commands lines) 0 ds)) f
+    ∙ ap each_once (lines_at prefix folder c (is_for (job_names commands) (final_names commands) (setting_target c)) (settings_at prefix commands lines) 0 ds
+    ∙ ap (λ n. flat_map (λ q. if is_for (job_names commands) (final_names commands) (setting_target c) q then replaced_in (settings_at prefix commands lines q) c else []) (range_with_len 0 n)) (declared_count commands))

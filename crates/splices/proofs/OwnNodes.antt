@@ -9,26 +9,26 @@ use Rattle.dag_reader.specs.Word.{PlacedText}
 use Rattle.splices_flat.specs.declared.flat.FlatNode.{FlatNode}
 use Rattle.splices_flat.specs.declared.fault.DagFault.{DagFault}
 use Rattle.splices_flat.specs.declared.fault.SpliceFault.{SpliceFault}
-use Rattle.splices_flat.specs.Nodes.{jobs_in, finals_in, job_names, nodes_of, own_count}
+use Rattle.splices_flat.specs.Nodes.{jobs_in, finals_in, job_names, declared_nodes, own_count}
 use Rattle.splices_flat.specs.Settings.{settings_at}
-use Rattle.splices_flat.specs.Warnings.{tell_file}
-use Rattle.splices.specs.declared.open.Draft.{Draft}
+use Rattle.splices_flat.specs.Warnings.{warn_file}
+use Rattle.splices.specs.declared.open.DagBuilder.{DagBuilder}
 use Rattle.splices_flat.specs.Forest.{OpenFile, job_nodes, final_nodes}
 use Rattle.splices_flat.specs.Faults.{Names, first_some, edge_fault, line_fault}
 use Rattle.splices_flat.specs.Opening.{check_line, check_lines}
 use Rattle.splices.specs.Adds.{Fails, AddsFiles}
 use Rattle.splices_flat.proofs.Opened.{own-length}
-use Rattle.splices.proofs.Drafts.{fails_bind, first_append, line_step}
+use Rattle.splices.proofs.DagBuilders.{fails_bind, first_append, line_step}
 use Rattle.splices_flat.proofs.Own.{names-length, nodes_of-append}
 
 abbrev pub all_nodes : OpenFile → List FlatNode
-all_nodes f = nodes_of f.prefix f.said.folder (settings_at f.prefix f.said.commands f.said.commands) 0 (jobs_in f.said.commands ++ finals_in f.said.commands)
+all_nodes f = declared_nodes f.prefix f.said.folder (settings_at f.prefix f.said.commands f.said.commands) 0 (jobs_in f.said.commands ++ finals_in f.said.commands)
 
 both : (f : OpenFile) → all_nodes f ≡ job_nodes f ++ final_nodes f
 both f =
     let start : 0 + own_count f.said.commands ≡ own_count f.said.commands = omega arith in
     nodes_of-append f.prefix f.said.folder (settings_at f.prefix f.said.commands f.said.commands) 0 (jobs_in f.said.commands) (finals_in f.said.commands)
-    ∙ ap (λ (k : ℕ). job_nodes f ++ nodes_of f.prefix f.said.folder (settings_at f.prefix f.said.commands f.said.commands) k (finals_in f.said.commands)) start
+    ∙ ap (λ (k : ℕ). job_nodes f ++ declared_nodes f.prefix f.said.folder (settings_at f.prefix f.said.commands f.said.commands) k (finals_in f.said.commands)) start
 
 count_is : (f : OpenFile) (n : ℕ) (jobs : List (List ℕ)) → n ≡ length jobs → jobs ≡ job_names f.said.commands → n ≡ length (job_nodes f)
 count_is f n jobs is names = is ∙ ap (λ (x : List (List ℕ)). length x) names ∙ names-length (jobs_in f.said.commands) ∙ sym (own-length f)
@@ -48,14 +48,14 @@ split_fits f own n jobs is count names =
     omega arith
 
 -- a file's own nodes are added, and it is told
-pub own_added : (f : OpenFile) (old new : Draft) (own front back : List FlatNode) (n : ℕ) (jobs : List (List ℕ))
+pub own_added : (f : OpenFile) (old new : DagBuilder) (own front back : List FlatNode) (n : ℕ) (jobs : List (List ℕ))
     → own ≡ all_nodes f → n ≡ length jobs → jobs ≡ job_names f.said.commands → front ≡ take n own → back ≡ drop n own
-    → new.nodes.items ≡ old.nodes.items ++ front → new.finals.items ≡ old.finals.items ++ back → new.told ≡ tell_file f.said.path f.prefix f.said.commands old.told
+    → new.nodes.items ≡ old.nodes.items ++ front → new.finals.items ≡ old.finals.items ++ back → new.warned ≡ warn_file f.said.path f.prefix f.said.commands old.warned
     → AddsFiles old new (f ∷ [])
-own_added f old new own front back n jobs is count names front_are back_are nodes finals told = record {
+own_added f old new own front back n jobs is count names front_are back_are nodes finals warned = record {
   nodes = nodes ∙ ap (λ (ns : List FlatNode). old.nodes.items ++ ns) (front_are ∙ front_is f own n jobs is count names ∙ sym (append-nil (job_nodes f)));
   finals = finals ∙ ap (λ (ns : List FlatNode). old.finals.items ++ ns) (back_are ∙ back_is f own n jobs is count names ∙ sym (append-nil (final_nodes f)));
-  told = told;
+  warned = warned;
 }
 
 -- names that are declared once

@@ -16,7 +16,7 @@ use Rattle.splices_flat.specs.Dag.{IsBelow, IsGroupBelow}
 use Rattle.splices_flat.specs.Nodes.{own_count, jobs_in, job_names}
 use Rattle.splices_flat.specs.Forest.{Forest, none, more, Tree, forest_count}
 use Rattle.splices_flat.specs.Places.{edge, edges_of, pairs, is_end}
-use Rattle.splices_flat.specs.Edges.{Scope, scope_of, side_of, part_nodes, splice_nodes, job_or_splice, stands_for, all_stand_for, unseen, line_edges, file_edges, part_of, forest_edges, forest_parts, tree_count, tree_edges}
+use Rattle.splices_flat.specs.Edges.{NodeScope, node_scope, side_of, part_nodes, splice_nodes, job_or_splice, stands_for, all_stand_for, unseen, line_edges, file_edges, part_of, forest_edges, forest_parts, tree_count, tree_edges}
 use Rattle.splices_flat.proofs.Own.{names-length}
 
 abbrev Below : ℕ → ℕ → Type 0
@@ -51,21 +51,21 @@ nodes_below n side [] k below = All-nil (Below n)
 nodes_below n side (p ∷ ps) zero below = side_below n side p (All-head (PartBelow n) p ps below)
 nodes_below n side (p ∷ ps) (suc k) below = nodes_below n side ps k (All-tail (PartBelow n) p ps below)
 
-spliced_below : (n : ℕ) (side : Side) (scope : Scope) (place : Option ℕ) → All (PartBelow n) scope.parts → All (Below n) (splice_nodes side scope place)
+spliced_below : (n : ℕ) (side : Side) (scope : NodeScope) (place : Option ℕ) → All (PartBelow n) scope.parts → All (Below n) (splice_nodes side scope place)
 spliced_below n side scope None below = All-nil (Below n)
 spliced_below n side scope (Some k) below = nodes_below n side scope.parts k below
 
 place_below : (p : List ℕ → Bool) (xs : List (List ℕ)) (k : ℕ) → position p xs ≡ Some k → k < length xs
 place_below p xs k is = (position-Some p xs k [] is).0
 
-named_below : (n : ℕ) (side : Side) (scope : Scope) (w : PlacedText) (place : Option ℕ) → position (bytes_eq w.text) scope.jobs ≡ place → scope.first + length scope.jobs ≤ n → All (PartBelow n) scope.parts
+named_below : (n : ℕ) (side : Side) (scope : NodeScope) (w : PlacedText) (place : Option ℕ) → position (bytes_eq w.text) scope.jobs ≡ place → scope.first + length scope.jobs ≤ n → All (PartBelow n) scope.parts
     → All (Below n) (job_or_splice side scope w.text place)
 named_below n side scope w (Some k) is fits below =
     let small : k < length scope.jobs = place_below (bytes_eq w.text) scope.jobs k is in
     one_below n (scope.first + k) (omega arith)
 named_below n side scope w None is fits below = spliced_below n side scope (position (bytes_eq w.text) scope.splices) below
 
-all_below : (n : ℕ) (side : Side) (scope : Scope) (ws : List PlacedText) → scope.first + length scope.jobs ≤ n → All (PartBelow n) scope.parts → All (Below n) (all_stand_for side scope ws)
+all_below : (n : ℕ) (side : Side) (scope : NodeScope) (ws : List PlacedText) → scope.first + length scope.jobs ≤ n → All (PartBelow n) scope.parts → All (Below n) (all_stand_for side scope ws)
 all_below n side scope ws fits below =
     all_flat (Below n) (stands_for side scope) (unseen [] ws) (λ w. named_below n side scope w (position (bytes_eq w.text) scope.jobs) refl fits below)
 
@@ -85,7 +85,7 @@ edges_below n (g ∷ gs) below =
     let here : IsGroupBelow n g = All-head (IsGroupBelow n) g gs below in
     All-append (IsBelow n) (pairs g.parents g.children) (edges_of gs) (pairs_below n g.parents g.children here.parents here.children) (edges_below n gs (All-tail (IsGroupBelow n) g gs below))
 
-line_below : (n : ℕ) (scope : Scope) (c : Command) → scope.first + length scope.jobs ≤ n → All (PartBelow n) scope.parts → All (IsGroupBelow n) (line_edges scope c)
+line_below : (n : ℕ) (scope : NodeScope) (c : Command) → scope.first + length scope.jobs ≤ n → All (PartBelow n) scope.parts → All (IsGroupBelow n) (line_edges scope c)
 line_below n scope (ParentChild parents children) fits below =
     All-cons (IsGroupBelow n) (record { parents = all_stand_for Parent scope parents; children = all_stand_for Child scope children }) []
     (record { parents = all_below n Parent scope parents fits below; children = all_below n Child scope children fits below }) (All-nil (IsGroupBelow n))
@@ -94,8 +94,8 @@ line_below n scope c fits below = All-nil (IsGroupBelow n)
 file_below : (n first : ℕ) (cs : List Command) (edges : List EdgeGroup) (parts : List Part) → first + own_count cs ≤ n → All (IsGroupBelow n) edges → All (PartBelow n) parts → All (IsGroupBelow n) (file_edges first cs edges parts)
 file_below n first cs edges parts fits inner below =
     let names : length (job_names cs) ≡ own_count cs = names-length (jobs_in cs) in
-    All-append (IsGroupBelow n) edges (flat_map (line_edges (scope_of first cs parts)) cs) inner
-    (all_flat (IsGroupBelow n) (line_edges (scope_of first cs parts)) cs (λ c. line_below n (scope_of first cs parts) c (omega arith) below))
+    All-append (IsGroupBelow n) edges (flat_map (line_edges (node_scope first cs parts)) cs) inner
+    (all_flat (IsGroupBelow n) (line_edges (node_scope first cs parts)) cs (λ c. line_below n (node_scope first cs parts) c (omega arith) below))
 
 forest_below : (f : Forest) (first n : ℕ) → first + forest_count f ≤ n → All (IsGroupBelow n) (forest_edges first f) × All (PartBelow n) (forest_parts first f)
 forest_below none first n fits = (All-nil (IsGroupBelow n), All-nil (PartBelow n))

@@ -4,7 +4,7 @@ use Rattle.dag_reader.specs.declared.command.Command.{Command}
 use Rattle.dag_reader.specs.declared.command.Target.{Target}
 use Rattle.dag_reader.specs.declared.command.Target.TheVariants.{Node, AllNodes}
 use Rattle.splices_flat.specs.Nodes.{own_count}
-use Rattle.splices_flat.specs.Settings.{target_of}
+use Rattle.splices_flat.specs.Settings.{setting_target}
 
 abbrev pub is_all : Option Target → Bool
 is_all None = false
@@ -13,7 +13,7 @@ is_all (Some (AllNodes span)) = true
 
 -- a setting for ALL_NODES
 abbrev pub is_for_all : Command → Bool
-is_for_all c = is_all (target_of c)
+is_for_all c = is_all (setting_target c)
 
 -- without JOB lines settings for ALL_NODES say nothing
 abbrev pub acting : List Command → List Command

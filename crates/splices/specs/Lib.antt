@@ -5,4 +5,4 @@ pub mod NoticeSets
 pub mod Acting
 pub mod NodeChanges
 pub mod SaidFiles
-pub mod Library
+pub mod ParsedFiles

@@ -5,14 +5,14 @@ mod acting;
 mod check;
 mod declare;
 mod edges;
-mod library;
 mod lines;
 mod names;
 mod nodes;
 mod notices;
 mod open;
 mod own_nodes;
-mod told;
+mod parsed_files;
+mod warned;
 
 pub use open::open_dag;
 pub use splices_flat::{

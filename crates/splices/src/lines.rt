@@ -2,7 +2,7 @@
 
 ghost use Rattle.std.specs.Prelude.{◌≡◌, IfOk};
 ghost use Rattle.std.specs.Option.{option_map};
-ghost use Rattle.splices_flat.specs.Settings.{script_words, target_of, words_said};
+ghost use Rattle.splices_flat.specs.Settings.{script_words, setting_target, words_said};
 
 use dag_reader::{Command, Target, Text, Texts, Word};
 use splices_flat::SharedTexts;
@@ -10,7 +10,7 @@ use std::alloc::{AllocError, Global};
 
 /// The target of a setting.
 pub(crate) fn target_of(command: &Command) -> Option<&Target>
-    ensures { option_map (λ t. t.now) result ≡ target_of command.now }
+    ensures { option_map (λ t. t.now) result ≡ setting_target command.now }
 {
     match command {
         Command::Script { node, .. }

@@ -2,7 +2,7 @@
 
 ghost use Rattle.std.specs.Prelude.{◌≡◌, [], map, IfOk, OnOk};
 ghost use Rattle.splices_flat.specs.Notices.{ignored, overridden, place, warning_of, with_notice, with_notices};
-ghost use Rattle.splices.specs.NoticeSets.{notice_of, place_of};
+ghost use Rattle.splices.specs.NoticeSets.{notice_of, notice_place};
 
 use dag_reader::Text;
 use indexmap::IndexSet;
@@ -19,7 +19,7 @@ pub(crate) struct Place {
 
 impl Place {
     fn new(alloc: Global, path: &str, line: usize) -> Result<Place, AllocError>
-        ensures { IfOk result (λ p. place_of p ≡ place path.now line) }
+        ensures { IfOk result (λ p. notice_place p ≡ place path.now line) }
     {
         Ok(Place {
             path: String::from_str(alloc, path)?,
@@ -31,7 +31,7 @@ impl Place {
 /// A line that is told, and the line that tells it.
 #[derive(PartialEq, Eq, Hash, Drop)]
 pub(crate) struct Notice {
-    told: Place,
+    warned: Place,
     by: Place,
     is_ignored: bool,
 }
@@ -40,8 +40,8 @@ impl Notice {
     fn warning(&self, alloc: Global) -> Result<DagWarning, AllocError>
         ensures { IfOk result (λ warning. warning ≡ warning_of (notice_of self.now)) }
     {
-        let path = Text::new(alloc, self.told.path.as_str())?;
-        let line = self.told.line;
+        let path = Text::new(alloc, self.warned.path.as_str())?;
+        let line = self.warned.line;
         if self.is_ignored {
             Ok(DagWarning::Ignored(path, line))
         } else {
@@ -59,10 +59,10 @@ pub(crate) struct Notices {
 
 impl Model for Notices {
     ghost use Rattle.std.specs.Prelude.{List, map};
-    ghost use Rattle.splices_flat.specs.Notices as told;
+    ghost use Rattle.splices_flat.specs.Notices as warned;
     ghost use Rattle.splices.specs.NoticeSets.{notice_of};
 
-    ghost Value = { List told.Notice };
+    ghost Value = { List warned.Notice };
 
     ghost view = { λ n. map notice_of n.notices.keys };
 }
@@ -94,7 +94,7 @@ impl Notices {
         ensures { OnOk result (self.new ≡ with_notice self.old (ignored (place path.now line))) }
     {
         self.add(Notice {
-            told: Place::new(alloc, path, line)?,
+            warned: Place::new(alloc, path, line)?,
             by: Place::new(alloc, path, line)?,
             is_ignored: true,
         })
@@ -112,7 +112,7 @@ impl Notices {
         ensures { OnOk result (self.new ≡ with_notice self.old (overridden (place path.now line) (place later_path.now later_line))) }
     {
         self.add(Notice {
-            told: Place::new(alloc, path, line)?,
+            warned: Place::new(alloc, path, line)?,
             by: Place::new(alloc, later_path, later_line)?,
             is_ignored: false,
         })

@@ -8,11 +8,11 @@ ghost use Rattle.splices_flat.specs.Edges.{part_of, line_edges};
 ghost use Rattle.splices_flat.specs.Faults.{first_some, line_fault};
 ghost use Rattle.splices_flat.specs.Nodes.{job_names, final_names, splice_names};
 ghost use Rattle.splices_flat.specs.FileSet.{bytes_of};
-ghost use Rattle.splices.specs.Library.{files_in};
+ghost use Rattle.splices.specs.ParsedFiles.{files_in};
 ghost use Rattle.splices_flat.specs.Forest.{inside};
-ghost use Rattle.splices_flat.specs.Opening.{said_by, check_final, check_file, check_count, open_file, open_lines, open_line, with_file};
+ghost use Rattle.splices_flat.specs.Opening.{parsed_file, check_final, check_file, check_count, open_file, open_lines, open_line, with_file};
 ghost use Rattle.splices.specs.Adds.{Gives, AddsFiles, OpensTree, OpensForest, OpensTop, IsFew, SameButEdges};
-ghost use Rattle.splices_flat.specs.Dag.{IsGroupBelow, IsWithin};
+ghost use Rattle.splices_flat.specs.Dag.{IsGroupBelow, IsWellSized};
 ghost use Rattle.splices_flat.specs.Notices.{warning_of};
 ghost use Rattle.splices_flat.specs.Places.{edges_of};
 ghost use Rattle.splices_flat.specs.Opened.{dag_at, first_of};
@@ -20,11 +20,11 @@ ghost use Rattle.splices_flat.specs.Opened.{dag_at, first_of};
 use crate::check::NameCheck;
 use crate::declare::{names_of, no_final};
 use crate::edges::LineScope;
-use crate::library::Library;
 use crate::names::Names;
 use crate::nodes::dir_text;
 use crate::own_nodes::own_nodes;
-use crate::told::Told;
+use crate::parsed_files::ParsedFiles;
+use crate::warned::Warned;
 use dag_reader::{Command, DagFile, Text, Texts};
 use splices_flat::{
     DagFault, EdgeGroup, FileSet, FlatDag, FlatNode, Part, SpliceFault, Used, path_in,
@@ -32,22 +32,22 @@ use splices_flat::{
 use std::alloc::{AllocError, Global};
 
 /// The nodes and edges of the files that were opened, and what the user is told of them.
-pub(crate) struct Draft {
+pub(crate) struct DagBuilder {
     pub(crate) nodes: Vec<FlatNode>,
     pub(crate) finals: Vec<FlatNode>,
     pub(crate) edges: Vec<EdgeGroup>,
-    pub(crate) told: Told,
+    pub(crate) warned: Warned,
     pub(crate) used: Used,
 }
 
 // Each function that lets a value go calls this; a derived drop stands in each, part by part.
-impl Drop for Draft {
+impl Drop for DagBuilder {
     fn drop(self) {
-        let Draft {
+        let DagBuilder {
             nodes: _,
             finals: _,
             edges: _,
-            told: _,
+            warned: _,
             used: _,
         } = self;
     }
@@ -91,10 +91,10 @@ const MOST_SPLICES: usize = 4_096;
 pub fn open_dag(alloc: Global, files: &FileSet, top: &str) -> Result<FlatDag, SpliceFault>
     ensures { Gives (λ dag. dag) result (dag_at (bytes_of files.now) top.now) }
 {
-    let (draft, fault) = open_files(alloc, files, DEEPEST, top)?;
+    let (builder, fault) = open_files(alloc, files, DEEPEST, top)?;
     match fault {
         Some(fault) => Err(SpliceFault::Dag(fault)),
-        None => Ok(draft.into_dag(alloc, Text::new(alloc, top)?)?),
+        None => Ok(builder.into_dag(alloc, Text::new(alloc, top)?)?),
     }
 }
 
@@ -104,29 +104,29 @@ fn open_files(
     files: &FileSet,
     left: usize,
     top: &str,
-) -> Result<(Draft, Option<DagFault>), SpliceFault>
+) -> Result<(DagBuilder, Option<DagFault>), SpliceFault>
     ensures opened { OpensTop result (open_file (bytes_of files.now) left (record { nodes = 0; splices = 0 }) (top.now ∷ []) [] top.now) }
     ensures few { IfOk result (λ found. IsFew found.0.used) }
 {
-    let library = Library::new(alloc, files)?;
-    let found = open_top(alloc, &library, left, top)?;
+    let parsed_files = ParsedFiles::new(alloc, files)?;
+    let found = open_top(alloc, &parsed_files, left, top)?;
     Ok(found)
 }
 
 fn open_top(
     alloc: Global,
-    files: &Library,
+    files: &ParsedFiles,
     left: usize,
     top: &str,
-) -> Result<(Draft, Option<DagFault>), SpliceFault>
+) -> Result<(DagBuilder, Option<DagFault>), SpliceFault>
     ensures opened { OpensTop result (open_file (files_in files.now) left (record { nodes = 0; splices = 0 }) (top.now ∷ []) [] top.now) }
     ensures few { IfOk result (λ found. IsFew found.0.used) }
 {
-    let mut draft = Draft {
+    let mut builder = DagBuilder {
         nodes: Vec::new(alloc),
         finals: Vec::new(alloc),
         edges: Vec::new(alloc),
-        told: Told::new(alloc),
+        warned: Warned::new(alloc),
         used: Used {
             nodes: 0,
             splices: 0,
@@ -134,8 +134,8 @@ fn open_top(
     };
     let mut above = Texts::new(alloc);
     above.push(Text::new(alloc, top)?)?;
-    let found = open_tree(alloc, files, left, &mut above, "", top, "", &mut draft)?;
-    Ok((draft, found.fault))
+    let found = open_tree(alloc, files, left, &mut above, "", top, "", &mut builder)?;
+    Ok((builder, found.fault))
 }
 
 /// Refuses FINAL in a file that lies in another.
@@ -197,25 +197,25 @@ fn add_own(
     folder: &str,
     names: &Names,
     file: &DagFile,
-    draft: &mut Draft,
+    builder: &mut DagBuilder,
 ) -> Result<(), AllocError>
     requires jobs { names.now.jobs ≡ job_names file.now.commands.items }
     requires finals { names.now.finals ≡ final_names file.now.commands.items }
-    requires fits { draft.old.used.nodes + (length names.now.jobs + length names.now.finals) ≤ 65536 }
-    ensures files { (counts : List ℕ) → OnOk result (AddsFiles draft.old draft.new (record {
+    requires fits { builder.old.used.nodes + (length names.now.jobs + length names.now.finals) ≤ 65536 }
+    ensures files { (counts : List ℕ) → OnOk result (AddsFiles builder.old builder.new (record {
       prefix = prefix.now;
-      said = said_by path.now folder.now (commands_of file.now);
+      said = parsed_file path.now folder.now (commands_of file.now);
       counts = counts;
     } ∷ [])) }
-    ensures edges { OnOk result (draft.new.edges ≡ draft.old.edges) }
-    ensures used { OnOk result (draft.new.used ≡ with_file draft.old.used file.now.commands.items) }
+    ensures edges { OnOk result (builder.new.edges ≡ builder.old.edges) }
+    ensures used { OnOk result (builder.new.used ≡ with_file builder.old.used file.now.commands.items) }
 {
-    let told = &mut draft.told;
-    let mut own = own_nodes(alloc, path, prefix, folder, names, file, told)?;
+    let warned = &mut builder.warned;
+    let mut own = own_nodes(alloc, path, prefix, folder, names, file, warned)?;
     let mut finals = own.split_off(names.jobs.len())?;
-    draft.nodes.append(&mut own)?;
-    draft.finals.append(&mut finals)?;
-    draft.used.nodes += names.jobs.len() + names.finals.len();
+    builder.nodes.append(&mut own)?;
+    builder.finals.append(&mut finals)?;
+    builder.used.nodes += names.jobs.len() + names.finals.len();
     Ok(())
 }
 
@@ -224,18 +224,18 @@ fn add_own(
 #[cycle(opening)]
 fn open_tree(
     alloc: Global,
-    files: &Library,
+    files: &ParsedFiles,
     left: usize,
     above: &mut Texts,
     folder: &str,
     path: &str,
     prefix: &str,
-    draft: &mut Draft,
+    builder: &mut DagBuilder,
 ) -> Result<Found, SpliceFault>
-    requires few { draft.old.used.nodes ≤ 65536 }
-    ensures opened { OpensTree prefix.now result draft.old draft.new (open_file (files_in files.now) left draft.old.used above.old folder.now path.now) }
+    requires few { builder.old.used.nodes ≤ 65536 }
+    ensures opened { OpensTree prefix.now result builder.old builder.new (open_file (files_in files.now) left builder.old.used above.old folder.now path.now) }
     ensures above { OnOk result (above.new ≡ above.old) }
-    ensures few { OnOk result (IsFew draft.new.used) }
+    ensures few { OnOk result (IsFew builder.new.used) }
 {
     if left == 0 {
         return Err(SpliceFault::Dag(DagFault::TooDeep(Text::new(alloc, path)?)));
@@ -243,10 +243,10 @@ fn open_tree(
     let read = files.read(alloc, path)?;
     let file = read.file();
     let lines = file.commands.as_slice();
-    let names = check_file(alloc, &draft.used, above, path, lines)?;
-    let first = draft.nodes.as_slice().len();
-    let start = draft.edges.as_slice().len();
-    add_own(alloc, path, prefix, folder, &names, file, draft)?;
+    let names = check_file(alloc, &builder.used, above, path, lines)?;
+    let first = builder.nodes.as_slice().len();
+    let start = builder.edges.as_slice().len();
+    add_own(alloc, path, prefix, folder, &names, file, builder)?;
     let mut parts = Vec::new(alloc);
     let inner = open_forest(
         alloc,
@@ -256,12 +256,12 @@ fn open_tree(
         folder,
         lines,
         prefix,
-        draft,
+        builder,
         &mut parts,
     )?;
     let parts = parts.as_slice();
     Ok(close(
-        alloc, path, &names, parts, lines, first, start, inner, draft,
+        alloc, path, &names, parts, lines, first, start, inner, builder,
     )?)
 }
 
@@ -276,14 +276,14 @@ fn close(
     first: usize,
     start: usize,
     inner: Option<DagFault>,
-    draft: &mut Draft,
+    builder: &mut DagBuilder,
 ) -> Result<Found, AllocError>
-    requires names { first + length names.now.jobs ≤ length draft.old.nodes.items }
-    requires edges { start ≤ length draft.old.edges.items }
-    ensures edges { OnOk result (draft.new.edges.items ≡ draft.old.edges.items
+    requires names { first + length names.now.jobs ≤ length builder.old.nodes.items }
+    requires edges { start ≤ length builder.old.edges.items }
+    ensures edges { OnOk result (builder.new.edges.items ≡ builder.old.edges.items
         ++ flat_map (line_edges (record { first = first; jobs = names.now.jobs; splices = names.now.splices; parts = parts.now })) lines.now) }
-    ensures same { SameButEdges draft.old draft.new }
-    ensures part { IfOk result (λ found. found.part ≡ part_of first (length draft.new.nodes.items - first) (drop start draft.new.edges.items)) }
+    ensures same { SameButEdges builder.old builder.new }
+    ensures part { IfOk result (λ found. found.part ≡ part_of first (length builder.new.nodes.items - first) (drop start builder.new.edges.items)) }
     ensures fault { IfOk result (λ found. found.fault ≡ option_or (first_some (line_fault (record {
       path = path.now;
       jobs = names.now.jobs;
@@ -292,8 +292,8 @@ fn close(
       counts = map (λ p. p.count) parts.now;
     })) lines.now) inner) }
 {
-    add_lines(alloc, first, names, parts, lines, draft)?;
-    let part = part_of(alloc, first, start, draft)?;
+    add_lines(alloc, first, names, parts, lines, builder)?;
+    let part = part_of(alloc, first, start, builder)?;
     let own = first_fault(alloc, path, names, parts, lines)?;
     Ok(Found {
         part,
@@ -308,31 +308,36 @@ fn add_lines(
     names: &Names,
     parts: &[Part],
     lines: &[Command],
-    draft: &mut Draft,
+    builder: &mut DagBuilder,
 ) -> Result<(), AllocError>
-    requires { first + length names.now.jobs ≤ length draft.old.nodes.items }
-    ensures edges { OnOk result (draft.new.edges.items ≡ draft.old.edges.items
+    requires { first + length names.now.jobs ≤ length builder.old.nodes.items }
+    ensures edges { OnOk result (builder.new.edges.items ≡ builder.old.edges.items
         ++ flat_map (line_edges (record { first = first; jobs = names.now.jobs; splices = names.now.splices; parts = parts.now })) lines.now) }
-    ensures same { SameButEdges draft.old draft.new }
+    ensures same { SameButEdges builder.old builder.new }
 {
-    let _nodes = draft.nodes.as_slice().len();
+    let _nodes = builder.nodes.as_slice().len();
     let scope = LineScope {
         first,
         jobs: &names.jobs,
         splices: &names.splices,
         parts,
     };
-    scope.add_edges(alloc, lines, &mut draft.edges)
+    scope.add_edges(alloc, lines, &mut builder.edges)
 }
 
 /// The part of the graph from these places on.
-fn part_of(alloc: Global, first: usize, start: usize, draft: &Draft) -> Result<Part, AllocError>
-    requires nodes { first ≤ length draft.now.nodes.items }
-    requires edges { start ≤ length draft.now.edges.items }
-    ensures { IfOk result (λ part. part ≡ part_of first (length draft.now.nodes.items - first) (drop start draft.now.edges.items)) }
+fn part_of(
+    alloc: Global,
+    first: usize,
+    start: usize,
+    builder: &DagBuilder,
+) -> Result<Part, AllocError>
+    requires nodes { first ≤ length builder.now.nodes.items }
+    requires edges { start ≤ length builder.now.edges.items }
+    ensures { IfOk result (λ part. part ≡ part_of first (length builder.now.nodes.items - first) (drop start builder.now.edges.items)) }
 {
-    let count = draft.nodes.as_slice().len() - first;
-    splices_ends::part_of(alloc, first, count, &draft.edges.as_slice()[start..])
+    let count = builder.nodes.as_slice().len() - first;
+    splices_ends::part_of(alloc, first, count, &builder.edges.as_slice()[start..])
 }
 
 /// The first name in a file's lines that can't stand where it does.
@@ -369,24 +374,24 @@ fn names_in(alloc: Global, prefix: &str, name: &str) -> Result<Text, AllocError>
 #[cycle(opening)]
 fn open_forest(
     alloc: Global,
-    files: &Library,
+    files: &ParsedFiles,
     left: usize,
     above: &mut Texts,
     folder: &str,
     commands: &[Command],
     prefix: &str,
-    draft: &mut Draft,
+    builder: &mut DagBuilder,
     parts: &mut Vec<Part>,
 ) -> Result<Option<DagFault>, SpliceFault>
-    requires few { IsFew draft.old.used }
-    ensures opened { OpensForest prefix.now result draft.old draft.new parts.old.items parts.new.items (open_lines (open_file (files_in files.now) left) draft.old.used above.old folder.now commands.now) }
+    requires few { IsFew builder.old.used }
+    ensures opened { OpensForest prefix.now result builder.old builder.new parts.old.items parts.new.items (open_lines (open_file (files_in files.now) left) builder.old.used above.old folder.now commands.now) }
     ensures above { OnOk result (above.new ≡ above.old) }
-    ensures few { OnOk result (IsFew draft.new.used) }
+    ensures few { OnOk result (IsFew builder.new.used) }
 {
     let mut fault = None;
     for command in commands {
         let found = open_splice(
-            alloc, files, left, above, folder, command, prefix, draft, parts,
+            alloc, files, left, above, folder, command, prefix, builder, parts,
         )?;
         fault = fault.or(found);
     }
@@ -396,19 +401,19 @@ fn open_forest(
 #[cycle(opening)]
 fn open_splice(
     alloc: Global,
-    files: &Library,
+    files: &ParsedFiles,
     left: usize,
     above: &mut Texts,
     folder: &str,
     command: &Command,
     prefix: &str,
-    draft: &mut Draft,
+    builder: &mut DagBuilder,
     parts: &mut Vec<Part>,
 ) -> Result<Option<DagFault>, SpliceFault>
-    requires few { IsFew draft.old.used }
-    ensures opened { OpensForest prefix.now result draft.old draft.new parts.old.items parts.new.items (open_line (open_file (files_in files.now) left) draft.old.used above.old folder.now command.now) }
+    requires few { IsFew builder.old.used }
+    ensures opened { OpensForest prefix.now result builder.old builder.new parts.old.items parts.new.items (open_line (open_file (files_in files.now) left) builder.old.used above.old folder.now command.now) }
     ensures above { OnOk result (above.new ≡ above.old) }
-    ensures few { OnOk result (IsFew draft.new.used) }
+    ensures few { OnOk result (IsFew builder.new.used) }
 {
     let Command::Splice { name, file, dir } = command else {
         return Ok(None);
@@ -420,7 +425,7 @@ fn open_splice(
     }
     let names = names_in(alloc, prefix, name.text())?;
     above.push(Text::new(alloc, path.as_str())?)?;
-    draft.used.splices += 1;
+    builder.used.splices += 1;
     let found = open_tree(
         alloc,
         files,
@@ -429,28 +434,28 @@ fn open_splice(
         inside.as_str(),
         path.as_str(),
         names.as_str(),
-        draft,
+        builder,
     )?;
     above.pop();
     parts.push(found.part)?;
     Ok(found.fault)
 }
 
-impl Draft {
+impl DagBuilder {
     /// The flat DAG of the draft, whose top file has this path.
     fn into_dag(self, alloc: Global, top: Text) -> Result<FlatDag, AllocError>
-        requires within { IsWithin (record { top = top; nodes = self.nodes.items; final_node = first_of self.finals.items; edges = edges_of self.edges.items; categories = self.told.limits; warnings = map warning_of self.told.notices }) }
+        requires within { IsWellSized (record { top = top; nodes = self.nodes.items; final_node = first_of self.finals.items; edges = edges_of self.edges.items; categories = self.warned.limits; warnings = map warning_of self.warned.notices }) }
         requires below { All (IsGroupBelow (length self.nodes.items)) self.edges.items }
-        ensures { IfOk result (λ dag. dag ≡ record { top = top; nodes = self.nodes.items; final_node = first_of self.finals.items; edges = edges_of self.edges.items; categories = self.told.limits; warnings = map warning_of self.told.notices }) }
+        ensures { IfOk result (λ dag. dag ≡ record { top = top; nodes = self.nodes.items; final_node = first_of self.finals.items; edges = edges_of self.edges.items; categories = self.warned.limits; warnings = map warning_of self.warned.notices }) }
     {
-        let Draft {
+        let DagBuilder {
             nodes,
             mut finals,
             edges,
-            told,
+            warned,
             used: _,
         } = self;
-        let (categories, warnings) = told.into_parts(alloc)?;
+        let (categories, warnings) = warned.into_parts(alloc)?;
         let final_node = if finals.is_empty() {
             None
         } else {

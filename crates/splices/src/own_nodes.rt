@@ -1,15 +1,15 @@
 //! The nodes that a file declares itself.
 
 ghost use Rattle.std.specs.Prelude.{◌≡◌, ◌++◌, ◌+◌, ◌≤◌, false, length, map, IfOk, OnOk};
-ghost use Rattle.splices_flat.specs.Nodes.{final_in, final_names, finals_in, job_in, job_names, jobs_in, nodes_of};
+ghost use Rattle.splices_flat.specs.Nodes.{final_in, final_names, finals_in, job_in, job_names, jobs_in, declared_nodes};
 ghost use Rattle.splices.specs.NodeChanges.{changed_where, is_between, plain_node, replaced_among, set_node};
-ghost use Rattle.splices_flat.specs.Settings.{is_for, settings_at, target_of};
-ghost use Rattle.splices_flat.specs.Warnings.{tell_file};
+ghost use Rattle.splices_flat.specs.Settings.{is_for, settings_at, setting_target};
+ghost use Rattle.splices_flat.specs.Warnings.{warn_file};
 
 use crate::lines::{target_of, words_said};
 use crate::names::Names;
 use crate::nodes::dir_text;
-use crate::told::Told;
+use crate::warned::Warned;
 use dag_reader::{Command, DagFile, Text, Word};
 use splices_flat::{FlatNode, Settings, path_in};
 use std::alloc::{AllocError, Global};
@@ -23,21 +23,21 @@ pub(crate) fn own_nodes(
     folder: &str,
     names: &Names,
     file: &DagFile,
-    told: &mut Told,
+    warned: &mut Warned,
 ) -> Result<Vec<FlatNode>, AllocError>
     requires jobs { names.now.jobs ≡ job_names file.now.commands.items }
     requires finals { names.now.finals ≡ final_names file.now.commands.items }
     ensures nodes { let commands = file.now.commands.items in IfOk result
-        (λ nodes. nodes.items ≡ nodes_of prefix.now folder.now
+        (λ nodes. nodes.items ≡ declared_nodes prefix.now folder.now
         (settings_at prefix.now commands commands) 0 (jobs_in commands ++ finals_in commands)) }
-    ensures told { let commands = file.now.commands.items in OnOk result (told.new
-        ≡ tell_file path.now prefix.now commands told.old) }
+    ensures warned { let commands = file.now.commands.items in OnOk result (warned.new
+        ≡ warn_file path.now prefix.now commands warned.old) }
 {
     let commands = file.commands.as_slice();
     let mut nodes = plain_nodes(alloc, prefix, folder, commands)?;
     for command in commands {
         let replaced = set_line(alloc, prefix, names, command, &mut nodes)?;
-        told.tell_line(alloc, path, prefix, command, replaced.as_slice())?;
+        warned.warn_line(alloc, path, prefix, command, replaced.as_slice())?;
     }
     Ok(nodes)
 }
@@ -52,10 +52,10 @@ fn set_line(
 ) -> Result<Vec<usize>, AllocError>
     requires { length names.now.jobs + length names.now.finals ≤ length nodes.old }
     ensures nodes { OnOk result (nodes.new
-        ≡ changed_where (is_for names.now.jobs names.now.finals (target_of command.now))
+        ≡ changed_where (is_for names.now.jobs names.now.finals (setting_target command.now))
         (set_node prefix.now command.now) 0 nodes.old) }
     ensures replaced { IfOk result (λ lines. lines.items
-        ≡ replaced_among (is_for names.now.jobs names.now.finals (target_of command.now))
+        ≡ replaced_among (is_for names.now.jobs names.now.finals (setting_target command.now))
         command.now nodes.old) }
 {
     match target_of(command) {

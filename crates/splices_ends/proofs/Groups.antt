@@ -10,7 +10,7 @@ use Rattle.splices_flat.specs.declared.flat.Edge.{Edge}
 use Rattle.splices_flat.specs.declared.flat.EdgeGroup.{EdgeGroup}
 use Rattle.splices_flat.specs.declared.flat.Side.{Side}
 use Rattle.splices_flat.specs.declared.flat.Side.TheVariants.{Parent, Child}
-use Rattle.splices_flat.specs.Places.{edge, pairs, edges_of, ends_of, other_side, is_end, AreMarks}
+use Rattle.splices_flat.specs.Places.{edge, pairs, edges_of, nodes_on_side, other_side, is_end, AreSideMarks}
 
 or_same : (b : Bool) → (b || b) ≡ b
 or_same true = refl
@@ -51,12 +51,12 @@ group_children [] cs n some = absurd (some refl)
 group_children (p ∷ ps) cs n some = some_children p ps cs n
 
 -- a group has its nodes on a side where there are some on the other
-some_ends : (side : Side) (g : EdgeGroup) (n : ℕ) → (ends_of (other_side side) g ≡ [] → ⊥) → is_end side (pairs g.parents g.children) n ≡ list_any (λ m. m == n) (ends_of side g)
+some_ends : (side : Side) (g : EdgeGroup) (n : ℕ) → (nodes_on_side (other_side side) g ≡ [] → ⊥) → is_end side (pairs g.parents g.children) n ≡ list_any (λ m. m == n) (nodes_on_side side g)
 some_ends Parent g n some = group_parents g.parents g.children n some
 some_ends Child g n some = group_children g.parents g.children n some
 
 -- and else has no edges
-no_edges : (side : Side) (g : EdgeGroup) → ends_of (other_side side) g ≡ [] → pairs g.parents g.children ≡ []
+no_edges : (side : Side) (g : EdgeGroup) → nodes_on_side (other_side side) g ≡ [] → pairs g.parents g.children ≡ []
 no_edges Parent g none = ap (pairs g.parents) none ∙ no_children g.parents
 no_edges Child g none = ap (λ (ps : List ℕ). pairs ps g.children) none
 
@@ -66,8 +66,8 @@ edges_more groups i g lt is =
     ∙ flat_map-append (λ (h : EdgeGroup). pairs h.parents h.children) (take i groups) (g ∷ []) ∙ ap (λ (es : List Edge). edges_of (take i groups) ++ es) (append-nil (pairs g.parents g.children))
 
 -- one more group with edges
-pub ends_more : (side : Side) (groups : List EdgeGroup) (i : ℕ) (g : EdgeGroup) (n : ℕ) → i < length groups → g ≡ get_or groups i g → (ends_of (other_side side) g ≡ [] → ⊥)
-    → is_end side (edges_of (take (i + 1) groups)) n ≡ (is_end side (edges_of (take i groups)) n || list_any (λ m. m == n) (ends_of side g))
+pub ends_more : (side : Side) (groups : List EdgeGroup) (i : ℕ) (g : EdgeGroup) (n : ℕ) → i < length groups → g ≡ get_or groups i g → (nodes_on_side (other_side side) g ≡ [] → ⊥)
+    → is_end side (edges_of (take (i + 1) groups)) n ≡ (is_end side (edges_of (take i groups)) n || list_any (λ m. m == n) (nodes_on_side side g))
 ends_more Parent groups i g n lt is some =
     ap (λ (es : List Edge). is_end Parent es n) (edges_more groups i g lt is) ∙ list_any-append (λ (e : Edge). e.parent == n) (edges_of (take i groups)) (pairs g.parents g.children)
     ∙ ap (λ (b : Bool). is_end Parent (edges_of (take i groups)) n || b) (some_ends Parent g n some)
@@ -76,7 +76,7 @@ ends_more Child groups i g n lt is some =
     ∙ ap (λ (b : Bool). is_end Child (edges_of (take i groups)) n || b) (some_ends Child g n some)
 
 -- one more without edges
-pub edges_same : (side : Side) (groups : List EdgeGroup) (i : ℕ) (g : EdgeGroup) → i < length groups → g ≡ get_or groups i g → ends_of (other_side side) g ≡ [] → edges_of (take (i + 1) groups) ≡ edges_of (take i groups)
+pub edges_same : (side : Side) (groups : List EdgeGroup) (i : ℕ) (g : EdgeGroup) → i < length groups → g ≡ get_or groups i g → nodes_on_side (other_side side) g ≡ [] → edges_of (take (i + 1) groups) ≡ edges_of (take i groups)
 edges_same side groups i g lt is none =
     edges_more groups i g lt is ∙ ap (λ (es : List Edge). edges_of (take i groups) ++ es) (no_edges side g none) ∙ append-nil (edges_of (take i groups))
 
@@ -92,14 +92,14 @@ none_if [] xs empty is bare same = sym same
 none_if (y ∷ ys) xs empty is bare same = absurd (apart (sym bare ∙ is ∙ ne_eqb (length (y ∷ ys)) 0 (λ e. omega arith)))
 
 -- the marks once those of one more group are set
-pub marks_more : (side : Side) (first : ℕ) (groups : List EdgeGroup) (i : ℕ) (g : EdgeGroup) (old new : List Bool) (seen : List ℕ) → i < length groups → g ≡ get_or groups i g → (ends_of (other_side side) g ≡ [] → ⊥) → seen ≡ ends_of side g → length new ≡ length old
-    → AreMarks side first (edges_of (take i groups)) old → ((k : ℕ) → k < length old → get_or new k false ≡ (get_or old k false || list_any (λ n. n == first + k) seen)) → AreMarks side first (edges_of (take (i + 1) groups)) new
+pub marks_more : (side : Side) (first : ℕ) (groups : List EdgeGroup) (i : ℕ) (g : EdgeGroup) (old new : List Bool) (seen : List ℕ) → i < length groups → g ≡ get_or groups i g → (nodes_on_side (other_side side) g ≡ [] → ⊥) → seen ≡ nodes_on_side side g → length new ≡ length old
+    → AreSideMarks side first (edges_of (take i groups)) old → ((k : ℕ) → k < length old → get_or new k false ≡ (get_or old k false || list_any (λ n. n == first + k) seen)) → AreSideMarks side first (edges_of (take (i + 1) groups)) new
 marks_more side first groups i g old new seen lt is some same len before more = λ k small.
     let low : k < length old = omega (arith, len) in
     more k low ∙ ap (λ (b : Bool). b || list_any (λ n. n == first + k) seen) (before k low)
     ∙ ap (λ (ns : List ℕ). is_end side (edges_of (take i groups)) (first + k) || list_any (λ n. n == first + k) ns) same
     ∙ sym (ends_more side groups i g (first + k) lt is some)
 
-pub marks_same : (side : Side) (first : ℕ) (groups : List EdgeGroup) (i : ℕ) (g : EdgeGroup) (marks : List Bool) → i < length groups → g ≡ get_or groups i g → ends_of (other_side side) g ≡ []
-    → AreMarks side first (edges_of (take i groups)) marks → AreMarks side first (edges_of (take (i + 1) groups)) marks
-marks_same side first groups i g marks lt is none before = subst (λ (es : List Edge). AreMarks side first es marks) (sym (edges_same side groups i g lt is none)) before
+pub marks_same : (side : Side) (first : ℕ) (groups : List EdgeGroup) (i : ℕ) (g : EdgeGroup) (marks : List Bool) → i < length groups → g ≡ get_or groups i g → nodes_on_side (other_side side) g ≡ []
+    → AreSideMarks side first (edges_of (take i groups)) marks → AreSideMarks side first (edges_of (take (i + 1) groups)) marks
+marks_same side first groups i g marks lt is none before = subst (λ (es : List Edge). AreSideMarks side first es marks) (sym (edges_same side groups i g lt is none)) before

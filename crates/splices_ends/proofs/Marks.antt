@@ -4,7 +4,7 @@ use Rattle.std.proofs.lemmas.Grind.{common_steps}
 use Rattle.std.proofs.lemmas.List.{take_more, append-nil}
 use Rattle.splices_flat.specs.declared.flat.Edge.{Edge}
 use Rattle.splices_flat.specs.declared.flat.Side.{Side}
-use Rattle.splices_flat.specs.Places.{is_end, free_of, AreMarks, unmarked_from}
+use Rattle.splices_flat.specs.Places.{is_end, free_of, AreSideMarks, unmarked_from}
 
 abbrev here : ℕ → Bool → List ℕ
 here n marked = if marked then [] else n ∷ []
@@ -28,7 +28,7 @@ unmarked_step first i marks d small is = unmarked_more first i marks d small ∙
 pub marked_step : (first i : ℕ) (marks : List Bool) (d : Bool) → i < length marks → get_or marks i d ≡ true → unmarked_from first (take (i + 1) marks) ≡ unmarked_from first (take i marks)
 marked_step first i marks d small is = unmarked_more first i marks d small ∙ ap (λ (b : Bool). unmarked_from first (take i marks) ++ here (first + i) b) is ∙ append-nil (unmarked_from first (take i marks))
 
-shorter : (first : ℕ) (side : Side) (edges : List Edge) (x : Bool) (xs : List Bool) → AreMarks side first edges (x ∷ xs) → AreMarks side (first + 1) edges xs
+shorter : (first : ℕ) (side : Side) (edges : List Edge) (x : Bool) (xs : List Bool) → AreSideMarks side first edges (x ∷ xs) → AreSideMarks side (first + 1) edges xs
 shorter first side edges x xs are = λ k small.
     let shift : first + suc k ≡ first + 1 + k = omega arith in
     are (suc k) (omega arith) ∙ ap (is_end side edges) shift
@@ -39,7 +39,7 @@ here_is n false false ns ms e f = ap (λ (xs : List ℕ). n ∷ xs) f
 here_is n true false ns ms e f = absurd cc
 here_is n false true ns ms e f = absurd cc
 
-pub unmarked_is : (side : Side) (first : ℕ) (edges : List Edge) (marks : List Bool) → AreMarks side first edges marks → unmarked_from first marks ≡ free_of side first (length marks) edges
+pub unmarked_is : (side : Side) (first : ℕ) (edges : List Edge) (marks : List Bool) → AreSideMarks side first edges marks → unmarked_from first marks ≡ free_of side first (length marks) edges
 unmarked_is side first edges [] are = refl
 unmarked_is side first edges (x ∷ xs) are =
     let none : first + 0 ≡ first = omega arith in

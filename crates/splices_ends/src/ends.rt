@@ -2,7 +2,7 @@
 
 ghost use Rattle.std.specs.Prelude.{◌≡◌, ◌+◌, ◌<◌, ◌^◌, ◌||◌, ◌==◌, ℕ, false, vec_len, slice_index_or, IfOk, length};
 ghost use Rattle.std.specs.List.{list_any};
-ghost use Rattle.splices_flat.specs.Places.{edges_of, free_of, AreMarks, unmarked_from};
+ghost use Rattle.splices_flat.specs.Places.{edges_of, free_of, AreSideMarks, unmarked_from};
 
 use splices_flat::{EdgeGroup, Numbers, Side};
 use std::alloc::{AllocError, Global};
@@ -31,7 +31,7 @@ fn marks_of(
     groups: &[EdgeGroup],
 ) -> Result<Vec<bool>, AllocError>
     ensures len { IfOk result (λ marks. vec_len marks ≡ count) }
-    ensures marked { IfOk result (λ marks. AreMarks side first (edges_of groups.now) marks.items) }
+    ensures marked { IfOk result (λ marks. AreSideMarks side first (edges_of groups.now) marks.items) }
 {
     let mut marks = vec![in alloc; false; count]?;
     for group in groups {

@@ -9,7 +9,7 @@ use Rattle.std.specs.List.{list_any, position_or_len}
 use Rattle.std.specs.Str.{bytes_eq}
 use Rattle.splices_flat.specs.declared.flat.CategoryLimit.{CategoryLimit}
 use Rattle.splices_flat.specs.Notices.{Notice, overridden, with_notice, with_notices}
-use Rattle.splices_flat.specs.Warnings.{Told, with_limit, line_of_limit, overridden_if, replaced_limit}
+use Rattle.splices_flat.specs.Warnings.{Warned, with_limit, line_of_limit, overridden_if, replaced_limit}
 use Rattle.splices_flat.proofs.NameLists.{any_map, position_map}
 
 abbrev pub has_name : List ℕ → CategoryLimit → Bool
@@ -75,7 +75,7 @@ names_stay names limits limit k are e =
     are ∙ same_names limits limit limit k ((bytes_eq-Decides _ _).0 (place_in names limits limit limit k are e).1)
 
 pub limit_replaced : (names : List (List ℕ)) (limits : List CategoryLimit) (notices notices' : List Notice) (limit old : CategoryLimit) (k : ℕ) → names ≡ map (λ (l : CategoryLimit). l.name) limits → Some k ≡ position (bytes_eq limit.name) names → old ≡ get_or limits k old → notices' ≡ with_notice notices (overridden (line_of_limit old) (line_of_limit limit)) →
-    ◌≡◌ {A = Told} (record { limits = slice_set limits k limit; notices = notices' }) (record { limits = with_limit limits limit; notices = with_notices notices (replaced_limit limits limit) })
+    ◌≡◌ {A = Warned} (record { limits = slice_set limits k limit; notices = notices' }) (record { limits = with_limit limits limit; notices = with_notices notices (replaced_limit limits limit) })
 limit_replaced names limits notices notices' limit old k are e is more =
     let q = place_in names limits limit old k are e in
     let r = at_place limits limit old k q.0 q.1 q.2 in
@@ -84,7 +84,7 @@ limit_replaced names limits notices notices' limit old k are e is more =
     λ i. record { limits = sym r.0 i; notices = w i }
 
 pub limit_added : (names : List (List ℕ)) (limits limits' : List CategoryLimit) (notices : List Notice) (limit : CategoryLimit) → names ≡ map (λ (l : CategoryLimit). l.name) limits → None ≡ position (bytes_eq limit.name) names → limits' ≡ limits ++ limit ∷ [] →
-    ◌≡◌ {A = Told} (record { limits = limits'; notices = notices }) (record { limits = with_limit limits limit; notices = with_notices notices (replaced_limit limits limit) })
+    ◌≡◌ {A = Warned} (record { limits = limits'; notices = notices }) (record { limits = with_limit limits limit; notices = with_notices notices (replaced_limit limits limit) })
 limit_added names limits limits' notices limit are e more =
     let no : list_any (has_name limit.name) limits ≡ false = sym (any_map (λ (l : CategoryLimit). l.name) (bytes_eq limit.name) limits) ∙ ap (list_any (bytes_eq limit.name)) (sym are) ∙ not_there (bytes_eq limit.name) names e in
     let l : limits' ≡ with_limit limits limit = more ∙ sym (new_limit limits limit no) in

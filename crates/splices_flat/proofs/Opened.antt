@@ -8,16 +8,16 @@ use Rattle.splices_flat.specs.declared.flat.Settings.{Settings}
 use Rattle.splices_flat.specs.declared.flat.EdgeGroup.{EdgeGroup}
 use Rattle.splices_flat.specs.declared.part.Part.{Part}
 use Rattle.splices_flat.specs.declared.used.Used.{Used}
-use Rattle.splices_flat.specs.Nodes.{Declared, jobs_in, nodes_of, own_count}
+use Rattle.splices_flat.specs.Nodes.{Declared, jobs_in, declared_nodes, own_count}
 use Rattle.splices_flat.specs.Forest.{Forest, none, more, OpenFile, inside, opened_as, forest_files, forest_count, job_nodes}
 use Rattle.splices_flat.specs.Edges.{file_edges, part_of, forest_edges, forest_parts}
-use Rattle.splices_flat.specs.Opening.{joined, with_forest, forest_declared, forest_splices}
+use Rattle.splices_flat.specs.Opening.{forests_joined, with_forest, forest_declared, forest_splices}
 
-pub joined-none : (f : Forest) → joined f none ≡ f
+pub joined-none : (f : Forest) → forests_joined f none ≡ f
 joined-none none = refl
 joined-none (more name file inner others) = ap (λ (g : Forest). more name file inner g) (joined-none others)
 
-pub joined_assoc : (f g h : Forest) → joined (joined f g) h ≡ joined f (joined g h)
+pub joined_assoc : (f g h : Forest) → forests_joined (forests_joined f g) h ≡ forests_joined f (forests_joined g h)
 joined_assoc none g h = refl
 joined_assoc (more name file inner others) g h = ap (λ (k : Forest). more name file inner k) (joined_assoc others g h)
 
@@ -25,35 +25,35 @@ joined_assoc (more name file inner others) g h = ap (λ (k : Forest). more name 
 pub used_is : (u v : Used) → u.nodes ≡ v.nodes → u.splices ≡ v.splices → u ≡ v
 used_is u v a b = ap (λ (n : ℕ). record { nodes = n; splices = u.splices }) a ∙ ap (λ (n : ℕ). record { nodes = v.nodes; splices = n }) b
 
-pub declared-joined : (f g : Forest) → forest_declared (joined f g) ≡ forest_declared f + forest_declared g
+pub declared-joined : (f g : Forest) → forest_declared (forests_joined f g) ≡ forest_declared f + forest_declared g
 declared-joined none g = omega arith
 declared-joined (more name file inner others) g =
-    let rest : forest_declared (joined others g) ≡ forest_declared others + forest_declared g = declared-joined others g in
+    let rest : forest_declared (forests_joined others g) ≡ forest_declared others + forest_declared g = declared-joined others g in
     omega arith
 
-pub splices-joined : (f g : Forest) → forest_splices (joined f g) ≡ forest_splices f + forest_splices g
+pub splices-joined : (f g : Forest) → forest_splices (forests_joined f g) ≡ forest_splices f + forest_splices g
 splices-joined none g = omega arith
 splices-joined (more name file inner others) g =
-    let rest : forest_splices (joined others g) ≡ forest_splices others + forest_splices g = splices-joined others g in
+    let rest : forest_splices (forests_joined others g) ≡ forest_splices others + forest_splices g = splices-joined others g in
     omega arith
 
-pub used-joined : (u : Used) (f g : Forest) → with_forest (with_forest u f) g ≡ with_forest u (joined f g)
+pub used-joined : (u : Used) (f g : Forest) → with_forest (with_forest u f) g ≡ with_forest u (forests_joined f g)
 used-joined u f g =
-    let a : forest_declared (joined f g) ≡ forest_declared f + forest_declared g = declared-joined f g in
-    let b : forest_splices (joined f g) ≡ forest_splices f + forest_splices g = splices-joined f g in
+    let a : forest_declared (forests_joined f g) ≡ forest_declared f + forest_declared g = declared-joined f g in
+    let b : forest_splices (forests_joined f g) ≡ forest_splices f + forest_splices g = splices-joined f g in
     used_is _ _ (omega arith) (omega arith)
 
 pub used-none : (u : Used) → with_forest u none ≡ u
 used-none u = used_is _ _ (add-zero u.nodes) (add-zero u.splices)
 
 -- The forests.
-pub files-joined : (prefix : List ℕ) (f g : Forest) → forest_files prefix (joined f g) ≡ forest_files prefix f ++ forest_files prefix g
+pub files-joined : (prefix : List ℕ) (f g : Forest) → forest_files prefix (forests_joined f g) ≡ forest_files prefix f ++ forest_files prefix g
 files-joined prefix none g = refl
 files-joined prefix (more name file inner others) g =
     let own = opened_as (inside prefix name) file inner ∷ forest_files (inside prefix name) inner in
     ap (λ (ns : List OpenFile). own ++ ns) (files-joined prefix others g) ∙ sym (append_assoc own (forest_files prefix others) (forest_files prefix g))
 
-pub nodes_of-length : (prefix folder : List ℕ) (settings : ℕ → Settings) (place : ℕ) (ds : List Declared) → length (nodes_of prefix folder settings place ds) ≡ length ds
+pub nodes_of-length : (prefix folder : List ℕ) (settings : ℕ → Settings) (place : ℕ) (ds : List Declared) → length (declared_nodes prefix folder settings place ds) ≡ length ds
 nodes_of-length prefix folder settings place [] = refl
 nodes_of-length prefix folder settings place (d ∷ ds) = ap (λ (n : ℕ). suc n) (nodes_of-length prefix folder settings (place + 1) ds)
 
@@ -73,7 +73,7 @@ nodes-length prefix (more name file inner others) =
     ∙ ap (λ (n : ℕ). own_count file.commands + n + length rest) (nodes-length (inside prefix name) inner)
     ∙ ap (λ (n : ℕ). own_count file.commands + forest_count inner + n) (nodes-length prefix others)
 
-pub edges-joined : (first : ℕ) (f g : Forest) → forest_edges first (joined f g) ≡ forest_edges first f ++ forest_edges (first + forest_count f) g
+pub edges-joined : (first : ℕ) (f g : Forest) → forest_edges first (forests_joined f g) ≡ forest_edges first f ++ forest_edges (first + forest_count f) g
 edges-joined first none g = ap (λ (n : ℕ). forest_edges n g) (sym (add-zero first))
 edges-joined first (more name file inner others) g =
     let count = own_count file.commands + forest_count inner in
@@ -82,7 +82,7 @@ edges-joined first (more name file inner others) g =
     ∙ sym (append_assoc within (forest_edges (first + count) others) (forest_edges (first + count + forest_count others) g))
     ∙ ap (λ (n : ℕ). (within ++ forest_edges (first + count) others) ++ forest_edges n g) (add_assoc first count (forest_count others))
 
-pub parts-joined : (first : ℕ) (f g : Forest) → forest_parts first (joined f g) ≡ forest_parts first f ++ forest_parts (first + forest_count f) g
+pub parts-joined : (first : ℕ) (f g : Forest) → forest_parts first (forests_joined f g) ≡ forest_parts first f ++ forest_parts (first + forest_count f) g
 parts-joined first none g = ap (λ (n : ℕ). forest_parts n g) (sym (add-zero first))
 parts-joined first (more name file inner others) g =
     let count = own_count file.commands + forest_count inner in

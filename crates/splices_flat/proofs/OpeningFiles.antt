@@ -8,9 +8,9 @@ use Rattle.dag_reader.specs.declared.fault.LineFault.{LineFault}
 use Rattle.dag_reader.specs.Reading.{text_at}
 use Rattle.splices_flat.specs.declared.fault.DagFault.{DagFault}
 use Rattle.splices_flat.specs.declared.used.Used.{Used}
-use Rattle.splices_flat.specs.Forest.{Said, Forest, none, more, Tree}
-use Rattle.splices_flat.specs.Opening.{◌>>=◌, Files, Opener, in_file, says_at, check_file, with_file, with_forest, with_splice, said_by, joined, enter_at, open_line, open_lines, open_said, open_file, opened_at}
-use Rattle.splices_flat.specs.OpenedFiles.{Spliced, splice_in, splices_in, splice_folder, splice_path, IsSaid, AreOpened, IsOpened}
+use Rattle.splices_flat.specs.Forest.{ParsedFile, Forest, none, more, Tree}
+use Rattle.splices_flat.specs.Opening.{◌>>=◌, Files, Opener, in_file, says_at, check_file, with_file, with_forest, with_splice, parsed_file, forests_joined, enter_at, open_line, open_lines, open_said, open_file, opened_at}
+use Rattle.splices_flat.specs.OpenedFiles.{Spliced, splice_in, splices_in, splice_folder, splice_path, IsSaid, AreOpened, IsOpenedTree}
 
 -- what stands before a last step that succeeds
 pub bound : {A B : Type 0} (r : Result A DagFault) (f : A → Result B DagFault) (b : B) → (r >>= f) ≡ Ok b → (a : A) × (r ≡ Ok a) × (f a ≡ Ok b)
@@ -27,7 +27,7 @@ spelled : (path bytes : List ℕ) (r : Result (List Command) LineFault) (content
 spelled path bytes (Ok x) contents is = cc
 spelled path bytes (Err e) contents is = absurd cc
 
-said : (files : Files) (folder path : List ℕ) (contents : List Command) (found : Option (List ℕ)) → files path ≡ found → says_at path found ≡ Ok contents → IsSaid files folder path (said_by path folder contents)
+said : (files : Files) (folder path : List ℕ) (contents : List Command) (found : Option (List ℕ)) → files path ≡ found → says_at path found ≡ Ok contents → IsSaid files folder path (parsed_file path folder contents)
 said files folder path contents None at is = absurd cc
 said files folder path contents (Some bytes) at is = record {
   path_is = refl;
@@ -45,18 +45,18 @@ entered opener used above folder path None tree is = (refl, is)
 entered opener used above folder path (Some k) tree is = absurd cc
 
 module _ (files : Files) (opener : Opener) (each : (used : Used) (above : List (List ℕ)) (folder path : List ℕ) (tree : Tree) → opener used above folder path ≡ Ok tree → Opens files above folder path tree) where
-  silent : (above : List (List ℕ)) (folder : List ℕ) (ss : List Spliced) (first others : Forest) → good none ≡ good first → AreOpened files above folder ss others → AreOpened files above folder ss (joined first others)
-  silent above folder ss first others is rest = subst (λ (f : Forest). AreOpened files above folder ss (joined f others)) (given none first is) rest
+  silent : (above : List (List ℕ)) (folder : List ℕ) (ss : List Spliced) (first others : Forest) → good none ≡ good first → AreOpened files above folder ss others → AreOpened files above folder ss (forests_joined first others)
+  silent above folder ss first others is rest = subst (λ (f : Forest). AreOpened files above folder ss (forests_joined f others)) (given none first is) rest
 
   line-opens : (used : Used) (above : List (List ℕ)) (folder : List ℕ) (c : Command) (ss : List Spliced) (first others : Forest) → open_line opener used above folder c ≡ Ok first → AreOpened files above folder ss others
-      → AreOpened files above folder (splice_in c ++ ss) (joined first others)
+      → AreOpened files above folder (splice_in c ++ ss) (forests_joined first others)
   line-opens used above folder (Splice name file dir) ss first others is rest =
       let s : Spliced = record { name = name; file = file; dir = dir } in
       let b = bound (enter_at opener used above (splice_folder folder s) (splice_path folder s) (position (bytes_eq (splice_path folder s)) above)) _ first is in
       let tree = b.0 in
       let e = entered opener used above (splice_folder folder s) (splice_path folder s) (position (bytes_eq (splice_path folder s)) above) tree b.1 in
       let o = each (with_splice used) (above ++ splice_path folder s ∷ []) (splice_folder folder s) (splice_path folder s) tree e.1 in
-      subst (λ (f : Forest). AreOpened files above folder (s ∷ ss) (joined f others)) (given (more name.text tree.file tree.inner none) first b.2) (refl, e.0, o.0, o.1, rest)
+      subst (λ (f : Forest). AreOpened files above folder (s ∷ ss) (forests_joined f others)) (given (more name.text tree.file tree.inner none) first b.2) (refl, e.0, o.0, o.1, rest)
   line-opens used above folder c ss first others is rest = silent above folder ss first others is rest
 
   lines-open : (cs : List Command) (used : Used) (above : List (List ℕ)) (folder : List ℕ) (forest : Forest) → open_lines opener used above folder cs ≡ Ok forest → AreOpened files above folder (splices_in cs) forest
@@ -64,7 +64,7 @@ module _ (files : Files) (opener : Opener) (each : (used : Used) (above : List (
   lines-open (c ∷ cs) used above folder forest is =
       let a = bound (open_line opener used above folder c) _ forest is in
       let b = bound (open_lines opener (with_forest used a.0) above folder cs) _ forest a.2 in
-      subst (AreOpened files above folder (splice_in c ++ splices_in cs)) (given (joined a.0 b.0) forest b.2)
+      subst (AreOpened files above folder (splice_in c ++ splices_in cs)) (given (forests_joined a.0 b.0) forest b.2)
       (line-opens used above folder c (splices_in cs) a.0 b.0 a.1 (lines-open cs (with_forest used a.0) above folder b.0 b.1))
 
 file-opens : (files : Files) (left : ℕ) (used : Used) (above : List (List ℕ)) (folder path : List ℕ) (tree : Tree) → open_file files left used above folder path ≡ Ok tree → Opens files above folder path tree
@@ -74,10 +74,10 @@ file-opens files (suc left) used above folder path tree is =
     let contents = a.0 in
     let b = bound (check_file used above path contents) _ tree a.2 in
     let d = bound (open_lines (open_file files left) (with_file used contents) above folder contents) _ tree b.2 in
-    subst (Opens files above folder path) (given (record { file = said_by path folder contents; inner = d.0 }) tree d.2)
+    subst (Opens files above folder path) (given (record { file = parsed_file path folder contents; inner = d.0 }) tree d.2)
     (said files folder path contents (files path) refl a.1, lines-open files (open_file files left) (file-opens files left) contents (with_file used contents) above folder d.0 d.1)
 
-pub is-opened : (files : Files) (top : List ℕ) (tree : Tree) → opened_at files top ≡ Ok tree → IsOpened files top tree
+pub is-opened : (files : Files) (top : List ℕ) (tree : Tree) → opened_at files top ≡ Ok tree → IsOpenedTree files top tree
 unfolding opened_at
 is-opened files top tree is = file-opens files 33 (record { nodes = 0; splices = 0 }) (top ∷ []) [] top tree is
 
@@ -88,7 +88,7 @@ some-same x y o a b = cc
 read-same : (x y : List Command) (r : Result (List Command) LineFault) → r ≡ Ok x → r ≡ Ok y → x ≡ y
 read-same x y r a b = let same : Ok x ≡ Ok y = sym a ∙ b in cc
 
-said-same : (files : Files) (folder path : List ℕ) (a b : Said) → IsSaid files folder path a → IsSaid files folder path b → a ≡ b
+said-same : (files : Files) (folder path : List ℕ) (a b : ParsedFile) → IsSaid files folder path a → IsSaid files folder path b → a ≡ b
 said-same files folder path a b x y =
     let bytes : x.bytes ≡ y.bytes = some-same x.bytes y.bytes (files path) x.there y.there in
     let same : a.commands ≡ b.commands = read-same a.commands b.commands (text_at y.bytes) (ap text_at (sym bytes) ∙ x.says) y.says in
@@ -105,13 +105,13 @@ forest-same (more name file inner others) (more name' file' inner' others') file
     let named : name ≡ name' = x.0 ∙ sym y.0 in
     let filed : file ≡ file' = said-same files (splice_folder folder s) (splice_path folder s) file file' x.2 y.2 in
     let within : inner ≡ inner' = forest-same inner inner' files (above ++ splice_path folder s ∷ []) (splice_folder folder s) (splices_in file'.commands)
-    (subst (λ (f : Said). AreOpened files (above ++ splice_path folder s ∷ []) (splice_folder folder s) (splices_in f.commands) inner) filed x.3) y.3 in
+    (subst (λ (f : ParsedFile). AreOpened files (above ++ splice_path folder s ∷ []) (splice_folder folder s) (splices_in f.commands) inner) filed x.3) y.3 in
     let behind : others ≡ others' = forest-same others others' files above folder ss x.4 y.4 in
     λ j. more (named j) (filed j) (within j) (behind j)
 
-pub one-opening : (files : Files) (top : List ℕ) (a b : Tree) → IsOpened files top a → IsOpened files top b → a ≡ b
+pub one-opening : (files : Files) (top : List ℕ) (a b : Tree) → IsOpenedTree files top a → IsOpenedTree files top b → a ≡ b
 one-opening files top a b x y =
     let filed : a.file ≡ b.file = said-same files [] top a.file b.file x.0 y.0 in
     let within : a.inner ≡ b.inner = forest-same a.inner b.inner files (top ∷ []) [] (splices_in b.file.commands)
-    (subst (λ (f : Said). AreOpened files (top ∷ []) [] (splices_in f.commands) a.inner) filed x.1) y.1 in
+    (subst (λ (f : ParsedFile). AreOpened files (top ∷ []) [] (splices_in f.commands) a.inner) filed x.1) y.1 in
     λ j. record { file = filed j; inner = within j }

@@ -12,10 +12,10 @@ use Rattle.splices_flat.specs.declared.used.Used.{Used}
 use Rattle.splices_flat.specs.Dag.{Dag}
 use Rattle.splices_flat.specs.Faults.{files_fault}
 use Rattle.splices_flat.specs.Nodes.{Declared, finals_in, own_count}
-use Rattle.splices_flat.specs.Forest.{Said, Forest, none, more, Tree, tree_files}
+use Rattle.splices_flat.specs.Forest.{ParsedFile, Forest, none, more, Tree, tree_files}
 use Rattle.splices_flat.specs.Opened.{dag_at, dag_of, dag_unless, flat_of}
-use Rattle.splices_flat.specs.Opening.{◌>>=◌, Files, Opener, in_file, says_at, final_fault, check_final, check_lines, check_count, check_file, forest_declared, forest_splices, with_file, with_forest, with_splice, said_by, joined, enter_at, open_line, open_lines, open_said, open_file, opened_at}
-use Rattle.splices_flat.specs.OpenedFiles.{Spliced, splices_in, splice_folder, splice_path, IsSaid, AreOpened, IsOpened}
+use Rattle.splices_flat.specs.Opening.{◌>>=◌, Files, Opener, in_file, says_at, final_fault, check_final, check_lines, check_count, check_file, forest_declared, forest_splices, with_file, with_forest, with_splice, parsed_file, forests_joined, enter_at, open_line, open_lines, open_said, open_file, opened_at}
+use Rattle.splices_flat.specs.OpenedFiles.{Spliced, splices_in, splice_folder, splice_path, IsSaid, AreOpened, IsOpenedTree}
 use Rattle.splices_flat.specs.Regular.{DeclareOnce, AreRegular, IsRegular, forest_depth}
 use Rattle.splices_flat.proofs.DeclaredOnce.{accepted, once_passes, passes_once}
 use Rattle.splices_flat.proofs.Opened.{declared-joined, splices-joined}
@@ -94,7 +94,7 @@ file_passes left used above path tree may once fits =
     ∙ count_passes used cs (omega arith) (omega arith)
 
 -- a splice's file, of the files of SPLICE lines that fit
-tree_fits : (left : ℕ) (used : Used) (name : List ℕ) (said : Said) (inner others : Forest) → Fits left used (more name said inner others) → FitsTree left (with_splice used) (record { file = said; inner = inner })
+tree_fits : (left : ℕ) (used : Used) (name : List ℕ) (said : ParsedFile) (inner others : Forest) → Fits left used (more name said inner others) → FitsTree left (with_splice used) (record { file = said; inner = inner })
 tree_fits zero used name said inner others fits = let deep = fits.depth in absurd (omega arith)
 tree_fits (suc left) used name said inner others fits =
     let deep = fits.depth in
@@ -102,7 +102,7 @@ tree_fits (suc left) used name said inner others fits =
     let splices = fits.splices in
     (fits.regular.0, record { regular = fits.regular.2; depth = omega arith; nodes = omega arith; splices = omega arith })
 
-others_fit : (left : ℕ) (used : Used) (name text : List ℕ) (said : Said) (inner others : Forest) → Fits left used (more name said inner others) → Fits left (with_forest used (more text said inner none)) others
+others_fit : (left : ℕ) (used : Used) (name text : List ℕ) (said : ParsedFile) (inner others : Forest) → Fits left used (more name said inner others) → Fits left (with_forest used (more text said inner none)) others
 others_fit left used name text said inner others fits =
     let deep = fits.depth in
     let nodes = fits.nodes in
@@ -131,17 +131,17 @@ module _ (files : Files) (left : ℕ) (opener : Opener) (each : (used : Used) (a
       let opens : opener (with_splice used) (above ++ path ∷ []) (splice_folder folder s) path ≡ Ok tree =
       each (with_splice used) (above ++ path ∷ []) (splice_folder folder s) path tree (some_below above path) (may_below above path said.commands some fits.regular.1) (tree_fits left used n said inner others fits) are.2 are.3 in
       let rest : open_lines opener (with_forest used first) above folder cs ≡ Ok others = lines_open cs (with_forest used first) above folder others some are.4 (others_fit left used n name.text said inner others fits) in
-      ap (λ (o : Option ℕ). (enter o >>= λ t. Ok (more name.text t.file t.inner none)) >>= λ f. open_lines opener (with_forest used f) above folder cs >>= λ g. Ok (joined f g)) are.1
-      ∙ ap (λ (r : Result Tree DagFault). (r >>= λ t. Ok (more name.text t.file t.inner none)) >>= λ f. open_lines opener (with_forest used f) above folder cs >>= λ g. Ok (joined f g)) opens
-      ∙ ap (λ (r : Result Forest DagFault). r >>= λ g. Ok (joined first g)) rest
+      ap (λ (o : Option ℕ). (enter o >>= λ t. Ok (more name.text t.file t.inner none)) >>= λ f. open_lines opener (with_forest used f) above folder cs >>= λ g. Ok (forests_joined f g)) are.1
+      ∙ ap (λ (r : Result Tree DagFault). (r >>= λ t. Ok (more name.text t.file t.inner none)) >>= λ f. open_lines opener (with_forest used f) above folder cs >>= λ g. Ok (forests_joined f g)) opens
+      ∙ ap (λ (r : Result Forest DagFault). r >>= λ g. Ok (forests_joined first g)) rest
       ∙ ap (λ (x : List ℕ). Ok (more x said inner others)) (sym are.0)
   lines_open (c ∷ cs) used above folder f some are fits =
       ap (λ (r : Result Forest DagFault). r >>= λ g. Ok g) (lines_open cs (with_forest used none) above folder f some are (silent_fits left used f fits))
 
-says_it : (files : Files) (folder path : List ℕ) (said : Said) → IsSaid files folder path said → says_at path (files path) ≡ Ok said.commands
+says_it : (files : Files) (folder path : List ℕ) (said : ParsedFile) → IsSaid files folder path said → says_at path (files path) ≡ Ok said.commands
 says_it files folder path said is = ap (says_at path) is.there ∙ ap (in_file path) is.says
 
-said_is : (files : Files) (folder path : List ℕ) (said : Said) → IsSaid files folder path said → said_by path folder said.commands ≡ said
+said_is : (files : Files) (folder path : List ℕ) (said : ParsedFile) → IsSaid files folder path said → parsed_file path folder said.commands ≡ said
 said_is files folder path said is = λ i. record { path = sym is.path_is i; folder = sym is.folder_is i; commands = said.commands }
 
 file_open : (files : Files) (left : ℕ) (used : Used) (above : List (List ℕ)) (folder path : List ℕ) (tree : Tree) → 0 < length above → MayHaveFinal above tree.file.commands → FitsTree left used tree → IsSaid files folder path tree.file
@@ -151,12 +151,12 @@ file_open files (suc left) used above folder path tree some may fits is are =
     let cs = tree.file.commands in
     let inner = lines_open files left (open_file files left) (file_open files left) cs (with_file used cs) above folder tree.inner some are fits.1 in
     ap (λ (r : Result (List Command) DagFault). r >>= open_said (open_file files left) used above folder path) (says_it files folder path tree.file is)
-    ∙ ap (λ (r : Result (Unit {0}) DagFault). r >>= λ _. open_lines (open_file files left) (with_file used cs) above folder cs >>= λ f. Ok (record { file = said_by path folder cs; inner = f }))
+    ∙ ap (λ (r : Result (Unit {0}) DagFault). r >>= λ _. open_lines (open_file files left) (with_file used cs) above folder cs >>= λ f. Ok (record { file = parsed_file path folder cs; inner = f }))
     (file_passes left used above path tree may fits.0 fits.1)
-    ∙ ap (λ (r : Result Forest DagFault). r >>= λ f. Ok (record { file = said_by path folder cs; inner = f })) inner
-    ∙ ap (λ (s : Said). Ok (record { file = s; inner = tree.inner })) (said_is files folder path tree.file is)
+    ∙ ap (λ (r : Result Forest DagFault). r >>= λ f. Ok (record { file = parsed_file path folder cs; inner = f })) inner
+    ∙ ap (λ (s : ParsedFile). Ok (record { file = s; inner = tree.inner })) (said_is files folder path tree.file is)
 
-pub all_opened : (files : Files) (top : List ℕ) (tree : Tree) → IsOpened files top tree → IsRegular tree → opened_at files top ≡ Ok tree
+pub all_opened : (files : Files) (top : List ℕ) (tree : Tree) → IsOpenedTree files top tree → IsRegular tree → opened_at files top ≡ Ok tree
 unfolding opened_at
 all_opened files top tree is regular =
     let used : Used = record { nodes = 0; splices = 0 } in
@@ -166,17 +166,17 @@ all_opened files top tree is regular =
     file_open files 33 used (top ∷ []) [] top tree (omega arith) tt (regular.once, fits) is.0 is.1
 
 -- What is opened keeps the rules.
-joined_regular : (f g : Forest) → AreRegular f → AreRegular g → AreRegular (joined f g)
+joined_regular : (f g : Forest) → AreRegular f → AreRegular g → AreRegular (forests_joined f g)
 joined_regular none g front back = back
 joined_regular (more name file inner others) g front back = (front.0, front.1, front.2, joined_regular others g front.3 back)
 
-depth_joined : (f g : Forest) (most : ℕ) → forest_depth f ≤ most → forest_depth g ≤ most → forest_depth (joined f g) ≤ most
+depth_joined : (f g : Forest) (most : ℕ) → forest_depth f ≤ most → forest_depth g ≤ most → forest_depth (forests_joined f g) ≤ most
 depth_joined none g most front back = back
 depth_joined (more name file inner others) g most front back =
-    let rest : forest_depth (joined others g) ≤ most = depth_joined others g most (omega arith) back in
+    let rest : forest_depth (forests_joined others g) ≤ most = depth_joined others g most (omega arith) back in
     omega arith
 
-joined_fit : (left : ℕ) (used : Used) (f g : Forest) → Fits left used f → Fits left (with_forest used f) g → Fits left used (joined f g)
+joined_fit : (left : ℕ) (used : Used) (f g : Forest) → Fits left used f → Fits left (with_forest used f) g → Fits left used (forests_joined f g)
 joined_fit left used f g front back =
     let declared = declared-joined f g in
     let splices = splices-joined f g in
@@ -214,7 +214,7 @@ module _ (left : ℕ) (opener : Opener) (each : (used : Used) (above : List (Lis
       let a = bound (open_line opener used above folder c) _ f is in
       let b = bound (open_lines opener (with_forest used a.0) above folder cs) _ f a.2 in
       let here = line_fits c used above folder a.0 some a.1 nodes splices in
-      subst (Fits left used) (given (joined a.0 b.0) f b.2) (joined_fit left used a.0 b.0 here (lines_fit cs (with_forest used a.0) above folder b.0 some b.1 here.nodes here.splices))
+      subst (Fits left used) (given (forests_joined a.0 b.0) f b.2) (joined_fit left used a.0 b.0 here (lines_fit cs (with_forest used a.0) above folder b.0 some b.1 here.nodes here.splices))
 
 file_fits : (files : Files) (left : ℕ) (used : Used) (above : List (List ℕ)) (folder path : List ℕ) (tree : Tree) → 0 < length above → open_file files left used above folder path ≡ Ok tree → FitsTree left used tree × MayHaveFinal above tree.file.commands
 file_fits files zero used above folder path tree some is = absurd cc
@@ -226,7 +226,7 @@ file_fits files (suc left) used above folder path tree some is =
     let q = bound (check_lines path [] cs) _ tt p.2 in
     let few = few_if used cs q.2 in
     let d = bound (open_lines (open_file files left) (with_file used cs) above folder cs) _ tree b.2 in
-    subst (λ (t : Tree). FitsTree (suc left) used t × MayHaveFinal above t.file.commands) (given (record { file = said_by path folder cs; inner = d.0 }) tree d.2)
+    subst (λ (t : Tree). FitsTree (suc left) used t × MayHaveFinal above t.file.commands) (given (record { file = parsed_file path folder cs; inner = d.0 }) tree d.2)
     ((passes_once path cs q.1, lines_fit left (open_file files left) (file_fits files left) cs (with_file used cs) above folder d.0 some d.1 few.0 few.1), passes_final above path cs p.1)
 
 pub opened_regular : (files : Files) (top : List ℕ) (tree : Tree) → opened_at files top ≡ Ok tree → IsRegular tree
@@ -240,7 +240,7 @@ opened_regular files top tree is =
     record { once = f.0.0; inner = within.regular; depth = within.depth; nodes = omega arith; splices = omega arith }
 
 -- The DAG of what is opened.
-pub dag_opened : (files : Files) (top : List ℕ) (tree : Tree) → IsOpened files top tree → IsRegular tree → files_fault (tree_files [] tree) ≡ None → dag_at files top ≡ Ok (flat_of top tree)
+pub dag_opened : (files : Files) (top : List ℕ) (tree : Tree) → IsOpenedTree files top tree → IsRegular tree → files_fault (tree_files [] tree) ≡ None → dag_at files top ≡ Ok (flat_of top tree)
 unfolding dag_at
 dag_opened files top tree is regular stands =
     ap (dag_of top) (all_opened files top tree is regular) ∙ ap (λ (o : Option DagFault). dag_unless top o tree) stands
@@ -249,7 +249,7 @@ made_of : (top : List ℕ) (o : Option DagFault) (tree : Tree) (dag : Dag) → d
 made_of top None tree dag is = (refl, sym (given (flat_of top tree) dag is))
 made_of top (Some fault) tree dag is = absurd cc
 
-pub opened_dag : (files : Files) (top : List ℕ) (dag : Dag) → dag_at files top ≡ Ok dag → (tree : Tree) × IsOpened files top tree × IsRegular tree × (files_fault (tree_files [] tree) ≡ None) × (dag ≡ flat_of top tree)
+pub opened_dag : (files : Files) (top : List ℕ) (dag : Dag) → dag_at files top ≡ Ok dag → (tree : Tree) × IsOpenedTree files top tree × IsRegular tree × (files_fault (tree_files [] tree) ≡ None) × (dag ≡ flat_of top tree)
 unfolding dag_at
 opened_dag files top dag is =
     let b = bound (opened_at files top) (λ tree. dag_unless top (files_fault (tree_files [] tree)) tree) dag is in

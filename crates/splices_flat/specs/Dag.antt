@@ -28,6 +28,6 @@ pub record IsGroupBelow (count : ℕ) (group : EdgeGroup) : Type 0 where
   pub children : All (λ n. n < count) group.children
 
 -- edges between the ordinary nodes, of which there are at most 65,536
-pub record IsWithin (dag : Dag) : Type 0 where
+pub record IsWellSized (dag : Dag) : Type 0 where
   pub few : length dag.nodes ≤ 65536
   pub edges : All (IsBelow (length dag.nodes)) dag.edges

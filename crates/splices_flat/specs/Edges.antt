@@ -15,14 +15,14 @@ use Rattle.splices_flat.specs.Places.{edges_of, free_of}
 
 -- What a PARENT line sees: the number of the file's first node, the names of its nodes and of its splices
 -- in the order of their lines, and the splices' parts.
-pub record Scope : Type 0 where
+pub record NodeScope : Type 0 where
   pub first : ℕ
   pub jobs : List (List ℕ)
   pub splices : List (List ℕ)
   pub parts : List Part
 
-abbrev pub scope_of : ℕ → List Command → List Part → Scope
-scope_of first commands parts = record { first = first; jobs = job_names commands; splices = splice_names commands; parts = parts }
+abbrev pub node_scope : ℕ → List Command → List Part → NodeScope
+node_scope first commands parts = record { first = first; jobs = job_names commands; splices = splice_names commands; parts = parts }
 
 -- As a parent a splice stands for its nodes that have no child in it, as a child for those that have no parent in it.
 abbrev pub side_of : Side → Part → List ℕ
@@ -33,16 +33,16 @@ abbrev pub part_nodes : Side → Option Part → List ℕ
 part_nodes side None = []
 part_nodes side (Some part) = side_of side part
 
-abbrev pub splice_nodes : Side → Scope → Option ℕ → List ℕ
+abbrev pub splice_nodes : Side → NodeScope → Option ℕ → List ℕ
 splice_nodes side scope None = []
 splice_nodes side scope (Some k) = part_nodes side (slice_get scope.parts k)
 
 -- the nodes that a name stands for: the node alone, or the splice's
-abbrev pub job_or_splice : Side → Scope → List ℕ → Option ℕ → List ℕ
+abbrev pub job_or_splice : Side → NodeScope → List ℕ → Option ℕ → List ℕ
 job_or_splice side scope name (Some k) = (scope.first + k) ∷ []
 job_or_splice side scope name None = splice_nodes side scope (position (bytes_eq name) scope.splices)
 
-abbrev pub stands_for : Side → Scope → PlacedText → List ℕ
+abbrev pub stands_for : Side → NodeScope → PlacedText → List ℕ
 stands_for side scope w = job_or_splice side scope w.text (position (bytes_eq w.text) scope.jobs)
 
 -- of these words those whose text stands in no word before and is not seen yet
@@ -51,18 +51,18 @@ unseen seen [] = []
 unseen seen (w ∷ ws) = if list_any (bytes_eq w.text) seen then unseen seen ws else w ∷ unseen (seen ++ w.text ∷ []) ws
 
 -- the nodes that names stand for, each name once
-abbrev pub all_stand_for : Side → Scope → List PlacedText → List ℕ
+abbrev pub all_stand_for : Side → NodeScope → List PlacedText → List ℕ
 all_stand_for side scope ws = flat_map (stands_for side scope) (unseen [] ws)
 
 -- the edges of a line: each node that its parents stand for is a parent of each that its children stand for
-abbrev pub line_edges : Scope → Command → List EdgeGroup
+abbrev pub line_edges : NodeScope → Command → List EdgeGroup
 line_edges scope (ParentChild parents children) =
     record { parents = all_stand_for Parent scope parents; children = all_stand_for Child scope children } ∷ []
 line_edges scope _ = []
 
 -- the edges of a file: those of its splices, and those of its lines
 abbrev pub file_edges : ℕ → List Command → List EdgeGroup → List Part → List EdgeGroup
-file_edges first commands inner_edges inner_parts = inner_edges ++ flat_map (line_edges (scope_of first commands inner_parts)) commands
+file_edges first commands inner_edges inner_parts = inner_edges ++ flat_map (line_edges (node_scope first commands inner_parts)) commands
 
 abbrev pub part_of : ℕ → ℕ → List EdgeGroup → Part
 part_of first count groups =

@@ -21,18 +21,18 @@ pub record Names : Type 0 where
   pub splices : List (List ℕ)
   pub counts : List ℕ
 
-abbrev pub names_of : List ℕ → List Command → List ℕ → Names
-names_of path commands counts = record { path = path; jobs = job_names commands; finals = final_names commands; splices = splice_names commands; counts = counts }
+abbrev pub names_declared : List ℕ → List Command → List ℕ → Names
+names_declared path commands counts = record { path = path; jobs = job_names commands; finals = final_names commands; splices = splice_names commands; counts = counts }
 
-abbrev pub is_among : List (List ℕ) → PlacedText → Bool
-is_among names word = list_any (bytes_eq word.text) names
+abbrev pub is_name_among : List (List ℕ) → PlacedText → Bool
+is_name_among names word = list_any (bytes_eq word.text) names
 
 -- the fault of a word that names no node of a JOB line: FINAL, a splice, or nothing
 abbrev pub other_fault : Names → PlacedText → Option DagFault → Option DagFault → Option DagFault
 other_fault names word as_final as_splice =
-    if is_among names.jobs word then None
-    else if is_among names.finals word then as_final
-    else if is_among names.splices word then as_splice
+    if is_name_among names.jobs word then None
+    else if is_name_among names.finals word then as_final
+    else if is_name_among names.splices word then as_splice
     else Some (UnknownNode names.path word.span)
 
 -- a setting names a node, and is for no splice; some settings are not for FINAL
@@ -76,7 +76,7 @@ line_fault names _ = None
 
 -- the fault of a file, its first line first, and that of files in their order
 abbrev pub file_fault : OpenFile → Option DagFault
-file_fault f = first_some (line_fault (names_of f.said.path f.said.commands f.counts)) f.said.commands
+file_fault f = first_some (line_fault (names_declared f.said.path f.said.commands f.counts)) f.said.commands
 
 abbrev pub files_fault : List OpenFile → Option DagFault
 files_fault files = first_some file_fault files

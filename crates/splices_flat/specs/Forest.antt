@@ -2,12 +2,12 @@
 use Rattle.std.specs.Prelude.{ℕ, ◌+◌, List, [], ◌∷◌, ◌++◌}
 use Rattle.dag_reader.specs.declared.command.Command.{Command}
 use Rattle.splices_flat.specs.declared.flat.FlatNode.{FlatNode}
-use Rattle.splices_flat.specs.Nodes.{jobs_in, finals_in, nodes_of, own_count}
+use Rattle.splices_flat.specs.Nodes.{jobs_in, finals_in, declared_nodes, own_count}
 use Rattle.splices_flat.specs.Settings.{settings_at}
-use Rattle.splices_flat.specs.Warnings.{Told, tell_file}
+use Rattle.splices_flat.specs.Warnings.{Warned, warn_file}
 
 -- what a file says, and where
-pub record Said : Type 0 where
+pub record ParsedFile : Type 0 where
   pub path : List ℕ
   pub folder : List ℕ
   pub commands : List Command
@@ -16,11 +16,11 @@ pub record Said : Type 0 where
 -- files of its own SPLICE lines.
 pub data Forest : Type 0 where
   none : Forest
-  more : (name : List ℕ) (file : Said) (inner others : Forest) → Forest
+  more : (name : List ℕ) (file : ParsedFile) (inner others : Forest) → Forest
 
 -- an opened file with those of its splices
 pub record Tree : Type 0 where
-  pub file : Said
+  pub file : ParsedFile
   pub inner : Forest
 
 -- the prefix of the names in a splice: its own name and a plus behind the prefix of the file that holds it
@@ -39,10 +39,10 @@ forest_counts (more name file inner others) = (own_count file.commands + forest_
 -- a file where it was opened: the prefix of its names, what it says, and how many nodes each of its splices has
 pub record OpenFile : Type 0 where
   pub prefix : List ℕ
-  pub said : Said
+  pub said : ParsedFile
   pub counts : List ℕ
 
-abbrev pub opened_as : List ℕ → Said → Forest → OpenFile
+abbrev pub opened_as : List ℕ → ParsedFile → Forest → OpenFile
 opened_as prefix file inner = record { prefix = prefix; said = file; counts = forest_counts inner }
 
 -- the files in the order of opening: each, and behind it those of its splices
@@ -56,13 +56,13 @@ tree_files prefix tree = opened_as prefix tree.file tree.inner ∷ forest_files 
 
 -- the nodes of a file's JOB lines and of FINAL, with what its lines set for them
 abbrev pub job_nodes : OpenFile → List FlatNode
-job_nodes f = nodes_of f.prefix f.said.folder (settings_at f.prefix f.said.commands f.said.commands) 0 (jobs_in f.said.commands)
+job_nodes f = declared_nodes f.prefix f.said.folder (settings_at f.prefix f.said.commands f.said.commands) 0 (jobs_in f.said.commands)
 
 abbrev pub final_nodes : OpenFile → List FlatNode
 final_nodes f =
-    nodes_of f.prefix f.said.folder (settings_at f.prefix f.said.commands f.said.commands) (own_count f.said.commands) (finals_in f.said.commands)
+    declared_nodes f.prefix f.said.folder (settings_at f.prefix f.said.commands f.said.commands) (own_count f.said.commands) (finals_in f.said.commands)
 
 -- the files are told in their order
-abbrev pub tell_files : Told → List OpenFile → Told
-tell_files told [] = told
-tell_files told (f ∷ fs) = tell_files (tell_file f.said.path f.prefix f.said.commands told) fs
+abbrev pub warn_files : Warned → List OpenFile → Warned
+warn_files warned [] = warned
+warn_files warned (f ∷ fs) = warn_files (warn_file f.said.path f.prefix f.said.commands warned) fs

@@ -3,5 +3,5 @@ use Rattle.std.specs.Prelude.{ℕ, List}
 use Rattle.std.specs.Str.{str_to_ascii_lowercase}
 use Rattle.splices_flat.specs.declared.flat.MacroSetting.{MacroSetting}
 
-abbrev pub key_of : MacroSetting → List ℕ
-key_of m = str_to_ascii_lowercase m.name
+abbrev pub macro_key : MacroSetting → List ℕ
+macro_key m = str_to_ascii_lowercase m.name

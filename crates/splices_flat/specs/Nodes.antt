@@ -81,7 +81,7 @@ node_of prefix folder settings d = record {
 }
 
 -- nodes, the first of which has this place, each with the settings of its place
-abbrev pub nodes_of : List ℕ → List ℕ → (ℕ → Settings) → ℕ → List Declared → List FlatNode
-nodes_of prefix folder settings place [] = []
-nodes_of prefix folder settings place (d ∷ ds) =
-    node_of prefix folder (settings place) d ∷ nodes_of prefix folder settings (place + 1) ds
+abbrev pub declared_nodes : List ℕ → List ℕ → (ℕ → Settings) → ℕ → List Declared → List FlatNode
+declared_nodes prefix folder settings place [] = []
+declared_nodes prefix folder settings place (d ∷ ds) =
+    node_of prefix folder (settings place) d ∷ declared_nodes prefix folder settings (place + 1) ds

@@ -16,21 +16,21 @@ place path line = record { path = path; line = line }
 -- The line that is told, and the line that tells it: an ignored line tells of itself, and a line whose setting is replaced is told
 -- by the later one.
 pub record Notice : Type 0 where
-  pub told : Place
+  pub warned : Place
   pub by : Place
   pub is_ignored : Bool
 
 abbrev pub ignored : Place → Notice
-ignored line = record { told = line; by = line; is_ignored = true }
+ignored line = record { warned = line; by = line; is_ignored = true }
 
 abbrev pub overridden : Place → Place → Notice
-overridden earlier later = record { told = earlier; by = later; is_ignored = false }
+overridden earlier later = record { warned = earlier; by = later; is_ignored = false }
 
 abbrev pub same_place : Place → Place → Bool
 same_place p q = bytes_eq p.path q.path && (p.line == q.line)
 
 abbrev pub same_notice : Notice → Notice → Bool
-same_notice m n = same_place m.told n.told && (same_place m.by n.by && (if m.is_ignored then n.is_ignored else not n.is_ignored))
+same_notice m n = same_place m.warned n.warned && (same_place m.by n.by && (if m.is_ignored then n.is_ignored else not n.is_ignored))
 
 -- one more notice, unless it is there
 abbrev pub with_notice : List Notice → Notice → List Notice
@@ -43,4 +43,4 @@ with_notices notices (n ∷ others) = with_notices (with_notice notices n) other
 
 -- a notice as the user reads it
 abbrev pub warning_of : Notice → DagWarning
-warning_of n = if n.is_ignored then warnings.Ignored n.told.path n.told.line else warnings.Overridden n.told.path n.told.line
+warning_of n = if n.is_ignored then warnings.Ignored n.warned.path n.warned.line else warnings.Overridden n.warned.path n.warned.line

@@ -3,20 +3,20 @@ use Rattle.std.specs.Prelude.{ℕ, List, [], ◌∷◌, map, Option, Some, None,
 use Rattle.std.specs.List.{flat_map}
 use Rattle.splices_flat.specs.declared.fault.DagFault.{DagFault}
 use Rattle.splices_flat.specs.Dag.{Dag}
-use Rattle.splices_flat.specs.Forest.{Tree, tree_files, job_nodes, final_nodes, tell_files}
+use Rattle.splices_flat.specs.Forest.{Tree, tree_files, job_nodes, final_nodes, warn_files}
 use Rattle.splices_flat.specs.Edges.{tree_edges}
 use Rattle.splices_flat.specs.Places.{edges_of}
 use Rattle.splices_flat.specs.Faults.{files_fault}
 use Rattle.splices_flat.specs.Notices.{warning_of}
-use Rattle.splices_flat.specs.Warnings.{Told}
+use Rattle.splices_flat.specs.Warnings.{Warned}
 use Rattle.splices_flat.specs.Opening.{Files, opened_at, ◌>>=◌}
 
 abbrev pub first_of : {X : Type 0} → List X → Option X
 first_of [] = None
 first_of (x ∷ xs) = Some x
 
-abbrev pub nothing_told : Told
-nothing_told = record { limits = []; notices = [] }
+abbrev pub nothing_warned : Warned
+nothing_warned = record { limits = []; notices = [] }
 
 -- Plan order: the nodes of a file's JOB lines, then those of its splices in the order of the SPLICE lines. The FINAL node
 -- is that of the top file. Limits and warnings come in the order of opening.
@@ -26,8 +26,8 @@ flat_of top tree = record {
   nodes = flat_map job_nodes (tree_files [] tree);
   final_node = first_of (flat_map final_nodes (tree_files [] tree));
   edges = edges_of (tree_edges 0 tree);
-  categories = (tell_files nothing_told (tree_files [] tree)).limits;
-  warnings = map warning_of (tell_files nothing_told (tree_files [] tree)).notices;
+  categories = (warn_files nothing_warned (tree_files [] tree)).limits;
+  warnings = map warning_of (warn_files nothing_warned (tree_files [] tree)).notices;
 }
 
 -- once all files are open, the first name in them that can't stand where it does is the fault

@@ -8,7 +8,7 @@ use Rattle.dag_reader.specs.declared.command.Command.TheVariants.{Splice}
 use Rattle.dag_reader.specs.Reading.{text_at}
 use Rattle.dag_reader.specs.Word.{PlacedText}
 use Rattle.splices_flat.specs.Paths.{join, dir_text}
-use Rattle.splices_flat.specs.Forest.{Said, Forest, none, more, Tree}
+use Rattle.splices_flat.specs.Forest.{ParsedFile, Forest, none, more, Tree}
 use Rattle.splices_flat.specs.Opening.{Files}
 
 -- what a SPLICE line says
@@ -32,7 +32,7 @@ abbrev pub splice_path : List ℕ → Spliced → List ℕ
 splice_path folder s = join (splice_folder folder s) s.file.text
 
 -- the file with this path is there, and says these commands
-pub record IsSaid (files : Files) (folder path : List ℕ) (said : Said) : Type 0 where
+pub record IsSaid (files : Files) (folder path : List ℕ) (said : ParsedFile) : Type 0 where
   pub path_is : said.path ≡ path
   pub folder_is : said.folder ≡ folder
   pub bytes : List ℕ
@@ -51,5 +51,5 @@ AreOpened files above folder (s ∷ ss) (more name file inner others) =
     × AreOpened files above folder ss others
 
 -- the top file lies in no folder
-abbrev pub IsOpened : Files → List ℕ → Tree → Type 0
-IsOpened files top tree = IsSaid files [] top tree.file × AreOpened files (top ∷ []) [] (splices_in tree.file.commands) tree.inner
+abbrev pub IsOpenedTree : Files → List ℕ → Tree → Type 0
+IsOpenedTree files top tree = IsSaid files [] top tree.file × AreOpened files (top ∷ []) [] (splices_in tree.file.commands) tree.inner

@@ -13,7 +13,7 @@ use Rattle.splices_flat.specs.declared.used.Used.{Used}
 use Rattle.splices_flat.specs.declared.fault.DagFault.TheVariants.{MissingFile, InFile, Loop, DuplicateName, TooDeep, TooManyNodes, FinalInSplice}
 use Rattle.splices_flat.specs.Paths.{join, dir_text}
 use Rattle.splices_flat.specs.Nodes.{Declared, finals_in, job_names, final_names, splice_names, own_count}
-use Rattle.splices_flat.specs.Forest.{Said, Forest, none, more, Tree}
+use Rattle.splices_flat.specs.Forest.{ParsedFile, Forest, none, more, Tree}
 
 -- the bytes of each file
 abbrev pub Files : Type 0
@@ -89,9 +89,9 @@ abbrev pub with_splice : Used → Used
 with_splice used = record { nodes = used.nodes; splices = used.splices + 1 }
 
 -- the files of some SPLICE lines, and then those of others
-abbrev pub joined : Forest → Forest → Forest
-joined none others = others
-joined (more name file inner behind) others = more name file inner (joined behind others)
+abbrev pub forests_joined : Forest → Forest → Forest
+forests_joined none others = others
+forests_joined (more name file inner behind) others = more name file inner (forests_joined behind others)
 
 -- how a file is opened: by what was opened before, the paths of the files above it and its own, its folder and its path
 abbrev pub Opener : Type 0
@@ -117,18 +117,18 @@ open_lines opener used above folder [] = Ok none
 open_lines opener used above folder (c ∷ cs) =
     open_line opener used above folder c
     >>= λ first. open_lines opener (with_forest used first) above folder cs
-    >>= λ others. Ok (joined first others)
+    >>= λ others. Ok (forests_joined first others)
 
 -- what a file says, in its place
-abbrev pub said_by : List ℕ → List ℕ → List Command → Said
-said_by path folder commands = record { path = path; folder = folder; commands = commands }
+abbrev pub parsed_file : List ℕ → List ℕ → List Command → ParsedFile
+parsed_file path folder commands = record { path = path; folder = folder; commands = commands }
 
 -- the file that says this
 abbrev pub open_said : Opener → Used → List (List ℕ) → List ℕ → List ℕ → List Command → Result Tree DagFault
 open_said opener used above folder path commands =
     check_file used above path commands
     >>= λ _. open_lines opener (with_file used commands) above folder commands
-    >>= λ inner. Ok (record { file = said_by path folder commands; inner = inner })
+    >>= λ inner. Ok (record { file = parsed_file path folder commands; inner = inner })
 
 -- The file with this path. So many files may lie in one another; above stand those that it lies in, and itself.
 abbrev pub open_file : Files → ℕ → Opener

@@ -22,9 +22,9 @@ other_side Parent = Child
 other_side Child = Parent
 
 -- the nodes that a group has on a side
-abbrev pub ends_of : Side → EdgeGroup → List ℕ
-ends_of Parent g = g.parents
-ends_of Child g = g.children
+abbrev pub nodes_on_side : Side → EdgeGroup → List ℕ
+nodes_on_side Parent g = g.parents
+nodes_on_side Child g = g.children
 
 abbrev pub end_of : Side → Edge → ℕ
 end_of Parent e = e.parent
@@ -39,8 +39,8 @@ abbrev pub free_of : Side → ℕ → ℕ → List Edge → List ℕ
 free_of side first count edges = filter (λ n. not (is_end side edges n)) (range_with_len first count)
 
 -- each mark says whether the node with that number stands on this side of an edge
-abbrev pub AreMarks : Side → ℕ → List Edge → List Bool → Type 0
-AreMarks side first edges marks = (k : ℕ) → k < length marks → slice_index_or marks k false ≡ is_end side edges (first + k)
+abbrev pub AreSideMarks : Side → ℕ → List Edge → List Bool → Type 0
+AreSideMarks side first edges marks = (k : ℕ) → k < length marks → slice_index_or marks k false ≡ is_end side edges (first + k)
 
 -- the numbers from `first` on whose marks are not set
 abbrev pub unmarked_from : ℕ → List Bool → List ℕ

@@ -17,9 +17,9 @@ use Rattle.splices_flat.specs.declared.flat.Settings.{Settings}
 use Rattle.splices_flat.specs.Nodes.{job_names, final_names, reaches}
 
 -- the number of the line that a target stands in
-abbrev pub line_of : Target → ℕ
-line_of (Node word) = word.span.line
-line_of (AllNodes span) = span.line
+abbrev pub line_of_target : Target → ℕ
+line_of_target (Node word) = word.span.line
+line_of_target (AllNodes span) = span.line
 
 -- a category is prefixed like a node, unless it begins with a plus: then it is one category of the whole DAG
 abbrev pub full_category : List ℕ → List ℕ → List ℕ
@@ -34,14 +34,14 @@ abbrev pub words_said : Command → List (List ℕ)
 words_said (Script kind target program arguments) = script_words program arguments
 words_said _ = []
 
-abbrev pub script_of : Target → PlacedText → List PlacedText → ScriptSetting
-script_of target program arguments = record { line = line_of target; words = script_words program arguments }
+abbrev pub script_setting_of : Target → PlacedText → List PlacedText → ScriptSetting
+script_setting_of target program arguments = record { line = line_of_target target; words = script_words program arguments }
 
-abbrev pub macro_of : ℕ → Placement → Macro → MacroSetting
-macro_of line placement m = record { line = line; placement = placement; name = m.name.text; text = m.text.text }
+abbrev pub macro_setting : ℕ → Placement → Macro → MacroSetting
+macro_setting line placement m = record { line = line; placement = placement; name = m.name.text; text = m.text.text }
 
 abbrev pub macros_of : Target → Placement → List Macro → List MacroSetting
-macros_of target placement macros = map (macro_of (line_of target) placement) macros
+macros_of target placement macros = map (macro_setting (line_of_target target) placement) macros
 
 -- macros of one name: letters have no case there
 abbrev pub is_namesake : MacroSetting → MacroSetting → Bool
@@ -63,25 +63,25 @@ with_script Post script s = record s { post = Some script }
 
 -- the settings of a node after one more line that is for it, in a file with this prefix
 abbrev pub with_line : List ℕ → Settings → Command → Settings
-with_line prefix s (Script kind target program arguments) = with_script kind (script_of target program arguments) s
-with_line prefix s (Retry target n v) = record s { retry = Some (record { line = line_of target; retries = n; unless_exit = v }) }
-with_line prefix s (PreSkip target v) = record s { pre_skip = Some (record { line = line_of target; value = v }) }
+with_line prefix s (Script kind target program arguments) = with_script kind (script_setting_of target program arguments) s
+with_line prefix s (Retry target n v) = record s { retry = Some (record { line = line_of_target target; retries = n; unless_exit = v }) }
+with_line prefix s (PreSkip target v) = record s { pre_skip = Some (record { line = line_of_target target; value = v }) }
 with_line prefix s (Vars target placement macros) = record s { macros = with_macros s.macros (macros_of target placement macros) }
-with_line prefix s (Priority target k) = record s { priority = Some (record { line = line_of target; value = k }) }
-with_line prefix s (Category target category) = record s { category = Some (record { line = line_of target; name = full_category prefix category.text }) }
-with_line prefix s (AbortDagOn target v status) = record s { abort = Some (record { line = line_of target; value = v; status = status }) }
+with_line prefix s (Priority target k) = record s { priority = Some (record { line = line_of_target target; value = k }) }
+with_line prefix s (Category target category) = record s { category = Some (record { line = line_of_target target; name = full_category prefix category.text }) }
+with_line prefix s (AbortDagOn target v status) = record s { abort = Some (record { line = line_of_target target; value = v; status = status }) }
 with_line prefix s _ = s
 
 -- the target of a setting
-abbrev pub target_of : Command → Option Target
-target_of (Script kind target program arguments) = Some target
-target_of (Retry target n v) = Some target
-target_of (PreSkip target v) = Some target
-target_of (Vars target placement macros) = Some target
-target_of (Priority target k) = Some target
-target_of (Category target category) = Some target
-target_of (AbortDagOn target v status) = Some target
-target_of _ = None
+abbrev pub setting_target : Command → Option Target
+setting_target (Script kind target program arguments) = Some target
+setting_target (Retry target n v) = Some target
+setting_target (PreSkip target v) = Some target
+setting_target (Vars target placement macros) = Some target
+setting_target (Priority target k) = Some target
+setting_target (Category target category) = Some target
+setting_target (AbortDagOn target v status) = Some target
+setting_target _ = None
 
 -- a line is for the node at this place, where these are the names of the JOB lines and of the FINAL lines
 abbrev pub is_for : List (List ℕ) → List (List ℕ) → Option Target → ℕ → Bool
@@ -95,4 +95,4 @@ no_settings = record { pre = None; post = None; retry = None; pre_skip = None; m
 -- what some lines of a file set for the node at this place; the file has this prefix and these lines
 abbrev pub settings_at : List ℕ → List Command → List Command → ℕ → Settings
 settings_at prefix commands lines place =
-    fold (λ s c. if is_for (job_names commands) (final_names commands) (target_of c) place then with_line prefix s c else s) no_settings lines
+    fold (λ s c. if is_for (job_names commands) (final_names commands) (setting_target c) place then with_line prefix s c else s) no_settings lines

@@ -14,7 +14,7 @@ use Rattle.splices_flat.specs.declared.flat.ScriptSetting.{ScriptSetting}
 use Rattle.splices_flat.specs.declared.flat.Settings.{Settings}
 use Rattle.splices_flat.specs.Nodes.{job_names, final_names, node_names}
 use Rattle.splices_flat.specs.Notices.{Notice, Place, ignored, overridden, place, with_notice, with_notices}
-use Rattle.splices_flat.specs.Settings.{full_category, is_for, is_namesake, line_of, macros_of, settings_at, target_of, with_macro}
+use Rattle.splices_flat.specs.Settings.{full_category, is_for, is_namesake, line_of_target, macros_of, settings_at, setting_target, with_macro}
 
 -- a line's number, where the setting is there
 abbrev pub line_if : {X : Type 0} → (X → ℕ) → Option X → List ℕ
@@ -43,17 +43,17 @@ replaced_in settings (AbortDagOn target v status) = line_if (λ s. s.line) setti
 replaced_in settings _ = []
 
 -- these numbers, each once, in the order in which they come first
-abbrev pub joined : List ℕ → List ℕ → List ℕ
-joined numbers [] = numbers
-joined numbers (n ∷ others) = joined (if list_any (λ m. m == n) numbers then numbers else numbers ++ n ∷ []) others
+abbrev pub with_numbers : List ℕ → List ℕ → List ℕ
+with_numbers numbers [] = numbers
+with_numbers numbers (n ∷ others) = with_numbers (if list_any (λ m. m == n) numbers then numbers else numbers ++ n ∷ []) others
 
 abbrev pub each_once : List ℕ → List ℕ
-each_once numbers = joined [] numbers
+each_once numbers = with_numbers [] numbers
 
 -- the lines of a file that a line replaces, each once: node after node, the lines before it being these
 abbrev pub replaced_lines : List ℕ → List Command → List Command → Command → List ℕ
 replaced_lines prefix commands before c =
-    each_once (flat_map (λ place. if is_for (job_names commands) (final_names commands) (target_of c) place then replaced_in (settings_at prefix commands before place) c else [])
+    each_once (flat_map (λ place. if is_for (job_names commands) (final_names commands) (setting_target c) place then replaced_in (settings_at prefix commands before place) c else [])
     (range_with_len 0 (length (node_names commands))))
 
 -- The limits of categories so far: of two MAXJOBS of one category the later wins, at the place of the first.
@@ -62,13 +62,13 @@ with_limit [] limit = limit ∷ []
 with_limit (other ∷ limits) limit = if bytes_eq limit.name other.name then limit ∷ limits else other ∷ with_limit limits limit
 
 -- what is known behind some lines: the limits, and what is told of lines
-pub record Told : Type 0 where
+pub record Warned : Type 0 where
   pub limits : List CategoryLimit
   pub notices : List Notice
 
 -- what MAXJOBS says in the file of this path, whose names have this prefix
-abbrev pub limit_of : List ℕ → List ℕ → PlacedText → ℕ → CategoryLimit
-limit_of path prefix category n = record { name = full_category prefix category.text; limit = n; path = path; line = category.span.line }
+abbrev pub category_limit : List ℕ → List ℕ → PlacedText → ℕ → CategoryLimit
+category_limit path prefix category n = record { name = full_category prefix category.text; limit = n; path = path; line = category.span.line }
 
 abbrev pub line_of_limit : CategoryLimit → Place
 line_of_limit limit = place limit.path limit.line
@@ -82,26 +82,26 @@ abbrev pub replaced_limit : List CategoryLimit → CategoryLimit → List Notice
 replaced_limit limits limit = overridden_if limit (find (λ other. bytes_eq limit.name other.name) limits)
 
 -- a category has a limit, in place of the one that it had
-abbrev pub tell_limit : Told → CategoryLimit → Told
-tell_limit told limit = record { limits = with_limit told.limits limit; notices = with_notices told.notices (replaced_limit told.limits limit) }
+abbrev pub warn_limit : Warned → CategoryLimit → Warned
+warn_limit warned limit = record { limits = with_limit warned.limits limit; notices = with_notices warned.notices (replaced_limit warned.limits limit) }
 
 -- the line of this target in the file of this path replaces the settings of these lines
 abbrev pub replaced_settings : List ℕ → Option Target → List ℕ → List Notice
 replaced_settings path None replaced = []
-replaced_settings path (Some target) replaced = map (λ line. overridden (place path line) (place path (line_of target))) replaced
+replaced_settings path (Some target) replaced = map (λ line. overridden (place path line) (place path (line_of_target target))) replaced
 
 -- a line of the file of this path, whose names have this prefix, is told: it replaces the settings of these lines
-abbrev pub tell_line : List ℕ → List ℕ → Told → Command → List ℕ → Told
-tell_line path prefix told (MaxJobs category n) replaced = tell_limit told (limit_of path prefix category n)
-tell_line path prefix told (Ignored span) replaced = record told { notices = with_notice told.notices (ignored (place path span.line)) }
-tell_line path prefix told c replaced = record told { notices = with_notices told.notices (replaced_settings path (target_of c) replaced) }
+abbrev pub warn_line : List ℕ → List ℕ → Warned → Command → List ℕ → Warned
+warn_line path prefix warned (MaxJobs category n) replaced = warn_limit warned (category_limit path prefix category n)
+warn_line path prefix warned (Ignored span) replaced = record warned { notices = with_notice warned.notices (ignored (place path span.line)) }
+warn_line path prefix warned c replaced = record warned { notices = with_notices warned.notices (replaced_settings path (setting_target c) replaced) }
 
 -- some lines of such a file, which has these lines, are told; the lines before them are these
-abbrev pub tell_lines : List ℕ → List ℕ → List Command → List Command → Told → List Command → Told
-tell_lines path prefix commands before told [] = told
-tell_lines path prefix commands before told (c ∷ cs) =
-    tell_lines path prefix commands (before ++ c ∷ []) (tell_line path prefix told c (replaced_lines prefix commands before c)) cs
+abbrev pub warn_lines : List ℕ → List ℕ → List Command → List Command → Warned → List Command → Warned
+warn_lines path prefix commands before warned [] = warned
+warn_lines path prefix commands before warned (c ∷ cs) =
+    warn_lines path prefix commands (before ++ c ∷ []) (warn_line path prefix warned c (replaced_lines prefix commands before c)) cs
 
 -- a file is told
-abbrev pub tell_file : List ℕ → List ℕ → List Command → Told → Told
-tell_file path prefix commands told = tell_lines path prefix commands [] told commands
+abbrev pub warn_file : List ℕ → List ℕ → List Command → Warned → Warned
+warn_file path prefix commands warned = warn_lines path prefix commands [] warned commands

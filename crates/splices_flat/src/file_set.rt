@@ -36,14 +36,20 @@ impl FileSet {
         ensures others { OnOk result ((other : List ℕ) → other ≢ name.now → bytes_of self.new other ≡ bytes_of self.old other) }
         ensures refused { OnErr result ((other : List ℕ) → bytes_of self.new other ≡ bytes_of self.old other) }
     {
-        self.files.insert(
-            String::from_str(alloc, name)?,
-            Vec::from_slice(alloc, bytes)?,
-        )?;
+        self.add_owned(alloc, name, Vec::from_slice(alloc, bytes)?)
+    }
+
+    /// The same of bytes that are handed over, and not copied.
+    pub fn add_owned(&mut self, alloc: Global, name: &str, bytes: Vec<u8>) -> Result<(), AllocError>
+        ensures added { OnOk result (bytes_of self.new name.now ≡ Some bytes.items) }
+        ensures others { OnOk result ((other : List ℕ) → other ≢ name.now → bytes_of self.new other ≡ bytes_of self.old other) }
+        ensures refused { OnErr result ((other : List ℕ) → bytes_of self.new other ≡ bytes_of self.old other) }
+    {
+        self.files.insert(String::from_str(alloc, name)?, bytes)?;
         Ok(())
     }
 
-    /// What `add` last put under this name.
+    /// What was last put under this name.
     pub fn get(&self, name: &str) -> Option<&[u8]>
         ensures { option_map (λ b. b.now) result ≡ bytes_of self.now name.now }
     {

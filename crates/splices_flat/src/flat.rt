@@ -52,14 +52,14 @@ pub struct MacroSettings {
 
 impl Model for MacroSettings {
     ghost use Rattle.std.specs.Prelude.{◌≡◌, List, map};
-    ghost use Rattle.splices_flat.specs.MacroKeys.{key_of};
+    ghost use Rattle.splices_flat.specs.MacroKeys.{macro_key};
     ghost use Rattle.splices_flat.specs.declared.flat.MacroSetting.{MacroSetting};
 
     ghost Value = { List MacroSetting };
 
     ghost view = { λ m. m.items.items };
 
-    ghost invariant = { λ m. m.names ≡ map key_of m.items.items };
+    ghost invariant = { λ m. m.names ≡ map macro_key m.items.items };
 }
 
 impl MacroSettings {
@@ -173,11 +173,11 @@ pub struct EdgeGroup {
 }
 
 impl EdgeGroup {
-    ghost use Rattle.splices_flat.specs.Places.{ends_of};
+    ghost use Rattle.splices_flat.specs.Places.{nodes_on_side};
 
     /// The numbers of the parents, or of the children; a name that stands in the line again adds none.
     pub fn ends(&self, side: Side) -> &[usize]
-        ensures { result.now ≡ ends_of side self.now }
+        ensures { result.now ≡ nodes_on_side side self.now }
     {
         match side {
             Side::Parent => self.parents.as_slice(),
@@ -267,14 +267,14 @@ impl Drop for FlatDag {
 impl Model for FlatDag {
     ghost use Rattle.std.specs.Prelude.{length};
     ghost use Rattle.std.specs.List.{All};
-    ghost use Rattle.splices_flat.specs.Dag.{Dag, IsGroupBelow, IsWithin};
+    ghost use Rattle.splices_flat.specs.Dag.{Dag, IsGroupBelow, IsWellSized};
     ghost use Rattle.splices_flat.specs.Places.{edges_of};
 
     ghost Value = { Dag };
 
     ghost view = { λ d. record { top = d.top; nodes = d.nodes.items; final_node = d.final_node; edges = edges_of d.edges.items; categories = d.categories.items; warnings = d.warnings.items } };
 
-    ghost invariant = { λ d. IsWithin (record { top = d.top; nodes = d.nodes.items; final_node = d.final_node; edges = edges_of d.edges.items; categories = d.categories.items; warnings = d.warnings.items })
+    ghost invariant = { λ d. IsWellSized (record { top = d.top; nodes = d.nodes.items; final_node = d.final_node; edges = edges_of d.edges.items; categories = d.categories.items; warnings = d.warnings.items })
         × All (IsGroupBelow (length d.nodes.items)) d.edges.items };
 }
 
@@ -282,7 +282,7 @@ impl FlatDag {
     ghost use Rattle.std.specs.Prelude.{◌≤◌, length};
     ghost use Rattle.std.specs.List.{All};
     ghost use Rattle.std.specs.Option.{option_map};
-    ghost use Rattle.splices_flat.specs.Dag.{IsBelow, IsGroupBelow, IsWithin};
+    ghost use Rattle.splices_flat.specs.Dag.{IsBelow, IsGroupBelow, IsWellSized};
     ghost use Rattle.splices_flat.specs.Places.{edges_of};
 
     /// The DAG of these nodes and edges: at most 65,536 nodes, and both ends of each edge among them.
@@ -294,7 +294,7 @@ impl FlatDag {
         categories: Vec<CategoryLimit>,
         warnings: Vec<DagWarning>,
     ) -> FlatDag
-        requires within { IsWithin (record { top = top; nodes = nodes.items; final_node = final_node; edges = edges_of edges.items; categories = categories.items; warnings = warnings.items }) }
+        requires within { IsWellSized (record { top = top; nodes = nodes.items; final_node = final_node; edges = edges_of edges.items; categories = categories.items; warnings = warnings.items }) }
         requires below { All (IsGroupBelow (length nodes.items)) edges.items }
         ensures { result ≡ record { top = top; nodes = nodes.items; final_node = final_node; edges = edges_of edges.items; categories = categories.items; warnings = warnings.items } }
     {

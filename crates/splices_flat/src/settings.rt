@@ -1,9 +1,9 @@
 //! What a line sets for a node.
 
 ghost use Rattle.std.specs.Prelude.{◌≡◌, ◌∷◌, [], Some, find, map, IfOk, OnOk};
-ghost use Rattle.splices_flat.specs.MacroKeys.{key_of};
-ghost use Rattle.splices_flat.specs.Settings.{full_category, is_namesake, line_of, macro_of, macros_of, no_settings, with_line, with_macro, with_macros, with_script, words_said};
-ghost use Rattle.splices_flat.specs.Warnings.{joined, line_if, replaced_by, replaced_in, script_setting};
+ghost use Rattle.splices_flat.specs.MacroKeys.{macro_key};
+ghost use Rattle.splices_flat.specs.Settings.{full_category, is_namesake, line_of_target, macro_setting, macros_of, no_settings, with_line, with_macro, with_macros, with_script, words_said};
+ghost use Rattle.splices_flat.specs.Warnings.{with_numbers, line_if, replaced_by, replaced_in, script_setting};
 
 use crate::flat::{
     AbortSetting, CategorySetting, MacroSetting, MacroSettings, PreSkipSetting, PrioritySetting,
@@ -44,7 +44,7 @@ impl Settings {
         requires { words.now ≡ words_said command.now }
         ensures settings { OnOk result (self.new ≡ with_line prefix.now self.old command.now) }
         ensures replaced { OnOk result
-            (replaced.new.items ≡ joined replaced.old.items (replaced_in self.old command.now)) }
+            (replaced.new.items ≡ with_numbers replaced.old.items (replaced_in self.old command.now)) }
     {
         match command {
             Command::Script { kind, node, .. } => {
@@ -89,7 +89,7 @@ impl Settings {
     ) -> Result<(), AllocError>
         ensures settings { OnOk result (self.new ≡ with_script kind setting self.old) }
         ensures replaced { OnOk result (replaced.new.items
-            ≡ joined replaced.old.items (line_if (λ s. s.line) (script_setting kind self.old))) }
+            ≡ with_numbers replaced.old.items (line_if (λ s. s.line) (script_setting kind self.old))) }
     {
         match kind {
             ScriptKind::Pre => self.set_pre(setting, replaced),
@@ -104,7 +104,7 @@ impl Settings {
     ) -> Result<(), AllocError>
         ensures settings { OnOk result (self.new ≡ record self.old { pre = Some setting }) }
         ensures replaced { OnOk result
-            (replaced.new.items ≡ joined replaced.old.items (line_if (λ s. s.line) self.old.pre)) }
+            (replaced.new.items ≡ with_numbers replaced.old.items (line_if (λ s. s.line) self.old.pre)) }
     {
         if let Some(old) = &self.pre {
             add_once(replaced, old.line)?;
@@ -120,7 +120,7 @@ impl Settings {
     ) -> Result<(), AllocError>
         ensures settings { OnOk result (self.new ≡ record self.old { post = Some setting }) }
         ensures replaced { OnOk result
-            (replaced.new.items ≡ joined replaced.old.items (line_if (λ s. s.line) self.old.post)) }
+            (replaced.new.items ≡ with_numbers replaced.old.items (line_if (λ s. s.line) self.old.post)) }
     {
         if let Some(old) = &self.post {
             add_once(replaced, old.line)?;
@@ -138,7 +138,7 @@ impl Settings {
     ) -> Result<(), AllocError>
         ensures settings { OnOk result (self.new ≡ record self.old { retry = Some (record { line = line; retries = retries; unless_exit = unless_exit }) }) }
         ensures replaced { OnOk result
-            (replaced.new.items ≡ joined replaced.old.items (line_if (λ s. s.line) self.old.retry)) }
+            (replaced.new.items ≡ with_numbers replaced.old.items (line_if (λ s. s.line) self.old.retry)) }
     {
         if let Some(old) = self.retry {
             add_once(replaced, old.line)?;
@@ -159,7 +159,7 @@ impl Settings {
     ) -> Result<(), AllocError>
         ensures settings { OnOk result (self.new ≡ record self.old { pre_skip = Some (record { line = line; value = value }) }) }
         ensures replaced { OnOk result
-            (replaced.new.items ≡ joined replaced.old.items (line_if (λ s. s.line) self.old.pre_skip)) }
+            (replaced.new.items ≡ with_numbers replaced.old.items (line_if (λ s. s.line) self.old.pre_skip)) }
     {
         if let Some(old) = self.pre_skip {
             add_once(replaced, old.line)?;
@@ -176,7 +176,7 @@ impl Settings {
     ) -> Result<(), AllocError>
         ensures settings { OnOk result (self.new ≡ record self.old { priority = Some (record { line = line; value = value }) }) }
         ensures replaced { OnOk result
-            (replaced.new.items ≡ joined replaced.old.items (line_if (λ s. s.line) self.old.priority)) }
+            (replaced.new.items ≡ with_numbers replaced.old.items (line_if (λ s. s.line) self.old.priority)) }
     {
         if let Some(old) = self.priority {
             add_once(replaced, old.line)?;
@@ -193,7 +193,7 @@ impl Settings {
     ) -> Result<(), AllocError>
         ensures settings { OnOk result (self.new ≡ record self.old { category = Some (record { line = line; name = name }) }) }
         ensures replaced { OnOk result
-            (replaced.new.items ≡ joined replaced.old.items (line_if (λ s. s.line) self.old.category)) }
+            (replaced.new.items ≡ with_numbers replaced.old.items (line_if (λ s. s.line) self.old.category)) }
     {
         if let Some(old) = &self.category {
             add_once(replaced, old.line)?;
@@ -211,7 +211,7 @@ impl Settings {
     ) -> Result<(), AllocError>
         ensures settings { OnOk result (self.new ≡ record self.old { abort = Some (record { line = line; value = value; status = status }) }) }
         ensures replaced { OnOk result
-            (replaced.new.items ≡ joined replaced.old.items (line_if (λ s. s.line) self.old.abort)) }
+            (replaced.new.items ≡ with_numbers replaced.old.items (line_if (λ s. s.line) self.old.abort)) }
     {
         if let Some(old) = self.abort {
             add_once(replaced, old.line)?;
@@ -228,7 +228,7 @@ impl Settings {
 impl ScriptSetting {
     /// That of these words, by a line with this target.
     fn new(target: &Target, words: &SharedTexts) -> Result<ScriptSetting, AllocError>
-        ensures { IfOk result (λ s. s ≡ record { line = line_of target.now; words = words.now }) }
+        ensures { IfOk result (λ s. s ≡ record { line = line_of_target target.now; words = words.now }) }
     {
         Ok(ScriptSetting {
             line: target_line(target),
@@ -244,7 +244,7 @@ impl MacroSetting {
         placement: Placement,
         one: &Macro,
     ) -> Result<MacroSetting, AllocError>
-        ensures { IfOk result (λ m. m ≡ macro_of line placement one.now) }
+        ensures { IfOk result (λ m. m ≡ macro_setting line placement one.now) }
     {
         Ok(MacroSetting {
             line,
@@ -256,7 +256,7 @@ impl MacroSetting {
 
     /// The name in lower case: letters have no case there.
     fn key(&self, alloc: Global) -> Result<Text, AllocError>
-        ensures { IfOk result (λ key. key ≡ key_of self.now) }
+        ensures { IfOk result (λ key. key ≡ macro_key self.now) }
     {
         let key = self.name.as_str().to_ascii_lowercase(alloc)?;
         Text::new(alloc, key.as_str())
@@ -273,7 +273,7 @@ impl MacroSettings {
     ) -> Result<(), AllocError>
         ensures macros { OnOk result (self.new ≡ with_macro self.old one) }
         ensures replaced { OnOk result (replaced.new.items
-            ≡ joined replaced.old.items (line_if (λ m. m.line) (find (is_namesake one) self.old))) }
+            ≡ with_numbers replaced.old.items (line_if (λ m. m.line) (find (is_namesake one) self.old))) }
     {
         let key = one.key(alloc)?;
         match self.names.place_of(key.as_str()) {
@@ -303,7 +303,7 @@ impl MacroSettings {
         ensures macros { OnOk result
             (self.new ≡ with_macros self.old (macros_of target.now placement macros.now)) }
         ensures replaced { OnOk result (replaced.new.items
-            ≡ joined replaced.old.items (replaced_by self.old (macros_of target.now placement macros.now))) }
+            ≡ with_numbers replaced.old.items (replaced_by self.old (macros_of target.now placement macros.now))) }
     {
         for one in macros {
             let one = MacroSetting::new(alloc, target_line(target), placement, one)?;
@@ -315,7 +315,7 @@ impl MacroSettings {
 
 /// The number of the line that a target stands in.
 pub fn target_line(target: &Target) -> usize
-    ensures { result ≡ line_of target.now }
+    ensures { result ≡ line_of_target target.now }
 {
     match target {
         Target::Node(word) => word.span().line,
@@ -335,7 +335,7 @@ pub fn full_category(alloc: Global, prefix: &str, name: &str) -> Result<Text, Al
 
 /// Adds a line that is not there yet.
 fn add_once(lines: &mut Vec<usize>, line: usize) -> Result<(), AllocError>
-    ensures { OnOk result (lines.new.items ≡ joined lines.old.items (line ∷ [])) }
+    ensures { OnOk result (lines.new.items ≡ with_numbers lines.old.items (line ∷ [])) }
 {
     if !lines.as_slice().contains(&line) {
         lines.push(line)?;

@@ -35,7 +35,7 @@ module _ (plan : Plan) (past : List Record) (finished : is_finished plan past �
           (λ j. if is_none (over j) then Error else status_by (phase_of (count_of plan) (outstanding plan past)) (is_due plan past (count_of plan)))
           ∙ (λ j. status_of_state (if is_none (sym over j) then states.Error else states.NotRun))
 
-  module _ (calm : is_aborted plan past ≡ false) where
+  module _ (abort_free : is_aborted plan past ≡ false) where
     pub ordinary-status : (node : ℕ) → node < count_of plan → status_at plan past node ≡ status_of_state (shown plan past node).state
     ordinary-status node lt = go (is_done plan past node) (next plan past node) refl
       where
@@ -49,7 +49,7 @@ module _ (plan : Plan) (past : List Record) (finished : is_finished plan past �
             (λ j. if is_none (e j) then Error else status_by (phase_of node (outstanding plan past)) (is_due plan past node))
             ∙ (λ j. status_of_state (if is_none (sym e j) then states.Error else states.NotRun))
         go false (Some key) e =
-            let waits = core.finished-waits plan past finished calm node lt key e in
+            let waits = core.finished-waits plan past finished abort_free node lt key e in
             (λ j. if is_none (e j) then Error else status_by (phase_of node (outstanding plan past)) (is_due plan past node))
             ∙ (λ j. status_by (none-there node (outstanding plan past) waits.0 j) (is_due plan past node))
             ∙ (λ j. status_by None (if lt-ltb node (count_of plan) lt j then list_all (is_done plan past) (node_at plan node).parents else is_final_ready plan past))
@@ -89,5 +89,5 @@ same-lines plan fates other (suc n) same =
 pub text-of-fates : (plan : Plan) (table : Table) (rank : ℕ → ℕ) → IsRankedBy rank plan → (past : List Record) → IsRunBy plan table past
     → (fates : ℕ → Fate) → AreFates plan table fates → lines_of plan past (count_of plan) ≡ fate_lines plan fates (count_of plan)
 text-of-fates plan table rank ranked past run fates are =
-    ordinary-lines plan past run.finished run.calm
+    ordinary-lines plan past run.finished run.abort_free
     ∙ same-lines plan (shown plan past) fates (count_of plan) (fates-unique plan table rank ranked (shown plan past) fates (table-fates plan table past run) are)

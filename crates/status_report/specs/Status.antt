@@ -18,10 +18,10 @@ phase_of node [] = None
 phase_of node (key ∷ keys) = if key.node == node then Some key.phase else phase_of node keys
 
 -- a node a phase of which runs
-abbrev pub running_in : Phase → Status
-running_in Pre = PreRun
-running_in Job = Submitted
-running_in Post = PostRun
+abbrev pub running_status : Phase → Status
+running_status Pre = PreRun
+running_status Job = Submitted
+running_status Post = PostRun
 
 -- each parent of an ordinary node is done; of the FINAL node: it is its turn
 abbrev pub is_due : Plan → List Record → ℕ → Bool
@@ -32,7 +32,7 @@ is_due plan past node =
 -- a node that has phases to come: one runs, or it is due, or it waits
 abbrev pub status_by : Option Phase → Bool → Status
 status_by None due = if due then Ready else NotReady
-status_by (Some phase) due = running_in phase
+status_by (Some phase) due = running_status phase
 
 -- Where a node stands: it is done, or no phase of it is to come, or the phase that is outstanding, or whether it is due. An
 -- abort makes no node less due.

@@ -3,7 +3,7 @@
 ghost use Rattle.std.specs.Prelude.{◌≡◌, ◌≤◌};
 ghost use Rattle.run_plan.specs.Plan.{count_of};
 ghost use Rattle.sched_core.specs.Run.{outstanding};
-ghost use Rattle.status_report.specs.Status.{phase_of, running_in, is_due, status_at, status_of_state};
+ghost use Rattle.status_report.specs.Status.{phase_of, running_status, is_due, status_at, status_of_state};
 
 use node_machine::{Phase, State};
 use sched_core::Core;
@@ -29,7 +29,7 @@ pub enum Status {
 
 /// The status of a node a phase of which runs.
 fn running_in(phase: Phase) -> Status
-    ensures { result ≡ running_in phase }
+    ensures { result ≡ running_status phase }
 {
     match phase {
         Phase::Pre => Status::PreRun,

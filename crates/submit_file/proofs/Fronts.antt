@@ -4,7 +4,7 @@ use Rattle.std.proofs.lemmas.Bool.{false≢true, and_parts, and_from, ne_eqb, ca
 use Rattle.std.proofs.lemmas.List.{take_all, take-append-le, length-append}
 use Rattle.std.specs.Option.{option_to_list}
 use Rattle.std.specs.List.{list_all}
-use Rattle.submit_file.specs.Lines.{is_blank, trim_start, is_byte, is_comment, is_continued}
+use Rattle.submit_file.specs.Lines.{is_blank, trim_start, is_the_byte, is_comment, is_continued}
 use Rattle.submit_file.specs.Fronts.{BeginsWithBlanks}
 
 -- no byte is read yet
@@ -38,19 +38,19 @@ all_counted (b ∷ bs) (suc n) is stops =
 not_both : (b : ℕ) → is_blank b ≡ true → (b == 92) ≡ false
 not_both b blank = ne_eqb b 92 (λ e. absurd (false≢true (subst (λ (x : ℕ). is_blank x ≡ true) e blank)))
 
-blank_end : (text : List ℕ) → list_all is_blank text ≡ true → is_byte 92 (slice_get text (length text - 1)) ≡ false
+blank_end : (text : List ℕ) → list_all is_blank text ≡ true → is_the_byte 92 (slice_get text (length text - 1)) ≡ false
 blank_end [] all = refl
 blank_end (b ∷ []) all = not_both b (and_parts (is_blank b) true all).0
 blank_end (b ∷ c ∷ bs) all =
     let e : suc (suc (length bs) - 1) ≡ suc (suc (length bs)) - 1 = omega arith in
-    subst (λ (k : ℕ). is_byte 92 (slice_get (b ∷ c ∷ bs) k) ≡ false) e (blank_end (c ∷ bs) (and_parts (is_blank b) (list_all is_blank (c ∷ bs)) all).1)
+    subst (λ (k : ℕ). is_the_byte 92 (slice_get (b ∷ c ∷ bs) k) ≡ false) e (blank_end (c ∷ bs) (and_parts (is_blank b) (list_all is_blank (c ∷ bs)) all).1)
 
 -- the blanks at the front of a line that is continued stay there, where its last byte goes and others come
 pub kept : (text front : List ℕ) (last : Option ℕ) (below : List ℕ) (n : ℕ) → text ≡ front ++ option_to_list last → BeginsWithBlanks n text → is_continued text ≡ true → BeginsWithBlanks n (front ++ below)
 unfolding is_continued
 kept text front last below n e is goes =
     let within = is.within in
-    let byte = (and_parts (is_byte 92 (slice_get text (length text - 1))) (not (is_comment text)) goes).0 in
+    let byte = (and_parts (is_the_byte 92 (slice_get text (length text - 1))) (not (is_comment text)) goes).0 in
     let not_all : n < length text = ⊎_elim (λ less. less)
     (λ (past : length text ≤ n). absurd (false≢true (sym (blank_end text (subst (λ (t : List ℕ). list_all is_blank t ≡ true) (take_all n text past) is.blank)) ∙ byte)))
     (cases_lt n (length text)) in

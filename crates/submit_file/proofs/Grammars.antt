@@ -5,8 +5,8 @@ use Rattle.std.specs.Str.{IsUtf8}
 use Rattle.std.specs.Str.Lines.{lines}
 use Rattle.std.proofs.lemmas.List.{append-nil}
 use Rattle.submit_file.specs.Lines.{Statement, statements, trim_start}
-use Rattle.submit_file.specs.Forms.{Saying, Silent, Assigns, Queues, Wrong, behind_word, name_in, value_in, is_silent, is_queue, is_once, is_assignment, line_says}
-use Rattle.submit_file.specs.Submit.{an_assignment, AssignAll, SayAll, Says, IsFirstFault, IsFault, Reading, read_from, with_line, Fails, Gives, submit_of, nothing_read, ◌>>=◌}
+use Rattle.submit_file.specs.Forms.{Saying, Silent, Assigns, Queues, Wrong, behind_word, name_before, assigned_value, is_silent, is_queue, is_once, is_assignment, line_says}
+use Rattle.submit_file.specs.Submit.{an_assignment, AssignAll, SayAssignments, SaysAssignments, IsFirstFault, IsTextFault, Reading, read_from, with_submit_line, Fails, Gives, submit_of, nothing_read, ◌>>=◌}
 use Rattle.submit_file.specs.declared.submit.Assignment.{Assignment}
 use Rattle.submit_file.specs.declared.fault.LineFault.TheVariants.{BadLine, QueueCount, Unsupported}
 use Rattle.submit_file.specs.declared.fault.SubmitFault.{SubmitFault}
@@ -27,19 +27,19 @@ never false false false false false x name value h = absurd cc
 
 no_second : (text : List ℕ) → line_says true text ≡ Queues → ⊥
 unfolding line_says
-no_second text h = let line = trim_start text in never (is_silent line) _ _ (is_queue line) (is_assignment line) (not (is_once (behind_word line))) (name_in line) (value_in line) h
+no_second text h = let line = trim_start text in never (is_silent line) _ _ (is_queue line) (is_assignment line) (not (is_once (behind_word line))) (name_before line) (assigned_value line) h
 
 -- One line is read.
-step : (r q : Reading) (s : Statement) (ss : List Statement) → with_line r s.number (line_says r.queued s.text) ≡ Ok q → read_from r (s ∷ ss) ≡ read_from q ss
+step : (r q : Reading) (s : Statement) (ss : List Statement) → with_submit_line r s.number (line_says r.queued s.text) ≡ Ok q → read_from r (s ∷ ss) ≡ read_from q ss
 unfolding read_from
 step r q s ss h = ap (λ (x : Result Reading SubmitFault). x >>= λ more. read_from more ss) h
 
-stop : (r : Reading) (e : SubmitFault) (s : Statement) (ss : List Statement) → with_line r s.number (line_says r.queued s.text) ≡ Err e → read_from r (s ∷ ss) ≡ Err e
+stop : (r : Reading) (e : SubmitFault) (s : Statement) (ss : List Statement) → with_submit_line r s.number (line_says r.queued s.text) ≡ Err e → read_from r (s ∷ ss) ≡ Err e
 unfolding read_from
 stop r e s ss h = ap (λ (x : Result Reading SubmitFault). x >>= λ more. read_from more ss) h
 
-said_by : (r : Reading) (s : Statement) (said : Saying) → line_says r.queued s.text ≡ said → with_line r s.number (line_says r.queued s.text) ≡ with_line r s.number said
-said_by r s said e = ap (λ (x : Saying). with_line r s.number x) e
+said_by : (r : Reading) (s : Statement) (said : Saying) → line_says r.queued s.text ≡ said → with_submit_line r s.number (line_says r.queued s.text) ≡ with_submit_line r s.number said
+said_by r s said e = ap (λ (x : Saying). with_submit_line r s.number x) e
 
 -- What lines say is read.
 above_again : (before pairs : List Assignment) (front rest : List Statement) → AssignAll false front pairs → read_from (reading before false) (front ++ rest) ≡ read_from (reading (before ++ pairs) false) rest
@@ -60,7 +60,7 @@ below_again before late (s ∷ back) (inl (silent, all)) =
 below_again before late (s ∷ back) (inr (name, value, others, says, is, all)) =
     step (reading before true) (reading before true) s back (said_by (reading before true) s (Assigns name value) says) ∙ below_again before others back all
 
-pub say_again : (ss : List Statement) (pairs : List Assignment) → SayAll ss pairs → read_from nothing_read ss ≡ Ok pairs
+pub say_again : (ss : List Statement) (pairs : List Assignment) → SayAssignments ss pairs → read_from nothing_read ss ≡ Ok pairs
 say_again ss pairs (front, queue, back, late, e, above, queues, below) =
     ap (read_from nothing_read) e ∙ above_again [] pairs front (queue ∷ back) above
     ∙ step (reading pairs false) (reading pairs true) queue back (said_by (reading pairs false) queue Queues queues)
@@ -89,7 +89,7 @@ below_ok before pairs [] h = ([], refl, let same : before ≡ pairs = cc in sym 
 below_ok before pairs (s ∷ ss) h = below_step before pairs s ss (line_says true s.text) refl h (below_ok before pairs ss)
 
 abbrev Above : List Assignment → List Statement → List Assignment → Type 0
-Above before ss pairs = (these : List Assignment) × (pairs ≡ before ++ these) × SayAll ss these
+Above before ss pairs = (these : List Assignment) × (pairs ≡ before ++ these) × SayAssignments ss these
 
 above_step : (before pairs : List Assignment) (s : Statement) (ss : List Statement) (said : Saying) → line_says false s.text ≡ said → read_from (reading before false) (s ∷ ss) ≡ Ok pairs
     → ((front : List Assignment) → read_from (reading front false) ss ≡ Ok pairs → Above front ss pairs) → Above before (s ∷ ss) pairs
@@ -113,8 +113,8 @@ unfolding read_from
 above_ok before pairs [] h = absurd cc
 above_ok before pairs (s ∷ ss) h = above_step before pairs s ss (line_says false s.text) refl h (λ front. above_ok front pairs ss)
 
-pub say_ok : (ss : List Statement) (pairs : List Assignment) → read_from nothing_read ss ≡ Ok pairs → SayAll ss pairs
-say_ok ss pairs h = let a = above_ok [] pairs ss h in subst (SayAll ss) (sym a.1) a.2
+pub say_ok : (ss : List Statement) (pairs : List Assignment) → read_from nothing_read ss ≡ Ok pairs → SayAssignments ss pairs
+say_ok ss pairs h = let a = above_ok [] pairs ss h in subst (SayAssignments ss) (sym a.1) a.2
 
 -- Faults.
 abbrev StopsBelow : List Statement → SubmitFault → Type 0
@@ -215,19 +215,19 @@ stops_above before e [] h = let same : NoQueue ≡ e = cc in subst (IsFirstFault
 stops_above before e (s ∷ ss) h = stops_above_step before e s ss (line_says false s.text) refl h (λ front. stops_above front e ss)
 
 -- What a call that gives the assignments of a text has found, or why it stopped.
-pub is_found : {X : Type 0} (view : X → List Assignment) (text : List ℕ) (r : Result X SubmitFault) → IsUtf8 text → Gives view r (submit_of text) → IfOk r (λ x. Says text (view x))
+pub is_found : {X : Type 0} (view : X → List Assignment) (text : List ℕ) (r : Result X SubmitFault) → IsUtf8 text → Gives view r (submit_of text) → IfOk r (λ x. SaysAssignments text (view x))
 is_found view text (Ok x) u h = (u, say_ok (statements 1 (lines text)) (view x) h)
 is_found view text (Err e) u h = tt
 
-fault_is : (e : SubmitFault) (text : List ℕ) → IsUtf8 text → Fails e (submit_of text) → IsFault text e
+fault_is : (e : SubmitFault) (text : List ℕ) → IsUtf8 text → Fails e (submit_of text) → IsTextFault text e
 fault_is Memory text u h = tt
 fault_is NotText text u h = absurd (stops_above [] NotText (statements 1 (lines text)) h)
 fault_is NoQueue text u h = (u, stops_above [] NoQueue (statements 1 (lines text)) h)
 fault_is (InLine number f) text u h = (u, stops_above [] (InLine number f) (statements 1 (lines text)) h)
 
-pub is_stopped : {X : Type 0} (view : X → List Assignment) (text : List ℕ) (r : Result X SubmitFault) → IsUtf8 text → Gives view r (submit_of text) → IfErr r (λ e. IsFault text e)
+pub is_stopped : {X : Type 0} (view : X → List Assignment) (text : List ℕ) (r : Result X SubmitFault) → IsUtf8 text → Gives view r (submit_of text) → IfErr r (λ e. IsTextFault text e)
 is_stopped view text (Ok x) u h = tt
 is_stopped view text (Err e) u h = fault_is e text u h
 
-pub only_these : {X : Type 0} (view : X → List Assignment) (text : List ℕ) (pairs : List Assignment) (r : Result X SubmitFault) → Says text pairs → Gives view r (submit_of text) → Gives view r (Ok pairs)
+pub only_these : {X : Type 0} (view : X → List Assignment) (text : List ℕ) (pairs : List Assignment) (r : Result X SubmitFault) → SaysAssignments text pairs → Gives view r (submit_of text) → Gives view r (Ok pairs)
 only_these view text pairs r says h = subst (Gives view r) (say_again (statements 1 (lines text)) pairs says.1) h

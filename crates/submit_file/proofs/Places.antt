@@ -6,7 +6,7 @@ use Rattle.std.proofs.lemmas.List.{append-nil}
 use Rattle.std.specs.Str.Lines.{lines}
 use Rattle.submit_file.specs.Lines.{Statement, statements}
 use Rattle.submit_file.specs.Forms.{Saying, Silent, Assigns, Queues, line_says}
-use Rattle.submit_file.specs.Submit.{an_assignment, AssignAll, SayAll, Says, Gives}
+use Rattle.submit_file.specs.Submit.{an_assignment, AssignAll, SayAssignments, SaysAssignments, Gives}
 use Rattle.submit_file.specs.Placed.{Placing, placed_in, is_queued_below, placed_from, placed_of, with_placed, counted}
 use Rattle.submit_file.specs.declared.fault.SubmitFault.{SubmitFault}
 use Rattle.submit_file.specs.declared.submit.Assignment.{Assignment}
@@ -54,14 +54,14 @@ counted_above (s ∷ front) rest pairs (inr (name, value, others, says, is, all)
     ∙ ap (λ (xs : List Assignment). an_assignment name value ∷ xs) (counted_above front rest others all)
     ∙ ap (λ (xs : List Assignment). xs ++ counted (placed_from false rest)) (sym is)
 
-pub counted_says : (ss : List Statement) (pairs : List Assignment) → SayAll ss pairs → counted (placed_from false ss) ≡ pairs
+pub counted_says : (ss : List Statement) (pairs : List Assignment) → SayAssignments ss pairs → counted (placed_from false ss) ≡ pairs
 counted_says ss pairs (front, queue, back, late, e, above, queues, below) =
     ap (λ (x : List Statement). counted (placed_from false x)) e
     ∙ counted_above front (queue ∷ back) pairs above
     ∙ ap (λ (xs : List Assignment). pairs ++ xs) (ap counted (said_by false queue back Queues queues) ∙ counted_below back late below)
     ∙ append-nil pairs
 
-pub found_same : (text : List ℕ) (pairs : List Assignment) (r : Result (Vec PlacedAssignment Global) SubmitFault) → Says text pairs →
+pub found_same : (text : List ℕ) (pairs : List Assignment) (r : Result (Vec PlacedAssignment Global) SubmitFault) → SaysAssignments text pairs →
     Gives (λ found. found.items) r (Ok (placed_of text)) → IfOk r (λ found. counted found.items ≡ pairs)
 found_same text pairs (Ok found) says h =
     let same : found.items ≡ placed_of text = cc in

@@ -11,8 +11,8 @@ use Rattle.std.proofs.lemmas.List.Sums.{take_while-cons, fails_before_first, pas
 use Rattle.std.specs.List.{All, AllByRecursion, position_or_len, slice_get, slice_split}
 use Rattle.std.specs.Str.{IsUtf8}
 use Rattle.std.specs.Str.Lines.{lines, lines_of_parts, strip_carriage_return}
-use Rattle.submit_file.specs.Lines.{Statement, is_blank, trim_start, is_byte, is_comment, is_continued, front, statements, joined}
-use Rattle.submit_file.specs.Forms.{Saying, Silent, Assigns, Queues, Wrong, trimmed, before_equals, name_in, value_in, is_name, is_assignment, Form, forms, first_form, line_says}
+use Rattle.submit_file.specs.Lines.{Statement, is_blank, trim_start, is_the_byte, is_comment, is_continued, front, statements, joined}
+use Rattle.submit_file.specs.Forms.{Saying, Silent, Assigns, Queues, Wrong, trimmed, before_equals, name_before, assigned_value, is_name, is_assignment, Form, forms, first_form, line_says}
 
 -- up to an ASCII byte, and behind it
 pub utf8_before : (bs : List ℕ) (i c : ℕ) → IsUtf8 bs → i < length bs → get_or bs i 0 ≡ c → c < 128 → IsUtf8 (take i bs)
@@ -103,10 +103,10 @@ IsText (Assigns name value) = IsUtf8 name × IsUtf8 value
 IsText Queues = Unit {0}
 IsText (Wrong fault) = Unit {0}
 
-assigned_text : (line : List ℕ) → IsUtf8 line → is_assignment line ≡ true → IsText (Assigns (name_in line) (value_in line))
+assigned_text : (line : List ℕ) → IsUtf8 line → is_assignment line ≡ true → IsText (Assigns (name_before line) (assigned_value line))
 assigned_text line u is =
     let n = length (before_equals line) in
-    let inside = both_left (nat_lt n (length line)) (is_name (name_in line)) is in
+    let inside = both_left (nat_lt n (length line)) (is_name (name_before line)) is in
     let lt : n < length line = grind (arith, inside) in
     let at = cut_equals line lt in (
       utf8_trimmed (before_equals line) (subst IsUtf8 (front_equals line) (utf8_before line n 61 u lt at (omega arith))),
@@ -131,7 +131,7 @@ line_text queued text u =
 abbrev pub AreTexts : List Statement → Type 0
 AreTexts ss = AllByRecursion (λ (s : Statement). IsUtf8 s.text) ss
 
-last_is : (c : ℕ) (o : Option ℕ) → is_byte c o ≡ true → o ≡ Some c
+last_is : (c : ℕ) (o : Option ℕ) → is_the_byte c o ≡ true → o ≡ Some c
 last_is c None h = absurd (false≢true h)
 last_is c (Some b) h = ap (λ (x : ℕ). Some x) (eqb-true b c h)
 

@@ -23,21 +23,21 @@ unfoldable pub is_word : List ℕ → List ℕ → Bool
 is_word word text = str_eq_ignore_ascii_case word text
 
 -- the first word of a line that begins with one, and what follows it
-abbrev pub first_word : List ℕ → List ℕ
-first_word line = take_while (λ b. not (is_blank b)) line
+abbrev pub word_and_rest : List ℕ → List ℕ
+word_and_rest line = take_while (λ b. not (is_blank b)) line
 
 abbrev pub behind_word : List ℕ → List ℕ
-behind_word line = trimmed (drop (length (first_word line)) line)
+behind_word line = trimmed (drop (length (word_and_rest line)) line)
 
 -- what stands before the first equals sign (61) of a line, and what stands behind it
 abbrev pub before_equals : List ℕ → List ℕ
 before_equals line = take_while (λ b. not (b == 61)) line
 
-abbrev pub name_in : List ℕ → List ℕ
-name_in line = trimmed (before_equals line)
+abbrev pub name_before : List ℕ → List ℕ
+name_before line = trimmed (before_equals line)
 
-abbrev pub value_in : List ℕ → List ℕ
-value_in line = trimmed (drop (length (before_equals line) + 1) line)
+abbrev pub assigned_value : List ℕ → List ℕ
+assigned_value line = trimmed (drop (length (before_equals line) + 1) line)
 
 -- no word, or a comment (35)
 abbrev pub is_silent : List ℕ → Bool
@@ -45,7 +45,7 @@ is_silent [] = true
 is_silent (b ∷ bs) = b == 35
 
 abbrev pub is_queue : List ℕ → Bool
-is_queue line = is_word (first_word line) (codes "queue")
+is_queue line = is_word (word_and_rest line) (codes "queue")
 
 -- no count, or digits whose value is 1
 abbrev pub is_once : List ℕ → Bool
@@ -62,7 +62,7 @@ abbrev pub is_name : List ℕ → Bool
 is_name name = nat_lt 0 (length name) && not (list_any is_blank name)
 
 abbrev pub is_assignment : List ℕ → Bool
-is_assignment line = nat_lt (length (before_equals line)) (length line) && is_name (name_in line)
+is_assignment line = nat_lt (length (before_equals line)) (length line) && is_name (name_before line)
 
 -- A row of the table: what a line looks like without the blanks at its front, and what it says.
 pub record Form : Type 0 where
@@ -80,12 +80,12 @@ forms queued =
     row is_silent (λ line. Silent)
     -- U5: queue with other words than a count, or what is left out
     ∷ row (λ line. is_queue line && not (list_all is_ascii_digit (behind_word line))) (λ line. Wrong Unsupported)
-    ∷ row (λ line. is_left_out (first_word line) && not (begins_with 61 (behind_word line))) (λ line. Wrong Unsupported)
+    ∷ row (λ line. is_left_out (word_and_rest line) && not (begins_with 61 (behind_word line))) (λ line. Wrong Unsupported)
     -- U4: queue once more, or with another count than 1
     ∷ row (λ line. is_queue line && (queued || not (is_once (behind_word line)))) (λ line. Wrong QueueCount)
     ∷ row is_queue (λ line. Queues)
     -- a name, an equals sign and a value; any other line is U2
-    ∷ row is_assignment (λ line. Assigns (name_in line) (value_in line))
+    ∷ row is_assignment (λ line. Assigns (name_before line) (assigned_value line))
     ∷ []
 
 abbrev pub first_form : List Form → List ℕ → Saying

@@ -21,16 +21,16 @@ AssignAll queued (s ∷ ss) pairs = ((line_says queued s.text ≡ Silent) × Ass
     ⊎ ((name value : List ℕ) × (others : List Assignment) × (line_says queued s.text ≡ Assigns name value) × (pairs ≡ an_assignment name value ∷ others) × AssignAll queued ss others)
 
 -- One line queues the job, and these are the assignments above it. Those below it are read and have no effect.
-abbrev pub SayAll : List Statement → List Assignment → Type 0
-SayAll ss pairs = (front : List Statement) × (queue : Statement) × (back : List Statement) × (late : List Assignment)
+abbrev pub SayAssignments : List Statement → List Assignment → Type 0
+SayAssignments ss pairs = (front : List Statement) × (queue : Statement) × (back : List Statement) × (late : List Assignment)
     × (ss ≡ front ++ queue ∷ back) × AssignAll false front pairs × (line_says false queue.text ≡ Queues) × AssignAll true back late
 
-abbrev pub Says : List ℕ → List Assignment → Type 0
-Says text pairs = IsUtf8 text × SayAll (statements 1 (lines text)) pairs
+abbrev pub SaysAssignments : List ℕ → List Assignment → Type 0
+SaysAssignments text pairs = IsUtf8 text × SayAssignments (statements 1 (lines text)) pairs
 
 -- A line that can't be read, and its fault, where the lines above it can: they have no queue line, or one.
 abbrev pub IsWrongBelow : List Statement → List ℕ → LineFault → Type 0
-IsWrongBelow front text f = (pairs : List Assignment) × ((AssignAll false front pairs × (line_says false text ≡ Wrong f)) ⊎ (SayAll front pairs × (line_says true text ≡ Wrong f)))
+IsWrongBelow front text f = (pairs : List Assignment) × ((AssignAll false front pairs × (line_says false text ≡ Wrong f)) ⊎ (SayAssignments front pairs × (line_says true text ≡ Wrong f)))
 
 -- The fault is that of the first line that can't be read; or all can be read, and none queues the job.
 abbrev pub IsFirstFault : List Statement → SubmitFault → Type 0
@@ -41,11 +41,11 @@ IsFirstFault ss (InLine number f) = (front : List Statement) × (s : Statement) 
     × (ss ≡ front ++ s ∷ back) × (number ≡ s.number) × IsWrongBelow front s.text f
 
 -- a fault of a text: it is not UTF-8, or its lines have the fault
-abbrev pub IsFault : List ℕ → SubmitFault → Type 0
-IsFault text Memory = Unit {0}
-IsFault text NotText = ¬ (IsUtf8 text)
-IsFault text NoQueue = IsUtf8 text × IsFirstFault (statements 1 (lines text)) NoQueue
-IsFault text (InLine number f) = IsUtf8 text × IsFirstFault (statements 1 (lines text)) (InLine number f)
+abbrev pub IsTextFault : List ℕ → SubmitFault → Type 0
+IsTextFault text Memory = Unit {0}
+IsTextFault text NotText = ¬ (IsUtf8 text)
+IsTextFault text NoQueue = IsUtf8 text × IsFirstFault (statements 1 (lines text)) NoQueue
+IsTextFault text (InLine number f) = IsUtf8 text × IsFirstFault (statements 1 (lines text)) (InLine number f)
 
 -- the assignments so far, and whether the queue line stood
 pub record Reading : Type 0 where
@@ -59,16 +59,16 @@ nothing_read = record { assigned = []; queued = false }
 abbrev pub with_assignment : Reading → List ℕ → List ℕ → Reading
 with_assignment r name value = if r.queued then r else record r { assigned = r.assigned ++ an_assignment name value ∷ [] }
 
-abbrev pub with_line : Reading → ℕ → Saying → Result Reading SubmitFault
-with_line r number Silent = Ok r
-with_line r number (Assigns name value) = Ok (with_assignment r name value)
-with_line r number Queues = Ok (record r { queued = true })
-with_line r number (Wrong fault) = Err (InLine number fault)
+abbrev pub with_submit_line : Reading → ℕ → Saying → Result Reading SubmitFault
+with_submit_line r number Silent = Ok r
+with_submit_line r number (Assigns name value) = Ok (with_assignment r name value)
+with_submit_line r number Queues = Ok (record r { queued = true })
+with_submit_line r number (Wrong fault) = Err (InLine number fault)
 
 -- all lines, one after the other, and then the queue line must have stood
 unfoldable pub read_from : Reading → List Statement → Result (List Assignment) SubmitFault
 read_from r [] = if r.queued then Ok r.assigned else Err NoQueue
-read_from r (s ∷ ss) = with_line r s.number (line_says r.queued s.text) >>= λ more. read_from more ss
+read_from r (s ∷ ss) = with_submit_line r s.number (line_says r.queued s.text) >>= λ more. read_from more ss
 
 abbrev pub submit_of : List ℕ → Result (List Assignment) SubmitFault
 submit_of text = read_from nothing_read (statements 1 (lines text))
@@ -86,9 +86,9 @@ abbrev pub Gives : {X Y : Type 0} → (X → Y) → Result X SubmitFault → Res
 Gives view = Returns told_fault view
 
 -- the value that was assigned to the name last
-abbrev pub last_from : Option (List ℕ) → List Assignment → List ℕ → Option (List ℕ)
-last_from found [] name = found
-last_from found (a ∷ more) name = last_from (if is_word a.name name then Some a.value else found) more name
+abbrev pub value_assigned : Option (List ℕ) → List Assignment → List ℕ → Option (List ℕ)
+value_assigned found [] name = found
+value_assigned found (a ∷ more) name = value_assigned (if is_word a.name name then Some a.value else found) more name
 
 abbrev pub last_value : List Assignment → List ℕ → Option (List ℕ)
-last_value assignments name = last_from None assignments name
+last_value assignments name = value_assigned None assignments name

@@ -4,7 +4,7 @@ ghost use Rattle.std.specs.Prelude.{◌≡◌, List, Ok, Err, IfOk, IfErr, optio
 ghost use Rattle.std.specs.Str.{IsUtf8};
 ghost use Rattle.submit_file.specs.Forms.{line_says};
 ghost use Rattle.submit_file.specs.Readings.{reading_of};
-ghost use Rattle.submit_file.specs.Submit.{Gives, submit_of, with_line, with_assignment, Says, IsFault};
+ghost use Rattle.submit_file.specs.Submit.{Gives, submit_of, with_submit_line, with_assignment, SaysAssignments, IsTextFault};
 ghost use Rattle.submit_file.specs.declared.submit.Assignment.{Assignment};
 ghost use Rattle.submit_file.specs.declared.fault.SubmitFault.TheVariants.{NotText};
 
@@ -39,7 +39,7 @@ impl Reader {
     /// Takes one line more.
     fn read(&mut self, alloc: Global, number: usize, text: &[u8]) -> Result<(), SubmitFault>
         requires { IsUtf8 text.now }
-        ensures { Gives (λ _. reading_of self.new) result (with_line (reading_of self.old) number (line_says self.old.queued text.now)) }
+        ensures { Gives (λ _. reading_of self.new) result (with_submit_line (reading_of self.old) number (line_says self.old.queued text.now)) }
     {
         match line_says(text, self.queued) {
             Saying::Silent => Ok(()),
@@ -91,13 +91,13 @@ pub(crate) fn text_of(alloc: Global, bytes: &[u8]) -> Result<Text, SubmitFault>
 /// where memory runs out.
 pub fn read_submit(alloc: Global, text: &[u8]) -> Result<Submit, SubmitFault>
     // The lines say the assignments that are read.
-    ensures found { IfOk result (λ s. Says text.now s.assigned.items) }
+    ensures found { IfOk result (λ s. SaysAssignments text.now s.assigned.items) }
 
     // Where the lines say assignments, these are read, unless memory runs out.
-    ensures only { (pairs : List Assignment) → Says text.now pairs → Gives (λ s. s.assigned.items) result (Ok pairs) }
+    ensures only { (pairs : List Assignment) → SaysAssignments text.now pairs → Gives (λ s. s.assigned.items) result (Ok pairs) }
 
     // A fault is that of the first line that can't be read, or of the whole text.
-    ensures fault { IfErr result (λ e. IsFault text.now e) }
+    ensures fault { IfErr result (λ e. IsTextFault text.now e) }
 
     // Which fault it is: that which reading the lines from the first meets first.
     ensures exact { IsUtf8 text.now → Gives (λ s. s.assigned.items) result (submit_of text.now) }

@@ -8,7 +8,7 @@ use Rattle.std.proofs.lemmas.Grind.{common_steps}
 use Rattle.node_machine.specs.declared.Phase.{Phase}
 use Rattle.node_machine.specs.declared.Phase.TheVariants.{Pre, Job, Post}
 use Rattle.throttles.specs.declared.Limits.{Limits}
-use Rattle.throttles.specs.Throttled.{Throttled, Running, IsWithin, IsUnder, IsPlace, is_below, jobs_in, all_in, of_kind, limit_of, may_start, with_one}
+use Rattle.throttles.specs.Throttled.{Throttled, Running, IsWithin, IsUnder, IsPlace, is_below, running_jobs, all_in, of_kind, limit_of, may_start, with_one}
 
 below-under : (limit count : ℕ) → is_below limit count ≡ true → IsUnder limit (count + 1)
 below-under limit count h = go (limit == 0) refl h
@@ -23,7 +23,7 @@ sum-more xs i lt = grind (arith, common_steps)
 at : (limit count more : ℕ) → more ≡ count + 1 → IsUnder limit (count + 1) → IsUnder limit more
 at limit count more e u = subst (IsUnder limit) (sym e) u
 
-each-kind : (limits : Limits) (running : Running) → IsUnder limits.pre running.pre → IsUnder limits.jobs (jobs_in running) → IsUnder limits.post running.post
+each-kind : (limits : Limits) (running : Running) → IsUnder limits.pre running.pre → IsUnder limits.jobs (running_jobs running) → IsUnder limits.post running.post
     → (kind : Phase) → IsUnder (limit_of limits kind) (of_kind kind running)
 each-kind limits running pre jobs post Pre = pre
 each-kind limits running pre jobs post Job = jobs
@@ -51,7 +51,7 @@ stays t Job None w p h =
     let parts = and_parts _ _ (and_parts _ _ h).0 in
     record {
       all = at t.limits.children (all_in t.running) _ (omega arith) (below-under t.limits.children (all_in t.running) parts.0);
-      kinds = each-kind t.limits (with_one t.running Job None) (w.kinds Pre) (at t.limits.jobs (jobs_in t.running) _ (omega arith) (below-under t.limits.jobs (jobs_in t.running) parts.1)) (w.kinds Post);
+      kinds = each-kind t.limits (with_one t.running Job None) (w.kinds Pre) (at t.limits.jobs (running_jobs t.running) _ (omega arith) (below-under t.limits.jobs (running_jobs t.running) parts.1)) (w.kinds Post);
       categories = w.categories;
       many = w.many;
     }
@@ -62,7 +62,7 @@ stays t Job (Some place) w p h =
     let more = sum-more t.running.category_jobs place inside in
     record {
       all = at t.limits.children (all_in t.running) _ (omega (arith, more)) (below-under t.limits.children (all_in t.running) parts.0);
-      kinds = each-kind t.limits (with_one t.running Job (Some place)) (w.kinds Pre) (at t.limits.jobs (jobs_in t.running) _ (omega (arith, more)) (below-under t.limits.jobs (jobs_in t.running) parts.1)) (w.kinds Post);
+      kinds = each-kind t.limits (with_one t.running Job (Some place)) (w.kinds Pre) (at t.limits.jobs (running_jobs t.running) _ (omega (arith, more)) (below-under t.limits.jobs (running_jobs t.running) parts.1)) (w.kinds Post);
       categories = λ q lt. one q lt inside first.1 (q == place) refl;
       many = length-set t.running.category_jobs place _ ∙ w.many;
     }

@@ -18,16 +18,16 @@ pub record Throttled : Type 0 where
   pub categories : List ℕ
   pub running : Running
 
-abbrev pub jobs_in : Running → ℕ
-jobs_in running = running.free_jobs + sum running.category_jobs
+abbrev pub running_jobs : Running → ℕ
+running_jobs running = running.free_jobs + sum running.category_jobs
 
 abbrev pub all_in : Running → ℕ
-all_in running = running.pre + jobs_in running + running.post
+all_in running = running.pre + running_jobs running + running.post
 
 -- how many of a phase's kind run
 abbrev pub of_kind : Phase → Running → ℕ
 of_kind Pre running = running.pre
-of_kind Job running = jobs_in running
+of_kind Job running = running_jobs running
 of_kind Post running = running.post
 
 abbrev pub limit_of : Limits → Phase → ℕ
@@ -100,6 +100,6 @@ pub record IsWithin (t : Throttled) : Type 0 where
 
 -- what throttles keep beside: the number of jobs
 pub record AreKept (t : Throttled) (jobs : ℕ) : Type 0 where
-  pub jobs_are : jobs ≡ jobs_in t.running
+  pub jobs_are : jobs ≡ running_jobs t.running
   pub many : length t.running.category_jobs ≡ length t.categories
   pub fits : all_in t.running < 2 ^ 64

@@ -5,7 +5,7 @@ use Rattle.std.proofs.lemmas.Bool.Decides.{nat_tests}
 use Rattle.std.specs.Char.{is_ascii_digit}
 use Rattle.std.specs.Fmt.{digits, digits_onto, digit_glyph}
 use Rattle.std.specs.Str.{all_ascii_digits}
-use Rattle.vars_macros.specs.Numbers.{IsNumber, IsNoLongerNumber}
+use Rattle.vars_macros.specs.Numbers.{IsDecimal, IsNoLongerNumber}
 
 glyph_is_digit : (d : ℕ) → d < 10 → is_ascii_digit (digit_glyph false d) ≡ true
 glyph_is_digit d h = grind (arith, nat_tests)
@@ -51,7 +51,7 @@ onto_monotone (suc k) m n one other h same =
     (omega arith) (omega arith)
     (onto_monotone k (m / 10) (n / 10) first second falls equal)
 
-decimal_is_number : (n : ℕ) → IsNumber (decimal n)
+decimal_is_number : (n : ℕ) → IsDecimal (decimal n)
 unfolding digits
 decimal_is_number n = record { some = onto_some 63 n []; digits = onto_digits 64 n [] refl }
 

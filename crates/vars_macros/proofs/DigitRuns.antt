@@ -6,7 +6,7 @@ use Rattle.std.specs.Char.{is_ascii_digit}
 use Rattle.std.specs.List.{list_any}
 use Rattle.std.specs.Str.{all_ascii_digits}
 use Rattle.vars_macros.specs.Cut.{begins_with}
-use Rattle.vars_macros.specs.Numbers.{IsNumber, DifferInNumbers, AllDifferInNumbers, ends, byte, numbers}
+use Rattle.vars_macros.specs.Numbers.{IsDecimal, DifferInNumbers, AllDifferInNumbers, ends, byte, numbers}
 
 -- Digits and other bytes.
 pub digit_is_not : (b c : ℕ) → is_ascii_digit b ≡ true → is_ascii_digit c ≡ false → nat_eq b c ≡ false
@@ -16,7 +16,7 @@ digit_is_not b c d other = decide (nat_eq b c) refl
     decide true e = absurd (false≢true (sym other ∙ (ap is_ascii_digit (sym (eqb-true b c e)) ∙ d)))
     decide false e = e
 
-pub number_begins : (c : ℕ) (d x : List ℕ) → is_ascii_digit c ≡ false → IsNumber d → begins_with c (d ++ x) ≡ false
+pub number_begins : (c : ℕ) (d x : List ℕ) → is_ascii_digit c ≡ false → IsDecimal d → begins_with c (d ++ x) ≡ false
 number_begins c [] x other is = absurd (omega (arith, is.some))
 number_begins c (b ∷ bs) x other is = digit_is_not b c (and_parts (is_ascii_digit b) (all_ascii_digits bs) is.digits).0 other
 
@@ -55,7 +55,7 @@ joined (byte b g) h = byte b (joined g h)
 joined {u = u} {v = v} (numbers {x = x} {y = y} d e p q g) h = rw (append_assoc d x u, append_assoc e y v) (numbers d e p q (joined g h))
 
 -- two numbers
-pub number_pair : (d e : List ℕ) → IsNumber d → IsNumber e → DifferInNumbers d e
+pub number_pair : (d e : List ℕ) → IsDecimal d → IsDecimal e → DifferInNumbers d e
 number_pair d e p q = subst (λ (x : List ℕ). DifferInNumbers x e) (append-nil d) (subst (λ (y : List ℕ). DifferInNumbers (d ++ []) y) (append-nil e) (numbers d e p q ends))
 
 has_bytes : (x : List ℕ) → 0 < length x → nat_lt 0 (length x) ≡ true

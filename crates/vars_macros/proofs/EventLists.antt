@@ -2,7 +2,7 @@
 use Rattle.std.proofs.Common.{◌≡◌, ◌∙◌, sym, ap, refl, ℕ, ◌+◌, Bool, false, ◌||◌, List, [], ◌∷◌, ◌++◌, map, arith}
 use Rattle.std.proofs.Math.Bool.{or_assoc}
 use Rattle.vars_macros.specs.Expansion.{Event, Wrote, Replaced, Refused}
-use Rattle.vars_macros.specs.Defined.{written_in, replaced_in, whole_in, NoneRefused}
+use Rattle.vars_macros.specs.Defined.{written_in, references_replaced, whole_in, NoneRefused}
 
 pub written_append : (xs ys : List Event) → written_in (xs ++ ys) ≡ written_in xs ++ written_in ys
 written_append [] ys = refl
@@ -10,7 +10,7 @@ written_append (Wrote b ∷ xs) ys = ap (λ (bs : List ℕ). b ∷ bs) (written_
 written_append (Replaced whole ∷ xs) ys = written_append xs ys
 written_append (Refused fault ∷ xs) ys = written_append xs ys
 
-pub replaced_append : (xs ys : List Event) → replaced_in (xs ++ ys) ≡ replaced_in xs + replaced_in ys
+pub replaced_append : (xs ys : List Event) → references_replaced (xs ++ ys) ≡ references_replaced xs + references_replaced ys
 replaced_append [] ys = omega arith
 replaced_append (Wrote b ∷ xs) ys = replaced_append xs ys
 replaced_append (Replaced whole ∷ xs) ys = omega (arith, replaced_append xs ys)
@@ -39,7 +39,7 @@ pub written_plain : (bs : List ℕ) → written_in (map Wrote bs) ≡ bs
 written_plain [] = refl
 written_plain (b ∷ bs) = ap (λ (xs : List ℕ). b ∷ xs) (written_plain bs)
 
-pub replaced_plain : (bs : List ℕ) → replaced_in (map Wrote bs) ≡ 0
+pub replaced_plain : (bs : List ℕ) → references_replaced (map Wrote bs) ≡ 0
 replaced_plain [] = refl
 replaced_plain (b ∷ bs) = replaced_plain bs
 

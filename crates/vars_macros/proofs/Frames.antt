@@ -10,11 +10,11 @@ use Rattle.std.specs.Str.{bytes_eq}
 use Rattle.std.specs.Prelude.{string_bytes}
 use Rattle.vars_macros.specs.contracts.key.KeyPartialEq.TheImpl.{eq-value}
 use Rattle.vars_macros.specs.Each.{Each}
-use Rattle.vars_macros.specs.Names.{lower, same_name, is_open}
+use Rattle.vars_macros.specs.Names.{lower, same_name, is_name_open}
 use Rattle.vars_macros.specs.Frames.{Frame, HasKey}
-use Rattle.vars_macros.specs.Machine.{names_of}
-use Rattle.vars_macros.specs.NameTable.{IsKeyOf, number_in}
-use Rattle.vars_macros.specs.Numbering.{AreApart}
+use Rattle.vars_macros.specs.Machine.{open_names}
+use Rattle.vars_macros.specs.NameTable.{IsKeyOf, number_of_name}
+use Rattle.vars_macros.specs.Numbering.{NumbersAreApart}
 use Rattle.vars_macros.specs.declared.key.Key.{Key}
 use Rattle.vars_macros.specs.declared.key.Key.TheVariants.{Numbered, Spelled}
 use Rattle.vars_macros.specs.declared.machine.Suspended.{Suspended}
@@ -39,30 +39,30 @@ either_way false true there back = back refl
 either_way false false there back = refl
 
 -- Two names have the same key where they are the same in any case.
-key_same : (names : Names) (asked : List ℕ) (q : Key) (held : List ℕ) (k : Key) → AreApart (get_by_text names.numbers) (length names.last.items) →
+key_same : (names : Names) (asked : List ℕ) (q : Key) (held : List ℕ) (k : Key) → NumbersAreApart (get_by_text names.numbers) (length names.last.items) →
     IsKeyOf names asked q → IsKeyOf names held k → same_key q k ≡ same_name held asked
 key_same names asked (Numbered m) held (Numbered n) apart q_is k_is =
-    let is = numbered (lower asked) (number_in names (lower asked)) m [] q_is in
-    let held_is = numbered (lower held) (number_in names (lower held)) n [] k_is in
+    let is = numbered (lower asked) (number_of_name names (lower asked)) m [] q_is in
+    let held_is = numbered (lower held) (number_of_name names (lower held)) n [] k_is in
     either_way (nat_eq m n) (same_name held asked)
     (λ same. same_lower held asked (apart.apart (lower held) (lower asked) n held_is (is ∙ ap Some (eqb-true m n same))))
-    (λ same. let one : Some m ≡ Some n = sym is ∙ ap (number_in names) (sym (lower_same held asked same)) ∙ held_is in
+    (λ same. let one : Some m ≡ Some n = sym is ∙ ap (number_of_name names) (sym (lower_same held asked same)) ∙ held_is in
     let number : m ≡ n = cc in eq-eqb m n number)
 key_same names asked (Numbered m) held (Spelled k) apart q_is k_is =
-    let is = numbered (lower asked) (number_in names (lower asked)) m [] q_is in
-    let held_is = spelled (lower held) (number_in names (lower held)) (string_bytes k) k_is in
+    let is = numbered (lower asked) (number_of_name names (lower asked)) m [] q_is in
+    let held_is = spelled (lower held) (number_of_name names (lower held)) (string_bytes k) k_is in
     either_way false (same_name held asked)
     (λ never. absurd (false≢true never))
-    (λ same. let one : Some m ≡ None = sym is ∙ ap (number_in names) (sym (lower_same held asked same)) ∙ held_is.0 in absurd cc)
+    (λ same. let one : Some m ≡ None = sym is ∙ ap (number_of_name names) (sym (lower_same held asked same)) ∙ held_is.0 in absurd cc)
 key_same names asked (Spelled q) held (Numbered n) apart q_is k_is =
-    let is = spelled (lower asked) (number_in names (lower asked)) (string_bytes q) q_is in
-    let held_is = numbered (lower held) (number_in names (lower held)) n [] k_is in
+    let is = spelled (lower asked) (number_of_name names (lower asked)) (string_bytes q) q_is in
+    let held_is = numbered (lower held) (number_of_name names (lower held)) n [] k_is in
     either_way false (same_name held asked)
     (λ never. absurd (false≢true never))
-    (λ same. let one : None ≡ Some n = sym is.0 ∙ ap (number_in names) (sym (lower_same held asked same)) ∙ held_is in absurd cc)
+    (λ same. let one : None ≡ Some n = sym is.0 ∙ ap (number_of_name names) (sym (lower_same held asked same)) ∙ held_is in absurd cc)
 key_same names asked (Spelled q) held (Spelled k) apart q_is k_is =
-    let is = spelled (lower asked) (number_in names (lower asked)) (string_bytes q) q_is in
-    let held_is = spelled (lower held) (number_in names (lower held)) (string_bytes k) k_is in
+    let is = spelled (lower asked) (number_of_name names (lower asked)) (string_bytes q) q_is in
+    let held_is = spelled (lower held) (number_of_name names (lower held)) (string_bytes k) k_is in
     either_way (bytes_eq (string_bytes q) (string_bytes k)) (same_name held asked)
     (λ same. same_lower held asked (sym held_is.1 ∙ sym ((bytes_eq-Decides (string_bytes q) (string_bytes k)).0 same) ∙ is.1))
     (λ same. (bytes_eq-Decides (string_bytes q) (string_bytes k)).1 (is.1 ∙ sym (lower_same held asked same) ∙ sym held_is.1))
@@ -72,9 +72,9 @@ some_either true x o = refl
 some_either false x o = refl
 
 -- A name is open where its key is found.
-pub found_open : (names : Names) (fs : List Frame) (name : List ℕ) (key : Key) → AreApart (get_by_text names.numbers) (length names.last.items) →
+pub found_open : (names : Names) (fs : List Frame) (name : List ℕ) (key : Key) → NumbersAreApart (get_by_text names.numbers) (length names.last.items) →
     Each (HasKey names) fs → IsKeyOf names name key →
-    is_some (lookup (λ (k : Key). (eq-value).it key k) fs) ≡ is_open (names_of (suspended fs)) name
+    is_some (lookup (λ (k : Key). (eq-value).it key k) fs) ≡ is_name_open (open_names (suspended fs)) name
 found_open names [] name key apart all is = refl
 found_open names (f ∷ fs) name key apart all is =
     some_either (same_key key f.0) f.1 (lookup (same_key key) fs)

@@ -1,10 +1,10 @@
 -- Lesser numbers change an expansion in numbers alone.
 use Rattle.std.proofs.Common.{◌≡◌, ◌∙◌, sym, ap, refl, subst, ℕ, zero, suc, ◌+◌, ◌≤◌, Bool, true, false, ◌||◌, ◌&&◌, cond, List, [], ◌∷◌, ◌++◌, map, length, arith, Option, Some, None, unwrap_or, is_none, codes, Ok, length-append}
-use Rattle.vars_macros.specs.Names.{same_name, is_open, is_lawful}
-use Rattle.vars_macros.specs.Cut.{Piece, End, Plain, Reference, Bad, first_piece, name_of, default_of}
-use Rattle.vars_macros.specs.Meaning.{NodeMacros, Scope, scope_of, Meaning, Fixed, Value, stands_for, assigned_or, last_of, is_launch, is_process}
+use Rattle.vars_macros.specs.Names.{same_name, is_name_open, is_lawful}
+use Rattle.vars_macros.specs.Cut.{Piece, End, Plain, Reference, Bad, first_piece, reference_name, default_of}
+use Rattle.vars_macros.specs.Meaning.{NodeMacros, MacroScope, scope_of, Meaning, Fixed, Value, stands_for, assigned_or, last_macro, is_launch_macro, is_process}
 use Rattle.vars_macros.specs.Expansion.{Event, Wrote, Replaced, Refused, Expander, Expansion, expansion, room, events, events_within, piece_events, reference_events, meaning_events, value_events}
-use Rattle.vars_macros.specs.Defined.{written_in, replaced_in, whole_in, NoneRefused, IsExpansion}
+use Rattle.vars_macros.specs.Defined.{written_in, references_replaced, whole_in, NoneRefused, IsExpansion}
 use Rattle.vars_macros.specs.Numbers.{DifferInNumbers, byte, IsNoLongerNumber, HasLesserNumbers, IsLesserExpansion}
 use Rattle.vars_macros.specs.declared.assignment.Macro.{Macro}
 use Rattle.vars_macros.specs.declared.expanding.Attempt.{Attempt}
@@ -24,7 +24,7 @@ record MeetsLesser (big small : List Event) : Type 0 where
   lawful : NoneRefused big → NoneRefused small
   written : DifferInNumbers (written_in big) (written_in small)
   no_longer : length (written_in small) ≤ length (written_in big)
-  replaced : replaced_in small ≡ replaced_in big
+  replaced : references_replaced small ≡ references_replaced big
   whole : whole_in small ≡ whole_in big
 
 meets_same : (es : List Event) → MeetsLesser es es
@@ -79,20 +79,20 @@ assigned_lesser None m n h = h
 assigned_lesser (Some a) m n h = means_same (Value a.vars a.value)
 
 -- Scopes in which each name stands for the same but for numbers.
-abbrev StandsLesser : Scope → Scope → Type 0
+abbrev StandsLesser : MacroScope → MacroScope → Type 0
 StandsLesser s l = (vars : Bool) (name : List ℕ) (default : Option (List ℕ)) → MeansLesser (stands_for s vars name default) (stands_for l vars name default)
 
-stands_lesser : (small big : Scope) → HasLesserNumbers small big → StandsLesser big small
+stands_lesser : (small big : MacroScope) → HasLesserNumbers small big → StandsLesser big small
 unfolding stands_for
 stands_lesser small big h vars name default =
     let job : MeansLesser (Fixed false big.job) (Fixed false big.job) = means_same (Fixed false big.job) in
     let retry = means_number false small.retry big.retry h.retry in
     rw (h.assigned, h.job)
-    (both_chosen MeansLesser (is_launch name) _ _ _ _ (means_number true small.launch big.launch h.launch)
+    (both_chosen MeansLesser (is_launch_macro name) _ _ _ _ (means_number true small.launch big.launch h.launch)
     (both_chosen MeansLesser (is_process name) _ _ _ _ (means_same (Fixed false (codes "0")))
     (both_chosen MeansLesser (vars && (is_none default && same_name name (codes "JOB"))) _ _ _ _ job
     (both_chosen MeansLesser (vars && (is_none default && same_name name (codes "RETRY"))) _ _ _ _ retry
-    (assigned_lesser (last_of big.assigned name) _ _
+    (assigned_lesser (last_macro big.assigned name) _ _
     (both_chosen MeansLesser (same_name name (codes "JOB")) _ _ _ _ job
     (both_chosen MeansLesser (same_name name (codes "RETRY")) (Fixed false big.retry) (Value vars (unwrap_or default [])) (Fixed false small.retry) (Value vars (unwrap_or default []))
     retry (means_same (Value vars (unwrap_or default []))))))))))
@@ -112,21 +112,21 @@ meaning_meets e f opened name (Fixed whole x) (Fixed other y) gives h =
     subst (λ (b : Bool). MeetsLesser (Replaced whole ∷ map Wrote x) (Replaced b ∷ map Wrote y)) (sym h.0)
     (meets_replaced whole (map Wrote x) (map Wrote y) (meets_plain x y h.1 h.2))
 meaning_meets e f opened name (Value vars x) (Value from y) gives h =
-    subst (λ (b : Bool). MeetsLesser (value_events e opened name vars x (is_open opened name)) (value_events f opened name b y (is_open opened name))) (sym h.0)
-    (subst (λ (t : List ℕ). MeetsLesser (value_events e opened name vars x (is_open opened name)) (value_events f opened name vars t (is_open opened name))) (sym h.1)
-    (value_lesser e f opened name vars x (is_open opened name) gives))
+    subst (λ (b : Bool). MeetsLesser (value_events e opened name vars x (is_name_open opened name)) (value_events f opened name b y (is_name_open opened name))) (sym h.0)
+    (subst (λ (t : List ℕ). MeetsLesser (value_events e opened name vars x (is_name_open opened name)) (value_events f opened name vars t (is_name_open opened name))) (sym h.1)
+    (value_lesser e f opened name vars x (is_name_open opened name) gives))
 meaning_meets e f opened name (Fixed whole x) (Value from y) gives h = absurd h
 meaning_meets e f opened name (Value vars x) (Fixed other y) gives h = absurd h
 
-reference_lesser : (e f : Expander) (s l : Scope) (opened : List (List ℕ)) (vars : Bool) (inside : List ℕ) → GivesLesser e f → StandsLesser s l →
+reference_lesser : (e f : Expander) (s l : MacroScope) (opened : List (List ℕ)) (vars : Bool) (inside : List ℕ) → GivesLesser e f → StandsLesser s l →
     MeetsLesser (reference_events e s opened vars inside) (reference_events f l opened vars inside)
 reference_lesser e f s l opened vars inside gives stands =
-    both_chosen MeetsLesser (is_lawful (name_of inside)) _ _ _ _
-    (meaning_meets e f opened (name_of inside) (stands_for s vars (name_of inside) (default_of inside)) (stands_for l vars (name_of inside) (default_of inside)) gives
-    (stands vars (name_of inside) (default_of inside)))
+    both_chosen MeetsLesser (is_lawful (reference_name inside)) _ _ _ _
+    (meaning_meets e f opened (reference_name inside) (stands_for s vars (reference_name inside) (default_of inside)) (stands_for l vars (reference_name inside) (default_of inside)) gives
+    (stands vars (reference_name inside) (default_of inside)))
     (meets_same (Refused BadReference ∷ []))
 
-piece_lesser : (e f : Expander) (s l : Scope) (opened : List (List ℕ)) (vars : Bool) (p : Piece) → GivesLesser e f → StandsLesser s l →
+piece_lesser : (e f : Expander) (s l : MacroScope) (opened : List (List ℕ)) (vars : Bool) (p : Piece) → GivesLesser e f → StandsLesser s l →
     MeetsLesser (piece_events e s opened vars p) (piece_events f l opened vars p)
 piece_lesser e f s l opened vars End gives stands = meets_same []
 piece_lesser e f s l opened vars (Plain b rest) gives stands = meets_byte b (e opened vars rest) (f opened vars rest) (gives opened vars rest)
@@ -135,18 +135,18 @@ piece_lesser e f s l opened vars (Reference inside rest) gives stands =
     (reference_lesser e f s l opened vars inside gives stands) (gives opened vars rest)
 piece_lesser e f s l opened vars (Bad fault) gives stands = meets_same (Refused fault ∷ [])
 
-within_lesser : (cuts : ℕ) (s l : Scope) → StandsLesser s l → GivesLesser (events_within cuts s) (events_within cuts l)
+within_lesser : (cuts : ℕ) (s l : MacroScope) → StandsLesser s l → GivesLesser (events_within cuts s) (events_within cuts l)
 within_lesser zero s l stands opened vars t = meets_same []
 within_lesser (suc cuts) s l stands opened vars t =
     piece_lesser (events_within cuts s) (events_within cuts l) s l opened vars (first_piece t) (within_lesser cuts s l stands) stands
 
-events_lesser : (small big : Scope) → HasLesserNumbers small big → (opened : List (List ℕ)) (vars : Bool) (t : List ℕ) → MeetsLesser (events big opened vars t) (events small opened vars t)
+events_lesser : (small big : MacroScope) → HasLesserNumbers small big → (opened : List (List ℕ)) (vars : Bool) (t : List ℕ) → MeetsLesser (events big opened vars t) (events small opened vars t)
 unfolding events
 events_lesser small big h opened vars t =
     subst (λ (ms : List Macro). MeetsLesser (events_within (room big.assigned opened + length t) big opened vars t) (events_within (room ms opened + length t) small opened vars t)) (sym h.assigned)
     (within_lesser (room big.assigned opened + length t) big small (stands_lesser small big h) opened vars t)
 
-pub lesser_expansion : (small big : Scope) → HasLesserNumbers small big → (vars : Bool) (t : List ℕ) (e : Expansion) → expansion big vars t ≡ Ok e →
+pub lesser_expansion : (small big : MacroScope) → HasLesserNumbers small big → (vars : Bool) (t : List ℕ) (e : Expansion) → expansion big vars t ≡ Ok e →
     (lesser : Expansion) × (expansion small vars t ≡ Ok lesser) × IsLesserExpansion lesser e
 lesser_expansion small big h vars t e is =
     let big_is = found big vars t e is in

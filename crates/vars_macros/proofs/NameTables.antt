@@ -7,8 +7,8 @@ use Rattle.std.proofs.lemmas.Map.Text.{is_text}
 use Rattle.std.specs.Str.{bytes_eq}
 use Rattle.vars_macros.specs.Each.{Each}
 use Rattle.vars_macros.specs.Names.{lower}
-use Rattle.vars_macros.specs.Numbering.{AreApart}
-use Rattle.vars_macros.specs.NameTable.{number_in, last_at, told_of, HaveSameNumbers, IsGiven, Keeps}
+use Rattle.vars_macros.specs.Numbering.{NumbersAreApart}
+use Rattle.vars_macros.specs.NameTable.{number_of_name, last_at, told_of, HaveSameNumbers, IsGiven, KeepsNumbers}
 use Rattle.vars_macros.specs.Pieces.{IsNamedBy}
 use Rattle.vars_macros.specs.declared.cut.Naming.{Naming}
 use Rattle.vars_macros.specs.declared.cut.Naming.TheVariants.{Numbered, Spelled}
@@ -63,7 +63,7 @@ slice_get_set_other (y ∷ ys) (suc n) (suc m) x other = slice_get_set_other ys 
 same_bytes : (a b : List ℕ) → bytes_eq a b ≡ true → a ≡ b
 same_bytes a b h = (bytes_eq-Decides a b).0 h
 
-pub place_given : (number : List ℕ → Option ℕ) (places : List (Option ℕ)) (key : List ℕ) (n place : ℕ) → AreApart number (length places) →
+pub place_given : (number : List ℕ → Option ℕ) (places : List (Option ℕ)) (key : List ℕ) (n place : ℕ) → NumbersAreApart number (length places) →
     number key ≡ Some n → (name : List ℕ) →
     last_at (slice_set places n (Some place)) (number name) ≡ cond (bytes_eq key name) (Some place) (last_at places (number name))
 place_given number places key n place apart at name = by_same (bytes_eq key name) refl (number name) refl
@@ -84,7 +84,7 @@ place_given number places key n place apart at name = by_same (bytes_eq key name
         false≢true (sym e ∙ eq)))
 
 -- A name gets the number behind all others.
-pub apart_given : (before after : List ℕ → Option ℕ) (key : List ℕ) (count : ℕ) → AreApart before count → IsGiven before after key count → AreApart after (count + 1)
+pub apart_given : (before after : List ℕ → Option ℕ) (key : List ℕ) (count : ℕ) → NumbersAreApart before count → IsGiven before after key count → NumbersAreApart after (count + 1)
 apart_given before after key count apart given = record {
   within = λ name n is. within_by name n (bytes_eq key name) (sym (given name) ∙ is);
   apart = λ a b n a_is b_is. apart_by a b n (bytes_eq key a) refl (bytes_eq key b) refl (sym (given a) ∙ a_is) (sym (given b) ∙ b_is);
@@ -116,52 +116,52 @@ no_place : (places : List (Option ℕ)) → last_at places (Some (length places)
 no_place [] = refl
 no_place (p ∷ ps) = no_place ps
 
-pub keeps_itself : (names : Names) → Keeps names names
+pub keeps_itself : (names : Names) → KeepsNumbers names names
 keeps_itself names = record { numbers = λ key n is. is; places = λ key. refl }
 
-pub keeps_on : (a b c : Names) → Keeps a b → Keeps b c → Keeps a c
+pub keeps_on : (a b c : Names) → KeepsNumbers a b → KeepsNumbers b c → KeepsNumbers a c
 keeps_on a b c first then = record {
   numbers = λ key n is. then.numbers key n (first.numbers key n is);
   places = λ key. then.places key ∙ first.places key;
 }
 
 -- one place more alone
-pub keeps_room : (old new : Names) → ((key : List ℕ) → number_in new key ≡ number_in old key) → new.last.items ≡ old.last.items ++ None ∷ [] → Keeps old new
+pub keeps_room : (old new : Names) → ((key : List ℕ) → number_of_name new key ≡ number_of_name old key) → new.last.items ≡ old.last.items ++ None ∷ [] → KeepsNumbers old new
 keeps_room old new same room = record {
   numbers = λ key n is. same key ∙ is;
-  places = λ key. ap (λ (ps : List (Option ℕ)). last_at ps (number_in new key)) room ∙ place_push old.last.items (number_in new key) ∙ ap (last_at old.last.items) (same key);
+  places = λ key. ap (λ (ps : List (Option ℕ)). last_at ps (number_of_name new key)) room ∙ place_push old.last.items (number_of_name new key) ∙ ap (last_at old.last.items) (same key);
 }
 
-pub keeps_given : (old new : Names) (key : List ℕ) → number_in old key ≡ None → IsGiven (number_in old) (number_in new) key (length old.last.items) →
-    new.last.items ≡ old.last.items ++ None ∷ [] → Keeps old new
+pub keeps_given : (old new : Names) (key : List ℕ) → number_of_name old key ≡ None → IsGiven (number_of_name old) (number_of_name new) key (length old.last.items) →
+    new.last.items ≡ old.last.items ++ None ∷ [] → KeepsNumbers old new
 keeps_given old new key none given room = record {
   numbers = λ name n is. given name ∙ by_same name n (bytes_eq key name) refl is;
-  places = λ name. ap (λ (ps : List (Option ℕ)). last_at ps (number_in new name)) room ∙ place_push old.last.items (number_in new name)
+  places = λ name. ap (λ (ps : List (Option ℕ)). last_at ps (number_of_name new name)) room ∙ place_push old.last.items (number_of_name new name)
       ∙ ap (last_at old.last.items) (given name) ∙ by_place name (bytes_eq key name) refl;
 }
   where
-    by_same : (name : List ℕ) (n : ℕ) (same : Bool) → bytes_eq key name ≡ same → number_in old name ≡ Some n → cond same (Some (length old.last.items)) (number_in old name) ≡ Some n
+    by_same : (name : List ℕ) (n : ℕ) (same : Bool) → bytes_eq key name ≡ same → number_of_name old name ≡ Some n → cond same (Some (length old.last.items)) (number_of_name old name) ≡ Some n
     by_same name n true e is =
-        let never : None ≡ Some n = sym none ∙ ap (number_in old) (same_bytes key name e) ∙ is in absurd cc
+        let never : None ≡ Some n = sym none ∙ ap (number_of_name old) (same_bytes key name e) ∙ is in absurd cc
     by_same name n false e is = is
 
     by_place : (name : List ℕ) (same : Bool) → bytes_eq key name ≡ same →
-        last_at old.last.items (cond same (Some (length old.last.items)) (number_in old name)) ≡ last_at old.last.items (number_in old name)
-    by_place name true e = no_place old.last.items ∙ ap (last_at old.last.items) (sym none ∙ ap (number_in old) (same_bytes key name e))
+        last_at old.last.items (cond same (Some (length old.last.items)) (number_of_name old name)) ≡ last_at old.last.items (number_of_name old name)
+    by_place name true e = no_place old.last.items ∙ ap (last_at old.last.items) (sym none ∙ ap (number_of_name old) (same_bytes key name e))
     by_place name false e = refl
 
 -- The same numbers are below one more.
-pub apart_below : (before after : List ℕ → Option ℕ) (count : ℕ) → AreApart before count → ((name : List ℕ) → after name ≡ before name) → AreApart after (count + 1)
+pub apart_below : (before after : List ℕ → Option ℕ) (count : ℕ) → NumbersAreApart before count → ((name : List ℕ) → after name ≡ before name) → NumbersAreApart after (count + 1)
 apart_below before after count apart same = record {
   within = λ name n is. omega (arith, apart.within name n (sym (same name) ∙ is));
   apart = λ a b n a_is b_is. apart.apart a b n (sym (same a) ∙ a_is) (sym (same b) ∙ b_is);
 }
 
 -- the numbers of a table with the same entries
-pub same_entries : (old new : Names) → new.numbers.entries ≡ old.numbers.entries → (key : List ℕ) → number_in new key ≡ number_in old key
+pub same_entries : (old new : Names) → new.numbers.entries ≡ old.numbers.entries → (key : List ℕ) → number_of_name new key ≡ number_of_name old key
 same_entries old new same key = ap (lookup (is_text key)) same
 
 -- A name that is known by one table is known by another with the same numbers.
 pub named_alike : (a b : Names) (name other : List ℕ) (naming : Naming) → HaveSameNumbers a b → name ≡ other → IsNamedBy a name naming → IsNamedBy b other naming
-named_alike a b name other (Numbered n) same is known = sym (same (lower other)) ∙ ap (λ (t : List ℕ). number_in a (lower t)) (sym is) ∙ known
+named_alike a b name other (Numbered n) same is known = sym (same (lower other)) ∙ ap (λ (t : List ℕ). number_of_name a (lower t)) (sym is) ∙ known
 named_alike a b name other (Spelled text) same is known = known ∙ is

@@ -5,8 +5,8 @@ use Rattle.std.proofs.lemmas.Bool.Decides.{nat_tests}
 use Rattle.std.proofs.lemmas.List.{drop-take, drop-drop, take-append-drop, append-nil}
 use Rattle.std.specs.List.{list_all, position_or_len}
 use Rattle.vars_macros.specs.Names.{lower, is_lawful, is_name_byte}
-use Rattle.vars_macros.specs.Cut.{begins_with, name_of, default_of, colon_in, before, behind}
-use Rattle.vars_macros.specs.NameTable.{number_in, Keeps}
+use Rattle.vars_macros.specs.Cut.{begins_with, reference_name, default_of, colon_in, before, rest_behind}
+use Rattle.vars_macros.specs.NameTable.{number_of_name, KeepsNumbers}
 use Rattle.vars_macros.specs.NamePlaces.{AreNamesOf, AreNamesIn, IsNameOf}
 use Rattle.vars_macros.specs.declared.naming.Name.{Name}
 use Rattle.vars_macros.specs.declared.numbering.Names.{Names}
@@ -48,18 +48,18 @@ names_in_first names start n part table fits are k name at within =
     record {
       within = omega (arith, within, length-drop k (take n part));
       lawful = ap is_lawful cut ∙ base.lawful;
-      numbered = ap (λ (t : List ℕ). number_in names (lower t)) cut ∙ base.numbered;
+      numbered = ap (λ (t : List ℕ). number_of_name names (lower t)) cut ∙ base.numbered;
     }
 
 -- Tables.
-pub name_kept : (old new : Names) (text : List ℕ) (name : Name) → Keeps old new → IsNameOf old text name → IsNameOf new text name
+pub name_kept : (old new : Names) (text : List ℕ) (name : Name) → KeepsNumbers old new → IsNameOf old text name → IsNameOf new text name
 name_kept old new text name keeps is = record {
   within = is.within;
   lawful = is.lawful;
   numbered = keeps.numbers (lower (take name.len text)) name.number is.numbered;
 }
 
-pub names_kept : (old new : Names) (text : List ℕ) (table : ℕ → Option Name) → Keeps old new → AreNamesOf old text table → AreNamesOf new text table
+pub names_kept : (old new : Names) (text : List ℕ) (table : ℕ → Option Name) → KeepsNumbers old new → AreNamesOf old text table → AreNamesOf new text table
 names_kept old new text table keeps are at name is = name_kept old new (drop at text) name keeps (are at name is)
 
 pub one_name_more : (names : Names) (text : List ℕ) (table after : ℕ → Option Name) (at : ℕ) (name : Name) → AreNamesOf names text table →
@@ -132,24 +132,24 @@ colon_first [] h = absurd (false≢true h)
 colon_first (b ∷ bs) h = ap (λ (c : ℕ). c ∷ bs) (eqb-true b 58 h)
 
 -- Nothing is behind the name.
-pub named_whole : (text : List ℕ) (n : ℕ) → is_lawful (take n text) ≡ true → drop n text ≡ [] → (take n text ≡ name_of text) × (None ≡ default_of text)
+pub named_whole : (text : List ℕ) (n : ℕ) → is_lawful (take n text) ≡ true → drop n text ≡ [] → (take n text ≡ reference_name text) × (None ≡ default_of text)
 named_whole text n lawful none =
     let whole : take n text ≡ text = sym (append-nil (take n text)) ∙ ap (λ (rest : List ℕ). take n text ++ rest) (sym none) ∙ take-append-drop n text in
     let colon : colon_in text ≡ None = ap colon_in (sym whole) ∙ no_colon (take n text) (lawful_bytes (take n text) lawful) in
-    (whole ∙ ap (λ (o : Option ℕ). before o text) (sym colon), ap (λ (o : Option ℕ). behind o text) (sym colon))
+    (whole ∙ ap (λ (o : Option ℕ). before o text) (sym colon), ap (λ (o : Option ℕ). rest_behind o text) (sym colon))
 
 -- A colon is behind it, and then the default.
 pub named_before : (text rest : List ℕ) (n : ℕ) → n ≤ length text → is_lawful (take n text) ≡ true → drop n text ≡ 58 ∷ rest →
-    (take n text ≡ name_of text) × (Some (drop (n + 1) text) ≡ default_of text)
+    (take n text ≡ reference_name text) × (Some (drop (n + 1) text) ≡ default_of text)
 named_before text rest n within lawful next =
     let parts : take n text ++ 58 ∷ rest ≡ text = ap (λ (more : List ℕ). take n text ++ more) (sym next) ∙ take-append-drop n text in
     let count : length (take n text) ≡ n = omega (arith, length-take n text) in
     let colon : colon_in text ≡ Some n = ap colon_in (sym parts) ∙ colon_next (take n text) rest (lawful_bytes (take n text) lawful) ∙ ap Some count in
-    (ap (λ (o : Option ℕ). before o text) (sym colon), ap (λ (o : Option ℕ). behind o text) (sym colon))
+    (ap (λ (o : Option ℕ). before o text) (sym colon), ap (λ (o : Option ℕ). rest_behind o text) (sym colon))
 
 -- the name that the code cuts off
 pub name_ahead : (names : Names) (text name : List ℕ) (n : ℕ) (found : Name) → n ≤ length text → Some name ≡ cond (is_lawful (take n text)) (Some (take n text)) None →
-    found.len ≡ length name → number_in names (lower name) ≡ Some found.number → IsNameOf names text found
+    found.len ≡ length name → number_of_name names (lower name) ≡ Some found.number → IsNameOf names text found
 name_ahead names text name n found within is count numbered = by_lawful (is_lawful (take n text)) refl is
   where
     by_lawful : (b : Bool) → is_lawful (take n text) ≡ b → Some name ≡ cond b (Some (take n text)) None → IsNameOf names text found
@@ -161,5 +161,5 @@ name_ahead names text name n found within is count numbered = by_lawful (is_lawf
         record {
           within = omega (arith, len);
           lawful = ap is_lawful cut ∙ holds;
-          numbered = ap (λ (t : List ℕ). number_in names (lower t)) (cut ∙ sym same) ∙ numbered;
+          numbered = ap (λ (t : List ℕ). number_of_name names (lower t)) (cut ∙ sym same) ∙ numbered;
         }

@@ -5,7 +5,7 @@ use Rattle.std.proofs.lemmas.Option.{slice_get-get_or, slice_get-map}
 use Rattle.std.specs.Str.{bytes_eq}
 use Rattle.vars_macros.specs.NameTable.{IsGiven}
 use Rattle.vars_macros.specs.Names.{lower, same_name}
-use Rattle.vars_macros.specs.Meaning.{last_from, last_of}
+use Rattle.vars_macros.specs.Meaning.{last_from, last_macro}
 use Rattle.vars_macros.specs.Places.{macros_in, at_place, GivesLast}
 use Rattle.vars_macros.specs.declared.assignment.Macro.{Macro}
 use Rattle.vars_macros.specs.declared.assignment.Assigned.{Assigned}
@@ -50,11 +50,11 @@ gives_none table none = record {
 
 -- what is found
 pub found_last : (table : List ℕ → Option ℕ) (all : List Assigned) (name : List ℕ) (k : ℕ) → GivesLast table (macros_in all) → table (lower name) ≡ Some k →
-    option_map (λ (a : Assigned). a.one) (slice_get all k) ≡ last_of (macros_in all) name
+    option_map (λ (a : Assigned). a.one) (slice_get all k) ≡ last_macro (macros_in all) name
 found_last table all name k gives is =
     sym (slice_get-map (λ (a : Assigned). a.one) all k) ∙ ap (at_place (macros_in all)) (sym is) ∙ gives.last name
 
-pub found_none : (table : List ℕ → Option ℕ) (ms : List Macro) (name : List ℕ) → GivesLast table ms → table (lower name) ≡ None → None ≡ last_of ms name
+pub found_none : (table : List ℕ → Option ℕ) (ms : List Macro) (name : List ℕ) → GivesLast table ms → table (lower name) ≡ None → None ≡ last_macro ms name
 found_none table ms name gives is = ap (at_place ms) (sym is) ∙ gives.last name
 
 pub place_within : (table : List ℕ → Option ℕ) (all : List Assigned) (name : List ℕ) (k : ℕ) → GivesLast table (macros_in all) → table name ≡ Some k → k < length all

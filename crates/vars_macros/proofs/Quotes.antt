@@ -1,7 +1,7 @@
 -- Groups that are not closed.
 use Rattle.std.proofs.Common.{◌≡◌, ◌∙◌, ap, refl, ℕ, ◌<◌, Bool, true, false, List, [], ◌∷◌, length, arith, Ok, Err}
 use Rattle.vars_macros.specs.Symbols.{gathered, is_escape, old_symbol, old_symbols, is_pair, new_symbol, grouped_after, new_symbols}
-use Rattle.vars_macros.specs.Gathered.{Gathering, closed}
+use Rattle.vars_macros.specs.Gathered.{Gathering, word_closed}
 use Rattle.vars_macros.specs.declared.words.Symbol.{Symbol}
 use Rattle.vars_macros.specs.declared.fault.MacroFault.TheVariants.{BadQuote}
 
@@ -12,12 +12,12 @@ open_group g paired false [] is short = cc
 open_group g paired grouped (b ∷ bs) is short = absurd (omega arith)
 
 -- At the end the word that has begun is over.
-pub old_over : (g : Gathering) (escaped : Bool) (rest : List ℕ) → length rest < 1 → gathered g (old_symbols escaped rest) ≡ Ok (closed g).words
+pub old_over : (g : Gathering) (escaped : Bool) (rest : List ℕ) → length rest < 1 → gathered g (old_symbols escaped rest) ≡ Ok (word_closed g).words
 unfolding gathered
 old_over g escaped [] short = refl
 old_over g escaped (b ∷ bs) short = absurd (omega arith)
 
-pub new_over : (g : Gathering) (paired grouped : Bool) (rest : List ℕ) → grouped ≡ false → length rest < 1 → gathered g (new_symbols paired grouped rest) ≡ Ok (closed g).words
+pub new_over : (g : Gathering) (paired grouped : Bool) (rest : List ℕ) → grouped ≡ false → length rest < 1 → gathered g (new_symbols paired grouped rest) ≡ Ok (word_closed g).words
 unfolding gathered
 new_over g paired true [] is short = cc
 new_over g paired false [] is short = refl

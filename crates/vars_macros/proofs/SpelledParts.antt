@@ -3,7 +3,7 @@ use Rattle.std.proofs.Common.{◌≡◌, ◌∙◌, sym, ap, refl, subst, ℕ, z
 use Rattle.std.proofs.lemmas.Bool.{eqb-true, and_parts}
 use Rattle.vars_macros.specs.Cut.{begins_with}
 use Rattle.vars_macros.specs.Symbols.{gathered, is_pair, new_symbol, grouped_after, new_symbols, is_escape, old_symbol, old_symbols}
-use Rattle.vars_macros.specs.ArgumentGrammar.{is_blank}
+use Rattle.vars_macros.specs.ArgumentGrammar.{is_space_or_tab}
 use Rattle.vars_macros.specs.Gathered.{Gathering}
 use Rattle.vars_macros.specs.declared.words.Symbol.{Symbol}
 use Rattle.vars_macros.specs.declared.words.Symbol.TheVariants.{Letter, Mark, Gap, Broken}
@@ -134,7 +134,7 @@ group_found (suc n) (b ∷ bs) short ws out w h =
     at_byte n ws out (λ text less v is. group_found n text less ws out v is) b bs w (b == 34) (b == 39) refl refl (omega arith) h
 
 -- New style.
-outside : (b : ℕ) (rest : List ℕ) → is_blank b ≡ false → (b == 34) ≡ false → (b == 39) ≡ false → new_symbols false false (b ∷ rest) ≡ Letter b ∷ new_symbols false false rest
+outside : (b : ℕ) (rest : List ℕ) → is_space_or_tab b ≡ false → (b == 34) ≡ false → (b == 39) ≡ false → new_symbols false false (b ∷ rest) ≡ Letter b ∷ new_symbols false false rest
 unfolding is_pair new_symbol grouped_after
 outside b rest other d s = rw (d, s, other) refl
 
@@ -147,7 +147,7 @@ new_read (new_double_quote {rest = rest}) ws w begun = ap (gathered (gathering w
 new_read (new_group {text = text} inside) ws w begun =
     ap (gathered (gathering ws w begun)) (opens text) ∙ mark ws w begun (new_symbols false true text) ∙ group_read inside ws w
 
-new_found : (b : ℕ) (bs : List ℕ) → is_blank b ≡ false → (ws : List (List ℕ)) (w : List ℕ) (begun : Bool) (out : List (List ℕ)) →
+new_found : (b : ℕ) (bs : List ℕ) → is_space_or_tab b ≡ false → (ws : List (List ℕ)) (w : List ℕ) (begun : Bool) (out : List (List ℕ)) →
     gathered (gathering ws w begun) (new_symbols false false (b ∷ bs)) ≡ Ok out → IsFound SpellsNewPart (b ∷ bs)
 new_found b bs other ws w begun out h = by_byte (b == 34) (b == 39) refl refl
   where
@@ -170,7 +170,7 @@ new_found b bs other ws w begun out h = by_byte (b == 34) (b == 39) refl refl
         subst (λ (c : ℕ). IsFound SpellsNewPart (c ∷ bs)) (sym is) (single (subst (λ (c : ℕ). gathered (gathering ws w begun) (new_symbols false false (c ∷ bs)) ≡ Ok out) is h))
     by_byte false false d s = (b ∷ [], bs, new_byte b other (no_quote b d s), omega arith)
 
-new_blank : (b : ℕ) (rest : List ℕ) → is_blank b ≡ true → new_symbols false false (b ∷ rest) ≡ Gap ∷ new_symbols false false rest
+new_blank : (b : ℕ) (rest : List ℕ) → is_space_or_tab b ≡ true → new_symbols false false (b ∷ rest) ≡ Gap ∷ new_symbols false false rest
 unfolding is_pair new_symbol grouped_after
 new_blank b rest is = by_blank (λ (c : ℕ). new_symbols false false (c ∷ rest) ≡ Gap ∷ new_symbols false false rest) refl refl b is
 
@@ -182,7 +182,7 @@ escape : (rest : List ℕ) → old_symbols false (92 ∷ 34 ∷ rest) ≡ Letter
 unfolding is_escape old_symbol
 escape rest = refl
 
-other_byte : (b : ℕ) (rest : List ℕ) → is_blank b ≡ false → (b == 92 && begins_with 34 rest) ≡ false → old_symbols false (b ∷ rest) ≡ Letter b ∷ old_symbols false rest
+other_byte : (b : ℕ) (rest : List ℕ) → is_space_or_tab b ≡ false → (b == 92 && begins_with 34 rest) ≡ false → old_symbols false (b ∷ rest) ≡ Letter b ∷ old_symbols false rest
 unfolding is_escape old_symbol
 other_byte b rest other no_escape = rw (no_escape, other) refl
 
@@ -192,7 +192,7 @@ old_read (old_double_quote {rest = rest}) ws w begun = ap (gathered (gathering w
 old_read (old_byte {rest = rest} b other no_escape) ws w begun =
     ap (gathered (gathering ws w begun)) (other_byte b rest other no_escape) ∙ letter ws w begun b (old_symbols false rest)
 
-old_part : (b : ℕ) (bs : List ℕ) → is_blank b ≡ false → IsFound SpellsOldPart (b ∷ bs)
+old_part : (b : ℕ) (bs : List ℕ) → is_space_or_tab b ≡ false → IsFound SpellsOldPart (b ∷ bs)
 old_part b bs other = by_escape (b == 92 && begins_with 34 bs) refl
   where
     by_escape : (t : Bool) → (b == 92 && begins_with 34 bs) ≡ t → IsFound SpellsOldPart (b ∷ bs)
@@ -201,7 +201,7 @@ old_part b bs other = by_escape (b == 92 && begins_with 34 bs) refl
         rw (eqb-true b 92 p.0) (subst (λ (x : List ℕ). IsFound SpellsOldPart (92 ∷ x)) (sym (begins_is 34 bs p.1)) (34 ∷ [], drop 1 bs, old_double_quote, omega arith))
     by_escape false e = (b ∷ [], bs, old_byte b other e, omega arith)
 
-old_blank : (b : ℕ) (rest : List ℕ) → is_blank b ≡ true → old_symbols false (b ∷ rest) ≡ Gap ∷ old_symbols false rest
+old_blank : (b : ℕ) (rest : List ℕ) → is_space_or_tab b ≡ true → old_symbols false (b ∷ rest) ≡ Gap ∷ old_symbols false rest
 unfolding is_escape old_symbol
 old_blank b rest is = by_blank (λ (c : ℕ). old_symbols false (c ∷ rest) ≡ Gap ∷ old_symbols false rest) refl refl b is
 

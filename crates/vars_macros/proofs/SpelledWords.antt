@@ -2,7 +2,7 @@
 use Rattle.std.proofs.Common.{◌≡◌, ◌∙◌, sym, ap, refl, subst, ℕ, zero, suc, ◌<◌, ◌≤◌, ◌==◌, Bool, true, false, ◌||◌, List, [], ◌∷◌, ◌++◌, length, arith, Ok, append_assoc, append-nil}
 use Rattle.std.proofs.lemmas.Bool.{eqb-true}
 use Rattle.vars_macros.specs.Symbols.{gathered}
-use Rattle.vars_macros.specs.ArgumentGrammar.{is_blank}
+use Rattle.vars_macros.specs.ArgumentGrammar.{is_space_or_tab}
 use Rattle.vars_macros.specs.Gathered.{Gathering}
 use Rattle.vars_macros.specs.declared.words.Symbol.{Symbol}
 use Rattle.vars_macros.specs.declared.words.Symbol.TheVariants.{Gap}
@@ -19,14 +19,14 @@ IsFound Spells text = (bytes : List ℕ) × (rest : List ℕ) × Spells text byt
 -- The symbols of a style are those of its parts and blanks, and none where the text is over.
 pub record AreSymbolsOf (Part : List ℕ → List ℕ → List ℕ → Type 0) (symbols : List ℕ → List Symbol) : Type 0 where
   pub at_end : symbols [] ≡ []
-  pub at_blank : (b : ℕ) (rest : List ℕ) → is_blank b ≡ true → symbols (b ∷ rest) ≡ Gap ∷ symbols rest
+  pub at_blank : (b : ℕ) (rest : List ℕ) → is_space_or_tab b ≡ true → symbols (b ∷ rest) ≡ Gap ∷ symbols rest
   pub at_part : {text bytes rest : List ℕ} → Part text bytes rest → (ws : List (List ℕ)) (w : List ℕ) (begun : Bool) →
       gathered (gathering ws w begun) (symbols text) ≡ gathered (gathering ws (w ++ bytes) true) (symbols rest)
-  pub found : (b : ℕ) (bs : List ℕ) → is_blank b ≡ false → (ws : List (List ℕ)) (w : List ℕ) (begun : Bool) (out : List (List ℕ)) →
+  pub found : (b : ℕ) (bs : List ℕ) → is_space_or_tab b ≡ false → (ws : List (List ℕ)) (w : List ℕ) (begun : Bool) (out : List (List ℕ)) →
       gathered (gathering ws w begun) (symbols (b ∷ bs)) ≡ Ok out → IsFound Part (b ∷ bs)
 
 -- a blank is a space or a tab
-pub by_blank : (P : ℕ → Type 0) → P 32 → P 9 → (b : ℕ) → is_blank b ≡ true → P b
+pub by_blank : (P : ℕ → Type 0) → P 32 → P 9 → (b : ℕ) → is_space_or_tab b ≡ true → P b
 by_blank P space tab b is = by_byte (b == 32) refl
   where
     by_byte : (t : Bool) → (b == 32) ≡ t → P b
@@ -84,7 +84,7 @@ module _ (Part : List ℕ → List ℕ → List ℕ → Type 0) (symbols : List 
 
   -- a word that begins a shorter text
   IsWordFoundBelow : ℕ → List (List ℕ) → List (List ℕ) → Type 0
-  IsWordFoundBelow n ws out = (b : ℕ) (bs : List ℕ) → length bs < n → is_blank b ≡ false → (w : List ℕ) →
+  IsWordFoundBelow n ws out = (b : ℕ) (bs : List ℕ) → length bs < n → is_space_or_tab b ≡ false → (w : List ℕ) →
       gathered (gathering ws w true) (symbols (b ∷ bs)) ≡ Ok out → IsWordFound (b ∷ bs)
 
   -- a part that begins a text, and what its word has behind it
@@ -92,15 +92,15 @@ module _ (Part : List ℕ → List ℕ → List ℕ → Type 0) (symbols : List 
       (ws : List (List ℕ)) (w : List ℕ) (out : List (List ℕ)) → IsWordFoundBelow n ws out → gathered (gathering ws w true) (symbols rest) ≡ Ok out → IsWordFound text
   unfolding IsWordFound IsWordFoundBelow
   from_part n text bytes [] short p less ws w out below h = (bytes, [], last_part p, less, refl)
-  from_part n text bytes (c ∷ cs) short p less ws w out below h = by_byte (is_blank c) refl
+  from_part n text bytes (c ∷ cs) short p less ws w out below h = by_byte (is_space_or_tab c) refl
     where
-      by_byte : (t : Bool) → is_blank c ≡ t → IsWordFound text
+      by_byte : (t : Bool) → is_space_or_tab c ≡ t → IsWordFound text
       by_byte true e = (bytes, c ∷ cs, last_part p, less, e)
       by_byte false e =
           let further : IsWordFound (c ∷ cs) = below c cs (omega arith) e w h in
           (bytes ++ further.0, further.1, part p further.2, omega (arith, further.3), further.4)
 
-  word_found : (n b : ℕ) (bs : List ℕ) → length bs < n → is_blank b ≡ false → (ws : List (List ℕ)) (w : List ℕ) (begun : Bool) (out : List (List ℕ)) →
+  word_found : (n b : ℕ) (bs : List ℕ) → length bs < n → is_space_or_tab b ≡ false → (ws : List (List ℕ)) (w : List ℕ) (begun : Bool) (out : List (List ℕ)) →
       gathered (gathering ws w begun) (symbols (b ∷ bs)) ≡ Ok out → IsWordFound (b ∷ bs)
   unfolding IsWordFoundBelow
   word_found zero b bs short other ws w begun out h = absurd (omega arith)
@@ -117,14 +117,14 @@ module _ (Part : List ℕ → List ℕ → List ℕ → Type 0) (symbols : List 
   AreFoundBelow : ℕ → List (List ℕ) → Type 0
   AreFoundBelow n out = (text : List ℕ) → length text < n → (ws : List (List ℕ)) → gathered (gathering ws [] false) (symbols text) ≡ Ok out → AreFound text ws out
 
-  from_blank : (n b : ℕ) (bs : List ℕ) (ws out : List (List ℕ)) → length (b ∷ bs) < suc n → is_blank b ≡ true → AreFoundBelow n out →
+  from_blank : (n b : ℕ) (bs : List ℕ) (ws out : List (List ℕ)) → length (b ∷ bs) < suc n → is_space_or_tab b ≡ true → AreFoundBelow n out →
       gathered (gathering ws [] false) (symbols (b ∷ bs)) ≡ Ok out → AreFound (b ∷ bs) ws out
   unfolding AreFound AreFoundBelow
   from_blank n b bs ws out short is below h =
       let p = below bs (omega arith) ws (sym (further_gap ws (symbols bs)) ∙ ap (gathered (gathering ws [] false)) (sym (are.at_blank b bs is)) ∙ h) in
       (p.0, p.1, blank b is p.2)
 
-  from_word : (n b : ℕ) (bs : List ℕ) (ws out : List (List ℕ)) → length (b ∷ bs) < suc n → is_blank b ≡ false → AreFoundBelow n out →
+  from_word : (n b : ℕ) (bs : List ℕ) (ws out : List (List ℕ)) → length (b ∷ bs) < suc n → is_space_or_tab b ≡ false → AreFoundBelow n out →
       gathered (gathering ws [] false) (symbols (b ∷ bs)) ≡ Ok out → AreFound (b ∷ bs) ws out
   unfolding AreFound IsWordFound AreFoundBelow
   from_word n b bs ws out short other below h =
@@ -139,9 +139,9 @@ module _ (Part : List ℕ → List ℕ → List ℕ → Type 0) (symbols : List 
       let same : Ok ws ≡ Ok out = sym (nothing ws) ∙ ap (gathered (gathering ws [] false)) (sym are.at_end) ∙ h in
       let is : out ≡ ws = cc in
       ([], is ∙ sym (append-nil ws), end)
-  all_found (suc n) (b ∷ bs) short ws out h = by_byte (is_blank b) refl (λ text less vs is. all_found n text less vs out is)
+  all_found (suc n) (b ∷ bs) short ws out h = by_byte (is_space_or_tab b) refl (λ text less vs is. all_found n text less vs out is)
     where
-      by_byte : (t : Bool) → is_blank b ≡ t → AreFoundBelow n out → AreFound (b ∷ bs) ws out
+      by_byte : (t : Bool) → is_space_or_tab b ≡ t → AreFoundBelow n out → AreFound (b ∷ bs) ws out
       by_byte true e below = from_blank n b bs ws out short e below h
       by_byte false e below = from_word n b bs ws out short e below h
 

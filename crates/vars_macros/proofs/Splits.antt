@@ -9,7 +9,7 @@ use Rattle.vars_macros.specs.declared.fault.MacroFault.{MacroFault}
 use Rattle.vars_macros.specs.declared.fault.MacroFault.TheVariants.{Unclosed, Loop, TooLong, BadQuote, BadReference, Memory}
 use Rattle.vars_macros.specs.declared.words.Symbol.{Symbol}
 use Rattle.vars_macros.specs.declared.words.Symbol.TheVariants.{Letter, Mark, Gap, Broken}
-use Rattle.vars_macros.specs.Symbols.{gathered, new_symbols, old_symbols, is_byte, is_last, arguments}
+use Rattle.vars_macros.specs.Symbols.{gathered, new_symbols, old_symbols, is_byte, ends_with_byte, arguments}
 use Rattle.vars_macros.proofs.SpelledWords.{words_read, words_found}
 use Rattle.vars_macros.proofs.SpelledParts.{broken, new_symbols_are, old_symbols_are}
 use Rattle.vars_macros.proofs.WordsAlike as texts
@@ -62,10 +62,10 @@ last_so : (o : Option ℕ) → unwrap_or (option_map (λ b. b == 34) o) false �
 last_so None = refl
 last_so (Some b) = refl
 
-pub is_last_so : (t : Bool) (behind : List ℕ) → t ≡ unwrap_or (option_map (λ b. b == 34) (slice_get behind (length behind - 1))) false → t ≡ is_last 34 behind
+pub is_last_so : (t : Bool) (behind : List ℕ) → t ≡ unwrap_or (option_map (λ b. b == 34) (slice_get behind (length behind - 1))) false → t ≡ ends_with_byte 34 behind
 is_last_so t behind h = h ∙ last_so (slice_get behind (length behind - 1))
 
-pub quoted_split : (behind : List ℕ) (r : Result (List (List ℕ)) MacroFault) → is_last 34 behind ≡ true → IsSplit (SpellsWords SpellsNewPart (take (length behind - 1) behind)) r → IsSplit (SpellsArguments (34 ∷ behind)) r
+pub quoted_split : (behind : List ℕ) (r : Result (List (List ℕ)) MacroFault) → ends_with_byte 34 behind ≡ true → IsSplit (SpellsWords SpellsNewPart (take (length behind - 1) behind)) r → IsSplit (SpellsArguments (34 ∷ behind)) r
 quoted_split behind r e h =
     let front = take (length behind - 1) behind in
     let split = last_splits 34 behind e in
@@ -74,13 +74,13 @@ quoted_split behind r e h =
     (λ words spells. words_found SpellsNewPart (new_symbols false false) new_symbols_are front words
     (ap (gathered no_words) (sym (quoted_front front)) ∙ only (34 ∷ (front ++ 34 ∷ [])) words spells)) h)
 
-pub open_quote : (behind : List ℕ) → is_last 34 behind ≡ false → IsSplit (SpellsArguments (34 ∷ behind)) (Err BadQuote)
+pub open_quote : (behind : List ℕ) → ends_with_byte 34 behind ≡ false → IsSplit (SpellsArguments (34 ∷ behind)) (Err BadQuote)
 open_quote behind e =
     let front = take (length behind - 1) behind in
     inr (
       refl,
       λ words spells. broken no_words [] words
-          (ap (gathered no_words) (sym (cond-false (is_last 34 behind) (new_symbols false false front) (Broken ∷ []) e)) ∙ only (34 ∷ behind) words spells),
+          (ap (gathered no_words) (sym (cond-false (ends_with_byte 34 behind) (new_symbols false false front) (Broken ∷ []) e)) ∙ only (34 ∷ behind) words spells),
     )
 
 -- A text that begins with none is old style.

@@ -3,7 +3,7 @@ use Rattle.std.proofs.Common.{◌≡◌, ◌∙◌, sym, ap, subst, refl, ℕ, B
 use Rattle.std.specs.Str.{IsUtf8}
 use Rattle.vars_macros.specs.Answers.{Fails}
 use Rattle.vars_macros.specs.Cut.{begins_with}
-use Rattle.vars_macros.specs.ArgumentGrammar.{is_blank}
+use Rattle.vars_macros.specs.ArgumentGrammar.{is_space_or_tab}
 use Rattle.vars_macros.specs.Gathered.{Gathering, taken}
 use Rattle.vars_macros.specs.declared.fault.MacroFault.{MacroFault}
 use Rattle.vars_macros.specs.declared.fault.MacroFault.TheVariants.{Unclosed, Loop, TooLong, BadQuote, BadReference, Memory}
@@ -57,7 +57,7 @@ unfolding is_pair
 pair_so t grouped b bs h = h
 
 pub new_so : (s : Symbol) (grouped : Bool) (b : ℕ) (bs : List ℕ) →
-    s ≡ cond ((b == 34 || (b == 39 && grouped)) && begins_with b bs) (Letter b) (cond (b == 34) Broken (cond (b == 39) Mark (cond (is_blank b && not grouped) Gap (Letter b)))) →
+    s ≡ cond ((b == 34 || (b == 39 && grouped)) && begins_with b bs) (Letter b) (cond (b == 34) Broken (cond (b == 39) Mark (cond (is_space_or_tab b && not grouped) Gap (Letter b)))) →
     s ≡ new_symbol grouped b bs
 unfolding is_pair new_symbol
 new_so s grouped b bs h = h
@@ -71,6 +71,6 @@ pub escape_so : (t : Bool) (b : ℕ) (bs : List ℕ) → t ≡ (b == 92 && begin
 unfolding is_escape
 escape_so t b bs h = h
 
-pub old_so : (s : Symbol) (b : ℕ) (bs : List ℕ) → s ≡ cond (b == 92 && begins_with 34 bs) (Letter 34) (cond (is_blank b) Gap (Letter b)) → s ≡ old_symbol b bs
+pub old_so : (s : Symbol) (b : ℕ) (bs : List ℕ) → s ≡ cond (b == 92 && begins_with 34 bs) (Letter 34) (cond (is_space_or_tab b) Gap (Letter b)) → s ≡ old_symbol b bs
 unfolding is_escape old_symbol
 old_so s b bs h = h

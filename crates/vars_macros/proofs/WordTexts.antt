@@ -5,8 +5,8 @@ use Rattle.std.proofs.lemmas.Str.{IsUtf8-append}
 use Rattle.std.proofs.lemmas.Option.{get_or_from_slice_get, slice_get_within}
 use Rattle.std.specs.Str.{IsUtf8}
 use Rattle.vars_macros.specs.Cut.{begins_with}
-use Rattle.vars_macros.specs.Symbols.{is_pair, new_symbol, is_escape, old_symbol, is_last, is_byte}
-use Rattle.vars_macros.specs.ArgumentGrammar.{is_blank}
+use Rattle.vars_macros.specs.Symbols.{is_pair, new_symbol, is_escape, old_symbol, ends_with_byte, is_byte}
+use Rattle.vars_macros.specs.ArgumentGrammar.{is_space_or_tab}
 use Rattle.vars_macros.specs.declared.words.Symbol.{Symbol}
 use Rattle.vars_macros.specs.declared.words.Symbol.TheVariants.{Letter, Mark, Gap, Broken}
 use Rattle.vars_macros.proofs.Utf8.{utf8_before, seam_before, seam_behind, without, replaced, moved}
@@ -47,7 +47,7 @@ and_right false b h = absurd (false≢true h)
 byte_low : (b c : ℕ) → c < 128 → nat_eq b c ≡ true → b < 128
 byte_low b c low h = let e = eqb-true b c h in omega (arith, e)
 
-blank_low : (b : ℕ) → is_blank b ≡ true → b < 128
+blank_low : (b : ℕ) → is_space_or_tab b ≡ true → b < 128
 blank_low b h =
     ⊎_elim
     (λ (yes : nat_eq b 32 ≡ true). byte_low b 32 (omega arith) yes)
@@ -58,20 +58,20 @@ new_fits : (grouped : Bool) (b : ℕ) (bs : List ℕ) → Fits (new_symbol group
 unfolding new_symbol
 new_fits grouped b bs =
     let P : Symbol → Type 0 = λ (s : Symbol). Fits s b in
-    let plain = cond (is_blank b && not grouped) Gap (Letter b) in
+    let plain = cond (is_space_or_tab b && not grouped) Gap (Letter b) in
     let single = cond (nat_eq b 39) Mark plain in
     decided P (is_pair grouped b bs) (Letter b) (cond (nat_eq b 34) Broken single) (λ _. inl refl) (λ _.
     decided P (nat_eq b 34) Broken single (λ _. tt) (λ _.
     decided P (nat_eq b 39) Mark plain (λ yes. byte_low b 39 (omega arith) yes) (λ _.
-    decided P (is_blank b && not grouped) Gap (Letter b) (λ yes. blank_low b (and_left (is_blank b) (not grouped) yes)) (λ _. inl refl))))
+    decided P (is_space_or_tab b && not grouped) Gap (Letter b) (λ yes. blank_low b (and_left (is_space_or_tab b) (not grouped) yes)) (λ _. inl refl))))
 
 old_fits : (b : ℕ) (bs : List ℕ) → Fits (old_symbol b bs) b
 unfolding old_symbol is_escape
 old_fits b bs =
     let P : Symbol → Type 0 = λ (s : Symbol). Fits s b in
-    decided P (nat_eq b 92 && begins_with 34 bs) (Letter 34) (cond (is_blank b) Gap (Letter b))
+    decided P (nat_eq b 92 && begins_with 34 bs) (Letter 34) (cond (is_space_or_tab b) Gap (Letter b))
     (λ yes. inr (byte_low b 92 (omega arith) (and_left (nat_eq b 92) (begins_with 34 bs) yes), omega arith))
-    (λ _. decided P (is_blank b) Gap (Letter b) (λ yes. blank_low b yes) (λ _. inl refl))
+    (λ _. decided P (is_space_or_tab b) Gap (Letter b) (λ yes. blank_low b yes) (λ _. inl refl))
 
 -- the word that has begun, with the text that is left
 may_take : (s : Symbol) (b : ℕ) (bs word : List ℕ) → Fits s b → IsUtf8 (word ++ b ∷ bs) → MayTake s word
@@ -133,7 +133,7 @@ last_is : (o : Option ℕ) → is_byte 34 o ≡ true → o ≡ Some 34
 last_is None h = absurd (false≢true h)
 last_is (Some b) h = ap (λ (x : ℕ). Some x) (eqb-true b 34 h)
 
-pub last_text : (text : List ℕ) → is_last 34 text ≡ true → IsUtf8 text → IsUtf8 (take (length text - 1) text)
+pub last_text : (text : List ℕ) → ends_with_byte 34 text ≡ true → IsUtf8 text → IsUtf8 (take (length text - 1) text)
 last_text text h u =
     let n = length text - 1 in
     let at : slice_get text n ≡ Some 34 = last_is (slice_get text n) h in

@@ -5,12 +5,12 @@ use Rattle.std.proofs.lemmas.List.Elements.{AllZip-push}
 use Rattle.std.specs.Char.{is_ascii_digit}
 use Rattle.std.specs.Str.{all_ascii_digits}
 use Rattle.vars_macros.specs.Cut.{begins_with}
-use Rattle.vars_macros.specs.Symbols.{gathered, is_pair, new_symbol, grouped_after, new_symbols, is_escape, old_symbol, old_symbols, is_byte, is_last, quoted, argument_symbols, arguments}
-use Rattle.vars_macros.specs.ArgumentGrammar.{is_blank}
-use Rattle.vars_macros.specs.Gathered.{Gathering, closed, no_words}
+use Rattle.vars_macros.specs.Symbols.{gathered, is_pair, new_symbol, grouped_after, new_symbols, is_escape, old_symbol, old_symbols, is_byte, ends_with_byte, quoted_symbols, argument_symbols, arguments}
+use Rattle.vars_macros.specs.ArgumentGrammar.{is_space_or_tab}
+use Rattle.vars_macros.specs.Gathered.{Gathering, word_closed, no_words}
 use Rattle.vars_macros.specs.declared.words.Symbol.{Symbol}
 use Rattle.vars_macros.specs.declared.words.Symbol.TheVariants.{Letter, Mark, Gap, Broken}
-use Rattle.vars_macros.specs.Numbers.{IsNumber, DifferInNumbers, AllDifferInNumbers, ends, byte, numbers}
+use Rattle.vars_macros.specs.Numbers.{IsDecimal, DifferInNumbers, AllDifferInNumbers, ends, byte, numbers}
 use Rattle.vars_macros.specs.declared.fault.MacroFault.TheVariants.{BadQuote}
 use Rattle.vars_macros.proofs.DigitRuns.{digit_is_not, number_begins, same_text, joined, number_pair, begins_alike, behind_alike, before_alike}
 use Rattle.vars_macros.proofs.Groups.{last_quote, front_of}
@@ -19,7 +19,7 @@ use Rattle.vars_macros.proofs.Groups.{last_quote, front_of}
 data SayAlike : List Symbol → List Symbol → Type 0 where
   over : SayAlike [] []
   also : {ss ts : List Symbol} (s : Symbol) → SayAlike ss ts → SayAlike (s ∷ ss) (s ∷ ts)
-  spelt : {ss ts : List Symbol} (d e : List ℕ) → IsNumber d → IsNumber e → SayAlike ss ts → SayAlike (map Letter d ++ ss) (map Letter e ++ ts)
+  spelt : {ss ts : List Symbol} (d e : List ℕ) → IsDecimal d → IsDecimal e → SayAlike ss ts → SayAlike (map Letter d ++ ss) (map Letter e ++ ts)
 
 says_same : (ss : List Symbol) → SayAlike ss ss
 says_same [] = over
@@ -45,7 +45,7 @@ abbrev GathersAlike : List (List ℕ) → Gathering → List Symbol → Type 0
 GathersAlike out g ts = (others : List (List ℕ)) × (gathered g ts ≡ Ok others) × AllDifferInNumbers out others
 
 all_over : (ws vs : List (List ℕ)) (w v : List ℕ) (b : Bool) (out : List (List ℕ)) → AllDifferInNumbers ws vs → DifferInNumbers w v →
-    (closed (gathering ws w b)).words ≡ out → AllDifferInNumbers out (closed (gathering vs v b)).words
+    (word_closed (gathering ws w b)).words ≡ out → AllDifferInNumbers out (word_closed (gathering vs v b)).words
 all_over ws vs w v true out all h is = subst (λ (o : List (List ℕ)). AllDifferInNumbers o (vs ++ v ∷ [])) is (AllZip-push DifferInNumbers ws vs w v all h)
 all_over ws vs w v false out all h is = subst (λ (o : List (List ℕ)). AllDifferInNumbers o vs) is all
 
@@ -53,8 +53,8 @@ gathered_alike : {ss ts : List Symbol} → SayAlike ss ts → (ws vs : List (Lis
     AllDifferInNumbers ws vs → DifferInNumbers w v → gathered (gathering ws w b) ss ≡ Ok out → GathersAlike out (gathering vs v b) ts
 unfolding gathered
 gathered_alike over ws vs w v b out all h is =
-    let same : (closed (gathering ws w b)).words ≡ out = cc in
-    ((closed (gathering vs v b)).words, refl, all_over ws vs w v b out all h same)
+    let same : (word_closed (gathering ws w b)).words ≡ out = cc in
+    ((word_closed (gathering vs v b)).words, refl, all_over ws vs w v b out all h same)
 gathered_alike (also (Letter c) alike) ws vs w v b out all h is =
     gathered_alike alike ws vs (w ++ c ∷ []) (v ++ c ∷ []) true out all (joined h (same_text (c ∷ []))) is
 gathered_alike (also Mark alike) ws vs w v b out all h is = gathered_alike alike ws vs w v true out all h is
@@ -67,7 +67,7 @@ gathered_alike (spelt {ss = ss} {ts = ts} d e p q alike) ws vs w v b out all h i
     (rest.0, number_on e vs v b ts q.some ∙ rest.1, rest.2)
 
 -- A digit is a letter.
-blank_digit : (b : ℕ) → is_ascii_digit b ≡ true → is_blank b ≡ false
+blank_digit : (b : ℕ) → is_ascii_digit b ≡ true → is_space_or_tab b ≡ false
 blank_digit b d = rw (digit_is_not b 32 d refl, digit_is_not b 9 d refl) refl
 
 digit_escape : (b : ℕ) (rest : List ℕ) → is_ascii_digit b ≡ true → is_escape b rest ≡ false
@@ -114,7 +114,7 @@ AtPair paired x = paired ≡ true → (c : ℕ) × (is_ascii_digit c ≡ false) 
 unpaired : (x : List ℕ) → AtPair false x
 unpaired x e = absurd (false≢true e)
 
-no_number : (d x : List ℕ) → IsNumber d → AtPair true (d ++ x) → ⊥
+no_number : (d x : List ℕ) → IsDecimal d → AtPair true (d ++ x) → ⊥
 no_number d x is at =
     let p = at refl in
     false≢true (sym (number_begins p.0 d x p.1 is) ∙ p.2)
@@ -187,32 +187,32 @@ ends_with c (b ∷ []) zero (Some k) long e is =
 ends_with c (b ∷ x ∷ xs) zero at long e is = absurd (omega arith)
 ends_with c (b ∷ bs) (suc n) at long e is = ap (λ (xs : List ℕ). b ∷ xs) (ends_with c bs n at (omega arith) e is)
 
-pub last_splits : (c : ℕ) (x : List ℕ) → is_last c x ≡ true → x ≡ take (length x - 1) x ++ c ∷ []
+pub last_splits : (c : ℕ) (x : List ℕ) → ends_with_byte c x ≡ true → x ≡ take (length x - 1) x ++ c ∷ []
 last_splits c [] is = absurd (false≢true is)
 last_splits c (b ∷ bs) is = ends_with c (b ∷ bs) (length (b ∷ bs) - 1) (slice_get (b ∷ bs) (length (b ∷ bs) - 1)) (omega arith) refl is
 
-pub quoted_front : (x : List ℕ) → quoted (x ++ 34 ∷ []) ≡ new_symbols false false x
+pub quoted_front : (x : List ℕ) → quoted_symbols (x ++ 34 ∷ []) ≡ new_symbols false false x
 quoted_front x =
-    cond-true (is_last 34 (x ++ 34 ∷ [])) (new_symbols false false (take (length (x ++ 34 ∷ []) - 1) (x ++ 34 ∷ []))) (Broken ∷ []) (ap (is_byte 34) (last_quote x) ∙ refl)
+    cond-true (ends_with_byte 34 (x ++ 34 ∷ [])) (new_symbols false false (take (length (x ++ 34 ∷ []) - 1) (x ++ 34 ∷ []))) (Broken ∷ []) (ap (is_byte 34) (last_quote x) ∙ refl)
     ∙ ap (new_symbols false false) (front_of x)
 
 broken : (out : List (List ℕ)) → gathered no_words (Broken ∷ []) ≡ Ok out → ⊥
 unfolding gathered
 broken out h = let wrong : Err BadQuote ≡ Ok out = h in cc
 
-quoted_alike : (x y : List ℕ) → DifferInNumbers x y → (out : List (List ℕ)) → gathered no_words (quoted x) ≡ Ok out → GathersAlike out no_words (quoted y)
-quoted_alike x y h out is = by_last (is_last 34 x) refl
+quoted_alike : (x y : List ℕ) → DifferInNumbers x y → (out : List (List ℕ)) → gathered no_words (quoted_symbols x) ≡ Ok out → GathersAlike out no_words (quoted_symbols y)
+quoted_alike x y h out is = by_last (ends_with_byte 34 x) refl
   where
-    by_last : (t : Bool) → is_last 34 x ≡ t → GathersAlike out no_words (quoted y)
-    by_last false e = absurd (broken out (ap (gathered no_words) (sym (cond-false (is_last 34 x) (new_symbols false false (take (length x - 1) x)) (Broken ∷ []) e)) ∙ is))
+    by_last : (t : Bool) → ends_with_byte 34 x ≡ t → GathersAlike out no_words (quoted_symbols y)
+    by_last false e = absurd (broken out (ap (gathered no_words) (sym (cond-false (ends_with_byte 34 x) (new_symbols false false (take (length x - 1) x)) (Broken ∷ []) e)) ∙ is))
     by_last true e =
         let front = take (length x - 1) x in
         let split = last_splits 34 x e in
         let p = before_alike 34 refl h front split in
-        let says : quoted y ≡ new_symbols false false p.0 = ap quoted p.1 ∙ quoted_front p.0 in
+        let says : quoted_symbols y ≡ new_symbols false false p.0 = ap quoted_symbols p.1 ∙ quoted_front p.0 in
         subst (λ (ts : List Symbol). GathersAlike out no_words ts) (sym says)
         (gathered_alike (new_alike p.2 false false (unpaired front)) [] [] [] [] false out tt ends
-        (ap (gathered no_words) (sym (cond-true (is_last 34 x) (new_symbols false false front) (Broken ∷ []) e)) ∙ is))
+        (ap (gathered no_words) (sym (cond-true (ends_with_byte 34 x) (new_symbols false false front) (Broken ∷ []) e)) ∙ is))
 
 -- Old style: what begins with no double quote.
 pub begins_is : (c : ℕ) (x : List ℕ) → begins_with c x ≡ true → x ≡ c ∷ drop 1 x
@@ -221,7 +221,7 @@ begins_is c (b ∷ bs) h = ap (λ (i : ℕ). i ∷ bs) (eqb-true b c h)
 
 pub old_style : (x : List ℕ) → begins_with 34 x ≡ false → argument_symbols x ≡ old_symbols false x
 old_style [] h = refl
-old_style (b ∷ bs) h = cond-false (b == 34) (quoted bs) (old_symbols false (b ∷ bs)) h
+old_style (b ∷ bs) h = cond-false (b == 34) (quoted_symbols bs) (old_symbols false (b ∷ bs)) h
 
 pub words_alike : (x y : List ℕ) → DifferInNumbers x y → (out : List (List ℕ)) → arguments x ≡ Ok out →
     (others : List (List ℕ)) × (arguments y ≡ Ok others) × AllDifferInNumbers out others

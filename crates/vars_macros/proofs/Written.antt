@@ -4,9 +4,9 @@ use Rattle.std.proofs.lemmas.Bool.{cases_Bool, eqb-true}
 use Rattle.std.proofs.lemmas.List.Quantifiers.{position-Some}
 use Rattle.std.proofs.lemmas.Str.{IsUtf8-nil, IsUtf8-append}
 use Rattle.std.specs.Str.{IsUtf8}
-use Rattle.vars_macros.specs.Names.{same_name, is_open, is_lawful}
-use Rattle.vars_macros.specs.Cut.{Piece, End, Plain, Reference, Bad, first_piece, after_dollar, reference_to, closing, closing_from, depth_after, begins_with, is_foreign, name_of, default_of, colon_in, behind}
-use Rattle.vars_macros.specs.Meaning.{Scope, Meaning, Fixed, Value, stands_for, unassigned, assigned_or, last_of, last_from, is_launch, is_process}
+use Rattle.vars_macros.specs.Names.{same_name, is_name_open, is_lawful}
+use Rattle.vars_macros.specs.Cut.{Piece, End, Plain, Reference, Bad, first_piece, after_dollar, reference_to, closing, closing_from, depth_after, begins_with, is_foreign, reference_name, default_of, colon_in, rest_behind}
+use Rattle.vars_macros.specs.Meaning.{MacroScope, Meaning, Fixed, Value, stands_for, unassigned, assigned_or, last_macro, last_from, is_launch_macro, is_process}
 use Rattle.vars_macros.specs.Scopes.{IsTextScope}
 use Rattle.vars_macros.specs.Texts.{AreTexts}
 use Rattle.vars_macros.specs.Expansion.{Event, Refused, room, events, piece_events, reference_events, meaning_events, value_events, Expansion, expansion}
@@ -93,7 +93,7 @@ assigned_text : (found : Option Macro) (other : Meaning) → IsTextFound found �
 assigned_text None other h p = p
 assigned_text (Some m) other h p = h
 
-default_text : (place : Option ℕ) (inside : List ℕ) → IsUtf8 inside → colon_in inside ≡ place → IsUtf8 (unwrap_or (behind place inside) [])
+default_text : (place : Option ℕ) (inside : List ℕ) → IsUtf8 inside → colon_in inside ≡ place → IsUtf8 (unwrap_or (rest_behind place inside) [])
 default_text None inside u e = IsUtf8-nil
 default_text (Some n) inside u e =
     let p = position-Some (λ b. nat_eq b 58) inside n 0 e in
@@ -102,15 +102,15 @@ default_text (Some n) inside u e =
 zero_text : IsUtf8 (codes "0")
 zero_text = one_byte 48 (omega arith)
 
-meaning_text : (s : Scope) (vars : Bool) (name : List ℕ) (default : Option (List ℕ)) → IsTextScope s → IsUtf8 (unwrap_or default []) → IsTextMeaning (stands_for s vars name default)
+meaning_text : (s : MacroScope) (vars : Bool) (name : List ℕ) (default : Option (List ℕ)) → IsTextScope s → IsUtf8 (unwrap_or default []) → IsTextMeaning (stands_for s vars name default)
 unfolding stands_for
 meaning_text s vars name default texts u =
     let P : Meaning → Type 0 = IsTextMeaning in
-    decided P (is_launch name) _ _ (λ _. texts.launch) (λ _.
+    decided P (is_launch_macro name) _ _ (λ _. texts.launch) (λ _.
     decided P (is_process name) _ _ (λ _. zero_text) (λ _.
     decided P (vars && (is_none default && same_name name (codes "JOB"))) _ _ (λ _. texts.job) (λ _.
     decided P (vars && (is_none default && same_name name (codes "RETRY"))) _ _ (λ _. texts.retry) (λ _.
-    assigned_text (last_of s.assigned name) (unassigned s vars name default) (last_text None s.assigned name tt texts.assigned)
+    assigned_text (last_macro s.assigned name) (unassigned s vars name default) (last_text None s.assigned name tt texts.assigned)
     (decided P (same_name name (codes "JOB")) _ _ (λ _. texts.job) (λ _.
     decided P (same_name name (codes "RETRY")) (Fixed false s.retry) (Value vars (unwrap_or default [])) (λ _. texts.retry) (λ _. u)))))))
 
@@ -119,35 +119,35 @@ abbrev IsWritten : List ℕ → List ℕ → List Event → Type 0
 IsWritten p t es = IsUtf8 (p ++ t) → NoneRefused es → IsUtf8 (p ++ written_in es)
 
 -- what is smaller is written as a text
-abbrev Smaller : Scope → ℕ → Type 0
+abbrev Smaller : MacroScope → ℕ → Type 0
 Smaller s n = (opened : List (List ℕ)) (vars : Bool) (t p : List ℕ) → room s.assigned opened + length t < n → IsWritten p t (events s opened vars t)
 
 abbrev TextWhere : List Event → Type 0
 TextWhere es = NoneRefused es → IsUtf8 (written_in es)
 
-value_text : (s : Scope) (n : ℕ) (opened : List (List ℕ)) (name : List ℕ) (vars : Bool) (text : List ℕ) (b : Bool) → Smaller s n → IsUtf8 text
+value_text : (s : MacroScope) (n : ℕ) (opened : List (List ℕ)) (name : List ℕ) (vars : Bool) (text : List ℕ) (b : Bool) → Smaller s n → IsUtf8 text
     → (b ≡ false → room s.assigned (opened ++ name ∷ []) + length text < n) → TextWhere (value_events (events s) opened name vars text b)
 value_text s n opened name vars text true smaller u fits = λ h. absurd h
 value_text s n opened name vars text false smaller u fits = smaller (opened ++ name ∷ []) vars text [] (fits refl) u
 
-events_text : (s : Scope) (n k : ℕ) (opened : List (List ℕ)) (name : List ℕ) (m : Meaning) → Smaller s n → IsTextMeaning m → room s.assigned opened + k < n
-    → (is_open opened name ≡ false → FitsIn s.assigned opened name k m) → TextWhere (meaning_events (events s) opened name m)
+events_text : (s : MacroScope) (n k : ℕ) (opened : List (List ℕ)) (name : List ℕ) (m : Meaning) → Smaller s n → IsTextMeaning m → room s.assigned opened + k < n
+    → (is_name_open opened name ≡ false → FitsIn s.assigned opened name k m) → TextWhere (meaning_events (events s) opened name m)
 events_text s n k opened name (Fixed whole text) smaller u small fits = λ h. rw (written_plain text) u
 events_text s n k opened name (Value vars text) smaller u small fits =
-    value_text s n opened name vars text (is_open opened name) smaller u
+    value_text s n opened name vars text (is_name_open opened name) smaller u
     (λ shut. let h : room s.assigned (opened ++ name ∷ []) + length text ≤ room s.assigned opened + k = fits shut in omega arith)
 
-reference_text : (s : Scope) (n : ℕ) (opened : List (List ℕ)) (vars : Bool) (inside : List ℕ) → Smaller s n → IsTextScope s → IsUtf8 inside
+reference_text : (s : MacroScope) (n : ℕ) (opened : List (List ℕ)) (vars : Bool) (inside : List ℕ) → Smaller s n → IsTextScope s → IsUtf8 inside
     → room s.assigned opened + length inside < n → TextWhere (reference_events (events s) s opened vars inside)
 reference_text s n opened vars inside smaller texts u small =
-    let name = name_of inside in
+    let name = reference_name inside in
     decided TextWhere (is_lawful name) (meaning_events (events s) opened name (stands_for s vars name (default_of inside))) (Refused BadReference ∷ [])
     (λ _. events_text s n (length inside) opened name (stands_for s vars name (default_of inside)) smaller
     (meaning_text s vars name (default_of inside) texts (default_text (colon_in inside) inside u refl)) small
     (λ shut. meaning_fits s vars opened name (default_of inside) (length inside) shut (default_shorter (colon_in inside) inside)))
     (λ _. λ h. absurd h)
 
-piece_text : (s : Scope) (n k : ℕ) (opened : List (List ℕ)) (vars : Bool) (piece : Piece) (t p : List ℕ) → Smaller s n → IsTextScope s → Spelt piece t → Shorter k piece
+piece_text : (s : MacroScope) (n k : ℕ) (opened : List (List ℕ)) (vars : Bool) (piece : Piece) (t p : List ℕ) → Smaller s n → IsTextScope s → Spelt piece t → Shorter k piece
     → room s.assigned opened + k ≤ n → IsWritten p t (piece_events (events s) s opened vars piece)
 piece_text s n k opened vars End t p smaller texts spelt short small = λ u h. subst (λ (x : List ℕ). IsUtf8 (p ++ x)) spelt u
 piece_text s n k opened vars (Plain b rest) t p smaller texts spelt short small = λ u h.
@@ -166,16 +166,16 @@ piece_text s n k opened vars (Reference inside rest) t p smaller texts spelt sho
     rw (written_append first later) (IsUtf8-append p (written_in first ++ written_in later) front (IsUtf8-append (written_in first) (written_in later) one two))
 piece_text s n k opened vars (Bad fault) t p smaller texts spelt short small = λ u h. absurd h
 
-written_by : (n : ℕ) (s : Scope) (opened : List (List ℕ)) (vars : Bool) (t p : List ℕ) → IsTextScope s → room s.assigned opened + length t < n → IsWritten p t (events s opened vars t)
+written_by : (n : ℕ) (s : MacroScope) (opened : List (List ℕ)) (vars : Bool) (t p : List ℕ) → IsTextScope s → room s.assigned opened + length t < n → IsWritten p t (events s opened vars t)
 written_by zero s opened vars t p texts small = absurd (omega arith)
 written_by (suc n) s opened vars t p texts small =
     rw (cuts_enough s opened vars t)
     (piece_text s n (length t) opened vars (first_piece t) t p (λ o v x q less. written_by n s o v x q texts less) texts (piece_spelt t) (piece_shorter t) (omega arith))
 
-pub written_text : (s : Scope) (vars : Bool) (text : List ℕ) → IsTextScope s → IsUtf8 text → NoneRefused (events s [] vars text) → IsUtf8 (written_in (events s [] vars text))
+pub written_text : (s : MacroScope) (vars : Bool) (text : List ℕ) → IsTextScope s → IsUtf8 text → NoneRefused (events s [] vars text) → IsUtf8 (written_in (events s [] vars text))
 written_text s vars text texts u h = written_by (suc (room s.assigned [] + length text)) s [] vars text [] texts (omega arith) u h
 
-pub expansion_text : (s : Scope) (vars : Bool) (text : List ℕ) (e : Expansion) → IsTextScope s → IsUtf8 text → expansion s vars text ≡ Ok e → IsUtf8 e.text
+pub expansion_text : (s : MacroScope) (vars : Bool) (text : List ℕ) (e : Expansion) → IsTextScope s → IsUtf8 text → expansion s vars text ≡ Ok e → IsUtf8 e.text
 expansion_text s vars text e texts u h =
     let is = found s vars text e h in
     subst IsUtf8 (sym is.written) (written_text s vars text texts u is.lawful)

@@ -5,8 +5,8 @@ use Rattle.vars_macros.specs.declared.fault.MacroFault.{MacroFault}
 use Rattle.vars_macros.specs.declared.fault.MacroFault.TheVariants.{BadQuote, Memory}
 
 -- a space or a tab
-abbrev pub is_blank : ℕ → Bool
-is_blank b = b == 32 || b == 9
+abbrev pub is_space_or_tab : ℕ → Bool
+is_space_or_tab b = b == 32 || b == 9
 
 -- a double (34) or a single (39) quote
 abbrev pub is_quote : ℕ → Bool
@@ -22,14 +22,14 @@ pub data SpellsGroup : List ℕ → List ℕ → List ℕ → Type 0 where
 
 -- A part of a word in new style: a byte but a blank or a quote, two double quotes for one, or a group.
 pub data SpellsNewPart : List ℕ → List ℕ → List ℕ → Type 0 where
-  new_byte : {rest : List ℕ} (b : ℕ) → is_blank b ≡ false → is_quote b ≡ false → SpellsNewPart (b ∷ rest) (b ∷ []) rest
+  new_byte : {rest : List ℕ} (b : ℕ) → is_space_or_tab b ≡ false → is_quote b ≡ false → SpellsNewPart (b ∷ rest) (b ∷ []) rest
   new_double_quote : {rest : List ℕ} → SpellsNewPart (34 ∷ 34 ∷ rest) (34 ∷ []) rest
   new_group : {text bytes rest : List ℕ} → SpellsGroup text bytes rest → SpellsNewPart (39 ∷ text) bytes rest
 
 -- A part of a word in old style: a backslash (92) and a double quote for a double quote, or any other byte but a blank.
 pub data SpellsOldPart : List ℕ → List ℕ → List ℕ → Type 0 where
   old_double_quote : {rest : List ℕ} → SpellsOldPart (92 ∷ 34 ∷ rest) (34 ∷ []) rest
-  old_byte : {rest : List ℕ} (b : ℕ) → is_blank b ≡ false → (b == 92 && begins_with 34 rest) ≡ false → SpellsOldPart (b ∷ rest) (b ∷ []) rest
+  old_byte : {rest : List ℕ} (b : ℕ) → is_space_or_tab b ≡ false → (b == 92 && begins_with 34 rest) ≡ false → SpellsOldPart (b ∷ rest) (b ∷ []) rest
 
 -- A word: one part or more. Its bytes are those of its parts.
 pub data SpellsWord (Part : List ℕ → List ℕ → List ℕ → Type 0) : List ℕ → List ℕ → List ℕ → Type 0 where
@@ -39,12 +39,12 @@ pub data SpellsWord (Part : List ℕ → List ℕ → List ℕ → Type 0) : Lis
 -- a word is over at a blank and at the end
 abbrev pub ends_word : List ℕ → Bool
 ends_word [] = true
-ends_word (b ∷ bs) = is_blank b
+ends_word (b ∷ bs) = is_space_or_tab b
 
 -- The words of a whole text, with blanks in front, behind and between: where a word ends is a blank, or the end.
 pub data SpellsWords (Part : List ℕ → List ℕ → List ℕ → Type 0) : List ℕ → List (List ℕ) → Type 0 where
   end : SpellsWords Part [] []
-  blank : {text : List ℕ} {words : List (List ℕ)} (b : ℕ) → is_blank b ≡ true → SpellsWords Part text words → SpellsWords Part (b ∷ text) words
+  blank : {text : List ℕ} {words : List (List ℕ)} (b : ℕ) → is_space_or_tab b ≡ true → SpellsWords Part text words → SpellsWords Part (b ∷ text) words
   word : {text bytes rest : List ℕ} {words : List (List ℕ)} → SpellsWord Part text bytes rest → ends_word rest ≡ true →
       SpellsWords Part rest words → SpellsWords Part text (bytes ∷ words)
 

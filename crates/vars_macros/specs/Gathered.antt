@@ -19,12 +19,12 @@ abbrev pub gathering_of : Words → Gathering
 gathering_of w = record { words = w.words; word = w.word.items; begun = w.begun }
 
 -- a word that has begun is over
-abbrev pub closed : Gathering → Gathering
-closed g = if g.begun then record { words = g.words ++ g.word ∷ []; word = []; begun = false } else g
+abbrev pub word_closed : Gathering → Gathering
+word_closed g = if g.begun then record { words = g.words ++ g.word ∷ []; word = []; begun = false } else g
 
 -- with one symbol more
 abbrev pub taken : Gathering → Symbol → Result Gathering MacroFault
 taken g (Letter b) = Ok (record g { word = g.word ++ b ∷ []; begun = true })
 taken g Mark = Ok (record g { begun = true })
-taken g Gap = Ok (closed g)
+taken g Gap = Ok (word_closed g)
 taken g Broken = Err BadQuote

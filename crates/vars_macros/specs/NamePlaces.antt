@@ -3,7 +3,7 @@ use Rattle.std.specs.Prelude.{◌≡◌, ℕ, ◌+◌, ◌≤◌, true, List, le
 use Rattle.std.specs.BTreeMap.{get}
 use Rattle.std.specs.Ordering.{nat_cmp}
 use Rattle.vars_macros.specs.Names.{lower, is_lawful}
-use Rattle.vars_macros.specs.NameTable.{number_in}
+use Rattle.vars_macros.specs.NameTable.{number_of_name}
 use Rattle.vars_macros.specs.declared.numbering.Names.{Names}
 use Rattle.vars_macros.specs.declared.naming.Name.{Name}
 use Rattle.vars_macros.specs.declared.naming.NamePlaces.{NamePlaces}
@@ -16,7 +16,7 @@ name_at places at = get nat_cmp places.names at
 pub record IsNameOf (names : Names) (text : List ℕ) (name : Name) : Type 0 where
   pub within : name.len ≤ length text
   pub lawful : is_lawful (take name.len text) ≡ true
-  pub numbered : number_in names (lower (take name.len text)) ≡ Some name.number
+  pub numbered : number_of_name names (lower (take name.len text)) ≡ Some name.number
 
 -- Each of these names stands in the text at its place.
 abbrev pub AreNamesOf : Names → List ℕ → (ℕ → Option Name) → Type 0
@@ -28,6 +28,6 @@ AreNamesIn names start part table =
     (k : ℕ) (name : Name) → table (start + k) ≡ Some name → k + name.len ≤ length part → IsNameOf names (drop k part) name
 
 -- the name at a place by this table, or by none
-abbrev pub name_in : Option NamePlaces → ℕ → Option Name
-name_in None at = None
-name_in (Some places) at = name_at places at
+abbrev pub name_at_place : Option NamePlaces → ℕ → Option Name
+name_at_place None at = None
+name_at_place (Some places) at = name_at places at

@@ -8,8 +8,8 @@ use Rattle.vars_macros.specs.declared.key.Key.{Key}
 use Rattle.vars_macros.specs.declared.key.Key.TheVariants.{Numbered, Spelled}
 
 -- the number of a name, which is in lower case
-abbrev pub number_in : Names → List ℕ → Option ℕ
-number_in names key = get_by_text names.numbers key
+abbrev pub number_of_name : Names → List ℕ → Option ℕ
+number_of_name names key = get_by_text names.numbers key
 
 abbrev pub last_at : List (Option ℕ) → Option ℕ → Option ℕ
 last_at places None = None
@@ -17,11 +17,11 @@ last_at places (Some number) = unwrap_or (slice_get places number) None
 
 -- the place of what was assigned to it last
 abbrev pub place_in : Names → List ℕ → Option ℕ
-place_in names key = last_at names.last.items (number_in names key)
+place_in names key = last_at names.last.items (number_of_name names key)
 
 -- All names keep their numbers, and nothing was assigned; more may have numbers.
-pub record Keeps (old new : Names) : Type 0 where
-  pub numbers : (key : List ℕ) (n : ℕ) → number_in old key ≡ Some n → number_in new key ≡ Some n
+pub record KeepsNumbers (old new : Names) : Type 0 where
+  pub numbers : (key : List ℕ) (n : ℕ) → number_of_name old key ≡ Some n → number_of_name new key ≡ Some n
   pub places : (key : List ℕ) → place_in new key ≡ place_in old key
 
 -- A name gets the place of one assignment more.
@@ -30,12 +30,12 @@ IsGiven before after key place = (name : List ℕ) → after name ≡ (if bytes_
 
 -- The two tables have the same numbers.
 abbrev pub HaveSameNumbers : Names → Names → Type 0
-HaveSameNumbers a b = (key : List ℕ) → number_in a key ≡ number_in b key
+HaveSameNumbers a b = (key : List ℕ) → number_of_name a key ≡ number_of_name b key
 
 -- what a key tells: the number, or the bytes
-abbrev pub told_by : Key → Option ℕ × List ℕ
-told_by (Numbered number) = (Some number, [])
-told_by (Spelled bytes) = (None, string_bytes bytes)
+abbrev pub key_parts : Key → Option ℕ × List ℕ
+key_parts (Numbered number) = (Some number, [])
+key_parts (Spelled bytes) = (None, string_bytes bytes)
 
 abbrev pub told_of : List ℕ → Option ℕ → Option ℕ × List ℕ
 told_of lowered None = (None, lowered)
@@ -43,4 +43,4 @@ told_of lowered (Some number) = (Some number, [])
 
 -- A name is told by its number, or by its bytes in lower case where it has none.
 abbrev pub IsKeyOf : Names → List ℕ → Key → Type 0
-IsKeyOf names name key = told_by key ≡ told_of (lower name) (number_in names (lower name))
+IsKeyOf names name key = key_parts key ≡ told_of (lower name) (number_of_name names (lower name))

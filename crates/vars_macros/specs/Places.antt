@@ -2,7 +2,7 @@
 use Rattle.std.specs.Prelude.{◌≡◌, ℕ, ◌<◌, List, map, length, slice_get, Option, Some, None}
 use Rattle.vars_macros.specs.Names.{lower}
 use Rattle.vars_macros.specs.NamePlaces.{AreNamesOf, name_at}
-use Rattle.vars_macros.specs.Meaning.{last_of}
+use Rattle.vars_macros.specs.Meaning.{last_macro}
 use Rattle.vars_macros.specs.declared.assignment.Macro.{Macro}
 use Rattle.vars_macros.specs.declared.assignment.Assigned.{Assigned}
 use Rattle.vars_macros.specs.declared.numbering.Names.{Names}
@@ -18,7 +18,7 @@ at_place ms (Some k) = slice_get ms k
 
 -- A table of names in lower case has the place of the last assignment of each name.
 pub record GivesLast (place : List ℕ → Option ℕ) (ms : List Macro) : Type 0 where
-  pub last : (name : List ℕ) → at_place ms (place (lower name)) ≡ last_of ms name
+  pub last : (name : List ℕ) → at_place ms (place (lower name)) ≡ last_macro ms name
   pub within : (name : List ℕ) (k : ℕ) → place name ≡ Some k → k < length ms
 
 -- The names of an assignment's value stand where its table says, with these numbers.

@@ -12,11 +12,11 @@ use Rattle.vars_macros.specs.declared.meaning.Meaning.{Meaning}
 use Rattle.vars_macros.specs.declared.meaning.Meaning.TheVariants.{Fixed, Value}
 
 -- a scope without where it lies in memory
-abbrev pub scope_seen : Scope → meaning.Scope
+abbrev pub scope_seen : Scope → meaning.MacroScope
 scope_seen s = record { assigned = macros_in s.assigned.now; job = s.job.now; retry = s.retry.now; launch = s.launch.now }
 
 -- all of its texts are UTF-8
-pub record IsTextScope (s : meaning.Scope) : Type 0 where
+pub record IsTextScope (s : meaning.MacroScope) : Type 0 where
   pub assigned : AreTexts s.assigned
   pub job : IsUtf8 s.job
   pub retry : IsUtf8 s.retry
@@ -32,5 +32,5 @@ HasNames names (Fixed whole text) = Unit {0}
 HasNames names (Value vars text) = HaveSameNumbers text.names.now names
 
 -- a part's text
-abbrev pub bytes_of : Part → List ℕ
-bytes_of p = p.bytes.now
+abbrev pub text_of_part : Part → List ℕ
+text_of_part p = p.bytes.now

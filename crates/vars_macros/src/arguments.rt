@@ -4,7 +4,7 @@ ghost use Rattle.std.specs.Prelude.{◌≡◌, ◌==◌, ◌||◌, ◌&&◌, ◌
 ghost use Rattle.std.specs.Str.{IsUtf8};
 ghost use Rattle.vars_macros.specs.Answers.{Gives};
 ghost use Rattle.vars_macros.specs.Cut.{begins_with};
-ghost use Rattle.vars_macros.specs.ArgumentGrammar.{is_blank, SpellsNewPart, SpellsOldPart, SpellsWords, SpellsArguments, IsSplit};
+ghost use Rattle.vars_macros.specs.ArgumentGrammar.{is_space_or_tab, SpellsNewPart, SpellsOldPart, SpellsWords, SpellsArguments, IsSplit};
 ghost use Rattle.vars_macros.specs.declared.words.Symbol.TheVariants.{Letter, Mark, Gap, Broken};
 
 use crate::cut::begins_with;
@@ -100,7 +100,7 @@ fn new_symbol(grouped: bool, byte: u8, after: &[u8]) -> Symbol
     ensures { result ≡ (if (byte == 34 || (byte == 39 && grouped)) && begins_with byte after.now then Letter byte
         else if byte == 34 then Broken
         else if byte == 39 then Mark
-        else if is_blank byte && not grouped then Gap
+        else if is_space_or_tab byte && not grouped then Gap
         else Letter byte) }
 {
     if is_pair(grouped, byte, after) {
@@ -150,7 +150,7 @@ fn is_escape(byte: u8, after: &[u8]) -> bool
 }
 
 fn old_symbol(byte: u8, after: &[u8]) -> Symbol
-    ensures { result ≡ (if byte == 92 && begins_with 34 after.now then Letter 34 else if is_blank byte then Gap else Letter byte) }
+    ensures { result ≡ (if byte == 92 && begins_with 34 after.now then Letter 34 else if is_space_or_tab byte then Gap else Letter byte) }
 {
     if is_escape(byte, after) {
         return Symbol::Letter(b'"');
@@ -163,7 +163,7 @@ fn old_symbol(byte: u8, after: &[u8]) -> Symbol
 }
 
 fn is_blank(byte: u8) -> bool
-    ensures { result ≡ is_blank byte }
+    ensures { result ≡ is_space_or_tab byte }
 {
     byte == b' ' || byte == b'\t'
 }

@@ -3,10 +3,10 @@
 ghost use Rattle.std.specs.Prelude.{◌≡◌, ◌<◌, ◌≤◌, Some, None, false, length, take, drop, slice_get, IfSome, IfNone, option_copied, option_map, if◌then◌else◌, codes};
 ghost use Rattle.std.specs.List.{list_all, take_while};
 ghost use Rattle.vars_macros.specs.Names.{is_lawful, is_name_byte, same_name};
-ghost use Rattle.vars_macros.specs.Cut.{closing, is_foreign, first_piece, after_dollar, reference_to, colon_in, name_of, default_of, begins_with};
+ghost use Rattle.vars_macros.specs.Cut.{closing, is_foreign, first_piece, after_dollar, reference_to, colon_in, reference_name, default_of, begins_with};
 ghost use Rattle.vars_macros.specs.NamePlaces.{IsNameOf};
-ghost use Rattle.vars_macros.specs.Pieces.{piece_of, HasNames, IsNamedIn};
-ghost use Rattle.vars_macros.specs.Scopes.{bytes_of};
+ghost use Rattle.vars_macros.specs.Pieces.{piece_of, PieceHasNames, IsNamedIn};
+ghost use Rattle.vars_macros.specs.Scopes.{text_of_part};
 ghost use Rattle.vars_macros.specs.declared.cut.Naming.TheVariants.{Numbered};
 
 use crate::fault::MacroFault;
@@ -26,7 +26,7 @@ pub(crate) enum Piece<'a> {
 #[tactic(auto, unfolding(crate::specs::Cut::first_piece))]
 pub(crate) fn first_piece(text: Part<'_>) -> Piece<'_>
     ensures piece { piece_of result ≡ first_piece text.entry.bytes.now }
-    ensures names { HasNames text.entry.names.now result }
+    ensures names { PieceHasNames text.entry.names.now result }
 {
     match text.bytes() {
         [] => Piece::End,
@@ -38,7 +38,7 @@ pub(crate) fn first_piece(text: Part<'_>) -> Piece<'_>
 /// The first piece of a text that a dollar sign begins, which is left out.
 fn after_dollar(text: Part<'_>) -> Piece<'_>
     ensures piece { piece_of result ≡ after_dollar text.entry.bytes.now }
-    ensures names { HasNames text.entry.names.now result }
+    ensures names { PieceHasNames text.entry.names.now result }
 {
     if begins_with(b'(', text.bytes()) {
         return reference(text);
@@ -53,7 +53,7 @@ fn after_dollar(text: Part<'_>) -> Piece<'_>
 fn reference(text: Part<'_>) -> Piece<'_>
     requires { slice_get text.bytes.now 0 ≡ Some 40 }
     ensures piece { piece_of result ≡ reference_to (closing (drop 1 text.entry.bytes.now)) (drop 1 text.entry.bytes.now) }
-    ensures names { HasNames text.entry.names.now result }
+    ensures names { PieceHasNames text.entry.names.now result }
 {
     match text.closing() {
         Some(n) => {
@@ -112,7 +112,7 @@ pub(crate) struct Named<'a> {
 /// The reference between whose parentheses this stands, if it may have its name.
 pub(crate) fn reference_in(inside: Part<'_>) -> Option<Named<'_>>
     ensures some { IfSome result (λ named. IsNamedIn inside.entry named) }
-    ensures none { IfNone result (is_lawful (name_of inside.entry.bytes.now) ≡ false) }
+    ensures none { IfNone result (is_lawful (reference_name inside.entry.bytes.now) ≡ false) }
 {
     match inside.name() {
         Some(name) => known_reference(inside, name),
@@ -124,7 +124,7 @@ pub(crate) fn reference_in(inside: Part<'_>) -> Option<Named<'_>>
 fn known_reference(inside: Part<'_>, name: Name) -> Option<Named<'_>>
     requires { IsNameOf inside.names.now inside.bytes.now name }
     ensures some { IfSome result (λ named. IsNamedIn inside.entry named) }
-    ensures none { IfNone result (is_lawful (name_of inside.entry.bytes.now) ≡ false) }
+    ensures none { IfNone result (is_lawful (reference_name inside.entry.bytes.now) ≡ false) }
 {
     let rest = inside.behind(name.len).bytes();
     if rest.is_empty() {
@@ -153,7 +153,7 @@ fn numbered<'a>(inside: Part<'a>, name: Name, default: Option<Part<'a>>) -> Name
 /// The same where all is read from the bytes.
 fn spelled_reference(inside: Part<'_>) -> Option<Named<'_>>
     ensures some { IfSome result (λ named. IsNamedIn inside.entry named) }
-    ensures none { IfNone result (is_lawful (name_of inside.entry.bytes.now) ≡ false) }
+    ensures none { IfNone result (is_lawful (reference_name inside.entry.bytes.now) ≡ false) }
 {
     let (name, default) = name_and_default(inside);
     let name = lawful_name(name)?;
@@ -167,8 +167,8 @@ fn spelled_reference(inside: Part<'_>) -> Option<Named<'_>>
 /// The name of a reference, which is what stands before a colon between its parentheses, and the
 /// default behind it.
 fn name_and_default(inside: Part<'_>) -> (&[u8], Option<Part<'_>>)
-    ensures name { result.0.now ≡ name_of inside.entry.bytes.now }
-    ensures default { option_map bytes_of result.1 ≡ default_of inside.entry.bytes.now }
+    ensures name { result.0.now ≡ reference_name inside.entry.bytes.now }
+    ensures default { option_map text_of_part result.1 ≡ default_of inside.entry.bytes.now }
     ensures names { IfSome result.1 (λ default. default.names.now ≡ inside.entry.names.now) }
 {
     match colon_in(inside.bytes()) {

@@ -48,7 +48,7 @@ pub(crate) struct Machine<'a> {
 impl<'a> Machine<'a> {
     ghost use Rattle.vars_macros.specs.Expansion.{events};
     ghost use Rattle.vars_macros.specs.Scopes.{scope_seen};
-    ghost use Rattle.vars_macros.specs.Machine.{left_in, left_at, event_of, Meets};
+    ghost use Rattle.vars_macros.specs.Machine.{left_in, events_left, event_of, MeetsEvent};
 
     /// A text of which nothing is met yet.
     pub(crate) fn new(alloc: Global, scope: Scope<'a>, vars: bool, text: Part<'a>) -> Machine<'a>
@@ -66,7 +66,7 @@ impl<'a> Machine<'a> {
 
     /// What is met next, or nothing where all is met.
     pub(crate) fn next(&mut self) -> Result<Option<Event<'a>>, AllocError>
-        ensures { IfOk result (λ met. Meets met (left_in self.old) (left_in self.new)) }
+        ensures { IfOk result (λ met. MeetsEvent met (left_in self.old) (left_in self.new)) }
     {
         loop {
             match first_piece(self.rest) {
@@ -96,7 +96,7 @@ impl<'a> Machine<'a> {
     fn reference(&mut self, inside: Part<'a>, after: Part<'a>) -> Result<Event<'a>, AllocError>
         requires inside { HaveSameNumbers inside.names.now self.old.scope.names.now }
         requires after { HaveSameNumbers after.names.now self.old.scope.names.now }
-        ensures { IfOk result (λ met. left_at inside.entry.bytes.now after.entry.bytes.now self.old ≡ event_of met ++ left_in self.new) }
+        ensures { IfOk result (λ met. events_left inside.entry.bytes.now after.entry.bytes.now self.old ≡ event_of met ++ left_in self.new) }
     {
         let Some(named) = reference_in(inside) else {
             self.rest = after;

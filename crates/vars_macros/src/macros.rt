@@ -1,7 +1,7 @@
 //! What names stand for.
 
 ghost use Rattle.std.specs.Prelude.{◌≡◌, ◌++◌, ◌∷◌, ◌<◌, [], IsOk, IfOk, IfErr, OnOk, OnErr, vec_len, vec_capacity, option_copied};
-ghost use Rattle.vars_macros.specs.Meaning.{last_of};
+ghost use Rattle.vars_macros.specs.Meaning.{last_macro};
 ghost use Rattle.vars_macros.specs.Places.{macros_in};
 ghost use Rattle.vars_macros.specs.declared.assignment.Assigned.{Assigned};
 ghost use Rattle.vars_macros.specs.declared.fault.MacroFault.TheVariants.{Memory};
@@ -114,7 +114,7 @@ impl Macros {
     /// # Errors
     /// `Memory` where memory runs out.
     pub fn last(&self, alloc: Global, name: &str) -> Result<Option<&Macro>, MacroFault>
-        ensures last { IfOk result (λ found. option_copied found ≡ last_of self.now.assigned name.now) }
+        ensures last { IfOk result (λ found. option_copied found ≡ last_macro self.now.assigned name.now) }
         ensures fault { IfErr result (λ fault. fault ≡ Memory) }
     {
         let key = key_of(alloc, &self.names, name)?;

@@ -4,9 +4,9 @@ ghost use Rattle.std.specs.Prelude.{◌≡◌, ◌||◌, ℕ, List, IfSome, opti
 ghost use Rattle.vars_macros.specs.Each.{Each};
 ghost use Rattle.vars_macros.specs.Names.{same_name};
 ghost use Rattle.vars_macros.specs.NameTable.{HaveSameNumbers, IsKeyOf, place_in};
-ghost use Rattle.vars_macros.specs.Meaning.{is_launch, is_process, last_of, unassigned, ordinary, stands_for};
+ghost use Rattle.vars_macros.specs.Meaning.{is_launch_macro, is_process, last_macro, unassigned, ordinary, stands_for};
 ghost use Rattle.vars_macros.specs.Places.{macros_in, GivesLast, HasPlaces};
-ghost use Rattle.vars_macros.specs.Scopes.{scope_seen, meaning_of, bytes_of, HasNames};
+ghost use Rattle.vars_macros.specs.Scopes.{scope_seen, meaning_of, text_of_part, HasNames};
 ghost use Rattle.vars_macros.specs.declared.assignment.Assigned.{Assigned};
 
 use crate::assignment::Assigned;
@@ -33,7 +33,7 @@ pub(crate) fn stands_for<'a>(
 ) -> Meaning<'a>
     requires key { IsKeyOf scope.names.now name.now key.now }
     requires default { IfSome default (λ text. HaveSameNumbers text.names.now scope.names.now) }
-    ensures is { meaning_of result ≡ stands_for (scope_seen scope.entry) vars name.now (option_map bytes_of default.entry) }
+    ensures is { meaning_of result ≡ stands_for (scope_seen scope.entry) vars name.now (option_map text_of_part default.entry) }
     ensures names { HasNames scope.entry.names.now result }
 {
     if is_launch(name) {
@@ -64,7 +64,7 @@ pub(crate) fn stands_for<'a>(
 }
 
 fn is_launch(name: &[u8]) -> bool
-    ensures { result ≡ is_launch name.now }
+    ensures { result ≡ is_launch_macro name.now }
 {
     same_name(name, b"Cluster") || same_name(name, b"ClusterId")
 }
@@ -84,7 +84,7 @@ fn ordinary<'a>(
 ) -> Meaning<'a>
     requires key { IsKeyOf scope.names.now name.now key.now }
     requires default { IfSome default (λ text. HaveSameNumbers text.names.now scope.names.now) }
-    ensures is { meaning_of result ≡ ordinary (scope_seen scope.entry) vars name.now (option_map bytes_of default.entry) }
+    ensures is { meaning_of result ≡ ordinary (scope_seen scope.entry) vars name.now (option_map text_of_part default.entry) }
     ensures names { HasNames scope.entry.names.now result }
 {
     match last_assigned(scope.assigned, scope.names, key) {
@@ -105,7 +105,7 @@ pub(crate) fn last_assigned<'a>(
     requires last { GivesLast (place_in names.now) (macros_in assigned.now) }
     requires places { Each (HasPlaces names.now) assigned.now }
     ensures last { (name : List ℕ) → IsKeyOf names.now name key.now →
-        option_map (λ (a : Assigned). a.one) (option_copied result) ≡ last_of (macros_in assigned.now) name }
+        option_map (λ (a : Assigned). a.one) (option_copied result) ≡ last_macro (macros_in assigned.now) name }
     ensures places { IfSome result (λ found. HasPlaces names.now found.now) }
 {
     match key {
@@ -121,7 +121,7 @@ fn unassigned<'a>(
     default: Option<Part<'a>>,
 ) -> Meaning<'a>
     requires { IfSome default (λ text. HaveSameNumbers text.names.now scope.names.now) }
-    ensures is { meaning_of result ≡ unassigned (scope_seen scope.entry) vars name.now (option_map bytes_of default.entry) }
+    ensures is { meaning_of result ≡ unassigned (scope_seen scope.entry) vars name.now (option_map text_of_part default.entry) }
     ensures names { HasNames scope.entry.names.now result }
 {
     if same_name(name, b"JOB") {

@@ -1,7 +1,7 @@
 //! The names in a text.
 
 ghost use Rattle.std.specs.Prelude.{◌≡◌, IfOk, IfSome};
-ghost use Rattle.vars_macros.specs.NameTable.{Keeps};
+ghost use Rattle.vars_macros.specs.NameTable.{KeepsNumbers};
 ghost use Rattle.vars_macros.specs.NamePlaces.{AreNamesOf, IsNameOf, name_at};
 
 use crate::cut::{lawful_name, word_len};
@@ -30,7 +30,7 @@ impl NamePlaces {
         names: &mut Names,
     ) -> Result<NamePlaces, AllocError>
         ensures names { IfOk result (λ places. AreNamesOf names.new text.now (name_at places)) }
-        ensures keeps { Keeps names.old names.new }
+        ensures keeps { KeepsNumbers names.old names.new }
     {
         let mut places = BTreeMap::new(alloc);
         for at in 0..text.len() {
@@ -54,7 +54,7 @@ impl NamePlaces {
 /// The name that a text begins with, if a reference may have it. It gets a number.
 fn name_ahead(alloc: Global, text: &[u8], names: &mut Names) -> Result<Option<Name>, AllocError>
     ensures name { IfOk result (λ found. IfSome found (λ name. IsNameOf names.new text.now name)) }
-    ensures keeps { Keeps names.old names.new }
+    ensures keeps { KeepsNumbers names.old names.new }
 {
     match lawful_name(&text[..word_len(text)]) {
         Some(name) => {

@@ -2,7 +2,7 @@
 
 ghost use Rattle.std.specs.Prelude.{◌≡◌, ◌<◌, ℕ, List, Some, None, IfOk, length, string_bytes};
 ghost use Rattle.std.specs.HashMap.{get_by_text};
-ghost use Rattle.vars_macros.specs.Numbering.{AreApart};
+ghost use Rattle.vars_macros.specs.Numbering.{NumbersAreApart};
 
 use indexmap::IndexMap;
 use std::alloc::{AllocError, Global};
@@ -13,11 +13,11 @@ use std::alloc::{AllocError, Global};
 pub(crate) struct Names {
     numbers: IndexMap<String, usize>,
     last: Vec<Option<usize>>,
-    ghost apart: { AreApart (get_by_text numbers) (length last.items) },
+    ghost apart: { NumbersAreApart (get_by_text numbers) (length last.items) },
 }
 
 impl Names {
-    ghost use Rattle.vars_macros.specs.NameTable.{IsGiven, Keeps, last_at, number_in, place_in};
+    ghost use Rattle.vars_macros.specs.NameTable.{IsGiven, KeepsNumbers, last_at, number_of_name, place_in};
 
     /// No names.
     pub(crate) fn new(alloc: Global) -> Names
@@ -31,16 +31,16 @@ impl Names {
 
     /// The number of a name, if it has one.
     pub(crate) fn number(&self, key: &str) -> Option<usize>
-        ensures { result ≡ number_in self.now key.now }
+        ensures { result ≡ number_of_name self.now key.now }
     {
         self.numbers.get(key).copied()
     }
 
     /// The number of a name, which gets one where it has none.
     pub(crate) fn give(&mut self, key: String) -> Result<usize, AllocError>
-        ensures given { IfOk result (λ number. number_in self.new (string_bytes key) ≡ Some number) }
+        ensures given { IfOk result (λ number. number_of_name self.new (string_bytes key) ≡ Some number) }
         ensures within { IfOk result (λ number. number < length self.new.last.items) }
-        ensures keeps { Keeps self.old self.new }
+        ensures keeps { KeepsNumbers self.old self.new }
     {
         if let Some(number) = self.number(key.as_str()) {
             return Ok(number);
@@ -64,8 +64,8 @@ impl Names {
     /// Something was assigned to the name with this number.
     pub(crate) fn assign(&mut self, number: usize, place: usize)
         requires { number < length self.old.last.items }
-        ensures numbers { (key : List ℕ) → number_in self.new key ≡ number_in self.old key }
-        ensures places { (key : List ℕ) → number_in self.old key ≡ Some number → IsGiven (place_in self.old) (place_in self.new) key place }
+        ensures numbers { (key : List ℕ) → number_of_name self.new key ≡ number_of_name self.old key }
+        ensures places { (key : List ℕ) → number_of_name self.old key ≡ Some number → IsGiven (place_in self.old) (place_in self.new) key place }
     {
         self.last[number] = Some(place);
     }

@@ -3,7 +3,7 @@
 ghost use Rattle.std.specs.Prelude.{◌≡◌, ◌∷◌, ◌≤◌, [], map, false, vec_len, Ok};
 ghost use Rattle.std.specs.Str.{IsUtf8};
 ghost use Rattle.vars_macros.specs.Answers.{Gives};
-ghost use Rattle.vars_macros.specs.Expansion.{nothing, finished, Wrote, Replaced};
+ghost use Rattle.vars_macros.specs.Expansion.{no_tally, finished, Wrote, Replaced};
 
 use crate::fault::MacroFault;
 use crate::machine::Event;
@@ -38,7 +38,7 @@ impl Output {
 
     /// Nothing yet.
     pub(crate) fn new(alloc: Global) -> Output
-        ensures { tally_of result ≡ nothing }
+        ensures { tally_of result ≡ no_tally }
     {
         Output {
             written: Vec::new(alloc),

@@ -2,7 +2,7 @@
 
 ghost use Rattle.std.specs.Prelude.{◌≡◌, ◌<◌, ◌≤◌, ◌+◌, ◌^◌, [], Some, length, take, drop, slice_get, IfSome, option_copied};
 ghost use Rattle.vars_macros.specs.Cut.{closing};
-ghost use Rattle.vars_macros.specs.NamePlaces.{AreNamesOf, AreNamesIn, IsNameOf, name_in};
+ghost use Rattle.vars_macros.specs.NamePlaces.{AreNamesOf, AreNamesIn, IsNameOf, name_at_place};
 ghost use Rattle.vars_macros.specs.Pairs.{ArePairsOf, ArePairsIn, closer_in, closer_of};
 
 use crate::naming::{Name, NamePlaces};
@@ -20,7 +20,7 @@ pub(crate) struct Part<'a> {
     names: &'a Names,
     ghost fits: { start + length bytes.now < 2 ^ 64 },
     ghost paired: { ArePairsIn start bytes.now (closer_in (option_copied pairs)) },
-    ghost named: { AreNamesIn names.now start bytes.now (name_in (option_copied places)) },
+    ghost named: { AreNamesIn names.now start bytes.now (name_at_place (option_copied places)) },
 }
 
 impl<'a> Part<'a> {
@@ -32,7 +32,7 @@ impl<'a> Part<'a> {
         names: &'a Names,
     ) -> Part<'a>
         requires pairs { ArePairsOf text.now (closer_of pairs.now) }
-        requires names { AreNamesOf names.now text.now (name_in (option_copied places)) }
+        requires names { AreNamesOf names.now text.now (name_at_place (option_copied places)) }
         ensures bytes { result.bytes.now ≡ text.now }
         ensures names { result.names.now ≡ names.now }
     {

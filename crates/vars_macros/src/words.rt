@@ -29,7 +29,7 @@ pub(crate) struct Words {
 }
 
 impl Words {
-    ghost use Rattle.vars_macros.specs.Gathered.{gathering_of, no_words, closed, taken};
+    ghost use Rattle.vars_macros.specs.Gathered.{gathering_of, no_words, word_closed, taken};
     ghost use Rattle.vars_macros.specs.declared.words.Symbol.TheVariants.{Gap};
 
     /// No words.
@@ -67,7 +67,7 @@ impl Words {
     fn close(&mut self, alloc: Global) -> Result<(), MacroFault>
         requires { IsUtf8 self.old.word.items }
         ensures text { IfOk result (λ _. IsUtf8 self.new.word.items) }
-        ensures closed { Gives (λ _. gathering_of self.new) result (Ok (closed (gathering_of self.old))) }
+        ensures closed { Gives (λ _. gathering_of self.new) result (Ok (word_closed (gathering_of self.old))) }
     {
         if self.begun {
             let word = mem::replace(&mut self.word, Vec::new(alloc));
@@ -80,7 +80,7 @@ impl Words {
     /// The words, the last of them ended.
     pub(crate) fn finish(mut self, alloc: Global) -> Result<Texts, MacroFault>
         requires { IsUtf8 self.word.items }
-        ensures { Gives (λ words. words) result (Ok (closed (gathering_of self)).words) }
+        ensures { Gives (λ words. words) result (Ok (word_closed (gathering_of self)).words) }
     {
         self.close(alloc)?;
         Ok(self.words)

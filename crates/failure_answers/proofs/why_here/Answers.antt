@@ -1,28 +1,28 @@
 use Rattle.std.proofs.Common.{sym, subst}
 use Rattle.dag_main_files.specs.Beside.{folder_not_read}
-use Rattle.dag_main_inspect.specs.Asked.{IsToldFault, no_last_round, not_told}
+use Rattle.dag_main_inspect.specs.Asked.{IsAnswerFault, no_last_round, not_told}
 use Rattle.dag_main_inspect.specs.declared.by_journal.Question.TheVariants.{Status}
 use Rattle.dag_main_files.proofs.RunFaults.{by-fault, input-is-file}
 use Rattle.dag_main_inspect.proofs.Rounds.{same-round}
 use Rattle.failure_answers.proofs.why_here.Goals as goal
 
 pub returns-in-Ok-clause-answered : goal.returns-in-Ok-clause-answered
-returns-in-Ok-clause-answered g c = record { files = c.in_ok-files.files; rescue = _; journal = _; told = c.in-Ok.ensures.answered }
+returns-in-Ok-clause-answered g c = record { files = c.in_ok-files.files; rescue = _; journal = _; answered = c.in-Ok.ensures.answered }
 
 pub returns-in_err-round-clause-refused : goal.returns-in_err-round-clause-refused
 returns-in_err-round-clause-refused g c =
-    by-fault (IsToldFault Status c.args.place.now.top.now) c.in_err-round.field-0.0 (no_last_round _ c.in_err-round.ensures.refused)
+    by-fault (IsAnswerFault Status c.args.place.now.top.now) c.in_err-round.field-0.0 (no_last_round _ c.in_err-round.ensures.refused)
     c.from_residual.result c.from_residual.ensures.1
 
 pub returns-in_err-files-clause-refused : goal.returns-in_err-files-clause-refused
 returns-in_err-files-clause-refused g c =
-    by-fault (IsToldFault Status c.args.place.now.top.now) c.in_err-files.field-0.0
+    by-fault (IsAnswerFault Status c.args.place.now.top.now) c.in_err-files.field-0.0
     (no_last_round _ (folder_not_read _ tt (input-is-file _ _ c.in_err-files.ensures.refused)))
     c.from_residual-in_err-files.result c.from_residual-in_err-files.ensures.1
 
 pub returns-in-Err-clause-refused : goal.returns-in-Err-clause-refused
 returns-in-Err-clause-refused g c =
-    subst (IsToldFault Status c.args.place.now.top.now) (sym c.named.ensures)
+    subst (IsAnswerFault Status c.args.place.now.top.now) (sym c.named.ensures)
     (not_told c.in_ok-files.files _ _ c.in_ok-round.round.name c.in-Err.fault c.in-Err.ensures.refused)
 
 pub returns-in-Ok-clause-held : goal.returns-in-Ok-clause-held
@@ -31,6 +31,6 @@ returns-in-Ok-clause-held g c = λ honest. record {
   rescue = _;
   journal = _;
   read = c.in_ok-files.ensures.read honest;
-  beside = same-round _ _ _ _ _ _ (c.in_ok-round.ensures.round honest) c.bytes_of-journal.ensures c.bytes_of-rescue.ensures;
-  told = c.in-Ok.ensures.answered;
+  beside = same-round _ _ _ _ _ _ (c.in_ok-round.ensures.round honest) c.as_deref-journal.ensures.value c.as_deref-rescue.ensures.value;
+  answered = c.in-Ok.ensures.answered;
 }

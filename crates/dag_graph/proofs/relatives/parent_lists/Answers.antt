@@ -5,7 +5,7 @@ use Rattle.std.specs.List.{All, range_with_len}
 use Rattle.splices_flat.specs.declared.flat.FlatNode.{FlatNode}
 use Rattle.splices_flat.specs.declared.flat.Side.TheVariants.{Parent, Child}
 use Rattle.splices_flat.specs.Dag.{IsGroupBelow}
-use Rattle.splices_flat.specs.Places.{edges_of, ends_of}
+use Rattle.splices_flat.specs.Places.{edges_of, nodes_on_side}
 use Rattle.dag_graph.specs.Numbers.{AreBelow, all_named, holders_of, named}
 use Rattle.dag_graph.proofs.Families.{parents_listed}
 use Rattle.dag_graph.proofs.Groups.{homes_below, named_edges, sides_below}
@@ -23,7 +23,7 @@ side_of-requires-2-clause-within c =
 
 pub inverted-requires-clause-few : goal.inverted-requires-clause-few
 inverted-requires-clause-few c =
-    omega (arith, ap (λ (ls : List (List ℕ)). length ls) (c.as_slice.ensures.value ∙ c.in_ok-parents.ensures), length-map c.edges-groups.result.now (ends_of Parent), c.if-groups-gt4294967295.false)
+    omega (arith, ap (λ (ls : List (List ℕ)). length ls) (c.as_slice.ensures.value ∙ c.in_ok-parents.ensures), length-map c.edges-groups.result.now (nodes_on_side Parent), c.if-groups-gt4294967295.false)
 
 pub inverted-requires-clause-within : goal.inverted-requires-clause-within
 inverted-requires-clause-within c =
@@ -39,8 +39,8 @@ parents_by-requires-clause-few c =
 pub parents_by-requires-clause-homes : goal.parents_by-requires-clause-homes
 parents_by-requires-clause-homes c =
     let groups = c.edges-groups.result.now in
-    let parents : length c.as_slice.result.now ≡ length groups = ap (λ (ls : List (List ℕ)). length ls) (c.as_slice.ensures.value ∙ c.in_ok-parents.ensures) ∙ length-map groups (ends_of Parent) in
-    let children : length c.as_slice-3.result.now ≡ length groups = ap (λ (ls : List (List ℕ)). length ls) (c.as_slice-3.ensures.value ∙ c.in_ok-children.ensures) ∙ length-map groups (ends_of Child) in
+    let parents : length c.as_slice.result.now ≡ length groups = ap (λ (ls : List (List ℕ)). length ls) (c.as_slice.ensures.value ∙ c.in_ok-parents.ensures) ∙ length-map groups (nodes_on_side Parent) in
+    let children : length c.as_slice-3.result.now ≡ length groups = ap (λ (ls : List (List ℕ)). length ls) (c.as_slice-3.ensures.value ∙ c.in_ok-children.ensures) ∙ length-map groups (nodes_on_side Child) in
     homes_below c.as_slice.result.now c.as_slice-2.result.now (length c.nodes-count.result.now) (length c.as_slice-3.result.now) (c.as_slice-2.ensures.value ∙ c.in_ok-homes.ensures) (parents ∙ sym children)
 
 pub parents_by-requires-clause-children : goal.parents_by-requires-clause-children
@@ -60,8 +60,8 @@ returns c =
     let parents = c.as_slice.result.now in
     let homes = c.as_slice-2.result.now in
     let children = c.as_slice-3.result.now in
-    let parents_are : parents ≡ map (ends_of Parent) groups = c.as_slice.ensures.value ∙ c.in_ok-parents.ensures in
-    let children_are : children ≡ map (ends_of Child) groups = c.as_slice-3.ensures.value ∙ c.in_ok-children.ensures in
+    let parents_are : parents ≡ map (nodes_on_side Parent) groups = c.as_slice.ensures.value ∙ c.in_ok-parents.ensures in
+    let children_are : children ≡ map (nodes_on_side Child) groups = c.as_slice-3.ensures.value ∙ c.in_ok-children.ensures in
     let homes_are : homes ≡ map (holders_of parents) (range_with_len 0 n) = c.as_slice-2.ensures.value ∙ c.in_ok-homes.ensures in
     let raw = all_named children homes in
     let as_many : length raw ≡ length homes = length-map homes (named children) in

@@ -3,7 +3,7 @@ use Rattle.std.specs.Prelude.{◌↔◌}
 use Rattle.std.proofs.lemmas.List.{get_or_read, length-replicate}
 use Rattle.dag_graph.specs.Climb.{up}
 use Rattle.dag_graph.specs.Graph.{IsAncestor}
-use Rattle.dag_graph.specs.Search.{Searched, Meets}
+use Rattle.dag_graph.specs.Search.{Searched, MeetsNodes}
 use Rattle.dag_graph.proofs.Lists.{within_read}
 use Rattle.dag_graph.proofs.Families.{lists_len, all_below}
 use Rattle.dag_graph.proofs.Told.{Tells, tells}
@@ -25,7 +25,7 @@ loop-done-init c =
     let told : Tells (length c.args.dag.now.nodes) c.args.dag.now.edges c.args.parents.now = tells (length c.args.dag.now.nodes) c.args.dag.now.edges c.args.parents.now c.edges.ensures.within c.requires.parents in
     let own : c.as_slice.result.now ≡ up c.args.parents.now c.args.node = c.as_slice.ensures ∙ get_or_read c.args.parents.now c.args.node c.index-parents-node.result node c.index-parents-node.is [] in
     upward_begins (length c.args.dag.now.nodes) c.args.dag.now.edges c.args.parents.now c.args.node c.meet_all.new.self told
-    (subst (λ (s : Searched). Meets (up c.args.parents.now c.args.node) s c.meet_all.new.self) c.in_ok-search.ensures (subst (λ (ns : List ℕ). Meets ns c.in_ok-search.search c.meet_all.new.self) own c.in_ok-meet_all.ensures))
+    (subst (λ (s : Searched). MeetsNodes (up c.args.parents.now c.args.node) s c.meet_all.new.self) c.in_ok-search.ensures (subst (λ (ns : List ℕ). MeetsNodes ns c.in_ok-search.search c.meet_all.new.self) own c.in_ok-meet_all.ensures))
 
 pub meet_all-requires-in-loop-done-clause-below : goal.meet_all-requires-in-loop-done-clause-below
 meet_all-requires-in-loop-done-clause-below c =
@@ -44,7 +44,7 @@ loop-done-preserved c =
     let told : Tells (length c.args.dag.now.nodes) c.args.dag.now.edges c.args.parents.now = tells (length c.args.dag.now.nodes) c.args.dag.now.edges c.args.parents.now c.edges.ensures.within c.requires.parents in
     let own : c.as_slice-in-loop-done.result.now ≡ up c.args.parents.now (slice_index c.loop-done.search.found c.loop-done.done) = c.as_slice-in-loop-done.ensures ∙ get_or_read c.args.parents.now c.node_at-next.result c.index-parents-next.result next c.index-parents-next.is [] ∙ ap (λ (v : ℕ). up c.args.parents.now v) c.node_at-next.ensures in
     upward_more (length c.args.dag.now.nodes) c.args.dag.now.edges c.args.parents.now c.args.node c.loop-done.done c.loop-done.search c.meet_all-in-loop-done.new.self told inv lt
-    (subst (λ (ns : List ℕ). Meets ns c.loop-done.search c.meet_all-in-loop-done.new.self) own c.in_ok-meet_all-2.ensures)
+    (subst (λ (ns : List ℕ). MeetsNodes ns c.loop-done.search c.meet_all-in-loop-done.new.self) own c.in_ok-meet_all-2.ensures)
 
 pub returns-clause-len : goal.returns-clause-len
 returns-clause-len c =

@@ -6,11 +6,11 @@ use Rattle.dag_main_files.proofs.loading.files_from.Goals as goal
 
 pub returns-clause-read : goal.returns-clause-read
 returns-clause-read g c = λ honest there.
-    let is : g.F.Folder.holds c.args.folder.now c.args.top.now ≡ Some c.as_slice.result.now =
-    sym there ∙ ap (option_map (λ b. b.items)) c.in-Some.is ∙ ap Some (sym c.as_slice.ensures.value) in
+    let is : g.F.Folder.holds c.args.folder.now c.args.top.now ≡ Some c.in-Some.bytes.items =
+    sym there ∙ ap (option_map (λ b. b.items)) c.in-Some.is in
     record {
       held = c.in_ok-read_rest.ensures.held honest
-          (held-added c.new-files.result c.add.new.self c.args.top.now c.as_slice.result.now c.in_ok-add.ensures.added c.in_ok-add.ensures.others
+          (held-added c.new-files.result c.add_owned.new.self c.args.top.now c.in-Some.bytes.items c.in_ok-add_owned.ensures.added c.in_ok-add_owned.ensures.others
           (g.F.Folder.holds c.args.folder.now) is (λ path bytes at. let none : bytes_of c.new-files.result path ≡ None = c.new-files.ensures path in absurd cc));
-      has_top = c.in_ok-read_rest.ensures.kept c.args.top.now c.as_slice.result.now c.in_ok-add.ensures.added ∙ sym is;
+      has_top = c.in_ok-read_rest.ensures.kept c.args.top.now c.in-Some.bytes.items c.in_ok-add_owned.ensures.added ∙ sym is;
     }

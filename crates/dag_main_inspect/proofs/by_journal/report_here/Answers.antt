@@ -1,7 +1,7 @@
 use Rattle.std.proofs.Common.{refl, sym, ap, ◌∙◌, subst}
 use Rattle.std.specs.Option.{option_map}
 use Rattle.dag_main_files.specs.Beside.{IsFileFault, reading_had_no_memory, folder_not_read}
-use Rattle.dag_main_inspect.specs.Asked.{IsToldFault, no_last_round, not_told}
+use Rattle.dag_main_inspect.specs.Asked.{IsAnswerFault, no_last_round, not_told}
 use Rattle.dag_main_inspect.specs.Reported.{no_journal, no_end, unended}
 use Rattle.dag_main_inspect.specs.declared.by_journal.Question.TheVariants.{Status}
 use Rattle.dag_main_files.proofs.RunFaults.{by-fault, input-is-file}
@@ -10,41 +10,41 @@ use Rattle.dag_main_inspect.proofs.by_journal.report_here.Goals as goal
 
 pub returns-in_err-round-clause-refused : goal.returns-in_err-round-clause-refused
 returns-in_err-round-clause-refused g c =
-    by-fault (IsToldFault Status c.args.top.now) c.in_err-round.field-0.0 (no_last_round _ c.in_err-round.ensures.refused)
+    by-fault (IsAnswerFault Status c.args.top.now) c.in_err-round.field-0.0 (no_last_round _ c.in_err-round.ensures.refused)
     c.from_residual.result c.from_residual.ensures.1
 
 pub returns-in_err-has_ended-clause-refused : goal.returns-in_err-has_ended-clause-refused
 returns-in_err-has_ended-clause-refused g c =
-    by-fault (IsToldFault Status c.args.top.now) c.in_err-has_ended.field-0.0
+    by-fault (IsAnswerFault Status c.args.top.now) c.in_err-has_ended.field-0.0
     (no_last_round _ (folder_not_read _ tt (subst IsFileFault (sym c.in_err-has_ended.ensures.err) reading_had_no_memory)))
     c.from_residual-in_err-has_ended.result c.from_residual-in_err-has_ended.ensures.1
 
 pub returns-in_err-files-clause-refused : goal.returns-in_err-files-clause-refused
 returns-in_err-files-clause-refused g c =
-    by-fault (IsToldFault Status c.args.top.now) c.in_err-files.field-0.0
+    by-fault (IsAnswerFault Status c.args.top.now) c.in_err-files.field-0.0
     (no_last_round _ (folder_not_read _ tt (input-is-file _ _ c.in_err-files.ensures.refused)))
     c.from_residual-in_err-files.result c.from_residual-in_err-files.ensures.1
 
 pub returns-in-Err-clause-refused : goal.returns-in-Err-clause-refused
 returns-in-Err-clause-refused g c =
-    subst (IsToldFault Status c.args.top.now) (sym c.named.ensures)
+    subst (IsAnswerFault Status c.args.top.now) (sym c.named.ensures)
     (not_told c.in_ok-files.files _ _ c.in_ok-round.round.name c.in-Err.fault c.in-Err.ensures.refused)
 
 pub returns-in_default-clause-none : goal.returns-in_default-clause-none
 returns-in_default-clause-none g c = λ honest.
-    no_journal _ (same-round _ _ _ _ _ _ (c.in_ok-round.ensures.round honest) (sym (ap (option_map (λ b. b.now)) c.in_default.is) ∙ c.bytes_of.ensures) refl)
+    no_journal _ (same-round _ _ _ _ _ _ (c.in_ok-round.ensures.round honest) (sym (ap (option_map (λ b. b.now)) c.in_default.is) ∙ c.as_deref.ensures.value) refl)
 
 pub returns-then-not-branch-clause-none : goal.returns-then-not-branch-clause-none
 returns-then-not-branch-clause-none g c = λ honest.
     no_end _ _
-    (same-round _ _ _ _ _ _ (c.in_ok-round.ensures.round honest) (sym (ap (option_map (λ b. b.now)) c.in-Some.is) ∙ c.bytes_of.ensures) refl)
+    (same-round _ _ _ _ _ _ (c.in_ok-round.ensures.round honest) (sym (ap (option_map (λ b. b.now)) c.in-Some.is) ∙ c.as_deref.ensures.value) refl)
     (sym c.in_ok-has_ended.ensures.ended ∙ c.if-not-branch.true)
 
 pub returns-in-Ok-clause-held : goal.returns-in-Ok-clause-held
 returns-in-Ok-clause-held g c = λ honest.
     if-some _ _ c.in-Ok.answer
     (λ answer is. reported (g.F.Folder.holds c.args.folder.now) c.args.top.now c.in-Some.journal.now _
-    (same-round _ _ _ _ _ _ (c.in_ok-round.ensures.round honest) (sym (ap (option_map (λ b. b.now)) c.in-Some.is) ∙ c.bytes_of.ensures) c.bytes_of-2.ensures)
+    (same-round _ _ _ _ _ _ (c.in_ok-round.ensures.round honest) (sym (ap (option_map (λ b. b.now)) c.in-Some.is) ∙ c.as_deref.ensures.value) c.as_deref-2.ensures.value)
     c.in_ok-files.files _ _ _ (c.in_ok-files.ensures.read honest) is)
     c.in-Ok.ensures.report
 
@@ -52,6 +52,6 @@ pub returns-in-Ok-clause-none : goal.returns-in-Ok-clause-none
 returns-in-Ok-clause-none g c = λ honest.
     if-none c.in-Ok.answer _ _
     (λ is. unended c.in_ok-files.files _ c.in-Some.journal.now (c.in_ok-files.ensures.read honest)
-    (same-round _ _ _ _ _ _ (c.in_ok-round.ensures.round honest) (sym (ap (option_map (λ b. b.now)) c.in-Some.is) ∙ c.bytes_of.ensures) c.bytes_of-2.ensures)
+    (same-round _ _ _ _ _ _ (c.in_ok-round.ensures.round honest) (sym (ap (option_map (λ b. b.now)) c.in-Some.is) ∙ c.as_deref.ensures.value) c.as_deref-2.ensures.value)
     is)
     c.in-Ok.ensures.none

@@ -4,7 +4,7 @@ use Rattle.job_starter_drive.specs.Drives.{limits_of}
 use Rattle.dag_main_rehearse.specs.TooLong.{IsTooLong, IsTableRunFault}
 use Rattle.dag_main_check.proofs.Refusals.{handed-on}
 use Rattle.dag_main_rehearse.proofs.Rehearsals.{rehearsed}
-use Rattle.dag_main_rehearse.proofs.TooLongRuns.{StopMeans, lead-full, told-by, no-memory}
+use Rattle.dag_main_rehearse.proofs.TooLongRuns.{StopMeans, run_to_end-full, told-by, no-memory}
 use Rattle.dag_main_rehearse.proofs.table_runs.run_table.Goals as goal
 
 pub returns-in_err-manager-clause-refused : goal.returns-in_err-manager-clause-refused
@@ -19,11 +19,11 @@ returns-in-Ok-clause-run c =
     c.args.table.now c.new-starter.result.table.now c.new-starter.ensures.table
     c.new-starter.result.script.places.items (c.new-starter.ensures.places ∙ c.in_order.ensures)
     (past_of c.in_ok-manager.manager) c.in_ok-manager.ensures.past c.new-starter.result.log.calls c.new-starter.ensures.nothing
-    (past_of c.lead.new.manager) _ c.in-Ok.ensures.steps c.in-Ok.ensures.led.finished
+    (past_of c.run_to_end.new.manager) _ c.in-Ok.ensures.steps c.in-Ok.ensures.led.finished
 
 pub returns-clause-refused : goal.returns-clause-refused
 returns-clause-refused c =
-    let means = lead-full _ _ _ _ _ _ _ _ _ _ c.in_ok-manager.manager c.lead.new.manager _ _ _ _ c.in-Err.fault
+    let means = run_to_end-full _ _ _ _ _ c.in_ok-manager.manager c.run_to_end.new.manager _ _ _ _ c.in-Err.fault
     c.in_ok-manager.ensures.past c.in_ok-manager.ensures.slots c.in_ok-manager.ensures.count c.in-Err.ensures.refused in
     told-by c.args.plan.now c.in-Err.fault c.told.result
-    (subst (λ plan. StopMeans (IsTooLong plan) c.in-Err.fault) (c.lead.ensures.plan ∙ c.in_ok-manager.ensures.plan) means) c.told.ensures
+    (subst (λ plan. StopMeans (IsTooLong plan) c.in-Err.fault) (c.run_to_end.ensures.plan ∙ c.in_ok-manager.ensures.plan) means) c.told.ensures

@@ -1,17 +1,17 @@
 use Rattle.dag_main_files.proofs.RunFaults.{by-fault}
 use Rattle.dag_main_check.proofs.Refusals.{weaker}
 use Rattle.std.proofs.Common.{subst}
-use Rattle.dag_main_run.specs.Runs.{IsFindingFault, IsFirstFault, not_ours, not_found_at_first, looked_again}
+use Rattle.dag_main_run.specs.Runs.{IsFindingFault, IsFirstRunFault, not_ours, not_found_at_first, looked_again}
 use Rattle.dag_main_run.proofs.runs.first_look.Goals as goal
 
 pub returns-in_err-has_own_files-clause-refused : goal.returns-in_err-has_own_files-clause-refused
 returns-in_err-has_own_files-clause-refused g c =
-    by-fault (IsFirstFault c.args.place.now.top.now c.args.options.now) c.in_err-has_own_files.field-0.0 (not_ours _ c.in_err-has_own_files.ensures)
+    by-fault (IsFirstRunFault c.args.place.now.top.now c.args.options.now) c.in_err-has_own_files.field-0.0 (not_ours _ c.in_err-has_own_files.ensures)
     c.from_residual.result c.from_residual.ensures.1
 
 pub returns-in-Err-InManager-clause-refused : goal.returns-in-Err-InManager-clause-refused
 returns-in-Err-InManager-clause-refused g c =
-    weaker (IsFirstFault c.args.place.now.top.now c.args.options.now) c.look_locked.result c.look_locked.ensures.refused
+    weaker (IsFirstRunFault c.args.place.now.top.now c.args.options.now) c.look_locked.result c.look_locked.ensures.refused
     (λ fault is. looked_again c.in-Err-InManager._journal fault (subst (IsFindingFault c.args.options.now) c.in-Err-InManager.field-0-is c.in-Err-InManager.ensures.refused) is)
 
 pub returns-in-Err : goal.returns-in-Err

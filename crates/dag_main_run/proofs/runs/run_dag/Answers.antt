@@ -53,5 +53,5 @@ pub returns-clause-held : goal.returns-clause-held
 returns-clause-held g c = λ honest.
     answer-from (g.F.Folder.holds c.args.folder.now) (g.F.Folder.has c.args.folder.now) c.args.place.now.top.now c.args.options.now c.in_ok-files.files
     c.in_ok-graph.graph c.in_ok-found.found.0 c.in_ok-plan.plan _ (c.in_ok-files.ensures.read honest) c.in_ok-graph.ensures.graph (c.in_ok-found.ensures.held honest).0
-    (c.bytes_of.ensures ∙ (c.in_ok-found.ensures.held honest).1) c.in_ok-plan.ensures.by_rescue
+    (c.as_deref.ensures.value ∙ (c.in_ok-found.ensures.held honest).1) c.in_ok-plan.ensures.by_rescue
     c.run_locked-answer.result c.run_locked-answer.ensures.led c.run_locked-answer.ensures.warnings

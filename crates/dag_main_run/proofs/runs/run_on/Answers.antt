@@ -1,12 +1,12 @@
 use Rattle.std.proofs.Common.{subst, sym}
-use Rattle.dag_main_run.specs.Runs.{IsStopFault, not_cleared, no_ending_told, leading_had_no_memory}
+use Rattle.dag_main_run.specs.Runs.{IsStopFault, not_cleared, no_ending_logged, leading_had_no_memory}
 use Rattle.dag_main_check.specs.declared.fault.RunFault.TheVariants.{Memory}
 use Rattle.dag_main_check.proofs.Refusals.{handed-on}
 use Rattle.dag_main_files.proofs.RunFaults.{by-fault}
 use Rattle.dag_main_run.proofs.runs.run_on.Goals as goal
 
 pub returns-then-ignores_endings-clause-refused : goal.returns-then-ignores_endings-clause-refused
-returns-then-ignores_endings-clause-refused g c = no_ending_told
+returns-then-ignores_endings-clause-refused g c = no_ending_logged
 
 pub returns-in_err-left-clause-refused : goal.returns-in_err-left-clause-refused
 returns-in_err-left-clause-refused g c =

@@ -1,10 +1,10 @@
 use Rattle.std.proofs.Common.{sym, subst}
 use Rattle.dag_main_files.specs.Beside.{IsFileFault, reading_had_no_memory}
-use Rattle.dag_main_check.proofs.Refusals.{weaker}
+use Rattle.dag_main_check.proofs.Refusals.{handed-on, weaker}
 use Rattle.dag_main_args.specs.Requests.{salvages}
-use Rattle.dagrun.specs.Answered.{IsRefusal, not_read, salvaged, not_salvaged_as_run}
+use Rattle.dagrun.specs.Answered.{IsRefusedRequest, not_read, salvaged, not_salvaged_as_run}
 use Rattle.salvage.specs.Refused.{IsSalvageFault}
-use Rattle.dagrun.proofs.Salvages.{line-told}
+use Rattle.dagrun.proofs.Salvages.{line-warned}
 use Rattle.dagrun.proofs.answers.salvage_in.Goals as goal
 
 pub returns-in-Ok-clause-answered : goal.returns-in-Ok-clause-answered
@@ -13,15 +13,26 @@ returns-in-Ok-clause-answered g c = salvaged _ _ _ c.in-Ok.ensures.salvaged
 pub returns-in-Ok-clause-held : goal.returns-in-Ok-clause-held
 returns-in-Ok-clause-held g c = λ honest. salvaged _ _ _ (c.in-Ok.ensures.held honest)
 
-pub returns-in-Err-Refused-clause-refused : goal.returns-in-Err-Refused-clause-refused
-returns-in-Err-Refused-clause-refused g c = not_salvaged_as_run _ c.in-Err-Refused.fault
-    (subst (IsSalvageFault c.args.place.now.top.now) c.in-Err-Refused.field-0-is c.in-Err-Refused.ensures.refused)
+pub returns-in_err-own-in-Err-clause-refused : goal.returns-in_err-own-in-Err-clause-refused
+returns-in_err-own-in-Err-clause-refused g c =
+    let path = c.args.place.now.top.now in
+    handed-on (IsRefusedRequest (salvages path)) c.from_residual.result c.from_residual.ensures.1
+    (λ fault same. subst (IsRefusedRequest (salvages path)) (sym same)
+    (not_salvaged_as_run _ c.in_err-own-in-Err.field-0.0 (subst (IsSalvageFault path) c.in_err-own-in-Err.ensures.other c.in-Err.ensures.refused)))
 
-pub returns-in-Err : goal.returns-in-Err
-returns-in-Err g c = record {
-  answered = line-told _ c.args.place.now.top.now c.in-Err.fault c.told_salvage.result c.in-Err.ensures.refused c.told_salvage.ensures.told c.told_salvage.ensures.text c.told_salvage.ensures.status;
-  held = λ honest.
-      line-told _ c.args.place.now.top.now c.in-Err.fault c.told_salvage.result c.in-Err.ensures.refused c.told_salvage.ensures.told c.told_salvage.ensures.text c.told_salvage.ensures.status;
-  refused = weaker (IsRefusal (salvages c.args.place.now.top.now)) c.told_salvage.result c.told_salvage.ensures.err
-      (λ fault is. not_read _ fault (subst IsFileFault (sym is) reading_had_no_memory));
-}
+pub returns-in_ok-own-in-Err-clause-answered : goal.returns-in_ok-own-in-Err-clause-answered
+returns-in_ok-own-in-Err-clause-answered g c =
+    let path = c.args.place.now.top.now in
+    line-warned _ path c.in_ok-own-in-Err.own c.not_salvaged.result (subst (IsSalvageFault path) (sym c.in_ok-own-in-Err.ensures.own.0) c.in-Err.ensures.refused)
+    c.in_ok-own-in-Err.ensures.own.1 c.not_salvaged.ensures.warned c.not_salvaged.ensures.text c.not_salvaged.ensures.status
+
+pub returns-in_ok-own-in-Err-clause-held : goal.returns-in_ok-own-in-Err-clause-held
+returns-in_ok-own-in-Err-clause-held g c = λ honest.
+    let path = c.args.place.now.top.now in
+    line-warned _ path c.in_ok-own-in-Err.own c.not_salvaged.result (subst (IsSalvageFault path) (sym c.in_ok-own-in-Err.ensures.own.0) c.in-Err.ensures.refused)
+    c.in_ok-own-in-Err.ensures.own.1 c.not_salvaged.ensures.warned c.not_salvaged.ensures.text c.not_salvaged.ensures.status
+
+pub returns-in_ok-own-in-Err-clause-refused : goal.returns-in_ok-own-in-Err-clause-refused
+returns-in_ok-own-in-Err-clause-refused g c =
+    weaker (IsRefusedRequest (salvages c.args.place.now.top.now)) c.not_salvaged.result c.not_salvaged.ensures.err
+    (λ fault is. not_read _ fault (subst IsFileFault (sym is) reading_had_no_memory))

@@ -2,7 +2,7 @@ use Rattle.std.proofs.Common.{◌≡◌, ◌<◌, ◌≤◌, ℕ, List, length, 
 use Rattle.std.proofs.lemmas.List.{length-replicate, length-map}
 use Rattle.std.specs.Prelude.{Vec}
 use Rattle.std.specs.Global.{Global}
-use Rattle.dag_graph.specs.Search.{Searched, Meets}
+use Rattle.dag_graph.specs.Search.{Searched, MeetsNodes}
 use Rattle.failure_report.specs.Reaching.{nodes_in, next_in}
 use Rattle.failure_report.proofs.Searching.{read_list, list_below, fresh, begins, more, over}
 use Rattle.failure_report.proofs.reaching.search_from.Goals as goal
@@ -18,9 +18,9 @@ loop-done-init c =
     let own : c.deref.result.now ≡ next_in lists c.args.node = read_list c.args.lists.now c.args.node c.index-lists-node.result c.deref.result.now c.requires.node c.index-lists-node.is c.deref.ensures.value in
     let many : length c.args.lists.now ≡ length lists = sym (length-map c.args.lists.now (λ (v : Vec ℕ Global). v.items)) in
     begins lists c.args.node c.meet_all.new.self
-    (subst (λ (n : ℕ). Meets (next_in lists c.args.node) (fresh n) c.meet_all.new.self) many
-    (subst (λ (s : Searched). Meets (next_in lists c.args.node) s c.meet_all.new.self) c.in_ok-search.ensures
-    (subst (λ (ns : List ℕ). Meets ns c.in_ok-search.search c.meet_all.new.self) own c.in_ok-meet_all.ensures)))
+    (subst (λ (n : ℕ). MeetsNodes (next_in lists c.args.node) (fresh n) c.meet_all.new.self) many
+    (subst (λ (s : Searched). MeetsNodes (next_in lists c.args.node) s c.meet_all.new.self) c.in_ok-search.ensures
+    (subst (λ (ns : List ℕ). MeetsNodes ns c.in_ok-search.search c.meet_all.new.self) own c.in_ok-meet_all.ensures)))
 
 pub meet_all-requires-in-loop-done-clause-below : goal.meet_all-requires-in-loop-done-clause-below
 meet_all-requires-in-loop-done-clause-below c =
@@ -44,7 +44,7 @@ loop-done-preserved c =
     let own : c.deref-in-loop-done.result.now ≡ next_in lists (slice_index c.loop-done.search.found c.loop-done.done) =
     read_list c.args.lists.now c.node_at-next.result c.index-lists-next.result c.deref-in-loop-done.result.now next c.index-lists-next.is c.deref-in-loop-done.ensures.value ∙ ap (λ (v : ℕ). next_in lists v) c.node_at-next.ensures in
     more lists c.args.node c.loop-done.done c.loop-done.search c.meet_all-in-loop-done.new.self inv lt
-    (subst (λ (ns : List ℕ). Meets ns c.loop-done.search c.meet_all-in-loop-done.new.self) own c.in_ok-meet_all-2.ensures)
+    (subst (λ (ns : List ℕ). MeetsNodes ns c.loop-done.search c.meet_all-in-loop-done.new.self) own c.in_ok-meet_all-2.ensures)
 
 pub returns : goal.returns
 returns c =

@@ -3,7 +3,7 @@ use Rattle.std.specs.Prelude.{Vec}
 use Rattle.std.specs.Global.{Global}
 use Rattle.std.proofs.lemmas.List.{length-map}
 use Rattle.run_plan.specs.Plan.{Plan, count_of}
-use Rattle.failure_report.specs.Reaching.{nodes_in, AreBelow}
+use Rattle.failure_report.specs.Reaching.{nodes_in, ListsAreBelow}
 use Rattle.failure_report.proofs.Holding.{held_many, held_below, counts_waiting}
 use Rattle.failure_report.proofs.waiting.waiting_for.Goals as goal
 
@@ -31,7 +31,7 @@ pub count_from-requires-clause-below : goal.count_from-requires-clause-below
 count_from-requires-clause-below c =
     let plan = c.args.core.now.plan in
     let counted : count_of plan ≡ length plan.graph.dag.nodes = subst (λ (p : Plan). count_of p ≡ length p.graph.dag.nodes) c.plan.ensures c.graph-graph.ensures.count in
-    subst (λ (n : ℕ). AreBelow n (nodes_in c.args.held.now)) (length-map c.args.held.now (λ (v : Vec ℕ Global). v.items))
+    subst (λ (n : ℕ). ListsAreBelow n (nodes_in c.args.held.now)) (length-map c.args.held.now (λ (v : Vec ℕ Global). v.items))
     (held_below plan c.args.core.now.past counted (nodes_in c.args.held.now) c.requires.held)
 
 pub returns : goal.returns

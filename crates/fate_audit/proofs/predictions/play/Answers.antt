@@ -4,7 +4,7 @@ use Rattle.node_machine.specs.OutcomeTable.{outcome_at}
 use Rattle.node_machine.specs.Story.{story, ends_with}
 use Rattle.node_machine.specs.NodeProgress.{NodeProgress}
 use Rattle.node_machine.specs.NodeRun.{ended_with}
-use Rattle.sched_core.specs.Fate.{told_by}
+use Rattle.sched_core.specs.Fate.{fate_by_story}
 use Rattle.fate_audit.proofs.Plays.{played-more, played-less, played-over}
 use Rattle.fate_audit.proofs.predictions.play.Goals as goal
 
@@ -12,7 +12,7 @@ pub returns-in-None : goal.returns-in-None
 returns-in-None c =
     (λ j. record { state = c.state.ensures.is j; history = c.loop-run.history.items; attempts = c.attempts_ended.ensures.is j; value = c.last_value.ensures.is j })
     ∙ played-over (outcome_at c.args.table.now c.args.name.now) c.loop-run.run c.loop-run.history.items c.loop-run.invariant.1 (sym c.in-None.ensures.is)
-    ∙ ap (λ (course : Course). told_by (story course (outcome_at c.args.table.now c.args.name.now))) c.loop-run.invariant.0
+    ∙ ap (λ (course : Course). fate_by_story (story course (outcome_at c.args.table.now c.args.name.now))) c.loop-run.invariant.0
 
 pub loop-run-smaller : goal.loop-run-smaller
 loop-run-smaller c =

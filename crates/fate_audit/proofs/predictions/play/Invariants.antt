@@ -8,4 +8,4 @@ abbrev pub invariant-loop-run : goal.invariant-loop-run
 invariant-loop-run l = (l.run.course ≡ l.course) × IsPlayed (outcome_at l.table l.name) l.run l.history.items
 
 abbrev pub decreases-loop-run : goal.decreases-loop-run
-decreases-loop-run l = phases_left l.run.course l.run.stand.attempt l.run.stand.phase
+decreases-loop-run l = phases_left l.run.course l.run.machine.attempt l.run.machine.phase

@@ -12,8 +12,8 @@ use Rattle.job_starter_drive.proofs.driving.run.Goals as goal
 
 pub loop-verdict-init : goal.loop-verdict-init
 loop-verdict-init g c = (
-  stretch-still g.D.Disk.honest g.D.Disk.seen g.D.Disk.may_leave g.D.Disk.moment g.D.Disk.left_since g.D.Disk.faults g.D.Disk.capacity g.met.D.Disk.only_now (limits_of c.args.manager.now) (plan_of c.args.manager.now) (g.S.Starter.may_tell c.args.starter.now) (g.S.Starter.may_tell c.args.starter.now) (g.S.Starter.faults c.args.starter.now) (g.S.Starter.faults c.args.starter.now) c.args.manager.now
-      (at_rest (past_of c.args.manager.now) (g.S.Starter.told c.args.starter.now)) refl refl c.keeps_the_law.ensures (λ heard key outcome is. is) (at_rest (past_of c.args.manager.now) (g.S.Starter.told c.args.starter.now)) refl no_step refl,
+  stretch-still g.D.Disk g.met.D.Disk.only_now (limits_of c.args.manager.now) (plan_of c.args.manager.now) (g.S.Starter.may_return c.args.starter.now) (g.S.Starter.may_return c.args.starter.now) (g.S.Starter.faults c.args.starter.now) (g.S.Starter.faults c.args.starter.now) c.args.manager.now
+      (at_rest (past_of c.args.manager.now) (g.S.Starter.call_log c.args.starter.now)) refl refl c.keeps_the_law.ensures (λ later_log key outcome is. is) (at_rest (past_of c.args.manager.now) (g.S.Starter.call_log c.args.starter.now)) refl no_step refl,
   c.requires.in_step,
   c.requires.going,
 )
@@ -26,46 +26,46 @@ turn-requires-clause-in_step g c =
     let plan = plan_of c.args.manager.now in
     let past = past_of c.args.manager.now in
     let limits = limits_of c.args.manager.now in
-    let may = g.S.Starter.may_tell in
+    let may = g.S.Starter.may_return in
     let count = g.S.Starter.faults in
-    let told = g.S.Starter.told in
+    let call_log = g.S.Starter.call_log in
     let old = c.args.manager.now in
-    let from = at_rest past (told c.args.starter.now) in
+    let from = at_rest past (call_log c.args.starter.now) in
     let i = c.loop-verdict.invariant in
     let mid = c.loop-verdict.manager in
-    subst (λ (p : Plan). AreInStep p (past_of mid) (told c.loop-verdict.starter)) (sym i.0.plan_is) i.1
+    subst (λ (p : Plan). AreInStep p (past_of mid) (call_log c.loop-verdict.starter)) (sym i.0.plan_is) i.1
 
 pub returns-in-Ok-Some-clause-went : goal.returns-in-Ok-Some-clause-went
 returns-in-Ok-Some-clause-went g c =
     let plan = plan_of c.args.manager.now in
     let past = past_of c.args.manager.now in
     let limits = limits_of c.args.manager.now in
-    let may = g.S.Starter.may_tell in
+    let may = g.S.Starter.may_return in
     let count = g.S.Starter.faults in
-    let told = g.S.Starter.told in
+    let call_log = g.S.Starter.call_log in
     let old = c.args.manager.now in
-    let from = at_rest past (told c.args.starter.now) in
+    let from = at_rest past (call_log c.args.starter.now) in
     let i = c.loop-verdict.invariant in
     let mid = c.loop-verdict.manager in
     let new = c.turn.new.manager in
-    let via = at_rest (past_of mid) (told c.loop-verdict.starter) in
-    stretch-on g.D.Disk.honest g.D.Disk.seen g.D.Disk.may_leave g.D.Disk.moment g.D.Disk.left_since g.D.Disk.faults g.D.Disk.capacity limits plan (may c.args.starter.now) (may c.loop-verdict.starter) (may c.turn.new.starter) (count c.args.starter.now) (count c.loop-verdict.starter) (count c.turn.new.starter) old mid new from via i.0
-    (at_rest (past_of new) (told c.turn.new.starter)) c.in-Ok-Some.ensures.went
+    let via = at_rest (past_of mid) (call_log c.loop-verdict.starter) in
+    stretch-on g.D.Disk limits plan (may c.args.starter.now) (may c.loop-verdict.starter) (may c.turn.new.starter) (count c.args.starter.now) (count c.loop-verdict.starter) (count c.turn.new.starter) old mid new from via i.0
+    (at_rest (past_of new) (call_log c.turn.new.starter)) c.in-Ok-Some.ensures.went
 
 pub returns-in-Ok-Some-clause-over : goal.returns-in-Ok-Some-clause-over
 returns-in-Ok-Some-clause-over g c =
     let plan = plan_of c.args.manager.now in
     let past = past_of c.args.manager.now in
     let limits = limits_of c.args.manager.now in
-    let may = g.S.Starter.may_tell in
+    let may = g.S.Starter.may_return in
     let count = g.S.Starter.faults in
-    let told = g.S.Starter.told in
+    let call_log = g.S.Starter.call_log in
     let old = c.args.manager.now in
-    let from = at_rest past (told c.args.starter.now) in
+    let from = at_rest past (call_log c.args.starter.now) in
     let i = c.loop-verdict.invariant in
     let mid = c.loop-verdict.manager in
     let new = c.turn.new.manager in
-    let via = at_rest (past_of mid) (told c.loop-verdict.starter) in
+    let via = at_rest (past_of mid) (call_log c.loop-verdict.starter) in
     let over : IsChoice (limits_of mid) (plan_of mid) (past_of new) (choices.Finish c.in-Ok-Some.verdict) = search rules in
     subst (λ (l : Limits). IsChoice l plan (past_of new) (choices.Finish c.in-Ok-Some.verdict)) i.0.limits_are (subst (λ (p : Plan). IsChoice (limits_of mid) p (past_of new) (choices.Finish c.in-Ok-Some.verdict)) i.0.plan_is over)
 
@@ -74,15 +74,15 @@ returns-in-Ok-Some-clause-none_left g c =
     let plan = plan_of c.args.manager.now in
     let past = past_of c.args.manager.now in
     let limits = limits_of c.args.manager.now in
-    let may = g.S.Starter.may_tell in
+    let may = g.S.Starter.may_return in
     let count = g.S.Starter.faults in
-    let told = g.S.Starter.told in
+    let call_log = g.S.Starter.call_log in
     let old = c.args.manager.now in
-    let from = at_rest past (told c.args.starter.now) in
+    let from = at_rest past (call_log c.args.starter.now) in
     let i = c.loop-verdict.invariant in
     let mid = c.loop-verdict.manager in
     let new = c.turn.new.manager in
-    let via = at_rest (past_of mid) (told c.loop-verdict.starter) in
+    let via = at_rest (past_of mid) (call_log c.loop-verdict.starter) in
     let over : IsChoice (limits_of mid) (plan_of mid) (past_of new) (choices.Finish c.in-Ok-Some.verdict) = search rules in
     c.in-Ok-Some.ensures.in_step.same ∙ no_child (outstanding (plan_of mid) (past_of new)) over.1
 
@@ -91,20 +91,20 @@ loop-verdict-preserved g c =
     let plan = plan_of c.args.manager.now in
     let past = past_of c.args.manager.now in
     let limits = limits_of c.args.manager.now in
-    let may = g.S.Starter.may_tell in
+    let may = g.S.Starter.may_return in
     let count = g.S.Starter.faults in
-    let told = g.S.Starter.told in
+    let call_log = g.S.Starter.call_log in
     let old = c.args.manager.now in
-    let from = at_rest past (told c.args.starter.now) in
+    let from = at_rest past (call_log c.args.starter.now) in
     let i = c.loop-verdict.invariant in
     let mid = c.loop-verdict.manager in
     let new = c.turn.new.manager in
-    let via = at_rest (past_of mid) (told c.loop-verdict.starter) in
+    let via = at_rest (past_of mid) (call_log c.loop-verdict.starter) in
     let e = c.in-Ok-None.ensures in
     let nearer : IsNearerEnd (plan_of mid) (past_of mid) (past_of new) = subst (λ o. IfNone o (IsNearerEnd (plan_of mid) (past_of mid) (past_of new))) c.in-Ok-None.field-0-is e.nearer in (
-      stretch-on g.D.Disk.honest g.D.Disk.seen g.D.Disk.may_leave g.D.Disk.moment g.D.Disk.left_since g.D.Disk.faults g.D.Disk.capacity limits plan (may c.args.starter.now) (may c.loop-verdict.starter) (may c.turn.new.starter) (count c.args.starter.now) (count c.loop-verdict.starter) (count c.turn.new.starter) old mid new from via i.0
-          (at_rest (past_of new) (told c.turn.new.starter)) c.in-Ok-None.ensures.went,
-      subst (λ (p : Plan). AreInStep p (past_of new) (told c.turn.new.starter)) i.0.plan_is e.in_step,
+      stretch-on g.D.Disk limits plan (may c.args.starter.now) (may c.loop-verdict.starter) (may c.turn.new.starter) (count c.args.starter.now) (count c.loop-verdict.starter) (count c.turn.new.starter) old mid new from via i.0
+          (at_rest (past_of new) (call_log c.turn.new.starter)) c.in-Ok-None.ensures.went,
+      subst (λ (p : Plan). AreInStep p (past_of new) (call_log c.turn.new.starter)) i.0.plan_is e.in_step,
       nearer.going,
     )
 
@@ -113,14 +113,14 @@ returns-in-Err-clause-cut g c =
     let plan = plan_of c.args.manager.now in
     let past = past_of c.args.manager.now in
     let limits = limits_of c.args.manager.now in
-    let may = g.S.Starter.may_tell in
+    let may = g.S.Starter.may_return in
     let count = g.S.Starter.faults in
-    let told = g.S.Starter.told in
+    let call_log = g.S.Starter.call_log in
     let old = c.args.manager.now in
-    let from = at_rest past (told c.args.starter.now) in
+    let from = at_rest past (call_log c.args.starter.now) in
     let i = c.loop-verdict.invariant in
     let mid = c.loop-verdict.manager in
     let new = c.turn.new.manager in
-    let via = at_rest (past_of mid) (told c.loop-verdict.starter) in
-    cut-on g.D.Disk.honest g.D.Disk.seen g.D.Disk.may_leave g.D.Disk.moment g.D.Disk.left_since g.D.Disk.faults g.D.Disk.capacity limits plan (may c.args.starter.now) (may c.loop-verdict.starter) (may c.turn.new.starter) (count c.args.starter.now) (count c.loop-verdict.starter) (count c.turn.new.starter) old mid new from via i.0
-    (told c.turn.new.starter) c.in-Err.fault c.in-Err.ensures.cut
+    let via = at_rest (past_of mid) (call_log c.loop-verdict.starter) in
+    cut-on g.D.Disk limits plan (may c.args.starter.now) (may c.loop-verdict.starter) (may c.turn.new.starter) (count c.args.starter.now) (count c.loop-verdict.starter) (count c.turn.new.starter) old mid new from via i.0
+    (call_log c.turn.new.starter) c.in-Err.fault c.in-Err.ensures.cut

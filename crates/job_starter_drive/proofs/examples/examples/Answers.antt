@@ -14,7 +14,7 @@ use Rattle.event_journal_log.specs.Slot.{record_in, guess}
 use Rattle.event_journal_log.specs.Groups.{groups_of, records_at}
 use Rattle.event_journal_log.specs.Image.{replay_of}
 use Rattle.recovery_manager.specs.Example.{one_node, end_of_a, first_held, second_held}
-use Rattle.job_starter_drive.specs.Drives.{launches, starts, ends, settles, no_step, one_more}
+use Rattle.job_starter_drive.specs.Drives.{launch_round, spawn_child, child_exits, ends_recorded, no_step, one_more}
 use Rattle.node_machine.specs.declared.Phase.TheVariants.{Job}
 use Rattle.sched_core.specs.Example.{key}
 use Rattle.sched_core.specs.Ahead.{NothingToStart}
@@ -55,7 +55,7 @@ unfolding story attempts_after next_after is_good_after value_after is_aborted i
 returns c = record {
   moment = record {
     held = end_of_a ∷ second_held;
-    heard = its_calls;
+    later_log = its_calls;
     lawful = refl;
     halted = record {
       keys = [];
@@ -64,10 +64,10 @@ returns c = record {
           (one_more
           (one_more
           (one_more no_step
-          (launches {keys = key 0 0 Job ∷ []} refl refl (record { same = refl; children = refl }) (record { some = omega arith; few = omega arith; chosen = ((refl, never_better), tt); full = λ fewer. held })))
-          (starts {command = child_of_a} refl refl (Exit 0, exits, refl)))
-          (ends {key = key 0 0 Job} {outcome = Exit 0} (record { same = refl; children = refl }) held refl refl))
-          (settles {end = (key 0 0 Job, Exit 0)} {owed = []});
+          (launch_round {keys = key 0 0 Job ∷ []} refl refl (record { same = refl; children = refl }) (record { some = omega arith; few = omega arith; chosen = ((refl, never_better), tt); full = λ fewer. held })))
+          (spawn_child {command = child_of_a} refl refl (Exit 0, exits, refl)))
+          (child_exits {key = key 0 0 Job} {outcome = Exit 0} (record { same = refl; children = refl }) held refl refl))
+          (ends_recorded {end = (key 0 0 Job, Exit 0)} {owed = []});
     };
     part = ([], refl);
     answered = ([], refl);

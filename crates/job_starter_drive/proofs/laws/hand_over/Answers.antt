@@ -2,13 +2,13 @@ use Rattle.job_starter_drive.proofs.Handing.{driven, halted-hands, by-fault-hand
 use Rattle.job_starter_drive.proofs.laws.hand_over.Goals as goal
 
 pub returns-clause-driven : goal.returns-clause-driven
-returns-clause-driven g c limits plan starter past told after last h = driven limits plan (g.S.Starter.may_tell starter) past told after last h
+returns-clause-driven g c limits plan starter past call_log after last h = driven limits plan (g.S.Starter.may_return starter) past call_log after last h
 
 pub returns-clause-halted : goal.returns-clause-halted
-returns-clause-halted g c limits plan starter past told after last h = halted-hands limits plan (g.S.Starter.may_tell starter) past told after last h
+returns-clause-halted g c limits plan starter past call_log after last h = halted-hands limits plan (g.S.Starter.may_return starter) past call_log after last h
 
 pub returns-clause-halted_by : goal.returns-clause-halted_by
-returns-clause-halted_by g c limits plan starter past told fault after last h = by-fault-hands limits plan (g.S.Starter.may_tell starter) past told fault after last h
+returns-clause-halted_by g c limits plan starter past call_log fault after last h = by-fault-hands limits plan (g.S.Starter.may_return starter) past call_log fault after last h
 
 pub returns-clause-stopped : goal.returns-clause-stopped
-returns-clause-stopped g c limits plan starter past told fault after last h = stopped limits plan (g.S.Starter.may_tell starter) past told fault after last h
+returns-clause-stopped g c limits plan starter past call_log fault after last h = stopped limits plan (g.S.Starter.may_return starter) past call_log fault after last h

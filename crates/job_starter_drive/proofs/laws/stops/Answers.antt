@@ -7,10 +7,10 @@ use Rattle.job_starter_drive.proofs.Lasts.{leaves-kept}
 use Rattle.job_starter_drive.proofs.laws.stops.Goals as goal
 
 pub returns-clause-life : goal.returns-clause-life
-returns-clause-life g c limits plan starter past told fault kept last header found image digest reads stop =
-    let may = g.S.Starter.may_tell starter in
-    let hands = halted-hands limits plan may (Life ∷ past) told stop.held stop.heard stop.halted in
-    let adds = goes-records limits plan may (at_rest (Life ∷ past) told) (At stop.held stop.heard stop.halted.keys stop.halted.owed) stop.halted.steps in
+returns-clause-life g c limits plan starter past call_log fault kept last header found image digest reads stop =
+    let may = g.S.Starter.may_return starter in
+    let hands = halted-hands limits plan may (Life ∷ past) call_log stop.held stop.later_log stop.halted in
+    let adds = goes-records limits plan may (at_rest (Life ∷ past) call_log) (At stop.held stop.later_log stop.halted.keys stop.halted.owed) stop.halted.steps in
     record {
       own = hands.own;
       are = hands.are;
@@ -18,14 +18,14 @@ returns-clause-life g c limits plan starter past told fault kept last header fou
         reads = reads;
         goes_on = inr adds;
         lawful = stop.lawful;
-        hands_over = (hands.rest, hands.commands);
+        spawns = (hands.rest, hands.commands);
         leaves = record { added = []; few = omega arith; goes_on = inr adds; lawful = stop.lawful; reads = inr (header, stop.reads, digest) };
       };
     }
 
 pub returns-clause-leaves : goal.returns-clause-leaves
-returns-clause-leaves g c limits plan starter past told fault kept last header image digest stop =
-    let may = g.S.Starter.may_tell starter in
+returns-clause-leaves g c limits plan starter past call_log fault kept last header image digest stop =
+    let may = g.S.Starter.may_return starter in
     let moment = stop.moment in
     leaves-kept plan past kept moment.held fault header image moment.part stop.all
-    (goes-records limits plan may (at_rest (Life ∷ past) told) (At moment.held moment.heard moment.halted.keys moment.halted.owed) moment.halted.steps) moment.lawful digest moment.reads
+    (goes-records limits plan may (at_rest (Life ∷ past) call_log) (At moment.held moment.later_log moment.halted.keys moment.halted.owed) moment.halted.steps) moment.lawful digest moment.reads

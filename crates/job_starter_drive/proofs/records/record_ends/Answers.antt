@@ -17,8 +17,8 @@ returns-in-Ok-clause-nearer g c =
 
 pub returns-in-Ok-clause-went : goal.returns-in-Ok-clause-went
 returns-in-Ok-clause-went g c =
-    let may = g.S.Starter.may_tell c.args.starter.now in
-    let told = g.S.Starter.told c.args.starter.now in
+    let may = g.S.Starter.may_return c.args.starter.now in
+    let call_log = g.S.Starter.call_log c.args.starter.now in
     let count = g.S.Starter.faults c.args.starter.now in
     let plan = plan_of c.args.manager.now in
     let past = past_of c.args.manager.now in
@@ -26,19 +26,19 @@ returns-in-Ok-clause-went g c =
     let entries = up_to_abort plan past (ends_of ends) in
     let e = c.record_batch.ensures in
     let all = end-all plan past (without_all (ended_in ends) (outstanding plan past)) ends c.keeps_the_law.ensures c.requires.going refl c.requires.ends in
-    subst (λ l. IsStretch g.D.Disk.honest g.D.Disk.seen g.D.Disk.may_leave g.D.Disk.moment g.D.Disk.left_since g.D.Disk.faults g.D.Disk.capacity (limits_of c.args.manager.now) plan may may count count c.args.manager.now c.record_batch.new.self (At past told [] ends) (at_rest l told)) (sym c.in-Ok.ensures.past)
-    (stretch-recorded g.D.Disk.honest g.D.Disk.seen g.D.Disk.may_leave g.D.Disk.moment g.D.Disk.left_since g.D.Disk.faults g.D.Disk.capacity g.met.D.Disk.only_now
-    (limits_of c.args.manager.now) plan may count c.args.manager.now c.record_batch.new.self told [] ends (at_rest (added past entries) told)
+    subst (λ l. IsStretch g.D.Disk (limits_of c.args.manager.now) plan may may count count c.args.manager.now c.record_batch.new.self (At past call_log [] ends) (at_rest l call_log)) (sym c.in-Ok.ensures.past)
+    (stretch-recorded g.D.Disk g.met.D.Disk.only_now
+    (limits_of c.args.manager.now) plan may count c.args.manager.now c.record_batch.new.self call_log [] ends (at_rest (added past entries) call_log)
     e.plan e.limits refl c.keeps_the_law.ensures all.lawful
-    (settle-step (limits_of c.args.manager.now) plan may past told ends c.requires.some)
-    e.any_moment e.broken (record { slots = e.limit; room = e.room; later = e.later; keeps = e.keeps; keeps_back = e.keeps_back })
+    (settle-step (limits_of c.args.manager.now) plan may past call_log ends c.requires.some)
+    e.any_moment e.broken e.keeps
     c.in-Ok.ensures.past (λ honest header was. c.in-Ok.ensures.acknowledged honest header was.reads)
     (counts_group c.args.manager.now c.record_batch.new.self entries c.in-Ok.ensures.past c.in-Ok.ensures.used c.in-Ok.ensures.whole))
 
 pub returns-in-Err-clause-cut : goal.returns-in-Err-clause-cut
 returns-in-Err-clause-cut g c =
-    let may = g.S.Starter.may_tell c.args.starter.now in
-    let told = g.S.Starter.told c.args.starter.now in
+    let may = g.S.Starter.may_return c.args.starter.now in
+    let call_log = g.S.Starter.call_log c.args.starter.now in
     let count = g.S.Starter.faults c.args.starter.now in
     let plan = plan_of c.args.manager.now in
     let past = past_of c.args.manager.now in
@@ -46,12 +46,12 @@ returns-in-Err-clause-cut g c =
     let entries = up_to_abort plan past (ends_of ends) in
     let e = c.record_batch.ensures in
     let all = end-all plan past (without_all (ended_in ends) (outstanding plan past)) ends c.keeps_the_law.ensures c.requires.going refl c.requires.ends in
-    cut-recorded g.D.Disk.honest g.D.Disk.seen g.D.Disk.may_leave g.D.Disk.moment g.D.Disk.left_since g.D.Disk.faults g.D.Disk.capacity g.met.D.Disk.only_now
-    (limits_of c.args.manager.now) plan may count c.args.manager.now c.record_batch.new.self told [] ends (at_rest (added past entries) told)
+    cut-recorded g.D.Disk g.met.D.Disk.only_now
+    (limits_of c.args.manager.now) plan may count c.args.manager.now c.record_batch.new.self call_log [] ends (at_rest (added past entries) call_log)
     e.plan e.limits refl c.keeps_the_law.ensures all.lawful
-    (settle-step (limits_of c.args.manager.now) plan may past told ends c.requires.some)
-    e.any_moment e.broken (record { slots = e.limit; room = e.room; later = e.later; keeps = e.keeps; keeps_back = e.keeps_back })
-    g.met.D.Disk.counts_now entries c.in-Err.fault (settle-stop (limits_of c.args.manager.now) plan c.in-Err.fault past told ends c.requires.some) c.in-Err.ensures.past_err
+    (settle-step (limits_of c.args.manager.now) plan may past call_log ends c.requires.some)
+    e.any_moment e.broken e.keeps
+    g.met.D.Disk.counts_now entries c.in-Err.fault (settle-stop (limits_of c.args.manager.now) plan c.in-Err.fault past call_log ends c.requires.some) c.in-Err.ensures.past_err
     (let few = c.requires.few in let size = up-few plan past ends in omega (arith, few, size)) refl (ends-own plan past ends) all.may_all
-    (unwritten g.D.Disk.faults g.D.Disk.capacity past _ entries c.args.manager.now.journal c.record_batch.new.self.journal c.in-Err.fault
+    (unwritten g.D.Disk past _ entries c.args.manager.now.journal c.record_batch.new.self.journal c.in-Err.fault
     (open-going past c.requires.going) (ends-fit plan past ends all.may_all) c.in-Err.ensures.refused)

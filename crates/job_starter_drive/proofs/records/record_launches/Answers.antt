@@ -2,7 +2,7 @@ use Rattle.std.proofs.Common.{arith, ◌∙◌, [], refl, sym}
 use Rattle.sched_core.specs.Ahead.{launched, launches as launches_of}
 use Rattle.sched_core.proofs.Added.{launched-added, launches-follow, length-launches}
 use Rattle.recovery_manager.specs.Managed.{plan_of, past_of}
-use Rattle.job_starter_drive.specs.Drives.{At, limits_of, launches, launch_refused}
+use Rattle.job_starter_drive.specs.Drives.{At, limits_of, launch_round, launch_refused}
 use Rattle.job_starter_drive.proofs.Disks.{counts_group}
 use Rattle.job_starter_drive.proofs.Stretches.{stretch-recorded, cut-recorded, unwritten}
 use Rattle.job_starter_drive.proofs.Steps.{open-going}
@@ -15,26 +15,26 @@ returns-clause-nearer g c =
 
 pub returns-clause-went : goal.returns-clause-went
 returns-clause-went g c =
-    let may = g.S.Starter.may_tell c.args.starter.now in
-    let told = g.S.Starter.told c.args.starter.now in
+    let may = g.S.Starter.may_return c.args.starter.now in
+    let call_log = g.S.Starter.call_log c.args.starter.now in
     let count = g.S.Starter.faults c.args.starter.now in
     let step = c.requires.in_step in
     let plan = plan_of c.args.manager.now in
     let past = past_of c.args.manager.now in
     let keys = c.args.keys.now in
     let e = c.launch_batch.ensures in
-    stretch-recorded g.D.Disk.honest g.D.Disk.seen g.D.Disk.may_leave g.D.Disk.moment g.D.Disk.left_since g.D.Disk.faults g.D.Disk.capacity g.met.D.Disk.only_now
-    (limits_of c.args.manager.now) plan may count c.args.manager.now c.launch_batch.new.self told [] [] (At (launched past keys) told keys [])
+    stretch-recorded g.D.Disk g.met.D.Disk.only_now
+    (limits_of c.args.manager.now) plan may count c.args.manager.now c.launch_batch.new.self call_log [] [] (At (launched past keys) call_log keys [])
     e.plan e.limits refl c.keeps_the_law.ensures (launch-all (limits_of c.args.manager.now) plan past keys c.keeps_the_law.ensures c.requires.going c.requires.round.chosen).lawful
-    (launches c.keeps_the_law.ensures c.requires.going step c.requires.round)
-    e.any_moment e.broken (record { slots = e.limit; room = e.room; later = e.later; keeps = e.keeps; keeps_back = e.keeps_back })
+    (launch_round c.keeps_the_law.ensures c.requires.going step c.requires.round)
+    e.any_moment e.broken e.keeps
     c.in-Ok.ensures.past (λ honest header was. c.in-Ok.ensures.acknowledged honest header was.reads)
     (counts_group c.args.manager.now c.launch_batch.new.self (launches_of past keys) (c.in-Ok.ensures.past ∙ launched-added past keys) c.in-Ok.ensures.used c.in-Ok.ensures.whole)
 
 pub returns-in-Err-clause-cut : goal.returns-in-Err-clause-cut
 returns-in-Err-clause-cut g c =
-    let may = g.S.Starter.may_tell c.args.starter.now in
-    let told = g.S.Starter.told c.args.starter.now in
+    let may = g.S.Starter.may_return c.args.starter.now in
+    let call_log = g.S.Starter.call_log c.args.starter.now in
     let count = g.S.Starter.faults c.args.starter.now in
     let step = c.requires.in_step in
     let plan = plan_of c.args.manager.now in
@@ -42,13 +42,13 @@ returns-in-Err-clause-cut g c =
     let keys = c.args.keys.now in
     let e = c.launch_batch.ensures in
     let all = launch-all (limits_of c.args.manager.now) plan past keys c.keeps_the_law.ensures c.requires.going c.requires.round.chosen in
-    cut-recorded g.D.Disk.honest g.D.Disk.seen g.D.Disk.may_leave g.D.Disk.moment g.D.Disk.left_since g.D.Disk.faults g.D.Disk.capacity g.met.D.Disk.only_now
-    (limits_of c.args.manager.now) plan may count c.args.manager.now c.launch_batch.new.self told [] [] (At (launched past keys) told keys [])
+    cut-recorded g.D.Disk g.met.D.Disk.only_now
+    (limits_of c.args.manager.now) plan may count c.args.manager.now c.launch_batch.new.self call_log [] [] (At (launched past keys) call_log keys [])
     e.plan e.limits refl c.keeps_the_law.ensures all.lawful
-    (launches c.keeps_the_law.ensures c.requires.going step c.requires.round)
-    e.any_moment e.broken (record { slots = e.limit; room = e.room; later = e.later; keeps = e.keeps; keeps_back = e.keeps_back })
+    (launch_round c.keeps_the_law.ensures c.requires.going step c.requires.round)
+    e.any_moment e.broken e.keeps
     g.met.D.Disk.counts_now (launches_of past keys) c.in-Err.fault (launch_refused c.requires.round) c.in-Err.ensures.past_err
     (let few = c.requires.round.few in let size = length-launches past keys in omega (arith, few, size)) (launched-added past keys) (launches-own past keys)
     (sym (launches-follow plan past keys) ∙ all.may_all)
-    (unwritten g.D.Disk.faults g.D.Disk.capacity past _ (launches_of past keys) c.args.manager.now.journal c.launch_batch.new.self.journal c.in-Err.fault
+    (unwritten g.D.Disk past _ (launches_of past keys) c.args.manager.now.journal c.launch_batch.new.self.journal c.in-Err.fault
     (open-going past c.requires.going) all.may_all c.in-Err.ensures.refused)

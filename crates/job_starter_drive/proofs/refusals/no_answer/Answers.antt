@@ -5,4 +5,4 @@ pub returns-clause-asked : goal.returns-clause-asked
 returns-clause-asked c = asking_refused c.raise.ensures.one_more
 
 pub returns-clause-waited : goal.returns-clause-waited
-returns-clause-waited c = λ told. waiting_refused c.raise.ensures.one_more
+returns-clause-waited c = λ call_log. waiting_refused c.raise.ensures.one_more

@@ -10,11 +10,11 @@ invariant-loop-place g l =
     (l.place ≤ length l.keys)
     × (length l.owed.items ≤ l.place)
     × (vec_capacity l.initial.owed ≤ vec_capacity l.owed)
-    × AreUnderWay (plan_of l.manager) (past_of l.manager) (g.S.Starter.told l.starter) (drop l.place l.keys) l.owed.items
-    × IsStretch g.D.Disk.honest g.D.Disk.seen g.D.Disk.may_leave g.D.Disk.moment g.D.Disk.left_since g.D.Disk.faults g.D.Disk.capacity
-    (limits_of l.manager) (plan_of l.manager) (g.S.Starter.may_tell l.initial.starter) (g.S.Starter.may_tell l.starter) (g.S.Starter.faults l.initial.starter) (g.S.Starter.faults l.starter) l.manager l.manager
-    (At (past_of l.manager) (g.S.Starter.told l.initial.starter) l.keys []) (At (past_of l.manager) (g.S.Starter.told l.starter) (drop l.place l.keys) l.owed.items)
-    × Starts (g.S.Starter.told l.initial.starter) (g.S.Starter.told l.starter)
+    × AreUnderWay (plan_of l.manager) (past_of l.manager) (g.S.Starter.call_log l.starter) (drop l.place l.keys) l.owed.items
+    × IsStretch g.D.Disk
+    (limits_of l.manager) (plan_of l.manager) (g.S.Starter.may_return l.initial.starter) (g.S.Starter.may_return l.starter) (g.S.Starter.faults l.initial.starter) (g.S.Starter.faults l.starter) l.manager l.manager
+    (At (past_of l.manager) (g.S.Starter.call_log l.initial.starter) l.keys []) (At (past_of l.manager) (g.S.Starter.call_log l.starter) (drop l.place l.keys) l.owed.items)
+    × Starts (g.S.Starter.call_log l.initial.starter) (g.S.Starter.call_log l.starter)
 
 abbrev pub decreases-loop-place : goal.decreases-loop-place
 decreases-loop-place g l = length l.keys - l.place

@@ -8,7 +8,7 @@ use Rattle.recovery_manager.specs.Managed.{plan_of, past_of}
 use Rattle.job_starter_drive.specs.Drives.{at_rest, limits_of, AreInStep, IsTurn, IsRoundOf, IsNearerEnd, is_aborted_between, round_refused, no_step, none_started}
 use Rattle.job_starter_drive.specs.Causes.{no_memory_for_round}
 use Rattle.job_starter_drive.specs.Stretches.{IsCutShort}
-use Rattle.job_starter_drive.proofs.RoundTurns.{turn-before, turn-still, turn-calm, turn-stops}
+use Rattle.job_starter_drive.proofs.RoundTurns.{turn-before, turn-still, turn-abort_free, turn-stops}
 use Rattle.job_starter_drive.proofs.Steps.{some-there, none-there}
 use Rattle.job_starter_drive.proofs.Stretches.{stretch-still, stretch-on, cut-on, cut-still}
 use Rattle.job_starter_drive.proofs.Turns.{nearer-then}
@@ -17,8 +17,8 @@ use Rattle.job_starter_drive.proofs.rounds.launch_round.Goals as goal
 
 pub loop-keys-init : goal.loop-keys-init
 loop-keys-init g c = (
-  stretch-still g.D.Disk.honest g.D.Disk.seen g.D.Disk.may_leave g.D.Disk.moment g.D.Disk.left_since g.D.Disk.faults g.D.Disk.capacity g.met.D.Disk.only_now (limits_of c.args.manager.now) (plan_of c.args.manager.now) (g.S.Starter.may_tell c.args.starter.now) (g.S.Starter.may_tell c.args.starter.now) (g.S.Starter.faults c.args.starter.now) (g.S.Starter.faults c.args.starter.now) c.args.manager.now
-      (at_rest (past_of c.args.manager.now) (g.S.Starter.told c.args.starter.now)) refl refl c.keeps_the_law.ensures (λ heard key outcome is. is) (at_rest (past_of c.args.manager.now) (g.S.Starter.told c.args.starter.now)) refl no_step refl,
+  stretch-still g.D.Disk g.met.D.Disk.only_now (limits_of c.args.manager.now) (plan_of c.args.manager.now) (g.S.Starter.may_return c.args.starter.now) (g.S.Starter.may_return c.args.starter.now) (g.S.Starter.faults c.args.starter.now) (g.S.Starter.faults c.args.starter.now) c.args.manager.now
+      (at_rest (past_of c.args.manager.now) (g.S.Starter.call_log c.args.starter.now)) refl refl c.keeps_the_law.ensures (λ later_log key outcome is. is) (at_rest (past_of c.args.manager.now) (g.S.Starter.call_log c.args.starter.now)) refl no_step refl,
   c.requires.in_step,
   c.goes_on.ensures,
   refl,
@@ -31,19 +31,19 @@ returns-in-Err-clause-cut g c =
     let plan = plan_of c.args.manager.now in
     let past = past_of c.args.manager.now in
     let limits = limits_of c.args.manager.now in
-    let may = g.S.Starter.may_tell in
+    let may = g.S.Starter.may_return in
     let count = g.S.Starter.faults in
-    let told = g.S.Starter.told in
+    let call_log = g.S.Starter.call_log in
     let old = c.args.manager.now in
-    let from = at_rest past (told c.args.starter.now) in
+    let from = at_rest past (call_log c.args.starter.now) in
     let i = c.loop-keys.invariant in
     let mid = c.loop-keys.manager in
-    let via = at_rest (past_of mid) (told c.loop-keys.starter) in
+    let via = at_rest (past_of mid) (call_log c.loop-keys.starter) in
     let round = c.in-Err.ensures.err in
-    cut-on g.D.Disk.honest g.D.Disk.seen g.D.Disk.may_leave g.D.Disk.moment g.D.Disk.left_since g.D.Disk.faults g.D.Disk.capacity limits plan (may c.args.starter.now) (may c.loop-keys.starter) (may c.loop-keys.starter) (count c.args.starter.now) (count c.loop-keys.starter) (count c.loop-keys.starter) old mid mid from via i.0
-    (told c.loop-keys.starter) c.in-Err.fault (subst (IsCutShort g.D.Disk.honest g.D.Disk.seen g.D.Disk.may_leave g.D.Disk.moment g.D.Disk.left_since g.D.Disk.faults g.D.Disk.capacity (limits_of mid) (plan_of mid) (may c.loop-keys.starter) (may c.loop-keys.starter) (count c.loop-keys.starter) (count c.loop-keys.starter) mid mid via (told c.loop-keys.starter)) (sym round)
-    (cut-still g.D.Disk.honest g.D.Disk.seen g.D.Disk.may_leave g.D.Disk.moment g.D.Disk.left_since g.D.Disk.faults g.D.Disk.capacity g.met.D.Disk.only_now (limits_of mid) (plan_of mid) (may c.loop-keys.starter) (may c.loop-keys.starter) (count c.loop-keys.starter) (count c.loop-keys.starter) mid via refl refl c.keeps_the_law-in-loop-keys.ensures (λ heard key outcome is. is)
-    [] [] (told c.loop-keys.starter) _ no_step round_refused (omega arith) (no_memory_for_round refl)))
+    cut-on g.D.Disk limits plan (may c.args.starter.now) (may c.loop-keys.starter) (may c.loop-keys.starter) (count c.args.starter.now) (count c.loop-keys.starter) (count c.loop-keys.starter) old mid mid from via i.0
+    (call_log c.loop-keys.starter) c.in-Err.fault (subst (IsCutShort g.D.Disk (limits_of mid) (plan_of mid) (may c.loop-keys.starter) (may c.loop-keys.starter) (count c.loop-keys.starter) (count c.loop-keys.starter) mid mid via (call_log c.loop-keys.starter)) (sym round)
+    (cut-still g.D.Disk g.met.D.Disk.only_now (limits_of mid) (plan_of mid) (may c.loop-keys.starter) (may c.loop-keys.starter) (count c.loop-keys.starter) (count c.loop-keys.starter) mid via refl refl c.keeps_the_law-in-loop-keys.ensures (λ later_log key outcome is. is)
+    [] [] (call_log c.loop-keys.starter) _ no_step round_refused (omega arith) (no_memory_for_round refl)))
 
 pub returns-in-Err-clause-waits_for_none : goal.returns-in-Err-clause-waits_for_none
 returns-in-Err-clause-waits_for_none g c = c.loop-keys.invariant.5
@@ -59,14 +59,14 @@ returns-then-is_empty-clause-done g c =
     let plan = plan_of c.args.manager.now in
     let past = past_of c.args.manager.now in
     let limits = limits_of c.args.manager.now in
-    let may = g.S.Starter.may_tell in
+    let may = g.S.Starter.may_return in
     let count = g.S.Starter.faults in
-    let told = g.S.Starter.told in
+    let call_log = g.S.Starter.call_log in
     let old = c.args.manager.now in
-    let from = at_rest past (told c.args.starter.now) in
+    let from = at_rest past (call_log c.args.starter.now) in
     let i = c.loop-keys.invariant in
     let mid = c.loop-keys.manager in
-    let via = at_rest (past_of mid) (told c.loop-keys.starter) in
+    let via = at_rest (past_of mid) (call_log c.loop-keys.starter) in
     let size : length c.in-Ok.keys.items ≡ 0 = search rules in
     let held = c.in-Ok.ensures.held (none-there c.in-Ok.keys.items size) in
     inl (subst (λ (l : Limits). NothingToStart l plan (past_of mid)) i.0.limits_are (subst (λ (p : Plan). NothingToStart (limits_of mid) p (past_of mid)) i.0.plan_is held))
@@ -76,29 +76,29 @@ returns-then-is_empty-clause-turn g c =
     let plan = plan_of c.args.manager.now in
     let past = past_of c.args.manager.now in
     let limits = limits_of c.args.manager.now in
-    let may = g.S.Starter.may_tell in
+    let may = g.S.Starter.may_return in
     let count = g.S.Starter.faults in
-    let told = g.S.Starter.told in
+    let call_log = g.S.Starter.call_log in
     let old = c.args.manager.now in
-    let from = at_rest past (told c.args.starter.now) in
+    let from = at_rest past (call_log c.args.starter.now) in
     let i = c.loop-keys.invariant in
     let mid = c.loop-keys.manager in
-    let via = at_rest (past_of mid) (told c.loop-keys.starter) in
-    turn-still plan past (past_of mid) (told c.loop-keys.starter) i.2 i.1 i.3
+    let via = at_rest (past_of mid) (call_log c.loop-keys.starter) in
+    turn-still plan past (past_of mid) (call_log c.loop-keys.starter) i.2 i.1 i.3
 
 pub returns-then-is_empty-clause-nearer : goal.returns-then-is_empty-clause-nearer
 returns-then-is_empty-clause-nearer g c = λ key chosen.
     let plan = plan_of c.args.manager.now in
     let past = past_of c.args.manager.now in
     let limits = limits_of c.args.manager.now in
-    let may = g.S.Starter.may_tell in
+    let may = g.S.Starter.may_return in
     let count = g.S.Starter.faults in
-    let told = g.S.Starter.told in
+    let call_log = g.S.Starter.call_log in
     let old = c.args.manager.now in
-    let from = at_rest past (told c.args.starter.now) in
+    let from = at_rest past (call_log c.args.starter.now) in
     let i = c.loop-keys.invariant in
     let mid = c.loop-keys.manager in
-    let via = at_rest (past_of mid) (told c.loop-keys.starter) in
+    let via = at_rest (past_of mid) (call_log c.loop-keys.starter) in
     let size : length c.in-Ok.keys.items ≡ 0 = search rules in
     let held = c.in-Ok.ensures.held (none-there c.in-Ok.keys.items size) in
     let here : NothingToStart limits plan (past_of mid) = subst (λ (l : Limits). NothingToStart l plan (past_of mid)) i.0.limits_are (subst (λ (p : Plan). NothingToStart (limits_of mid) p (past_of mid)) i.0.plan_is held) in
@@ -115,15 +115,15 @@ start_round-requires-clause-in_step g c =
     let plan = plan_of c.args.manager.now in
     let past = past_of c.args.manager.now in
     let limits = limits_of c.args.manager.now in
-    let may = g.S.Starter.may_tell in
+    let may = g.S.Starter.may_return in
     let count = g.S.Starter.faults in
-    let told = g.S.Starter.told in
+    let call_log = g.S.Starter.call_log in
     let old = c.args.manager.now in
-    let from = at_rest past (told c.args.starter.now) in
+    let from = at_rest past (call_log c.args.starter.now) in
     let i = c.loop-keys.invariant in
     let mid = c.loop-keys.manager in
-    let via = at_rest (past_of mid) (told c.loop-keys.starter) in
-    subst (λ (p : Plan). AreInStep p (past_of mid) (told c.loop-keys.starter)) (sym i.0.plan_is) i.1
+    let via = at_rest (past_of mid) (call_log c.loop-keys.starter) in
+    subst (λ (p : Plan). AreInStep p (past_of mid) (call_log c.loop-keys.starter)) (sym i.0.plan_is) i.1
 
 pub start_round-requires-clause-going : goal.start_round-requires-clause-going
 start_round-requires-clause-going g c = c.loop-keys.invariant.2
@@ -133,14 +133,14 @@ start_round-requires-clause-round g c =
     let plan = plan_of c.args.manager.now in
     let past = past_of c.args.manager.now in
     let limits = limits_of c.args.manager.now in
-    let may = g.S.Starter.may_tell in
+    let may = g.S.Starter.may_return in
     let count = g.S.Starter.faults in
-    let told = g.S.Starter.told in
+    let call_log = g.S.Starter.call_log in
     let old = c.args.manager.now in
-    let from = at_rest past (told c.args.starter.now) in
+    let from = at_rest past (call_log c.args.starter.now) in
     let i = c.loop-keys.invariant in
     let mid = c.loop-keys.manager in
-    let via = at_rest (past_of mid) (told c.loop-keys.starter) in
+    let via = at_rest (past_of mid) (call_log c.loop-keys.starter) in
     let size : 0 < length c.in-Ok.keys.items = search rules in
     subst (IsRoundOf (limits_of mid) (plan_of mid) (past_of mid)) (sym c.deref.ensures.value) (c.in-Ok.ensures.round (some-there c.in-Ok.keys.items size))
 
@@ -149,16 +149,16 @@ returns-in-Err-start_round-clause-cut g c =
     let plan = plan_of c.args.manager.now in
     let past = past_of c.args.manager.now in
     let limits = limits_of c.args.manager.now in
-    let may = g.S.Starter.may_tell in
+    let may = g.S.Starter.may_return in
     let count = g.S.Starter.faults in
-    let told = g.S.Starter.told in
+    let call_log = g.S.Starter.call_log in
     let old = c.args.manager.now in
-    let from = at_rest past (told c.args.starter.now) in
+    let from = at_rest past (call_log c.args.starter.now) in
     let i = c.loop-keys.invariant in
     let mid = c.loop-keys.manager in
-    let via = at_rest (past_of mid) (told c.loop-keys.starter) in
-    cut-on g.D.Disk.honest g.D.Disk.seen g.D.Disk.may_leave g.D.Disk.moment g.D.Disk.left_since g.D.Disk.faults g.D.Disk.capacity limits plan (may c.args.starter.now) (may c.loop-keys.starter) (may c.start_round.new.starter) (count c.args.starter.now) (count c.loop-keys.starter) (count c.start_round.new.starter) old mid c.start_round.new.manager from via i.0
-    (told c.start_round.new.starter) c.in-Err-start_round.fault c.in-Err-start_round.ensures.cut
+    let via = at_rest (past_of mid) (call_log c.loop-keys.starter) in
+    cut-on g.D.Disk limits plan (may c.args.starter.now) (may c.loop-keys.starter) (may c.start_round.new.starter) (count c.args.starter.now) (count c.loop-keys.starter) (count c.start_round.new.starter) old mid c.start_round.new.manager from via i.0
+    (call_log c.start_round.new.starter) c.in-Err-start_round.fault c.in-Err-start_round.ensures.cut
 
 pub returns-in-Err-start_round-clause-plan : goal.returns-in-Err-start_round-clause-plan
 returns-in-Err-start_round-clause-plan g c = c.in-Err-start_round.ensures.cut.plan_is ∙ c.loop-keys.invariant.0.plan_is
@@ -180,20 +180,20 @@ returns-then-is_new-clause-plan g c =
     let plan = plan_of c.args.manager.now in
     let past = past_of c.args.manager.now in
     let limits = limits_of c.args.manager.now in
-    let may = g.S.Starter.may_tell in
+    let may = g.S.Starter.may_return in
     let count = g.S.Starter.faults in
-    let told = g.S.Starter.told in
+    let call_log = g.S.Starter.call_log in
     let old = c.args.manager.now in
-    let from = at_rest past (told c.args.starter.now) in
+    let from = at_rest past (call_log c.args.starter.now) in
     let i = c.loop-keys.invariant in
     let mid = c.loop-keys.manager in
-    let via = at_rest (past_of mid) (told c.loop-keys.starter) in
+    let via = at_rest (past_of mid) (call_log c.loop-keys.starter) in
     let new = c.start_round.new.manager in
     let e = c.in_default.ensures in
-    let turn : IsTurn plan (past_of mid) (past_of new) (told c.start_round.new.starter) = subst (λ (p : Plan). IsTurn p (past_of mid) (past_of new) (told c.start_round.new.starter)) i.0.plan_is e.turn in
+    let turn : IsTurn plan (past_of mid) (past_of new) (call_log c.start_round.new.starter) = subst (λ (p : Plan). IsTurn p (past_of mid) (past_of new) (call_log c.start_round.new.starter)) i.0.plan_is e.turn in
     let nearer : IsNearerEnd plan (past_of mid) (past_of new) = subst (λ (p : Plan). IsNearerEnd p (past_of mid) (past_of new)) i.0.plan_is e.nearer in
-    let went = stretch-on g.D.Disk.honest g.D.Disk.seen g.D.Disk.may_leave g.D.Disk.moment g.D.Disk.left_since g.D.Disk.faults g.D.Disk.capacity limits plan (may c.args.starter.now) (may c.loop-keys.starter) (may c.start_round.new.starter) (count c.args.starter.now) (count c.loop-keys.starter) (count c.start_round.new.starter) old mid new from via i.0
-    (at_rest (past_of new) (told c.start_round.new.starter)) e.went in
+    let went = stretch-on g.D.Disk limits plan (may c.args.starter.now) (may c.loop-keys.starter) (may c.start_round.new.starter) (count c.args.starter.now) (count c.loop-keys.starter) (count c.start_round.new.starter) old mid new from via i.0
+    (at_rest (past_of new) (call_log c.start_round.new.starter)) e.went in
     let before = c.is_aborted-before.ensures ∙ ap (λ (p : Plan). is_aborted p (past_of mid)) i.0.plan_is in
     let now = c.is_aborted.ensures ∙ ap (λ (p : Plan). is_aborted p (past_of new)) went.plan_is in
     went.plan_is
@@ -203,20 +203,20 @@ returns-then-is_new-clause-limits g c =
     let plan = plan_of c.args.manager.now in
     let past = past_of c.args.manager.now in
     let limits = limits_of c.args.manager.now in
-    let may = g.S.Starter.may_tell in
+    let may = g.S.Starter.may_return in
     let count = g.S.Starter.faults in
-    let told = g.S.Starter.told in
+    let call_log = g.S.Starter.call_log in
     let old = c.args.manager.now in
-    let from = at_rest past (told c.args.starter.now) in
+    let from = at_rest past (call_log c.args.starter.now) in
     let i = c.loop-keys.invariant in
     let mid = c.loop-keys.manager in
-    let via = at_rest (past_of mid) (told c.loop-keys.starter) in
+    let via = at_rest (past_of mid) (call_log c.loop-keys.starter) in
     let new = c.start_round.new.manager in
     let e = c.in_default.ensures in
-    let turn : IsTurn plan (past_of mid) (past_of new) (told c.start_round.new.starter) = subst (λ (p : Plan). IsTurn p (past_of mid) (past_of new) (told c.start_round.new.starter)) i.0.plan_is e.turn in
+    let turn : IsTurn plan (past_of mid) (past_of new) (call_log c.start_round.new.starter) = subst (λ (p : Plan). IsTurn p (past_of mid) (past_of new) (call_log c.start_round.new.starter)) i.0.plan_is e.turn in
     let nearer : IsNearerEnd plan (past_of mid) (past_of new) = subst (λ (p : Plan). IsNearerEnd p (past_of mid) (past_of new)) i.0.plan_is e.nearer in
-    let went = stretch-on g.D.Disk.honest g.D.Disk.seen g.D.Disk.may_leave g.D.Disk.moment g.D.Disk.left_since g.D.Disk.faults g.D.Disk.capacity limits plan (may c.args.starter.now) (may c.loop-keys.starter) (may c.start_round.new.starter) (count c.args.starter.now) (count c.loop-keys.starter) (count c.start_round.new.starter) old mid new from via i.0
-    (at_rest (past_of new) (told c.start_round.new.starter)) e.went in
+    let went = stretch-on g.D.Disk limits plan (may c.args.starter.now) (may c.loop-keys.starter) (may c.start_round.new.starter) (count c.args.starter.now) (count c.loop-keys.starter) (count c.start_round.new.starter) old mid new from via i.0
+    (at_rest (past_of new) (call_log c.start_round.new.starter)) e.went in
     let before = c.is_aborted-before.ensures ∙ ap (λ (p : Plan). is_aborted p (past_of mid)) i.0.plan_is in
     let now = c.is_aborted.ensures ∙ ap (λ (p : Plan). is_aborted p (past_of new)) went.plan_is in
     went.limits_are
@@ -226,20 +226,20 @@ returns-then-is_new-clause-went g c =
     let plan = plan_of c.args.manager.now in
     let past = past_of c.args.manager.now in
     let limits = limits_of c.args.manager.now in
-    let may = g.S.Starter.may_tell in
+    let may = g.S.Starter.may_return in
     let count = g.S.Starter.faults in
-    let told = g.S.Starter.told in
+    let call_log = g.S.Starter.call_log in
     let old = c.args.manager.now in
-    let from = at_rest past (told c.args.starter.now) in
+    let from = at_rest past (call_log c.args.starter.now) in
     let i = c.loop-keys.invariant in
     let mid = c.loop-keys.manager in
-    let via = at_rest (past_of mid) (told c.loop-keys.starter) in
+    let via = at_rest (past_of mid) (call_log c.loop-keys.starter) in
     let new = c.start_round.new.manager in
     let e = c.in_default.ensures in
-    let turn : IsTurn plan (past_of mid) (past_of new) (told c.start_round.new.starter) = subst (λ (p : Plan). IsTurn p (past_of mid) (past_of new) (told c.start_round.new.starter)) i.0.plan_is e.turn in
+    let turn : IsTurn plan (past_of mid) (past_of new) (call_log c.start_round.new.starter) = subst (λ (p : Plan). IsTurn p (past_of mid) (past_of new) (call_log c.start_round.new.starter)) i.0.plan_is e.turn in
     let nearer : IsNearerEnd plan (past_of mid) (past_of new) = subst (λ (p : Plan). IsNearerEnd p (past_of mid) (past_of new)) i.0.plan_is e.nearer in
-    let went = stretch-on g.D.Disk.honest g.D.Disk.seen g.D.Disk.may_leave g.D.Disk.moment g.D.Disk.left_since g.D.Disk.faults g.D.Disk.capacity limits plan (may c.args.starter.now) (may c.loop-keys.starter) (may c.start_round.new.starter) (count c.args.starter.now) (count c.loop-keys.starter) (count c.start_round.new.starter) old mid new from via i.0
-    (at_rest (past_of new) (told c.start_round.new.starter)) e.went in
+    let went = stretch-on g.D.Disk limits plan (may c.args.starter.now) (may c.loop-keys.starter) (may c.start_round.new.starter) (count c.args.starter.now) (count c.loop-keys.starter) (count c.start_round.new.starter) old mid new from via i.0
+    (at_rest (past_of new) (call_log c.start_round.new.starter)) e.went in
     let before = c.is_aborted-before.ensures ∙ ap (λ (p : Plan). is_aborted p (past_of mid)) i.0.plan_is in
     let now = c.is_aborted.ensures ∙ ap (λ (p : Plan). is_aborted p (past_of new)) went.plan_is in
     went
@@ -249,20 +249,20 @@ returns-then-is_new-clause-done g c =
     let plan = plan_of c.args.manager.now in
     let past = past_of c.args.manager.now in
     let limits = limits_of c.args.manager.now in
-    let may = g.S.Starter.may_tell in
+    let may = g.S.Starter.may_return in
     let count = g.S.Starter.faults in
-    let told = g.S.Starter.told in
+    let call_log = g.S.Starter.call_log in
     let old = c.args.manager.now in
-    let from = at_rest past (told c.args.starter.now) in
+    let from = at_rest past (call_log c.args.starter.now) in
     let i = c.loop-keys.invariant in
     let mid = c.loop-keys.manager in
-    let via = at_rest (past_of mid) (told c.loop-keys.starter) in
+    let via = at_rest (past_of mid) (call_log c.loop-keys.starter) in
     let new = c.start_round.new.manager in
     let e = c.in_default.ensures in
-    let turn : IsTurn plan (past_of mid) (past_of new) (told c.start_round.new.starter) = subst (λ (p : Plan). IsTurn p (past_of mid) (past_of new) (told c.start_round.new.starter)) i.0.plan_is e.turn in
+    let turn : IsTurn plan (past_of mid) (past_of new) (call_log c.start_round.new.starter) = subst (λ (p : Plan). IsTurn p (past_of mid) (past_of new) (call_log c.start_round.new.starter)) i.0.plan_is e.turn in
     let nearer : IsNearerEnd plan (past_of mid) (past_of new) = subst (λ (p : Plan). IsNearerEnd p (past_of mid) (past_of new)) i.0.plan_is e.nearer in
-    let went = stretch-on g.D.Disk.honest g.D.Disk.seen g.D.Disk.may_leave g.D.Disk.moment g.D.Disk.left_since g.D.Disk.faults g.D.Disk.capacity limits plan (may c.args.starter.now) (may c.loop-keys.starter) (may c.start_round.new.starter) (count c.args.starter.now) (count c.loop-keys.starter) (count c.start_round.new.starter) old mid new from via i.0
-    (at_rest (past_of new) (told c.start_round.new.starter)) e.went in
+    let went = stretch-on g.D.Disk limits plan (may c.args.starter.now) (may c.loop-keys.starter) (may c.start_round.new.starter) (count c.args.starter.now) (count c.loop-keys.starter) (count c.start_round.new.starter) old mid new from via i.0
+    (at_rest (past_of new) (call_log c.start_round.new.starter)) e.went in
     let before = c.is_aborted-before.ensures ∙ ap (λ (p : Plan). is_aborted p (past_of mid)) i.0.plan_is in
     let now = c.is_aborted.ensures ∙ ap (λ (p : Plan). is_aborted p (past_of new)) went.plan_is in
     let flag : is_aborted_between plan (past_of mid) (past_of new) ≡ true = (λ j. not (sym before j) && sym now j) ∙ sym c.is_new.ensures ∙ c.if-is_new.true in
@@ -273,43 +273,43 @@ returns-then-is_new-clause-turn g c =
     let plan = plan_of c.args.manager.now in
     let past = past_of c.args.manager.now in
     let limits = limits_of c.args.manager.now in
-    let may = g.S.Starter.may_tell in
+    let may = g.S.Starter.may_return in
     let count = g.S.Starter.faults in
-    let told = g.S.Starter.told in
+    let call_log = g.S.Starter.call_log in
     let old = c.args.manager.now in
-    let from = at_rest past (told c.args.starter.now) in
+    let from = at_rest past (call_log c.args.starter.now) in
     let i = c.loop-keys.invariant in
     let mid = c.loop-keys.manager in
-    let via = at_rest (past_of mid) (told c.loop-keys.starter) in
+    let via = at_rest (past_of mid) (call_log c.loop-keys.starter) in
     let new = c.start_round.new.manager in
     let e = c.in_default.ensures in
-    let turn : IsTurn plan (past_of mid) (past_of new) (told c.start_round.new.starter) = subst (λ (p : Plan). IsTurn p (past_of mid) (past_of new) (told c.start_round.new.starter)) i.0.plan_is e.turn in
+    let turn : IsTurn plan (past_of mid) (past_of new) (call_log c.start_round.new.starter) = subst (λ (p : Plan). IsTurn p (past_of mid) (past_of new) (call_log c.start_round.new.starter)) i.0.plan_is e.turn in
     let nearer : IsNearerEnd plan (past_of mid) (past_of new) = subst (λ (p : Plan). IsNearerEnd p (past_of mid) (past_of new)) i.0.plan_is e.nearer in
-    let went = stretch-on g.D.Disk.honest g.D.Disk.seen g.D.Disk.may_leave g.D.Disk.moment g.D.Disk.left_since g.D.Disk.faults g.D.Disk.capacity limits plan (may c.args.starter.now) (may c.loop-keys.starter) (may c.start_round.new.starter) (count c.args.starter.now) (count c.loop-keys.starter) (count c.start_round.new.starter) old mid new from via i.0
-    (at_rest (past_of new) (told c.start_round.new.starter)) e.went in
+    let went = stretch-on g.D.Disk limits plan (may c.args.starter.now) (may c.loop-keys.starter) (may c.start_round.new.starter) (count c.args.starter.now) (count c.loop-keys.starter) (count c.start_round.new.starter) old mid new from via i.0
+    (at_rest (past_of new) (call_log c.start_round.new.starter)) e.went in
     let before = c.is_aborted-before.ensures ∙ ap (λ (p : Plan). is_aborted p (past_of mid)) i.0.plan_is in
     let now = c.is_aborted.ensures ∙ ap (λ (p : Plan). is_aborted p (past_of new)) went.plan_is in
-    turn-before plan past (past_of mid) (past_of new) (told c.start_round.new.starter) i.3 turn
+    turn-before plan past (past_of mid) (past_of new) (call_log c.start_round.new.starter) i.3 turn
 
 pub returns-then-is_new-clause-nearer : goal.returns-then-is_new-clause-nearer
 returns-then-is_new-clause-nearer g c = λ key chosen.
     let plan = plan_of c.args.manager.now in
     let past = past_of c.args.manager.now in
     let limits = limits_of c.args.manager.now in
-    let may = g.S.Starter.may_tell in
+    let may = g.S.Starter.may_return in
     let count = g.S.Starter.faults in
-    let told = g.S.Starter.told in
+    let call_log = g.S.Starter.call_log in
     let old = c.args.manager.now in
-    let from = at_rest past (told c.args.starter.now) in
+    let from = at_rest past (call_log c.args.starter.now) in
     let i = c.loop-keys.invariant in
     let mid = c.loop-keys.manager in
-    let via = at_rest (past_of mid) (told c.loop-keys.starter) in
+    let via = at_rest (past_of mid) (call_log c.loop-keys.starter) in
     let new = c.start_round.new.manager in
     let e = c.in_default.ensures in
-    let turn : IsTurn plan (past_of mid) (past_of new) (told c.start_round.new.starter) = subst (λ (p : Plan). IsTurn p (past_of mid) (past_of new) (told c.start_round.new.starter)) i.0.plan_is e.turn in
+    let turn : IsTurn plan (past_of mid) (past_of new) (call_log c.start_round.new.starter) = subst (λ (p : Plan). IsTurn p (past_of mid) (past_of new) (call_log c.start_round.new.starter)) i.0.plan_is e.turn in
     let nearer : IsNearerEnd plan (past_of mid) (past_of new) = subst (λ (p : Plan). IsNearerEnd p (past_of mid) (past_of new)) i.0.plan_is e.nearer in
-    let went = stretch-on g.D.Disk.honest g.D.Disk.seen g.D.Disk.may_leave g.D.Disk.moment g.D.Disk.left_since g.D.Disk.faults g.D.Disk.capacity limits plan (may c.args.starter.now) (may c.loop-keys.starter) (may c.start_round.new.starter) (count c.args.starter.now) (count c.loop-keys.starter) (count c.start_round.new.starter) old mid new from via i.0
-    (at_rest (past_of new) (told c.start_round.new.starter)) e.went in
+    let went = stretch-on g.D.Disk limits plan (may c.args.starter.now) (may c.loop-keys.starter) (may c.start_round.new.starter) (count c.args.starter.now) (count c.loop-keys.starter) (count c.start_round.new.starter) old mid new from via i.0
+    (at_rest (past_of new) (call_log c.start_round.new.starter)) e.went in
     let before = c.is_aborted-before.ensures ∙ ap (λ (p : Plan). is_aborted p (past_of mid)) i.0.plan_is in
     let now = c.is_aborted.ensures ∙ ap (λ (p : Plan). is_aborted p (past_of new)) went.plan_is in
     elim i.4 [
@@ -325,27 +325,27 @@ loop-keys-preserved g c =
     let plan = plan_of c.args.manager.now in
     let past = past_of c.args.manager.now in
     let limits = limits_of c.args.manager.now in
-    let may = g.S.Starter.may_tell in
+    let may = g.S.Starter.may_return in
     let count = g.S.Starter.faults in
-    let told = g.S.Starter.told in
+    let call_log = g.S.Starter.call_log in
     let old = c.args.manager.now in
-    let from = at_rest past (told c.args.starter.now) in
+    let from = at_rest past (call_log c.args.starter.now) in
     let i = c.loop-keys.invariant in
     let mid = c.loop-keys.manager in
-    let via = at_rest (past_of mid) (told c.loop-keys.starter) in
+    let via = at_rest (past_of mid) (call_log c.loop-keys.starter) in
     let new = c.start_round.new.manager in
     let e = c.in_default.ensures in
-    let turn : IsTurn plan (past_of mid) (past_of new) (told c.start_round.new.starter) = subst (λ (p : Plan). IsTurn p (past_of mid) (past_of new) (told c.start_round.new.starter)) i.0.plan_is e.turn in
+    let turn : IsTurn plan (past_of mid) (past_of new) (call_log c.start_round.new.starter) = subst (λ (p : Plan). IsTurn p (past_of mid) (past_of new) (call_log c.start_round.new.starter)) i.0.plan_is e.turn in
     let nearer : IsNearerEnd plan (past_of mid) (past_of new) = subst (λ (p : Plan). IsNearerEnd p (past_of mid) (past_of new)) i.0.plan_is e.nearer in
-    let went = stretch-on g.D.Disk.honest g.D.Disk.seen g.D.Disk.may_leave g.D.Disk.moment g.D.Disk.left_since g.D.Disk.faults g.D.Disk.capacity limits plan (may c.args.starter.now) (may c.loop-keys.starter) (may c.start_round.new.starter) (count c.args.starter.now) (count c.loop-keys.starter) (count c.start_round.new.starter) old mid new from via i.0
-    (at_rest (past_of new) (told c.start_round.new.starter)) e.went in
+    let went = stretch-on g.D.Disk limits plan (may c.args.starter.now) (may c.loop-keys.starter) (may c.start_round.new.starter) (count c.args.starter.now) (count c.loop-keys.starter) (count c.start_round.new.starter) old mid new from via i.0
+    (at_rest (past_of new) (call_log c.start_round.new.starter)) e.went in
     let before = c.is_aborted-before.ensures ∙ ap (λ (p : Plan). is_aborted p (past_of mid)) i.0.plan_is in
     let now = c.is_aborted.ensures ∙ ap (λ (p : Plan). is_aborted p (past_of new)) went.plan_is in
     let flag : is_aborted_between plan (past_of mid) (past_of new) ≡ false = (λ j. not (sym before j) && sym now j) ∙ sym c.is_new.ensures ∙ c.if-is_new.false in (
       went,
       turn.in_step flag,
       turn.going,
-      turn-calm plan (past_of mid) (past_of new) (told c.start_round.new.starter) turn flag ∙ i.3,
+      turn-abort_free plan (past_of mid) (past_of new) (call_log c.start_round.new.starter) turn flag ∙ i.3,
       inr (elim i.4 [
         | inl same ↦ subst (λ (l : List Record). IsNearerEnd plan l (past_of new)) same nearer
         | inr first ↦ nearer-then plan past (past_of mid) (past_of new) first nearer

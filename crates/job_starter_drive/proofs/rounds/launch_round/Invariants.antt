@@ -8,14 +8,14 @@ use Rattle.job_starter_drive.proofs.rounds.launch_round.Given as goal
 
 abbrev pub invariant-loop-keys : goal.invariant-loop-keys
 invariant-loop-keys g l =
-    IsStretch g.D.Disk.honest g.D.Disk.seen g.D.Disk.may_leave g.D.Disk.moment g.D.Disk.left_since g.D.Disk.faults g.D.Disk.capacity
-    (limits_of l.initial.manager) (plan_of l.initial.manager) (g.S.Starter.may_tell l.initial.starter) (g.S.Starter.may_tell l.starter) (g.S.Starter.faults l.initial.starter) (g.S.Starter.faults l.starter) l.initial.manager l.manager
-    (at_rest (past_of l.initial.manager) (g.S.Starter.told l.initial.starter)) (at_rest (past_of l.manager) (g.S.Starter.told l.starter))
-    × AreInStep (plan_of l.initial.manager) (past_of l.manager) (g.S.Starter.told l.starter)
+    IsStretch g.D.Disk
+    (limits_of l.initial.manager) (plan_of l.initial.manager) (g.S.Starter.may_return l.initial.starter) (g.S.Starter.may_return l.starter) (g.S.Starter.faults l.initial.starter) (g.S.Starter.faults l.starter) l.initial.manager l.manager
+    (at_rest (past_of l.initial.manager) (g.S.Starter.call_log l.initial.starter)) (at_rest (past_of l.manager) (g.S.Starter.call_log l.starter))
+    × AreInStep (plan_of l.initial.manager) (past_of l.manager) (g.S.Starter.call_log l.starter)
     × IsTrue (is_open (past_of l.manager))
     × (is_aborted (plan_of l.initial.manager) (past_of l.manager) ≡ is_aborted (plan_of l.initial.manager) (past_of l.initial.manager))
     × ((past_of l.manager ≡ past_of l.initial.manager) ⊎ IsNearerEnd (plan_of l.initial.manager) (past_of l.initial.manager) (past_of l.manager))
-    × Starts (g.S.Starter.told l.initial.starter) (g.S.Starter.told l.starter)
+    × Starts (g.S.Starter.call_log l.initial.starter) (g.S.Starter.call_log l.starter)
 
 abbrev pub decreases-loop-keys : goal.decreases-loop-keys
 decreases-loop-keys g l = records_left (plan_of l.initial.manager) (past_of l.manager)

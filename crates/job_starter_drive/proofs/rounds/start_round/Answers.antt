@@ -22,13 +22,13 @@ returns-in_default-clause-cut g c =
     let plan = plan_of c.args.manager.now in
     let past = past_of c.args.manager.now in
     let limits = limits_of c.args.manager.now in
-    let may = g.S.Starter.may_tell in
+    let may = g.S.Starter.may_return in
     let count = g.S.Starter.faults in
-    let told = g.S.Starter.told c.args.starter.now in
+    let call_log = g.S.Starter.call_log c.args.starter.now in
     let old = c.args.manager.now in
     let keys = c.args.keys.now in
-    cut-still g.D.Disk.honest g.D.Disk.seen g.D.Disk.may_leave g.D.Disk.moment g.D.Disk.left_since g.D.Disk.faults g.D.Disk.capacity g.met.D.Disk.only_now limits plan (may c.args.starter.now) (may c.args.starter.now) (count c.args.starter.now) (count c.args.starter.now) old (at_rest past told) refl refl c.keeps_the_law.ensures (λ heard key outcome is. is)
-    [] [] told _ no_step list_refused (omega arith) (no_memory_for_command refl)
+    cut-still g.D.Disk g.met.D.Disk.only_now limits plan (may c.args.starter.now) (may c.args.starter.now) (count c.args.starter.now) (count c.args.starter.now) old (at_rest past call_log) refl refl c.keeps_the_law.ensures (λ later_log key outcome is. is)
+    [] [] call_log _ no_step list_refused (omega arith) (no_memory_for_command refl)
 
 pub returns-in_default-clause-waits_for_none : goal.returns-in_default-clause-waits_for_none
 returns-in_default-clause-waits_for_none g c = none_started
@@ -41,78 +41,78 @@ hand_all-requires-clause-under_way g c =
     let plan = plan_of c.args.manager.now in
     let past = past_of c.args.manager.now in
     let limits = limits_of c.args.manager.now in
-    let may = g.S.Starter.may_tell in
+    let may = g.S.Starter.may_return in
     let count = g.S.Starter.faults in
-    let told = g.S.Starter.told c.args.starter.now in
+    let call_log = g.S.Starter.call_log c.args.starter.now in
     let old = c.args.manager.now in
     let keys = c.args.keys.now in
     let mid = c.record_launches.new.manager in
     let went = c.in_default-record_launches.ensures.went in
-    subst (λ (p : Plan). AreUnderWay p (past_of mid) told keys []) (sym went.plan_is)
-    (subst (λ (l : List Record). AreUnderWay plan l told keys []) (sym went.here) (way-launched plan past told keys c.requires.in_step c.requires.round.few))
+    subst (λ (p : Plan). AreUnderWay p (past_of mid) call_log keys []) (sym went.plan_is)
+    (subst (λ (l : List Record). AreUnderWay plan l call_log keys []) (sym went.here) (way-launched plan past call_log keys c.requires.in_step c.requires.round.few))
 
 pub returns-in-Err-hand_all-clause-cut : goal.returns-in-Err-hand_all-clause-cut
 returns-in-Err-hand_all-clause-cut g c =
     let plan = plan_of c.args.manager.now in
     let past = past_of c.args.manager.now in
     let limits = limits_of c.args.manager.now in
-    let may = g.S.Starter.may_tell in
+    let may = g.S.Starter.may_return in
     let count = g.S.Starter.faults in
-    let told = g.S.Starter.told c.args.starter.now in
+    let call_log = g.S.Starter.call_log c.args.starter.now in
     let old = c.args.manager.now in
     let keys = c.args.keys.now in
     let mid = c.record_launches.new.manager in
-    let first = stretch-here g.D.Disk.honest g.D.Disk.seen g.D.Disk.may_leave g.D.Disk.moment g.D.Disk.left_since g.D.Disk.faults g.D.Disk.capacity limits plan (may c.args.starter.now) (may c.args.starter.now) (count c.args.starter.now) (count c.args.starter.now) old mid (at_rest past told) (launched past keys) told keys [] c.in_default-record_launches.ensures.went in
-    cut-on g.D.Disk.honest g.D.Disk.seen g.D.Disk.may_leave g.D.Disk.moment g.D.Disk.left_since g.D.Disk.faults g.D.Disk.capacity limits plan (may c.args.starter.now) (may c.args.starter.now) (may c.hand_all.new.starter) (count c.args.starter.now) (count c.args.starter.now) (count c.hand_all.new.starter) old mid mid (at_rest past told) (At (past_of mid) told keys []) first
-    (g.S.Starter.told c.hand_all.new.starter) c.in-Err-hand_all.fault c.in-Err-hand_all.ensures.cut
+    let first = stretch-here g.D.Disk limits plan (may c.args.starter.now) (may c.args.starter.now) (count c.args.starter.now) (count c.args.starter.now) old mid (at_rest past call_log) (launched past keys) call_log keys [] c.in_default-record_launches.ensures.went in
+    cut-on g.D.Disk limits plan (may c.args.starter.now) (may c.args.starter.now) (may c.hand_all.new.starter) (count c.args.starter.now) (count c.args.starter.now) (count c.hand_all.new.starter) old mid mid (at_rest past call_log) (At (past_of mid) call_log keys []) first
+    (g.S.Starter.call_log c.hand_all.new.starter) c.in-Err-hand_all.fault c.in-Err-hand_all.ensures.cut
 
 pub returns-then-is_empty-clause-turn : goal.returns-then-is_empty-clause-turn
 returns-then-is_empty-clause-turn g c =
     let plan = plan_of c.args.manager.now in
     let past = past_of c.args.manager.now in
     let limits = limits_of c.args.manager.now in
-    let may = g.S.Starter.may_tell in
+    let may = g.S.Starter.may_return in
     let count = g.S.Starter.faults in
-    let told = g.S.Starter.told c.args.starter.now in
+    let call_log = g.S.Starter.call_log c.args.starter.now in
     let old = c.args.manager.now in
     let keys = c.args.keys.now in
     let mid = c.record_launches.new.manager in
-    let first = stretch-here g.D.Disk.honest g.D.Disk.seen g.D.Disk.may_leave g.D.Disk.moment g.D.Disk.left_since g.D.Disk.faults g.D.Disk.capacity limits plan (may c.args.starter.now) (may c.args.starter.now) (count c.args.starter.now) (count c.args.starter.now) old mid (at_rest past told) (launched past keys) told keys [] c.in_default-record_launches.ensures.went in
-    let heard = g.S.Starter.told c.hand_all.new.starter in
+    let first = stretch-here g.D.Disk limits plan (may c.args.starter.now) (may c.args.starter.now) (count c.args.starter.now) (count c.args.starter.now) old mid (at_rest past call_log) (launched past keys) call_log keys [] c.in_default-record_launches.ensures.went in
+    let later_log = g.S.Starter.call_log c.hand_all.new.starter in
     let owed = c.hand_all.new.owed.items in
-    let both = stretch-on g.D.Disk.honest g.D.Disk.seen g.D.Disk.may_leave g.D.Disk.moment g.D.Disk.left_since g.D.Disk.faults g.D.Disk.capacity limits plan (may c.args.starter.now) (may c.args.starter.now) (may c.hand_all.new.starter) (count c.args.starter.now) (count c.args.starter.now) (count c.hand_all.new.starter) old mid mid (at_rest past told) (At (past_of mid) told keys []) first
-    (At (past_of mid) heard [] owed) c.in_default-hand_all.ensures.went in
+    let both = stretch-on g.D.Disk limits plan (may c.args.starter.now) (may c.args.starter.now) (may c.hand_all.new.starter) (count c.args.starter.now) (count c.args.starter.now) (count c.hand_all.new.starter) old mid mid (at_rest past call_log) (At (past_of mid) call_log keys []) first
+    (At (past_of mid) later_log [] owed) c.in_default-hand_all.ensures.went in
     let here = c.in_default-record_launches.ensures.went.here in
     let same = c.in_default-record_launches.ensures.went.plan_is in
-    let way : AreUnderWay plan (launched past keys) heard [] owed = subst (λ (l : List Record). AreUnderWay plan l heard [] owed) here (subst (λ (p : Plan). AreUnderWay p (past_of mid) heard [] owed) same c.in_default-hand_all.ensures.under_way) in
+    let way : AreUnderWay plan (launched past keys) later_log [] owed = subst (λ (l : List Record). AreUnderWay plan l later_log [] owed) here (subst (λ (p : Plan). AreUnderWay p (past_of mid) later_log [] owed) same c.in_default-hand_all.ensures.under_way) in
     let size : length owed ≡ 0 = search rules in
     let none : owed ≡ [] = no_items owed size in
-    subst (λ (l : List Record). IsTurn plan past l heard) (sym here)
-    (subst (λ (o : List (Key × Outcome)). IsTurn plan past (added (launched past keys) (up_to_abort plan (launched past keys) (ends_of o))) heard) none
-    (round-turn limits plan past keys heard owed c.keeps_the_law.ensures c.requires.going c.requires.round way))
+    subst (λ (l : List Record). IsTurn plan past l later_log) (sym here)
+    (subst (λ (o : List (Key × Outcome)). IsTurn plan past (added (launched past keys) (up_to_abort plan (launched past keys) (ends_of o))) later_log) none
+    (round-turn limits plan past keys later_log owed c.keeps_the_law.ensures c.requires.going c.requires.round way))
 
 pub returns-then-is_empty-clause-went : goal.returns-then-is_empty-clause-went
 returns-then-is_empty-clause-went g c =
     let plan = plan_of c.args.manager.now in
     let past = past_of c.args.manager.now in
     let limits = limits_of c.args.manager.now in
-    let may = g.S.Starter.may_tell in
+    let may = g.S.Starter.may_return in
     let count = g.S.Starter.faults in
-    let told = g.S.Starter.told c.args.starter.now in
+    let call_log = g.S.Starter.call_log c.args.starter.now in
     let old = c.args.manager.now in
     let keys = c.args.keys.now in
     let mid = c.record_launches.new.manager in
-    let first = stretch-here g.D.Disk.honest g.D.Disk.seen g.D.Disk.may_leave g.D.Disk.moment g.D.Disk.left_since g.D.Disk.faults g.D.Disk.capacity limits plan (may c.args.starter.now) (may c.args.starter.now) (count c.args.starter.now) (count c.args.starter.now) old mid (at_rest past told) (launched past keys) told keys [] c.in_default-record_launches.ensures.went in
-    let heard = g.S.Starter.told c.hand_all.new.starter in
+    let first = stretch-here g.D.Disk limits plan (may c.args.starter.now) (may c.args.starter.now) (count c.args.starter.now) (count c.args.starter.now) old mid (at_rest past call_log) (launched past keys) call_log keys [] c.in_default-record_launches.ensures.went in
+    let later_log = g.S.Starter.call_log c.hand_all.new.starter in
     let owed = c.hand_all.new.owed.items in
-    let both = stretch-on g.D.Disk.honest g.D.Disk.seen g.D.Disk.may_leave g.D.Disk.moment g.D.Disk.left_since g.D.Disk.faults g.D.Disk.capacity limits plan (may c.args.starter.now) (may c.args.starter.now) (may c.hand_all.new.starter) (count c.args.starter.now) (count c.args.starter.now) (count c.hand_all.new.starter) old mid mid (at_rest past told) (At (past_of mid) told keys []) first
-    (At (past_of mid) heard [] owed) c.in_default-hand_all.ensures.went in
+    let both = stretch-on g.D.Disk limits plan (may c.args.starter.now) (may c.args.starter.now) (may c.hand_all.new.starter) (count c.args.starter.now) (count c.args.starter.now) (count c.hand_all.new.starter) old mid mid (at_rest past call_log) (At (past_of mid) call_log keys []) first
+    (At (past_of mid) later_log [] owed) c.in_default-hand_all.ensures.went in
     let here = c.in_default-record_launches.ensures.went.here in
     let same = c.in_default-record_launches.ensures.went.plan_is in
-    let way : AreUnderWay plan (launched past keys) heard [] owed = subst (λ (l : List Record). AreUnderWay plan l heard [] owed) here (subst (λ (p : Plan). AreUnderWay p (past_of mid) heard [] owed) same c.in_default-hand_all.ensures.under_way) in
+    let way : AreUnderWay plan (launched past keys) later_log [] owed = subst (λ (l : List Record). AreUnderWay plan l later_log [] owed) here (subst (λ (p : Plan). AreUnderWay p (past_of mid) later_log [] owed) same c.in_default-hand_all.ensures.under_way) in
     let size : length owed ≡ 0 = search rules in
     let none : owed ≡ [] = no_items owed size in
-    subst (λ (o : List (Key × Outcome)). IsStretch g.D.Disk.honest g.D.Disk.seen g.D.Disk.may_leave g.D.Disk.moment g.D.Disk.left_since g.D.Disk.faults g.D.Disk.capacity limits plan (may c.args.starter.now) (may c.hand_all.new.starter) (count c.args.starter.now) (count c.hand_all.new.starter) old mid (at_rest past told) (At (past_of mid) heard [] o)) none both
+    subst (λ (o : List (Key × Outcome)). IsStretch g.D.Disk limits plan (may c.args.starter.now) (may c.hand_all.new.starter) (count c.args.starter.now) (count c.hand_all.new.starter) old mid (at_rest past call_log) (At (past_of mid) later_log [] o)) none both
 
 pub record_ends-requires-clause-ends : goal.record_ends-requires-clause-ends
 record_ends-requires-clause-ends g c =
@@ -127,9 +127,9 @@ returns-clause-nearer g c =
     let plan = plan_of c.args.manager.now in
     let past = past_of c.args.manager.now in
     let limits = limits_of c.args.manager.now in
-    let may = g.S.Starter.may_tell in
+    let may = g.S.Starter.may_return in
     let count = g.S.Starter.faults in
-    let told = g.S.Starter.told c.args.starter.now in
+    let call_log = g.S.Starter.call_log c.args.starter.now in
     let old = c.args.manager.now in
     let keys = c.args.keys.now in
     let mid = c.record_launches.new.manager in
@@ -142,70 +142,70 @@ returns-clause-turn g c =
     let plan = plan_of c.args.manager.now in
     let past = past_of c.args.manager.now in
     let limits = limits_of c.args.manager.now in
-    let may = g.S.Starter.may_tell in
+    let may = g.S.Starter.may_return in
     let count = g.S.Starter.faults in
-    let told = g.S.Starter.told c.args.starter.now in
+    let call_log = g.S.Starter.call_log c.args.starter.now in
     let old = c.args.manager.now in
     let keys = c.args.keys.now in
     let mid = c.record_launches.new.manager in
-    let first = stretch-here g.D.Disk.honest g.D.Disk.seen g.D.Disk.may_leave g.D.Disk.moment g.D.Disk.left_since g.D.Disk.faults g.D.Disk.capacity limits plan (may c.args.starter.now) (may c.args.starter.now) (count c.args.starter.now) (count c.args.starter.now) old mid (at_rest past told) (launched past keys) told keys [] c.in_default-record_launches.ensures.went in
-    let heard = g.S.Starter.told c.hand_all.new.starter in
+    let first = stretch-here g.D.Disk limits plan (may c.args.starter.now) (may c.args.starter.now) (count c.args.starter.now) (count c.args.starter.now) old mid (at_rest past call_log) (launched past keys) call_log keys [] c.in_default-record_launches.ensures.went in
+    let later_log = g.S.Starter.call_log c.hand_all.new.starter in
     let owed = c.deref.result.now in
-    let both = stretch-on g.D.Disk.honest g.D.Disk.seen g.D.Disk.may_leave g.D.Disk.moment g.D.Disk.left_since g.D.Disk.faults g.D.Disk.capacity limits plan (may c.args.starter.now) (may c.args.starter.now) (may c.hand_all.new.starter) (count c.args.starter.now) (count c.args.starter.now) (count c.hand_all.new.starter) old mid mid (at_rest past told) (At (past_of mid) told keys []) first
-    (At (past_of mid) heard [] owed)
-    (subst (λ (o : List (Key × Outcome)). IsStretch g.D.Disk.honest g.D.Disk.seen g.D.Disk.may_leave g.D.Disk.moment g.D.Disk.left_since g.D.Disk.faults g.D.Disk.capacity (limits_of mid) (plan_of mid) (may c.args.starter.now) (may c.hand_all.new.starter) (count c.args.starter.now) (count c.hand_all.new.starter) mid mid (At (past_of mid) told keys []) (At (past_of mid) heard [] o)) (sym c.deref.ensures.value) c.in_default-hand_all.ensures.went) in
+    let both = stretch-on g.D.Disk limits plan (may c.args.starter.now) (may c.args.starter.now) (may c.hand_all.new.starter) (count c.args.starter.now) (count c.args.starter.now) (count c.hand_all.new.starter) old mid mid (at_rest past call_log) (At (past_of mid) call_log keys []) first
+    (At (past_of mid) later_log [] owed)
+    (subst (λ (o : List (Key × Outcome)). IsStretch g.D.Disk (limits_of mid) (plan_of mid) (may c.args.starter.now) (may c.hand_all.new.starter) (count c.args.starter.now) (count c.hand_all.new.starter) mid mid (At (past_of mid) call_log keys []) (At (past_of mid) later_log [] o)) (sym c.deref.ensures.value) c.in_default-hand_all.ensures.went) in
     let here = c.in_default-record_launches.ensures.went.here in
     let same = c.in_default-record_launches.ensures.went.plan_is in
-    let way : AreUnderWay plan (launched past keys) heard [] owed = subst (λ (l : List Record). AreUnderWay plan l heard [] owed) here (subst (λ (p : Plan). AreUnderWay p (past_of mid) heard [] owed) same (subst (λ (o : List (Key × Outcome)). AreUnderWay (plan_of mid) (past_of mid) heard [] o) (sym c.deref.ensures.value) c.in_default-hand_all.ensures.under_way)) in
+    let way : AreUnderWay plan (launched past keys) later_log [] owed = subst (λ (l : List Record). AreUnderWay plan l later_log [] owed) here (subst (λ (p : Plan). AreUnderWay p (past_of mid) later_log [] owed) same (subst (λ (o : List (Key × Outcome)). AreUnderWay (plan_of mid) (past_of mid) later_log [] o) (sym c.deref.ensures.value) c.in_default-hand_all.ensures.under_way)) in
     on-ok c.record_ends.result _ _
-    (λ is. subst (λ (l : List Record). IsTurn plan past l heard)
+    (λ is. subst (λ (l : List Record). IsTurn plan past l later_log)
     (sym (is ∙ (λ j. added (here j) (up_to_abort (same j) (here j) (ends_of owed)))))
-    (round-turn limits plan past keys heard owed c.keeps_the_law.ensures c.requires.going c.requires.round way)) c.record_ends.ensures.past
+    (round-turn limits plan past keys later_log owed c.keeps_the_law.ensures c.requires.going c.requires.round way)) c.record_ends.ensures.past
 
 pub returns-clause-went : goal.returns-clause-went
 returns-clause-went g c =
     let plan = plan_of c.args.manager.now in
     let past = past_of c.args.manager.now in
     let limits = limits_of c.args.manager.now in
-    let may = g.S.Starter.may_tell in
+    let may = g.S.Starter.may_return in
     let count = g.S.Starter.faults in
-    let told = g.S.Starter.told c.args.starter.now in
+    let call_log = g.S.Starter.call_log c.args.starter.now in
     let old = c.args.manager.now in
     let keys = c.args.keys.now in
     let mid = c.record_launches.new.manager in
-    let first = stretch-here g.D.Disk.honest g.D.Disk.seen g.D.Disk.may_leave g.D.Disk.moment g.D.Disk.left_since g.D.Disk.faults g.D.Disk.capacity limits plan (may c.args.starter.now) (may c.args.starter.now) (count c.args.starter.now) (count c.args.starter.now) old mid (at_rest past told) (launched past keys) told keys [] c.in_default-record_launches.ensures.went in
-    let heard = g.S.Starter.told c.hand_all.new.starter in
+    let first = stretch-here g.D.Disk limits plan (may c.args.starter.now) (may c.args.starter.now) (count c.args.starter.now) (count c.args.starter.now) old mid (at_rest past call_log) (launched past keys) call_log keys [] c.in_default-record_launches.ensures.went in
+    let later_log = g.S.Starter.call_log c.hand_all.new.starter in
     let owed = c.deref.result.now in
-    let both = stretch-on g.D.Disk.honest g.D.Disk.seen g.D.Disk.may_leave g.D.Disk.moment g.D.Disk.left_since g.D.Disk.faults g.D.Disk.capacity limits plan (may c.args.starter.now) (may c.args.starter.now) (may c.hand_all.new.starter) (count c.args.starter.now) (count c.args.starter.now) (count c.hand_all.new.starter) old mid mid (at_rest past told) (At (past_of mid) told keys []) first
-    (At (past_of mid) heard [] owed)
-    (subst (λ (o : List (Key × Outcome)). IsStretch g.D.Disk.honest g.D.Disk.seen g.D.Disk.may_leave g.D.Disk.moment g.D.Disk.left_since g.D.Disk.faults g.D.Disk.capacity (limits_of mid) (plan_of mid) (may c.args.starter.now) (may c.hand_all.new.starter) (count c.args.starter.now) (count c.hand_all.new.starter) mid mid (At (past_of mid) told keys []) (At (past_of mid) heard [] o)) (sym c.deref.ensures.value) c.in_default-hand_all.ensures.went) in
+    let both = stretch-on g.D.Disk limits plan (may c.args.starter.now) (may c.args.starter.now) (may c.hand_all.new.starter) (count c.args.starter.now) (count c.args.starter.now) (count c.hand_all.new.starter) old mid mid (at_rest past call_log) (At (past_of mid) call_log keys []) first
+    (At (past_of mid) later_log [] owed)
+    (subst (λ (o : List (Key × Outcome)). IsStretch g.D.Disk (limits_of mid) (plan_of mid) (may c.args.starter.now) (may c.hand_all.new.starter) (count c.args.starter.now) (count c.hand_all.new.starter) mid mid (At (past_of mid) call_log keys []) (At (past_of mid) later_log [] o)) (sym c.deref.ensures.value) c.in_default-hand_all.ensures.went) in
     let here = c.in_default-record_launches.ensures.went.here in
     let same = c.in_default-record_launches.ensures.went.plan_is in
-    let way : AreUnderWay plan (launched past keys) heard [] owed = subst (λ (l : List Record). AreUnderWay plan l heard [] owed) here (subst (λ (p : Plan). AreUnderWay p (past_of mid) heard [] owed) same (subst (λ (o : List (Key × Outcome)). AreUnderWay (plan_of mid) (past_of mid) heard [] o) (sym c.deref.ensures.value) c.in_default-hand_all.ensures.under_way)) in
+    let way : AreUnderWay plan (launched past keys) later_log [] owed = subst (λ (l : List Record). AreUnderWay plan l later_log [] owed) here (subst (λ (p : Plan). AreUnderWay p (past_of mid) later_log [] owed) same (subst (λ (o : List (Key × Outcome)). AreUnderWay (plan_of mid) (past_of mid) later_log [] o) (sym c.deref.ensures.value) c.in_default-hand_all.ensures.under_way)) in
     on-ok c.record_ends.result _ _
-    (stretch-on g.D.Disk.honest g.D.Disk.seen g.D.Disk.may_leave g.D.Disk.moment g.D.Disk.left_since g.D.Disk.faults g.D.Disk.capacity limits plan (may c.args.starter.now) (may c.hand_all.new.starter) (may c.hand_all.new.starter) (count c.args.starter.now) (count c.hand_all.new.starter) (count c.hand_all.new.starter) old mid c.record_ends.new.manager (at_rest past told) (At (past_of mid) heard [] owed) both
-    (at_rest (past_of c.record_ends.new.manager) heard)) c.record_ends.ensures.went
+    (stretch-on g.D.Disk limits plan (may c.args.starter.now) (may c.hand_all.new.starter) (may c.hand_all.new.starter) (count c.args.starter.now) (count c.hand_all.new.starter) (count c.hand_all.new.starter) old mid c.record_ends.new.manager (at_rest past call_log) (At (past_of mid) later_log [] owed) both
+    (at_rest (past_of c.record_ends.new.manager) later_log)) c.record_ends.ensures.went
 
 pub returns-clause-cut : goal.returns-clause-cut
 returns-clause-cut g c =
     let plan = plan_of c.args.manager.now in
     let past = past_of c.args.manager.now in
     let limits = limits_of c.args.manager.now in
-    let may = g.S.Starter.may_tell in
+    let may = g.S.Starter.may_return in
     let count = g.S.Starter.faults in
-    let told = g.S.Starter.told c.args.starter.now in
+    let call_log = g.S.Starter.call_log c.args.starter.now in
     let old = c.args.manager.now in
     let keys = c.args.keys.now in
     let mid = c.record_launches.new.manager in
-    let first = stretch-here g.D.Disk.honest g.D.Disk.seen g.D.Disk.may_leave g.D.Disk.moment g.D.Disk.left_since g.D.Disk.faults g.D.Disk.capacity limits plan (may c.args.starter.now) (may c.args.starter.now) (count c.args.starter.now) (count c.args.starter.now) old mid (at_rest past told) (launched past keys) told keys [] c.in_default-record_launches.ensures.went in
-    let heard = g.S.Starter.told c.hand_all.new.starter in
+    let first = stretch-here g.D.Disk limits plan (may c.args.starter.now) (may c.args.starter.now) (count c.args.starter.now) (count c.args.starter.now) old mid (at_rest past call_log) (launched past keys) call_log keys [] c.in_default-record_launches.ensures.went in
+    let later_log = g.S.Starter.call_log c.hand_all.new.starter in
     let owed = c.deref.result.now in
-    let both = stretch-on g.D.Disk.honest g.D.Disk.seen g.D.Disk.may_leave g.D.Disk.moment g.D.Disk.left_since g.D.Disk.faults g.D.Disk.capacity limits plan (may c.args.starter.now) (may c.args.starter.now) (may c.hand_all.new.starter) (count c.args.starter.now) (count c.args.starter.now) (count c.hand_all.new.starter) old mid mid (at_rest past told) (At (past_of mid) told keys []) first
-    (At (past_of mid) heard [] owed)
-    (subst (λ (o : List (Key × Outcome)). IsStretch g.D.Disk.honest g.D.Disk.seen g.D.Disk.may_leave g.D.Disk.moment g.D.Disk.left_since g.D.Disk.faults g.D.Disk.capacity (limits_of mid) (plan_of mid) (may c.args.starter.now) (may c.hand_all.new.starter) (count c.args.starter.now) (count c.hand_all.new.starter) mid mid (At (past_of mid) told keys []) (At (past_of mid) heard [] o)) (sym c.deref.ensures.value) c.in_default-hand_all.ensures.went) in
+    let both = stretch-on g.D.Disk limits plan (may c.args.starter.now) (may c.args.starter.now) (may c.hand_all.new.starter) (count c.args.starter.now) (count c.args.starter.now) (count c.hand_all.new.starter) old mid mid (at_rest past call_log) (At (past_of mid) call_log keys []) first
+    (At (past_of mid) later_log [] owed)
+    (subst (λ (o : List (Key × Outcome)). IsStretch g.D.Disk (limits_of mid) (plan_of mid) (may c.args.starter.now) (may c.hand_all.new.starter) (count c.args.starter.now) (count c.hand_all.new.starter) mid mid (At (past_of mid) call_log keys []) (At (past_of mid) later_log [] o)) (sym c.deref.ensures.value) c.in_default-hand_all.ensures.went) in
     let here = c.in_default-record_launches.ensures.went.here in
     let same = c.in_default-record_launches.ensures.went.plan_is in
-    let way : AreUnderWay plan (launched past keys) heard [] owed = subst (λ (l : List Record). AreUnderWay plan l heard [] owed) here (subst (λ (p : Plan). AreUnderWay p (past_of mid) heard [] owed) same (subst (λ (o : List (Key × Outcome)). AreUnderWay (plan_of mid) (past_of mid) heard [] o) (sym c.deref.ensures.value) c.in_default-hand_all.ensures.under_way)) in
+    let way : AreUnderWay plan (launched past keys) later_log [] owed = subst (λ (l : List Record). AreUnderWay plan l later_log [] owed) here (subst (λ (p : Plan). AreUnderWay p (past_of mid) later_log [] owed) same (subst (λ (o : List (Key × Outcome)). AreUnderWay (plan_of mid) (past_of mid) later_log [] o) (sym c.deref.ensures.value) c.in_default-hand_all.ensures.under_way)) in
     if-err c.record_ends.result _ _
-    (cut-on g.D.Disk.honest g.D.Disk.seen g.D.Disk.may_leave g.D.Disk.moment g.D.Disk.left_since g.D.Disk.faults g.D.Disk.capacity limits plan (may c.args.starter.now) (may c.hand_all.new.starter) (may c.hand_all.new.starter) (count c.args.starter.now) (count c.hand_all.new.starter) (count c.hand_all.new.starter) old mid c.record_ends.new.manager (at_rest past told) (At (past_of mid) heard [] owed) both
-    heard) c.record_ends.ensures.cut
+    (cut-on g.D.Disk limits plan (may c.args.starter.now) (may c.hand_all.new.starter) (may c.hand_all.new.starter) (count c.args.starter.now) (count c.hand_all.new.starter) (count c.hand_all.new.starter) old mid c.record_ends.new.manager (at_rest past call_log) (At (past_of mid) later_log [] owed) both
+    later_log) c.record_ends.ensures.cut

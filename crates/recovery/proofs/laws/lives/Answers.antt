@@ -1,7 +1,7 @@
 use Rattle.sched_core.proofs.Finished.{state-done}
 use Rattle.sched_core.proofs.LivesLemmas.{table-fates}
 use Rattle.std.proofs.Common.{sym}
-use Rattle.recovery_manager.proofs.Chains.{lives-by-records, lives-grow, lives-left, handed-over}
+use Rattle.recovery_manager.proofs.Chains.{lives-by-records, lives-grow, lives-left, spawned-over}
 use Rattle.recovery.proofs.laws.lives.Goals as goal
 
 pub returns-clause-by_records : goal.returns-clause-by_records
@@ -21,4 +21,4 @@ returns-clause-marks c plan last node = sym (state-done plan last.records.held n
 
 pub returns-clause-commands : goal.returns-clause-commands
 returns-clause-commands c plan table last before are run life is_there key command has sound plain =
-    (handed-over plan table last before are run life is_there key command has).read sound plain
+    (spawned-over plan table last before are run life is_there key command has).read sound plain

@@ -6,7 +6,7 @@ use Rattle.node_machine.specs.declared.Record.TheVariants.{Life}
 use Rattle.sched_core.specs.Run.{is_lawful}
 use Rattle.event_journal_log.specs.Journal.{with_record}
 use Rattle.recovery_manager.specs.Lives.{LifeRecords, GoesOn}
-use Rattle.recovery_manager.specs.Chain.{IsLifeOf, Leaves, ReadsForInputs, commands_in, life_of, life_records}
+use Rattle.recovery_manager.specs.Chain.{IsLifeOf, LeavesRecords, ReadsForInputs, commands_in, life_of, life_records}
 use Rattle.recovery_manager.specs.Inputs.{header_for}
 use Rattle.std.proofs.lemmas.Bool.{and_parts}
 use Rattle.recovery.proofs.Lives.{with_life, life_lawful}
@@ -14,21 +14,21 @@ use Rattle.recovery.proofs.laws.stops.Goals as goal
 
 -- an image of these records, or of these and one more
 without : (plan : Plan) (records : LifeRecords) (image : List ℕ) → GoesOn records.begun records.held → is_lawful plan records.held ≡ true
-    → ReadsForInputs plan records.held image → Leaves plan records image
+    → ReadsForInputs plan records.held image → LeavesRecords plan records image
 without plan records image goes lawful reads = record { added = []; few = omega arith; goes_on = goes; lawful = lawful; reads = reads }
 
 with_one : (plan : Plan) (records : LifeRecords) (entry : Record) (image : List ℕ) → GoesOn records.begun (entry ∷ records.held) → is_lawful plan (entry ∷ records.held) ≡ true
-    → ReadsForInputs plan (entry ∷ records.held) image → Leaves plan records image
+    → ReadsForInputs plan (entry ∷ records.held) image → LeavesRecords plan records image
 with_one plan records entry image goes lawful reads = record { added = entry ∷ []; few = omega arith; goes_on = goes; lawful = lawful; reads = reads }
 
 -- a life that holds what it found
 idle : (plan : Plan) (found : List ℕ) (past : List Record) (image : List ℕ) → ReadsForInputs plan past found → is_lawful plan past ≡ true
-    → Leaves plan (life_records past past) image → IsLifeOf plan (life_of found (life_records past past) [] image)
+    → LeavesRecords plan (life_records past past) image → IsLifeOf plan (life_of found (life_records past past) [] image)
 idle plan found past image reads lawful leaves = record {
   reads = reads;
   goes_on = inl refl;
   lawful = lawful;
-  hands_over = ([], sym (append-nil (commands_in plan past)));
+  spawns = ([], sym (append-nil (commands_in plan past)));
   leaves = leaves;
 }
 

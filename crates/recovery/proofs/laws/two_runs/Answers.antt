@@ -5,7 +5,7 @@ use Rattle.sched_core.proofs.LivesLemmas.{table-fates}
 use Rattle.sched_core.proofs.Matching.{fates-agree}
 use Rattle.sched_core.proofs.RunCommands.{same-commands}
 use Rattle.recovery_manager.specs.Chain.{key_of}
-use Rattle.recovery_manager.proofs.Chains.{handed-over, same-handed}
+use Rattle.recovery_manager.proofs.Chains.{spawned-over, same-spawned}
 use Rattle.recovery.proofs.laws.two_runs.Goals as goal
 
 pub returns-clause-fates : goal.returns-clause-fates
@@ -26,8 +26,8 @@ returns-clause-marks c plan plan' table table' rank rank' ranked ranked' last la
     (table-fates plan table last.records.held run) (table-fates plan' table' last'.records.held run') node node' ordinary ordinary' agree)
     ∙ state-done plan' last'.records.held node'
 
-pub returns-clause-handed : goal.returns-clause-handed
-returns-clause-handed c plan plan' table table' last last' before before' are are' run run' node node' agree sound sound' life life' among among' attempt phase command command' has has' =
-    same-handed plan plan' table table' node node' agree sound sound' attempt phase command command'
-    (handed-over plan table last before are run life among (key_of node attempt phase) command has)
-    (handed-over plan' table' last' before' are' run' life' among' (key_of node' attempt phase) command' has')
+pub returns-clause-spawned : goal.returns-clause-spawned
+returns-clause-spawned c plan plan' table table' last last' before before' are are' run run' node node' agree sound sound' life life' among among' attempt phase command command' has has' =
+    same-spawned plan plan' table table' node node' agree sound sound' attempt phase command command'
+    (spawned-over plan table last before are run life among (key_of node attempt phase) command has)
+    (spawned-over plan' table' last' before' are' run' life' among' (key_of node' attempt phase) command' has')

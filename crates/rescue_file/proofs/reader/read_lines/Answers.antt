@@ -2,7 +2,7 @@ use Rattle.std.proofs.Common.{◌≡◌, ◌∙◌, sym, ap, arith, ℕ, Option,
 use Rattle.std.proofs.lemmas.Bool.{eqb-true}
 use Rattle.std.proofs.lemmas.List.{append-nil}
 use Rattle.std.proofs.lemmas.Result.{err_from_is_err_and}
-use Rattle.rescue_file.specs.Reading.{line_at, rescued_of}
+use Rattle.rescue_file.specs.Reading.{rescue_line_at, rescued_of}
 use Rattle.rescue_file.proofs.FileReadings.{begins, goes_on, ends, stops_here}
 use Rattle.rescue_file.proofs.LineReadings.{good}
 use Rattle.rescue_file.proofs.reader.read_lines.Goals as goal
@@ -18,7 +18,7 @@ loop-rest-preserved c =
     let number = c.loop-rest.number in
     let after = c.split_line.result.1.now in
     let total = rescued_of dag c.args.bytes.now in
-    let step = λ (o : Option ℕ) (read : line_at dag number c.split_line.result.0.now ≡ Ok o).
+    let step = λ (o : Option ℕ) (read : rescue_line_at dag number c.split_line.result.0.now ≡ Ok o).
     goes_on dag items number c.loop-rest.rest.now c.split_line.result.0.now after o total c.split_line.ensures.first read c.loop-rest.invariant.same in
     record {
       same = elim c.match-branch-2.branch [

@@ -9,7 +9,7 @@ use Rattle.splices_flat.specs.declared.flat.CategoryLimit.{CategoryLimit}
 use Rattle.run_plan_node.specs.Specs.{spec_of}
 use Rattle.run_plan.specs.PlanAnswers.{Fails}
 use Rattle.run_plan.specs.Planned.{marked_sources}
-use Rattle.run_plan.specs.Submitted.{job_at, job_or_program, first_fault}
+use Rattle.run_plan.specs.Submitted.{job_at, job_or_program, first_plan_fault}
 use Rattle.run_plan.proofs.PlanFacts.{specs-step}
 use Rattle.run_plan.proofs.PlanMade.{faults_more, fails_at}
 use Rattle.run_plan.proofs.plan.specs_of.Goals as goal
@@ -37,7 +37,7 @@ returns-in_err-job-clause-faults c =
     let seen : c.nodes-node-items.result.now ≡ c.args.graph.now.dag.nodes = c.nodes-node-items.ensures.are ∙ ap (λ (d : Dag). d.nodes) c.flat-2.ensures in
     let small : c.loop-number.number < length c.args.graph.now.dag.nodes = subst (λ (ns : List FlatNode). c.loop-number.number < length ns) seen c.loop-number-test.true in
     let here : node ≡ get_or c.args.graph.now.dag.nodes c.loop-number.number node = c.node-item.is ∙ ap (λ (ns : List FlatNode). get_or ns c.loop-number.number node) seen in
-    let says : Fails c.in_err-job.field-0.0 (first_fault files c.args.graph.now.dag.nodes) =
+    let says : Fails c.in_err-job.field-0.0 (first_plan_fault files c.args.graph.now.dag.nodes) =
     fails_at files c.args.graph.now.dag.nodes c.loop-number.number node c.in_err-job.field-0.0 small c.loop-number.invariant.none
     (subst (λ (n : FlatNode). Fails c.in_err-job.field-0.0 (job_at files n)) here c.in_err-job.ensures) in
     let p = err_from_is_err_and c.from_residual-in_err-job.result c.from_residual-in_err-job.ensures.1 in

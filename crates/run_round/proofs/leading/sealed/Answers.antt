@@ -10,8 +10,8 @@ use Rattle.run_round.proofs.leading.sealed.Goals as goal
 pub returns-then-needs_rescue-clause-refused : goal.returns-then-needs_rescue-clause-refused
 returns-then-needs_rescue-clause-refused g c =
     let plan = plan_of c.args.manager.now in let past = past_of c.args.manager.now in
-    of-fault (λ e. IsRescueFault g.R.Disk.faults g.R.Disk.capacity plan past c.args.rescue e.0 e.1)
-    (λ e. IsTrue (needs_rescue_now plan past) × IsSealFault g.R.Disk.faults g.R.Disk.capacity plan past c.args.rescue e.0 e.1) c.write_rescue.result
-    (λ e why. seal-fault g.R.Disk.faults g.R.Disk.capacity plan past c.args.rescue e.0 c.requires.ends
+    of-fault (λ e. IsRescueFault g.R.Disk plan past c.args.rescue e.0 e.1)
+    (λ e. IsTrue (needs_rescue_now plan past) × IsSealFault g.R.Disk plan past c.args.rescue e.0 e.1) c.write_rescue.result
+    (λ e why. seal-fault g.R.Disk plan past c.args.rescue e.0 c.requires.ends
     (subst (λ (p : Progress). needs_rescue p.plan p.past ≡ true) c.core.ensures.lends (sym c.needs_rescue.ensures ∙ c.if-needs_rescue.true)) why)
     c.write_rescue.ensures.refused

@@ -4,7 +4,7 @@ use Rattle.dag_main_files.specs.Beside.{reading_had_no_memory}
 use Rattle.dag_main_check.specs.Warnings.{warning_lines}
 use Rattle.dag_main_check.specs.declared.fault.RunFault.TheVariants.{Memory}
 use Rattle.dag_main_files.proofs.RunFaults.{by-fault, input-is-file}
-use Rattle.run_times.specs.Told.{IsTimesFault, no_graph, no_log}
+use Rattle.run_times.specs.Answered.{IsTimesFault, no_graph, no_log}
 use Rattle.run_times.proofs.here.times_here.Goals as goal
 
 pub returns-in_err-files-clause-refused : goal.returns-in_err-files-clause-refused

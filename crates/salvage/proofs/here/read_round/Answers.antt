@@ -45,7 +45,7 @@ returns-in_err-plan-clause-refused g c =
     (round_refused _ _ _ _ _ _ c.in_ok-round.ensures.cut_short
     (no_plan c.in_ok-inputs.inputs.files.items c.in_ok-files.files _ _ c.in_ok-check_files.ensures.same c.in_ok-rescue.ensures.same
     (subst (λ (r : Option (List ℕ)). IsBarePlanFault c.in_ok-round.round.always_post (bytes_of c.in_ok-files.files) c.args.top.now c.in_ok-round.round.used r c.in_err-plan.field-0.0)
-    c.bytes_of.ensures c.in_err-plan.ensures.refused)))
+    c.as_deref.ensures.value c.in_err-plan.ensures.refused)))
     c.from_residual-in_err-plan.result c.from_residual-in_err-plan.ensures.1
 
 pub returns-in_err-salvaged-clause-refused : goal.returns-in_err-salvaged-clause-refused
@@ -54,7 +54,7 @@ returns-in_err-salvaged-clause-refused g c =
     (round_refused _ _ _ _ _ _ c.in_ok-round.ensures.cut_short
     (not_of_plan c.in_ok-inputs.inputs.files.items c.in_ok-files.files _ c.in_ok-plan.plan _ c.in_ok-check_files.ensures.same c.in_ok-rescue.ensures.same
     (subst (λ (r : Option (List ℕ)). IsBarePlan c.in_ok-round.round.always_post (bytes_of c.in_ok-files.files) c.args.top.now r c.in_ok-plan.plan)
-    c.bytes_of.ensures c.in_ok-plan.ensures.plan)
+    c.as_deref.ensures.value c.in_ok-plan.ensures.plan)
     (subst (λ (j : List ℕ). IsUnsalvaged c.in_ok-plan.plan j c.in_err-salvaged.field-0.0) c.as_slice.ensures.value c.in_err-salvaged.ensures.refused)))
     c.from_residual-in_err-salvaged.result c.from_residual-in_err-salvaged.ensures.1
 
@@ -67,7 +67,7 @@ returns-clause-read g c = (
     are_same = c.in_ok-check_files.ensures.same;
     is_same = c.in_ok-rescue.ensures.same;
     planned = subst (λ (r : Option (List ℕ)). IsBarePlan c.in_ok-round.round.always_post (bytes_of c.in_ok-files.files) c.args.top.now r c.in_ok-plan.plan)
-        c.bytes_of.ensures c.in_ok-plan.ensures.plan;
+        c.as_deref.ensures.value c.in_ok-plan.ensures.plan;
     salvaged = subst (λ (j : List ℕ). IsSalvaged c.in_ok-plan.plan j (string_bytes c.in_ok-salvaged.salvaged.text) c.in_ok-salvaged.salvaged.done)
         c.as_slice.ensures.value c.in_ok-salvaged.ensures.salvaged;
   },

@@ -3,7 +3,7 @@ use Rattle.std.specs.Option.{option_map}
 use Rattle.node_machine.specs.declared.Record.{Record}
 use Rattle.event_journal_log.specs.Image.{replay_of}
 use Rattle.event_journal_log.specs.Reading.{ReadsRecords, replay_for}
-use Rattle.salvage.specs.Salvaged.{HasRecords}
+use Rattle.salvage.specs.Salvaged.{IsReplayOf}
 use Rattle.salvage.specs.Refused.{IsUnsalvaged}
 use Rattle.salvage.proofs.Records.{records-read}
 use Rattle.salvage.proofs.Refusals.{of-this, no-records}
@@ -17,7 +17,7 @@ returns-in-Ok-Some-clause-records c =
 
 pub returns-in-Ok-None-clause-records : goal.returns-in-Ok-None-clause-records
 returns-in-Ok-None-clause-records c =
-    subst (HasRecords (replay_of c.args.journal.now)) (sym c.new.ensures.items)
+    subst (IsReplayOf (replay_of c.args.journal.now)) (sym c.new.ensures.items)
     (records-read _ _ c.args.journal.now None
     (subst (λ (o : Option (List Record)). ReadsRecords o (replay_for c.digest_in.result c.always_post.result c.args.journal.now))
     (ap (option_map (λ v. v.items)) c.in-Ok-None.field-0-is) c.in-Ok-None.ensures.gives))

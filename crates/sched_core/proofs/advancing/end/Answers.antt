@@ -21,12 +21,12 @@ count_down-requires-clause-enough c =
     let turn : c.turn_of-turn.result ≡ turn_of plan node run = c.turn_of-turn.ensures ∙ ap (turn_of plan node) ran in
     let done = and_parts _ _ (sym (ap (λ (t : Turn). t.is_done) turn) ∙ c.if-turn-2.true) in
     let lt = ltb-true node (count_of plan) done.0 in
-    let calm = c.requires.ending.going lt in
+    let abort_free = c.requires.ending.going lt in
     let left : c.settle.new.states.left ≡ slice_set states.left node c.args.looked.state.parents_left =
     ap (λ (s : NodeStates). s.left) c.settle.ensures.states ∙ ap (λ n. slice_set states.left n c.args.looked.state.parents_left) c.requires.lent.place in
     subst (λ (xs : List ℕ). (child : ℕ) → times child (children_of plan.graph.dag node) ≤ left_at xs child) (sym left)
     (left-enough plan c.graph-graph.ensures.made states.runs states.left node c.args.looked.state.parents_left run c.requires.lent.within c.requires.many.runs c.requires.ending.undone
-    (subst (λ b. AreLeft plan b states.runs states.left) calm c.requires.left) lt (c.requires.lent.left calm lt))
+    (subst (λ b. AreLeft plan b states.runs states.left) abort_free c.requires.left) lt (c.requires.lent.left abort_free lt))
 
 pub returns-then-turn-2-clause-left : goal.returns-then-turn-2-clause-left
 returns-then-turn-2-clause-left c =
@@ -36,7 +36,7 @@ returns-then-turn-2-clause-left c =
     let turn : c.turn_of-turn.result ≡ turn_of plan node run = c.turn_of-turn.ensures ∙ ap (turn_of plan node) ran in
     let done = and_parts _ _ (sym (ap (λ (t : Turn). t.is_done) turn) ∙ c.if-turn-2.true) in
     let lt = ltb-true node (count_of plan) done.0 in
-    let calm = c.requires.ending.going lt in
+    let abort_free = c.requires.ending.going lt in
     let left : c.settle.new.states.left ≡ slice_set states.left node c.args.looked.state.parents_left =
     ap (λ (s : NodeStates). s.left) c.settle.ensures.states ∙ ap (λ n. slice_set states.left n c.args.looked.state.parents_left) c.requires.lent.place in
     let runs : c.count_down.new.states.runs ≡ slice_set states.runs node run =
@@ -45,7 +45,7 @@ returns-then-turn-2-clause-left c =
     subst (λ (rs : List NodeProgress). AreLeft plan (c.args.aborted || c.turn_of-turn.result.aborts) rs c.count_down.new.states.left) (sym runs)
     (left-done plan c.graph-graph.ensures.made states.runs states.left node c.args.looked.state.parents_left run c.requires.lent.within c.requires.many.runs c.requires.ending.undone
     (c.args.aborted || c.turn_of-turn.result.aborts) c.count_down.new.states.left
-    (subst (λ b. AreLeft plan b states.runs states.left) calm c.requires.left) lt (c.requires.lent.left calm lt) done.1 long
+    (subst (λ b. AreLeft plan b states.runs states.left) abort_free c.requires.left) lt (c.requires.lent.left abort_free lt) done.1 long
     (λ child. c.count_down.ensures.left child ∙ ap (λ (xs : List ℕ). left_at xs child) left))
 
 pub returns-else-turn-2-clause-left : goal.returns-else-turn-2-clause-left

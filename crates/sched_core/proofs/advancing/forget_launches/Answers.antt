@@ -1,7 +1,7 @@
 use Rattle.std.proofs.Common.{◌≡◌, ◌+◌, ◌∙◌, ◌≤◌, ℕ, List, false, ap, sym, subst, slice_set, arith}
 use Rattle.node_machine.specs.NodeProgress.{NodeProgress}
 use Rattle.node_machine.specs.NodeRun.{stopped}
-use Rattle.sched_core.specs.Bound.{all_nodes}
+use Rattle.sched_core.specs.Bound.{node_total}
 use Rattle.sched_core.specs.Core.{run_at}
 use Rattle.sched_core.specs.Notes.{no_notes}
 use Rattle.sched_core.specs.States.{NodeStates}
@@ -44,7 +44,7 @@ returns-clause-runs c =
     let plan = c.args.plan.now in let init = c.args.states.now.runs in
     let many = c.requires.many.runs in let many' = c.loop-node.invariant.many.runs in
     let test = c.loop-node-test.false in let is = c.count_all-node-end.ensures.is in
-    let all : all_nodes plan ≤ c.loop-node.node = omega (arith, test, is) in
+    let all : node_total plan ≤ c.loop-node.node = omega (arith, test, is) in
     stopped-all init c.loop-node.states.runs c.loop-node.node (omega (arith, many, many')) c.loop-node.invariant.runs
     (λ k ge lt. let none = past-all plan c.loop-node.node k all ge (omega (arith, lt, many)) in
     subst (λ n. (run_at init n).running ≡ false) none.1 (c.requires.idle none.0))
@@ -54,7 +54,7 @@ returns-clause-left c =
     let plan = c.args.plan.now in let init = c.args.states.now.runs in
     let many = c.requires.many.runs in let many' = c.loop-node.invariant.many.runs in
     let test = c.loop-node-test.false in let is = c.count_all-node-end.ensures.is in
-    let all : all_nodes plan ≤ c.loop-node.node = omega (arith, test, is) in
+    let all : node_total plan ≤ c.loop-node.node = omega (arith, test, is) in
     left-stopped plan c.args.aborted init c.loop-node.states.runs c.args.states.now.left c.loop-node.states.left c.graph-graph.ensures.made c.requires.left
     (stopped-all init c.loop-node.states.runs c.loop-node.node (omega (arith, many, many')) c.loop-node.invariant.runs
     (λ k ge lt. let none = past-all plan c.loop-node.node k all ge (omega (arith, lt, many)) in

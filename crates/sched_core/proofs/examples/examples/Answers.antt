@@ -8,7 +8,7 @@ use Rattle.node_machine.specs.Story.{story, attempts_after, next_after, is_good_
 use Rattle.sched_core.specs.Run.{is_aborted, is_ready, is_final_ready, may_launch, may_follow}
 use Rattle.std.specs.Fmt.{digits}
 use Rattle.vars_macros.specs.Script.{script_word, is_exactly}
-use Rattle.run_plan_node.specs.Commands.{command_of, is_sound, uses_whole_run}
+use Rattle.run_plan_node.specs.Commands.{command_of, is_expandable, uses_whole_run}
 use Rattle.sched_core.proofs.Namesakes.{b-agrees, told-agrees}
 use Rattle.sched_core.proofs.examples.examples.Goals as goal
 
@@ -62,7 +62,7 @@ returns-clause-noop_values c = refl
 
 pub returns-clause-noop_outcomes : goal.returns-clause-noop_outcomes
 unfolding story attempts_after next_after is_good_after value_after is_aborted is_ready is_final_ready may_launch may_follow
-returns-clause-noop_outcomes c = record { finished = refl; calm = refl; outcomes = (λ h. refl, (λ h. refl, (λ h. absurd (true≢false h), (λ h. refl, tt)))) }
+returns-clause-noop_outcomes c = record { finished = refl; abort_free = refl; outcomes = (λ h. refl, (λ h. refl, (λ h. absurd (true≢false h), (λ h. refl, tt)))) }
 
 pub returns-clause-namesakes : goal.returns-clause-namesakes
 returns-clause-namesakes c = b-agrees
@@ -120,7 +120,7 @@ unfolding story attempts_after next_after is_good_after value_after is_aborted i
 returns-clause-stopped_mark c = (refl, refl)
 
 pub returns-clause-noop_sound : goal.returns-clause-noop_sound
-unfolding is_sound
+unfolding is_expandable
 returns-clause-noop_sound c = refl
 
 pub returns-clause-noop_plain : goal.returns-clause-noop_plain

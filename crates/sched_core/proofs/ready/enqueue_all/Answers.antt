@@ -17,8 +17,8 @@ loop-node-preserved c =
     let plan = c.args.plan.now in let node = c.loop-node.node in
     let is : c.is_ready_by-now.result ≡ is_ready_at plan false c.args.states.now.runs c.args.states.now.left node =
     c.is_ready_by-now.ensures ∙ (λ j. is_ready_by (node_at plan node).done false (c.read-state.ensures.run j) (c.read-state.ensures.left j)) in
-    let class : c.class_by-class.result ≡ class_by (run_at c.args.states.now.runs node).stand.phase (node_at plan node).category =
-    c.class_by-class.ensures.is ∙ ap (λ (r : NodeProgress). class_by r.stand.phase (node_at plan node).category) c.read-state.ensures.run in
+    let class : c.class_by-class.result ≡ class_by (run_at c.args.states.now.runs node).machine.phase (node_at plan node).category =
+    c.class_by-class.ensures.is ∙ ap (λ (r : NodeProgress). class_by r.machine.phase (node_at plan node).category) c.read-state.ensures.run in
     let old = c.loop-node.queue.counts in let new = c.change.new.self.counts in
     let moves : (k : ℕ) → count_at new k ≡ count_at old k + share c.is_ready_by-now.result c.class_by-class.result k =
     λ k. let m = c.change.ensures.counted k in omega (arith, m) in

@@ -10,9 +10,9 @@ pub change-requires-clause-some : goal.change-requires-clause-some
 change-requires-clause-some c = λ t.
     let plan = c.args.plan.now in
     let lt : c.args.looked.node < count_of plan = (let t = c.if-node-count.true in let e = c.node-node.ensures in let n = c.count.ensures.is in omega (arith, t, e, n)) in
-    let before : c.class_by-before.result ≡ class_by (run_at c.args.states.now.runs c.args.looked.node).stand.phase (node_at plan c.args.looked.node).category =
-    c.class_by-before.ensures.is ∙ (λ j. class_by (c.read.ensures.run j).stand.phase (node_at plan c.node-node.result).category)
-    ∙ ap (λ n. class_by (run_at c.args.states.now.runs n).stand.phase (node_at plan n).category) c.node-node.ensures in
+    let before : c.class_by-before.result ≡ class_by (run_at c.args.states.now.runs c.args.looked.node).machine.phase (node_at plan c.args.looked.node).category =
+    c.class_by-before.ensures.is ∙ (λ j. class_by (c.read.ensures.run j).machine.phase (node_at plan c.node-node.result).category)
+    ∙ ap (λ n. class_by (run_at c.args.states.now.runs n).machine.phase (node_at plan n).category) c.node-node.ensures in
     counted-some plan c.args.aborted c.args.states.now.runs c.args.states.now.left c.args.queue.now.counts c.args.looked.node c.class_by-before.result c.requires.queued.counted lt
     (sym (c.requires.was lt) ∙ t) (sym before)
 
@@ -29,11 +29,11 @@ returns-then-node-count-clause-queued c =
     (subst (λ b. IsSet plan c.node-node.result b old new) c.is_ready_by-now.ensures c.change.ensures.set) in
     let now : c.is_ready_by-now.result ≡ is_ready_by (node_at plan c.args.looked.node).done c.args.aborted state.run state.parents_left =
     c.is_ready_by-now.ensures ∙ ap (λ n. is_ready_by (node_at plan n).done c.args.aborted state.run state.parents_left) c.node-node.ensures in
-    let before : c.class_by-before.result ≡ class_by (run_at c.args.states.now.runs c.args.looked.node).stand.phase (node_at plan c.args.looked.node).category =
-    c.class_by-before.ensures.is ∙ (λ j. class_by (c.read.ensures.run j).stand.phase (node_at plan c.node-node.result).category)
-    ∙ ap (λ n. class_by (run_at c.args.states.now.runs n).stand.phase (node_at plan n).category) c.node-node.ensures in
-    let class : c.class_by-class.result ≡ class_by state.run.stand.phase (node_at plan c.args.looked.node).category =
-    c.class_by-class.ensures.is ∙ ap (λ n. class_by state.run.stand.phase (node_at plan n).category) c.node-node.ensures in
+    let before : c.class_by-before.result ≡ class_by (run_at c.args.states.now.runs c.args.looked.node).machine.phase (node_at plan c.args.looked.node).category =
+    c.class_by-before.ensures.is ∙ (λ j. class_by (c.read.ensures.run j).machine.phase (node_at plan c.node-node.result).category)
+    ∙ ap (λ n. class_by (run_at c.args.states.now.runs n).machine.phase (node_at plan n).category) c.node-node.ensures in
+    let class : c.class_by-class.result ≡ class_by state.run.machine.phase (node_at plan c.args.looked.node).category =
+    c.class_by-class.ensures.is ∙ ap (λ n. class_by state.run.machine.phase (node_at plan n).category) c.node-node.ensures in
     let lt : c.args.looked.node < count_of plan = (let t = c.if-node-count.true in let e = c.node-node.ensures in let n = c.count.ensures.is in omega (arith, t, e, n)) in
     subst (λ (s : NodeStates). IsQueued plan c.args.aborted s.runs s.left c.change.new.self) (sym c.put.ensures)
     (settled plan c.args.aborted c.args.states.now.runs c.args.states.now.left c.args.looked.node state.run state.parents_left c.args.queue.now c.change.new.self

@@ -4,7 +4,7 @@ use Rattle.std.proofs.lemmas.Result.{err_from_is_err_and}
 use Rattle.std.specs.Str.Lines.{lines}
 use Rattle.submit_file.specs.Lines.{statements}
 use Rattle.submit_file.specs.Forms.{line_says}
-use Rattle.submit_file.specs.Submit.{Fails, with_line, submit_of}
+use Rattle.submit_file.specs.Submit.{Fails, with_submit_line, submit_of}
 use Rattle.submit_file.specs.Readings.{reading_of}
 use Rattle.submit_file.proofs.Statements.{line_read, line_fails, no_queue, all_read}
 use Rattle.submit_file.proofs.Utf8.{first_text, all_texts}
@@ -16,7 +16,7 @@ returns-in_err-read c =
     let first = c.in_ok-first.first in
     let p = err_from_is_err_and c.from_residual-in_err-read.result c.from_residual-in_err-read.ensures.1 in
     let r = reading_of c.loop-rest.reader in
-    let h : Fails c.in_err-read.field-0.0 (with_line r n (line_says r.queued first.text.items)) = rw c.as_slice.ensures.value at c.in_err-read.ensures in
+    let h : Fails c.in_err-read.field-0.0 (with_submit_line r n (line_says r.queued first.text.items)) = rw c.as_slice.ensures.value at c.in_err-read.ensures in
     rw (p.1, p.2) (line_fails c.in_err-read.field-0.0 r n first.text.items (statements n (lines c.loop-rest.rest.now)) (statements (n + first.lines) (lines first.rest.now)) (submit_of c.args.text.now) (c.in_ok-first.ensures.first n) h c.loop-rest.invariant.same)
 
 pub read-requires : goal.read-requires
@@ -37,7 +37,7 @@ loop-rest-preserved c =
     let reads = c.in_ok-first.ensures.first n in
     record {
       same = sym (line_read (reading_of c.loop-rest.reader) (reading_of c.read.new.self) n first.text.items all more reads
-          (ap (λ (t : List ℕ). with_line (reading_of c.loop-rest.reader) n (line_says c.loop-rest.reader.queued t)) (sym c.as_slice.ensures.value) ∙ c.in_ok-read.ensures)) ∙ c.loop-rest.invariant.same;
+          (ap (λ (t : List ℕ). with_submit_line (reading_of c.loop-rest.reader) n (line_says c.loop-rest.reader.queued t)) (sym c.as_slice.ensures.value) ∙ c.in_ok-read.ensures)) ∙ c.loop-rest.invariant.same;
       bound = omega (arith, c.in_ok-first.ensures.shorter, c.loop-rest.invariant.bound);
       texts = (first_text n first.text.items all more reads c.loop-rest.invariant.texts).1;
     }

@@ -1,9 +1,9 @@
 use Rattle.std.proofs.Common.{◌≡◌, ◌∙◌, sym, ap, subst, ℕ, List, [], ◌∷◌, drop, Option, Some, option_map, IfSome}
 use Rattle.vars_macros.specs.Names.{lower, is_lawful}
-use Rattle.vars_macros.specs.Cut.{name_of}
-use Rattle.vars_macros.specs.NameTable.{number_in}
+use Rattle.vars_macros.specs.Cut.{reference_name}
+use Rattle.vars_macros.specs.NameTable.{number_of_name}
 use Rattle.vars_macros.specs.Pieces.{IsNamedBy}
-use Rattle.vars_macros.specs.Scopes.{bytes_of}
+use Rattle.vars_macros.specs.Scopes.{text_of_part}
 use Rattle.vars_macros.specs.declared.cut.Naming.{Naming}
 use Rattle.vars_macros.specs.declared.part.Part.{Part}
 use Rattle.vars_macros.proofs.NamesIn.{named_whole, named_before, nothing_in, colon_first}
@@ -19,9 +19,9 @@ returns-then-is_empty-clause-some c =
     record {
       name = c.numbered.ensures.name ∙ parts.0;
       lawful = ap is_lawful (sym parts.0) ∙ c.requires.lawful;
-      naming = subst (λ (n : Naming). IsNamedBy inside.names.now (name_of inside.bytes.now) n) (sym c.numbered.ensures.naming)
-          (ap (λ (t : List ℕ). number_in inside.names.now (lower t)) (sym parts.0) ∙ c.requires.numbered);
-      default = ap (λ (o : Option Part). option_map bytes_of o) c.numbered.ensures.default ∙ parts.1;
+      naming = subst (λ (n : Naming). IsNamedBy inside.names.now (reference_name inside.bytes.now) n) (sym c.numbered.ensures.naming)
+          (ap (λ (t : List ℕ). number_of_name inside.names.now (lower t)) (sym parts.0) ∙ c.requires.numbered);
+      default = ap (λ (o : Option Part). option_map text_of_part o) c.numbered.ensures.default ∙ parts.1;
       names = subst (λ (o : Option Part). IfSome o (λ (t : Part). t.names.now ≡ inside.names.now)) (sym c.numbered.ensures.default) tt;
     }
 
@@ -37,8 +37,8 @@ returns-then-begins_with-clause-some c =
     record {
       name = c.numbered-then-begins_with.ensures.name ∙ parts.0;
       lawful = ap is_lawful (sym parts.0) ∙ c.requires.lawful;
-      naming = subst (λ (n : Naming). IsNamedBy inside.names.now (name_of inside.bytes.now) n) (sym c.numbered-then-begins_with.ensures.naming)
-          (ap (λ (t : List ℕ). number_in inside.names.now (lower t)) (sym parts.0) ∙ c.requires.numbered);
-      default = ap (λ (o : Option Part). option_map bytes_of o) default ∙ ap Some c.behind-default.ensures.bytes ∙ parts.1;
+      naming = subst (λ (n : Naming). IsNamedBy inside.names.now (reference_name inside.bytes.now) n) (sym c.numbered-then-begins_with.ensures.naming)
+          (ap (λ (t : List ℕ). number_of_name inside.names.now (lower t)) (sym parts.0) ∙ c.requires.numbered);
+      default = ap (λ (o : Option Part). option_map text_of_part o) default ∙ ap Some c.behind-default.ensures.bytes ∙ parts.1;
       names = subst (λ (o : Option Part). IfSome o (λ (t : Part). t.names.now ≡ inside.names.now)) (sym default) c.behind-default.ensures.names;
     }

@@ -1,5 +1,5 @@
 use Rattle.std.proofs.Common.{◌<◌, ◌+◌, length, slice_index, take, sym, subst, arith}
-use Rattle.dag_graph.specs.Search.{Meets}
+use Rattle.dag_graph.specs.Search.{MeetsNodes}
 use Rattle.dag_graph.proofs.Searches.{meets_more}
 use Rattle.failure_report.proofs.reaching.Search.meet_all.Goals as goal
 
@@ -8,4 +8,4 @@ loop-node-preserved c =
     let turn : c.loop-node.node-index < length c.args.nodes.now = omega arith in
     let inside = c.requires.below c.loop-node.node-index 0 turn in
     let small : slice_index c.args.nodes.now c.loop-node.node-index < length c.loop-node.self.met = omega (arith, inside, c.loop-node.invariant.len) in
-    subst (Meets (take (c.loop-node.node-index + 1) c.args.nodes.now) c.args.self.now) (sym c.in_ok-meet.ensures) (meets_more c.args.nodes.now c.loop-node.node-index c.args.self.now c.loop-node.self turn small c.loop-node.invariant)
+    subst (MeetsNodes (take (c.loop-node.node-index + 1) c.args.nodes.now) c.args.self.now) (sym c.in_ok-meet.ensures) (meets_more c.args.nodes.now c.loop-node.node-index c.args.self.now c.loop-node.self turn small c.loop-node.invariant)

@@ -1,6 +1,6 @@
 use Rattle.std.proofs.Common.{sym, subst}
 use Rattle.std.specs.Fmt.{HasWritten}
-use Rattle.file_hints.specs.Told.{hint_text}
+use Rattle.file_hints.specs.Displayed.{hint_text}
 use Rattle.file_hints.specs.declared.hint.Hint.{Hint}
 use Rattle.file_hints.proofs.hint.HintDisplay.fmt.Goals as goal
 

@@ -4,4 +4,4 @@ use Rattle.node_machine.proofs.Behind.{value-behind}
 use Rattle.node_machine.proofs.runs.NodeRun.last_value.Goals as goal
 
 pub returns-clause-story : goal.returns-clause-story
-returns-clause-story c = λ es s. ap (λ (v : NodeProgress). v.stand.value) c.self.view_is ∙ value-behind c.args.self.now es s
+returns-clause-story c = λ es s. ap (λ (v : NodeProgress). v.machine.value) c.self.view_is ∙ value-behind c.args.self.now es s

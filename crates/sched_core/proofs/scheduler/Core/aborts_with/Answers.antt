@@ -4,8 +4,8 @@ use Rattle.node_machine.specs.declared.Record.TheVariants.{End}
 use Rattle.node_machine.specs.NodeProgress.{NodeProgress}
 use Rattle.node_machine.specs.NodeRun.{ended_with}
 use Rattle.run_plan.specs.Plan.{count_of, node_at}
-use Rattle.sched_core.specs.Run.{is_aborted, is_met, has_abort_value}
-use Rattle.sched_core.specs.Core.{run_of}
+use Rattle.sched_core.specs.Run.{is_aborted, setting_is_met, has_abort_value}
+use Rattle.sched_core.specs.Core.{node_progress}
 use Rattle.sched_core.proofs.Held.{ended-runs}
 use Rattle.sched_core.proofs.Ended.{aborted-own, own-value}
 use Rattle.sched_core.proofs.scheduler.Core.aborts_with.Goals.{then-aborted-via-then-aborted, then-aborted-via-else-aborted+then-key-count}
@@ -42,14 +42,14 @@ returns c =
     let last = c.count.ensures.is ∙ ap count_of c.plan-plan.ensures in
     let low = c.if-key-count.false in
     let inside : key.node < count_of plan = omega (arith, low, last) in
-    let own : c.state_of-run.result.run ≡ run_of plan past key.node = c.state_of-run.ensures.run in
+    let own : c.state_of-run.result.run ≡ node_progress plan past key.node = c.state_of-run.ensures.run in
     let runs : c.state_of-run.result.run.running ≡ true = ap (λ (r : NodeProgress). r.running) own ∙ ended-runs plan past key outcome c.keeps_the_law.ensures c.requires in
-    let run : c.ended.new.self ≡ ended_with (run_of plan past key.node) outcome =
+    let run : c.ended.new.self ≡ ended_with (node_progress plan past key.node) outcome =
     from_ok c.ended.result _ (c.ended.ensures.running.1 runs) c.ended.ensures.steps ∙ ap (λ (r : NodeProgress). ended_with r outcome) own in
-    let value = c.last_value.ensures.is ∙ ap (λ (r : NodeProgress). r.stand.value) run ∙ own-value plan past c.keeps_the_law.ensures key outcome c.requires in
+    let value = c.last_value.ensures.is ∙ ap (λ (r : NodeProgress). r.machine.value) run ∙ own-value plan past c.keeps_the_law.ensures key outcome c.requires in
     let setting : c.course.result.now.abort_on ≡ (node_at plan key.node).course.abort_on = search rules in
     let shut : true ≡ not (is_aborted plan past) = λ j. not (sym flag j) in
-    c.is_met_by.ensures ∙ (λ j. is_met (setting j) (value j))
+    c.is_met_by.ensures ∙ (λ j. setting_is_met (setting j) (value j))
     ∙ (λ j. (sym (lt-ltb key.node (count_of plan) inside) j && has_abort_value plan (End key outcome ∷ past) key.node))
     ∙ sym (aborted-own plan past key outcome flag)
     ∙ and_true (is_aborted plan (End key outcome ∷ past))

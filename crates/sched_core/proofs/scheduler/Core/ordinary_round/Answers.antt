@@ -6,7 +6,7 @@ use Rattle.run_plan.specs.Planned.{IsPlanned}
 use Rattle.throttles.specs.Throttled.{Throttled, with_one}
 use Rattle.sched_core.specs.Choices.{startable}
 use Rattle.sched_core.specs.Ahead.{launched}
-use Rattle.sched_core.specs.Queued.{AreHeld}
+use Rattle.sched_core.specs.Queued.{AllThrottled}
 use Rattle.sched_core.proofs.Best.{startable-node}
 use Rattle.sched_core.proofs.Holding.{held-none}
 use Rattle.sched_core.proofs.Queues.{have-ready, waiting-node}
@@ -69,8 +69,8 @@ loop-place-preserved c =
             (goes-by limits plan past members c.args.max place keys c.loop-place.throttles c.loop-place-test.true member going none))
       ];
       held = λ t. elim c.match-startable_behind.branch [
-        | in-Some+else-is_err w ↦ subst (AreHeld plan past) (sym w.throttles-is) (w.is_held-held-in-Some.ensures.0 (sym w.held-is ∙ t))
-        | in_default w ↦ subst (AreHeld plan past) (sym w.throttles-is) (c.loop-place.invariant.held (sym w.held-is ∙ t))
+        | in-Some+else-is_err w ↦ subst (AllThrottled plan past) (sym w.throttles-is) (w.is_held-held-in-Some.ensures.0 (sym w.held-is ∙ t))
+        | in_default w ↦ subst (AllThrottled plan past) (sym w.throttles-is) (c.loop-place.invariant.held (sym w.held-is ∙ t))
       ];
     }
 

@@ -4,7 +4,7 @@ use Rattle.std.specs.Str.{bytes_eq}
 use Rattle.splices_flat.specs.declared.flat.MacroSetting.{MacroSetting}
 use Rattle.splices_flat.specs.Settings.{is_namesake, with_macro}
 use Rattle.std.specs.Prelude.{find}
-use Rattle.splices_flat.specs.Warnings.{joined, line_if}
+use Rattle.splices_flat.specs.Warnings.{with_numbers, line_if}
 use Rattle.splices_flat.proofs.Limits.{not_there}
 use Rattle.splices_flat.proofs.MacroLists.{keys_stay, macro_replaced, namesake_found, macro_added, no_namesake}
 use Rattle.splices_flat.proofs.flat.MacroSettings.put.Goals as goal
@@ -45,11 +45,11 @@ returns-clause-replaced c =
     elim c.match-place_of.branch [
       | in-Some+in_ok-add_once-in-Some w ↦
           ap (λ (v : Vec ℕ Global). v.items) w.replaced-is ∙ w.in_ok-add_once-in-Some.ensures
-          ∙ ap (λ (o : Option MacroSetting). joined before (line_if (λ m. m.line) o))
+          ∙ ap (λ (o : Option MacroSetting). with_numbers before (line_if (λ m. m.line) o))
           (namesake_found names items c.args.one w.index-old.result.now key w.in-Some.place c.self.invariant is (sym w.in-Some.is ∙ c.place_of.ensures.value) w.index-old.ensures)
-          ∙ ap (λ (ms : List MacroSetting). joined before (line_if (λ m. m.line) (find (is_namesake c.args.one) ms))) c.self.view_is
+          ∙ ap (λ (ms : List MacroSetting). with_numbers before (line_if (λ m. m.line) (find (is_namesake c.args.one) ms))) c.self.view_is
       | in-None+in_ok-reserve-in-None+in_ok-add-in-None+in_ok-push-in-None w ↦
           ap (λ (v : Vec ℕ Global). v.items) w.replaced-is
-          ∙ ap (λ (o : Option MacroSetting). joined before (line_if (λ m. m.line) o)) (no_namesake names items c.args.one key c.self.invariant is (sym w.in-None.is ∙ c.place_of.ensures.value))
-          ∙ ap (λ (ms : List MacroSetting). joined before (line_if (λ m. m.line) (find (is_namesake c.args.one) ms))) c.self.view_is
+          ∙ ap (λ (o : Option MacroSetting). with_numbers before (line_if (λ m. m.line) o)) (no_namesake names items c.args.one key c.self.invariant is (sym w.in-None.is ∙ c.place_of.ensures.value))
+          ∙ ap (λ (ms : List MacroSetting). with_numbers before (line_if (λ m. m.line) (find (is_namesake c.args.one) ms))) c.self.view_is
     ]

@@ -1,5 +1,5 @@
 use Rattle.std.proofs.Common.{option_copied}
-use Rattle.vars_macros.specs.NamePlaces.{name_in}
+use Rattle.vars_macros.specs.NamePlaces.{name_at_place}
 use Rattle.vars_macros.specs.Pairs.{closer_in}
 use Rattle.vars_macros.proofs.Closings.{pairs_in_first}
 use Rattle.vars_macros.proofs.NamesIn.{names_in_first}
@@ -13,4 +13,4 @@ invariant_of-result-clause-paired c =
 pub invariant_of-result-clause-named : goal.invariant_of-result-clause-named
 invariant_of-result-clause-named c =
     let part = c.args.self in
-    names_in_first part.names.now part.start c.args.n part.bytes.now (name_in (option_copied part.places)) c.requires part.named
+    names_in_first part.names.now part.start c.args.n part.bytes.now (name_at_place (option_copied part.places)) c.requires part.named

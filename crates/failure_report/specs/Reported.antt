@@ -1,0 +1,53 @@
+-- What is told of nodes.
+use Rattle.std.specs.Prelude.{◌≡◌, ℕ, ◌<◌, List, [], ◌∷◌, ◌++◌, map, Option, Some, None, string_bytes}
+use Rattle.node_machine.specs.declared.Ended.{Ended}
+use Rattle.node_machine.specs.declared.Record.{Record}
+use Rattle.run_plan.specs.Plan.{Plan, node_at, count_of}
+use Rattle.failure_report.specs.declared.failed.Failure.{Failure}
+use Rattle.failure_report.specs.declared.why.Reported.{Reported}
+use Rattle.failure_report.specs.declared.why.Reported.TheVariants.{Failed, Standing}
+use Rattle.failure_report.specs.declared.why.Why.{Why}
+use Rattle.failure_report.specs.declared.why.Why.TheVariants as why
+use Rattle.failure_report.specs.Failures.{AreFailures}
+use Rattle.failure_report.specs.Heads.{head_line}
+
+-- What is told of a node in error: its line, with some reason or none, and then some more. (One that the plan doesn't have, or no phase of
+-- which ended, is not in error, and nothing is told of it.)
+pub data IsFailureBlock (plan : Plan) (failure : Failure) : List ℕ → Type 0 where
+  has_line : (end : Ended) (reason : Option (List ℕ)) (more : List ℕ) → failure.end ≡ Some end →
+      IsFailureBlock plan failure (head_line (node_at plan failure.node).name end reason (node_at plan failure.node).course.retries failure.waiting ++ more)
+  has_no_end : failure.end ≡ None → IsFailureBlock plan failure []
+  is_no_node : count_of plan < failure.node → IsFailureBlock plan failure []
+
+-- of another one anything is
+abbrev pub IsBlock : Plan → Reported → List ℕ → Type 0
+IsBlock plan (Failed failure) block = IsFailureBlock plan failure block
+IsBlock plan (Standing node) block = Unit {0}
+
+-- what is told of a node stands behind a text, with something between them
+pub record HasBlock (plan : Plan) (one : Reported) (before now : List ℕ) : Type 0 where
+  pub gap : List ℕ
+  pub block : List ℕ
+  pub reported : IsBlock plan one block
+  pub added : now ≡ (before ++ gap) ++ block
+
+-- what is told of some nodes stands in a text, one behind another, with something before and between them
+pub data HasBlocks (plan : Plan) : List Reported → List ℕ → Type 0 where
+  front : (text : List ℕ) → HasBlocks plan [] text
+  behind : {reported : List Reported} {one : Reported} {before now : List ℕ} → HasBlocks plan reported before → HasBlock plan one before now → HasBlocks plan (reported ++ one ∷ []) now
+
+-- these are all nodes in error
+pub record AreAllFailed (plan : Plan) (past : List Record) (reported : List Reported) : Type 0 where
+  pub failures : List Failure
+  pub are : AreFailures plan past failures
+  pub each : reported ≡ map Failed failures
+
+-- the text has what is told of all nodes in error, in their order
+pub record HasAllFailed (plan : Plan) (past : List Record) (text : List ℕ) : Type 0 where
+  pub reported : List Reported
+  pub all : AreAllFailed plan past reported
+  pub blocks : HasBlocks plan reported text
+
+abbrev pub IsWhyOfAll : Plan → List Record → Why → Type 0
+IsWhyOfAll plan past (why.Reported text) = HasAllFailed plan past (string_bytes text)
+IsWhyOfAll plan past (why.Unknown line) = ⊥
