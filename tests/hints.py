@@ -140,6 +140,15 @@ ROWS = [
         "ok nodes=3 edges=2 final=no",
     ),
     Row(
+        "one output of many nodes, of which the first two are told",
+        {"x.dag": "JOB A a.sub\nJOB B a.sub\nJOB C a.sub\nJOB D a.sub\n", "a.sub": sub("output = a.txt", "error = b.txt")},
+        [
+            "hint: a.sub:2 A and B may run at once, and both write a.txt: put $(JOB) into its name",
+            "hint: a.sub:3 A and B may run at once, and both write b.txt: put $(JOB) into its name",
+        ],
+        "ok nodes=4 edges=0 final=no",
+    ),
+    Row(
         "one output of nodes in a chain, and one of a node alone",
         {"x.dag": "JOB A a.sub\nJOB B a.sub\nJOB C a.sub\nPARENT A CHILD B\nPARENT B CHILD C\n", "a.sub": sub("output = a.txt", "error = a.txt")},
         [],

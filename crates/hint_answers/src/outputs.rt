@@ -153,7 +153,8 @@ fn add_clash(
     findings.add(file.path.as_str(), Finding { line, hint })
 }
 
-/// Adds the files that two nodes may write at once.
+/// Adds the files that two nodes may write at once: of each the first two, since a sweep of thousands of nodes has one
+/// such file for one reason.
 ///
 /// # Errors
 /// Want of memory.
@@ -175,7 +176,12 @@ pub(crate) fn add_clashes(
         Ok(found) => found,
         Err(GraphFault::Memory | GraphFault::Cycle(_)) => return Err(AllocError),
     };
+    let mut paths = NameTable::new(alloc);
     for clash in found {
+        if paths.has(clash.path.as_str()) {
+            continue;
+        }
+        paths.add(alloc, clash.path.as_str())?;
         add_clash(
             alloc,
             graph,
