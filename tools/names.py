@@ -1,8 +1,8 @@
 #!/usr/bin/env python3
-"""Says which names of specs/ are defined in more than one module: names.py
+"""Says which names of specs/ are defined in more than one module: names.py [--left]
 
 A name has one definition, so that a reader of a clause who looks it up finds the one that is meant. It prints each other name
-with its modules, and exits with 1 where there is one that LEFT doesn't list.
+with its modules, and exits with 1 where there is one. Those of LEFT are printed with --left alone.
 """
 import collections
 import pathlib
@@ -34,10 +34,11 @@ def definitions():
 
 
 def main():
-    doubled = {name: sorted(modules) for name, modules in definitions().items() if len(modules) > 1 and name not in ALIKE}
+    passed = ALIKE if "--left" in sys.argv[1:] else ALIKE | LEFT
+    doubled = {name: sorted(modules) for name, modules in definitions().items() if len(modules) > 1 and name not in passed}
     for name, modules in sorted(doubled.items()):
         print(f"{name}: {', '.join(modules)}")
-    return 1 if doubled.keys() - LEFT else 0
+    return 1 if doubled else 0
 
 
 if __name__ == "__main__":
