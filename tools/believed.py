@@ -8,7 +8,8 @@ for the calls of EXACT the clauses beside the exact one, which follow from it. T
 With --all laws and second tellings count too. With --list the definitions behind the calls are named.
 
 With --from CRATE::CALL .. it counts, over all crates, what stands behind the clauses of these calls or laws alone, in lines and words;
---headline is --from recovery::lives recovery::two_runs, the laws of the headline, and --program is --from dag_main_run::run_dag.
+--headline is --from recovery::lives recovery::two_runs, the laws of the headline, --round is these and run_round::run_round, the
+contract of a run over any disks and starter, and --program is --from dag_main_run::run_dag.
 """
 import pathlib
 import re
@@ -16,6 +17,7 @@ import sys
 
 LOWEST = ['dag_reader', 'splices_flat', 'splices', 'dag_graph', 'submit_file', 'vars_macros', 'rescue_file']
 EXACT = {'read_dag': ['exact'], 'read_submit': ['exact', 'not_text'], 'read_rescue': ['exact']}
+HEADLINE = ['recovery::lives', 'recovery::two_runs']
 ALL = '--all' in sys.argv
 TOP = pathlib.Path(__file__).resolve().parent.parent
 
@@ -165,7 +167,9 @@ def from_calls(calls):
 
 def main():
     if '--headline' in sys.argv:
-        return from_calls(['recovery::lives', 'recovery::two_runs'])
+        return from_calls(HEADLINE)
+    if '--round' in sys.argv:
+        return from_calls([*HEADLINE, 'run_round::run_round'])
     if '--program' in sys.argv:
         return from_calls(['dag_main_run::run_dag'])
     if '--from' in sys.argv:
