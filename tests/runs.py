@@ -1116,12 +1116,14 @@ def left(folder):
     folder.write("x.dag", "JOB A a.sub\n")
     first = folder.start("run", "x.dag")
     folder.wait_for("begun")
+    process = int(folder.read("begun"))
+    # The child may be faster than the manager's note of it.
+    wait_until(lambda: b"\n%d\t" % process in folder.read("x.dag.children"), f"{process} is not noted")
     first.kill()
     first.wait(timeout=PATIENCE)
     # The orphan has them too: they are not read to their ends.
     first.stdout.close()
     first.stderr.close()
-    process = int(folder.read("begun"))
     same(runs_still(process), True)
     folder.write("again", "")
     return process
@@ -1227,9 +1229,12 @@ def another_process_of_that_number(folder):
     process = left_running(folder)
     fields = folder.read("x.dag.children").decode().splitlines(keepends=True)[-1].split("\t")
     os.kill(process, signal.SIGKILL)
+    # The system says when a process began in hundredths of a second, and both may begin within one.
+    time.sleep(0.05)
     other = subprocess.Popen(["sleep", "100"])
     try:
         began = stat_of(other.pid)[19]
+        same(began == fields[1], False)
         for line in ([fields[1], fields[2]], [began, "another-boot"]):
             folder.write("x.dag.children", "\t".join([str(other.pid), *line, *fields[3:]]))
             same(folder.call("run", "x.dag"), (ONE_DONE, "", 0))

@@ -1,8 +1,8 @@
 #!/usr/bin/env python3
-"""Says which names of specs/ are defined in more than one module: names.py [--left]
+"""Says which names of specs/ are defined in more than one module
 
 A name has one definition, so that a reader of a clause who looks it up finds the one that is meant. It prints each other name
-with its modules, and exits with 1 where there is one. Those of LEFT are printed with --left alone.
+with its modules, and exits with 1 where there is one.
 """
 import collections
 import pathlib
@@ -16,12 +16,6 @@ DEFINITION = re.compile(r"^(?:pub |abbrev |unfoldable |opaque |data |record )+([
 # that a refusal is told with.
 ALIKE = {"Fails", "Gives", "told_fault"}
 
-# What is left of older names: a word of a grammar that each grammar has (what a line says, what a name is).
-LEFT = {
-    "IsSettled", "command_of", "counted", "is_comment", "is_escape", "is_lawful", "is_left_out", "is_name", "line_at", "lines_at",
-    "opened_at", "read_from", "row", "stands_for", "text_at",
-}
-
 
 def definitions():
     """The modules of specs/ that define a name, by name."""
@@ -34,8 +28,7 @@ def definitions():
 
 
 def main():
-    passed = ALIKE if "--left" in sys.argv[1:] else ALIKE | LEFT
-    doubled = {name: sorted(modules) for name, modules in definitions().items() if len(modules) > 1 and name not in passed}
+    doubled = {name: sorted(modules) for name, modules in definitions().items() if len(modules) > 1 and name not in ALIKE}
     for name, modules in sorted(doubled.items()):
         print(f"{name}: {', '.join(modules)}")
     return 1 if doubled else 0

@@ -1,4 +1,4 @@
-//! Where an answer is told.
+//! Where an answer is displayed.
 
 ghost use Rattle.std.specs.Prelude.{◌≡◌, ℕ, Bool, List, [], ◌++◌, false, IsTrue, OnOk, OnErr, string_bytes};
 
@@ -97,7 +97,7 @@ impl MemConsole {
         self.printed.as_str()
     }
 
-    /// What was told on standard error.
+    /// What was displayed on standard error.
     pub fn warned(&self) -> &str
         ensures { result.now ≡ string_bytes self.now.warned }
     {

@@ -1,4 +1,4 @@
-//! How an answer is told: its text on standard output, its warnings and what is refused on standard error.
+//! How an answer is displayed: its text on standard output, its warnings and what is refused on standard error.
 #![tactic(auto)]
 
 mod console;

@@ -1,4 +1,4 @@
-//! How the result of a request is told.
+//! How the result of a request is displayed.
 
 ghost use Rattle.std.specs.Prelude.{◌≡◌, ◌⊎◌, ◌++◌, Ok};
 ghost use Rattle.answer_console.specs.Telling.{IsDisplayed, IsDisplayedAs, IsExitStatusOf, refusal_line, no_memory_line};
@@ -10,7 +10,7 @@ use std::alloc::Global;
 /// The exit status of whatever is refused.
 const REFUSED: u8 = 125;
 
-/// What is told where there is no memory for more.
+/// What is displayed where there is no memory for more.
 const NO_MEMORY: &str = "dagrun: X1 Memory\n";
 
 /// Tells the result of a request, and gives the exit status: of an answer its warnings and then its text, with its

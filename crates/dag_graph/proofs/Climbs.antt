@@ -8,7 +8,7 @@ use Rattle.std.proofs.Common.{◌≢◌, ◌⊎◌, inl, inr, ⊎_elim, slice_in
 use Rattle.std.specs.List.{Contains, sum_by}
 use Rattle.std.proofs.lemmas.Grind.{common_steps}
 use Rattle.dag_graph.specs.Graph.{rank_in}
-use Rattle.dag_graph.specs.Climb.{Climbing, IsClimb, IsClosed, ClimbsOn, IsSettled, up, is_entered, is_placed, with_entered, with_passed, with_order_place, work_left}
+use Rattle.dag_graph.specs.Climb.{Climbing, IsClimb, IsClosed, ClimbsOn, IsFullClimb, up, is_entered, is_placed, with_entered, with_passed, with_order_place, work_left}
 use Rattle.dag_graph.specs.Numbers.{AreBelow}
 use Rattle.dag_graph.proofs.Ranks.{rank_kept, rank_new, rank_other, within_push, within_kept, within_pop}
 
@@ -259,7 +259,7 @@ begins parents c v is empty small fresh =
     let none : length c.path ≡ 0 = ap (λ (xs : List ℕ). length xs) empty in
     enters parents c v is small fresh free (λ some. absurd (omega (arith, some, none)))
 
-pub settled : (parents : List (List ℕ)) (c : Climbing) → IsClimb parents c → c.path ≡ [] → ((v : ℕ) → v < length parents → is_entered c v ≡ true) → IsSettled parents c
+pub settled : (parents : List (List ℕ)) (c : Climbing) → IsClimb parents c → c.path ≡ [] → ((v : ℕ) → v < length parents → is_entered c v ≡ true) → IsFullClimb parents c
 settled parents c is empty all = record {
   climb = is;
   all = λ v small. ⊎_elim

@@ -6,7 +6,7 @@ use Rattle.std.proofs.lemmas.List.Sums.{sum_by-le}
 use Rattle.splices_flat.specs.declared.flat.Edge.{Edge}
 use Rattle.splices_flat.specs.Dag.{Dag}
 use Rattle.dag_graph.specs.Graph.{IsOrderOf, rank_in}
-use Rattle.dag_graph.specs.Climb.{Climbing, IsClosed, IsSettled, up}
+use Rattle.dag_graph.specs.Climb.{Climbing, IsClosed, IsFullClimb, up}
 use Rattle.dag_graph.specs.Cycles.{IsClosedBy}
 use Rattle.dag_graph.proofs.Ranks.{rank_at}
 use Rattle.dag_graph.proofs.Told.{Tells}
@@ -18,7 +18,7 @@ none_left marks all =
     subst (λ (b : Bool). cond (not b) 1 0 ≤ 0) (sym is) (omega arith) in
     omega (arith, sum_by-le (λ b. cond (not b) 1 0) 0 marks each)
 
-pub is_order : (dag : Dag) (parents : List (List ℕ)) (c : Climbing) → Tells (length dag.nodes) dag.edges parents → IsSettled parents c → IsOrderOf dag c.order
+pub is_order : (dag : Dag) (parents : List (List ℕ)) (c : Climbing) → Tells (length dag.nodes) dag.edges parents → IsFullClimb parents c → IsOrderOf dag c.order
 is_order dag parents c told is =
     let climb = is.climb in
     let none : count_by (λ b. not b) c.placed ≡ 0 = none_left c.placed (λ i lt. is.all i (omega (arith, climb.placed_len))) in

@@ -80,6 +80,6 @@ pub record IsThrough (parents : List (List ℕ)) (before after : Climbing) : Typ
   pub empty : after.path ≡ []
 
 -- each node has its place
-pub record IsSettled (parents : List (List ℕ)) (c : Climbing) : Type 0 where
+pub record IsFullClimb (parents : List (List ℕ)) (c : Climbing) : Type 0 where
   pub climb : IsClimb parents c
   pub all : (v : ℕ) → v < length parents → is_placed c v ≡ true

@@ -1,4 +1,4 @@
--- Paths that come back, and what is told of them.
+-- Paths that come back, and the fault that reports them.
 use Rattle.std.specs.Prelude.{◌≡◌, ℕ, ◌+◌, ◌-◌, ◌<◌, List, [], ◌∷◌, length, map, slice_index}
 use Rattle.splices_flat.specs.declared.flat.Edge.{Edge}
 use Rattle.splices_flat.specs.Dag.{Dag}

@@ -8,7 +8,7 @@
 ghost use Rattle.std.specs.Prelude.{◌≡◌, ◌<◌, ◌≤◌, ◌+◌, ◌-◌, ◌^◌, [], true, false, None, Some, IfOk, OnOk, IfNone, length, replicate, slice_get, slice_index};
 ghost use Rattle.std.specs.Option.{MatchOption};
 ghost use Rattle.dag_graph.specs.Numbers.{AreBelow};
-ghost use Rattle.dag_graph.specs.Climb.{IsClimb, IsClosed, ClimbsOn, IsThrough, IsSettled, up, is_entered, is_placed, with_entered, with_passed, with_order_place};
+ghost use Rattle.dag_graph.specs.Climb.{IsClimb, IsClosed, ClimbsOn, IsThrough, IsFullClimb, up, is_entered, is_placed, with_entered, with_passed, with_order_place};
 
 use crate::numbers::Numbers;
 use std::alloc::{AllocError, Global};
@@ -204,7 +204,7 @@ impl Climb {
         requires below { AreBelow (length parents.now) parents.now }
         requires climb { IsClimb parents.now self.old }
         requires empty { self.old.path ≡ [] }
-        ensures { IfOk result (λ r. MatchOption r (IsSettled parents.now self.new) (λ p. IsClosed parents.now self.new.path p)) }
+        ensures { IfOk result (λ r. MatchOption r (IsFullClimb parents.now self.new) (λ p. IsClosed parents.now self.new.path p)) }
     {
         for start in 0..parents.len() {
             let met = self.climb_from(parents, start as u32)?;

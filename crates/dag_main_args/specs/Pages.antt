@@ -4,12 +4,12 @@ use Rattle.std.specs.Borrow.{Bor}
 use Rattle.fault_guide.specs.declared.guide.Fault.{Fault}
 use Rattle.fault_guide.specs.Guide.{has_code, page_text, list_text}
 
--- What is told of a code by a table of faults: the page of the fault that has it; without a code, a line for each fault.
+-- What is displayed of a code by a table of faults: the page of the fault that has it; without a code, a line for each fault.
 pub data IsExplained : Option (List ℕ) → List ℕ → Type 0 where
   all : (faults : List (Bor Fault)) → IsExplained None (list_text (map (λ f. f.now) faults))
   one : (faults : List (Bor Fault)) (code : List ℕ) (fault : Bor Fault) → find (λ f. has_code code f.now) faults ≡ Some fault →
       IsExplained (Some code) (page_text fault.now)
 
--- Nothing is told of a code that none of the faults has.
+-- No page is displayed for a code that none of the faults has.
 pub data IsUnexplained : Option (List ℕ) → Type 0 where
   no_fault : (faults : List (Bor Fault)) (code : List ℕ) → find (λ f. has_code code f.now) faults ≡ None → IsUnexplained (Some code)

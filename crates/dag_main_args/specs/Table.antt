@@ -63,19 +63,19 @@ dag = needed (codes "DAG")
 abbrev pub of_dag : Text → Shape
 of_dag name = command name (dag ∷ [])
 
--- what a run may be told
+-- what a run may be given
 abbrev pub run_rules : (is_tied : Bool) → (orphans progress : Bor (List (Bor Text))) → List Rule
 run_rules is_tied orphans progress = dag ∷ number (codes "maxjobs") ∷ number (codes "maxpre") ∷ number (codes "maxpost") ∷ switch (codes "autorescue")
     ∷ number (codes "dorescuefrom") ∷ flag (codes "always-run-post") ∷ switch (codes "sync-output") ∷ named_text (codes "launcher")
     ∷ flag (codes "launcher-final") ∷ choice (codes "orphans") orphans ∷ choice (codes "progress") progress
     ∷ tied_flag is_tied (codes "resume") ∷ flag (codes "trust-owner") ∷ []
 
--- what a rehearsal may be told
+-- what a rehearsal may be given
 abbrev pub rehearsal_rules : List Rule
 rehearsal_rules = dag ∷ optional (codes "OUTCOMES") ∷ number (codes "maxjobs") ∷ number (codes "maxpre") ∷ number (codes "maxpost")
     ∷ flag (codes "always-run-post") ∷ []
 
--- the commands of the program, each with what it may be told
+-- the commands of the program, each with what it may be given
 abbrev pub commands : (is_tied : Bool) → (orphans progress : Bor (List (Bor Text))) → List Shape
 commands is_tied orphans progress = command (codes "run") (run_rules is_tied orphans progress)
     ∷ of_dag (codes "status")

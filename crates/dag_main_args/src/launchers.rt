@@ -8,7 +8,7 @@ use dag_reader::Texts;
 use std::alloc::{AllocError, Global};
 use vars_macros::{MacroFault, split_arguments};
 
-/// What is told of a launcher that has no program, as clap tells of a bad value.
+/// What is displayed of a launcher that has no program, as clap displays a bad value.
 fn refused(alloc: Global, text: &str, cause: &str) -> Result<String, AllocError> {
     format!(in alloc;
         "error: invalid value '{text}' for '--launcher <WORDS>': {cause}\n\nFor more information, try '--help'.\n"

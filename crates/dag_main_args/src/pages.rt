@@ -7,14 +7,14 @@ use crate::request::WordsFault;
 use fault_guide::{fault_of, faults, list_text, page_text};
 use std::alloc::{AllocError, Global};
 
-/// What is told of a code that no fault has, as clap tells of a bad value.
+/// What is displayed of a code that no fault has, as clap displays a bad value.
 fn unknown(alloc: Global, code: &str) -> Result<String, AllocError> {
     format!(in alloc;
         "error: invalid value '{code}' for '[CODE]': no fault has this code\n\nFor more information, try 'dagrun explain'.\n"
     )
 }
 
-/// What is told of the fault of this code, in letters of either case; without a code, a line for each
+/// What is displayed of the fault of this code, in letters of either case; without a code, a line for each
 /// fault.
 ///
 /// # Errors

@@ -93,7 +93,7 @@ in_line WaitFault = None
 in_line (FileRefused file) = None
 in_line Memory = None
 
--- such a fault is told with the path of the rescue file
+-- such a fault is returned with the path of the rescue file
 abbrev pub named_by : Option RescueFault → Option (List ℕ) → RunFault → RunFault
 named_by None rescue fault = fault
 named_by (Some line) None fault = fault

@@ -1,6 +1,7 @@
 //! Why a command is refused.
 
 ghost use Rattle.std.specs.Prelude.{◌≡◌};
+ghost use Rattle.dag_main_check.specs.Checked.{in_plan};
 ghost use Rattle.dag_main_check.specs.Displayed.{line_in};
 ghost use Rattle.dag_main_check.specs.Planned.{in_files, in_graph};
 ghost use Rattle.dag_main_check.specs.declared.fault.RunFault.TheVariants.{Memory};
@@ -112,6 +113,17 @@ impl From<GraphFault> for RunFault {
             GraphFault::Cycle(names) => RunFault::Cycle(names),
             GraphFault::Memory => RunFault::Memory,
         }
+    }
+}
+
+impl From<PlanFault> for RunFault {
+    ghost from_gives = { λ refusal fault. fault ≡ in_plan refusal };
+
+    fn from(refusal: PlanFault) -> RunFault {
+        if refusal.is_memory() {
+            return RunFault::Memory;
+        }
+        RunFault::InPlan(refusal)
     }
 }
 

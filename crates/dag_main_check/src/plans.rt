@@ -6,12 +6,12 @@ ghost use Rattle.splices_flat.specs.FileSet.{bytes_of, entries_of};
 ghost use Rattle.splices_flat.specs.Opened.{dag_at};
 ghost use Rattle.dag_graph.specs.Graph.{IsAcyclic};
 ghost use Rattle.run_plan.specs.Submitted.{first_plan_fault, all_nodes};
-ghost use Rattle.dag_main_check.specs.Checked.{IsCheckFault, in_plan};
+ghost use Rattle.dag_main_check.specs.Checked.{IsCheckFault};
 ghost use Rattle.dag_main_check.specs.Planned.{IsGraphOf, IsGraphFault, IsPlanOf, IsPlanBy, IsPlanByFault, IsPlanWith, IsPlanWithFault};
 
 use crate::fault::RunFault;
 use dag_graph::Graph;
-use run_plan::{Plan, PlanFault};
+use run_plan::Plan;
 use splices::open_dag;
 use splices_flat::FileSet;
 use std::alloc::Global;
@@ -60,7 +60,7 @@ pub(crate) fn full_plan_of(alloc: Global, files: &FileSet, path: &str) -> Result
     let graph = graph_of(alloc, files, path)?;
     match Plan::build(alloc, graph, files, None, false) {
         Ok(plan) => Ok(plan),
-        Err((_graph, fault)) => Err(in_plan(fault)),
+        Err((_graph, fault)) => Err(RunFault::from(fault)),
     }
 }
 
@@ -78,7 +78,7 @@ pub fn plan_by(
 {
     match Plan::build(alloc, graph, files, rescue, always_post) {
         Ok(plan) => Ok(plan),
-        Err((_graph, fault)) => Err(in_plan(fault)),
+        Err((_graph, fault)) => Err(RunFault::from(fault)),
     }
 }
 
@@ -99,14 +99,4 @@ pub fn plan_with(
 {
     let graph = graph_of(alloc, files, path)?;
     plan_by(alloc, graph, files, rescue, always_post)
-}
-
-/// Why a command is refused whose plan is.
-fn in_plan(fault: PlanFault) -> RunFault
-    ensures { result ≡ in_plan fault }
-{
-    if fault.is_memory() {
-        return RunFault::Memory;
-    }
-    RunFault::InPlan(fault)
 }

@@ -6,7 +6,7 @@ use Rattle.event_journal_log.specs.declared.journal.Peek.{Peek}
 use Rattle.event_journal_log.specs.Image.{Found, replay_of}
 use Rattle.event_journal_log.specs.Journal.{IsReadFault, read_failed, read_had_no_memory, reads_no_journal, reads_version, reads_other_inputs, reads_other_flag, reads_bad_slot}
 use Rattle.event_journal_log.specs.Peeks.{ReadsPeek}
-use Rattle.event_journal_log.specs.Reading.{RefusedAs}
+use Rattle.event_journal_log.specs.Reading.{FailsAs}
 use Rattle.dag_main_files.specs.declared.rounds.Journaled.TheVariants as journals
 use Rattle.dag_main_files.specs.declared.rounds.Round.{Round}
 use Rattle.splices_flat.specs.Opening.{Files}
@@ -29,9 +29,9 @@ module _ (read : Result (Option Found) JournalFault) (round : Round) where
       (record { goes_on_is = header.goes_on_is; used_is = header.used_is ∙ sym used; next_is = header.next_is ∙ sym next; flag_is = header.flag_is ∙ sym flag }))
 
 -- a journal that can't be read
-pub unread : (journal : List ℕ) (fault : JournalFault) → RefusedAs fault (replay_of journal) → IsUnread journal (read_fault fault)
+pub unread : (journal : List ℕ) (fault : JournalFault) → FailsAs fault (replay_of journal) → IsUnread journal (read_fault fault)
 unread journal faults.Memory is = reading_had_no_memory
-unread journal faults.Device is = reading_had_no_memory
+unread journal faults.Device is = absurd is
 unread journal faults.DiskFull is = absurd is
 unread journal faults.NotAJournal is = bad_journal faults.NotAJournal is
 unread journal (faults.Version v) is = bad_journal (faults.Version v) is
@@ -44,7 +44,7 @@ unread journal (faults.BadSlot slot) is = bad_journal (faults.BadSlot slot) is
 -- its fault is one of a journal, or memory ran out
 pub of-journal : (fault : JournalFault) → IsReadFault fault → IsJournalFault (read_fault fault)
 of-journal _ read_had_no_memory = peeking_had_no_memory
-of-journal _ read_failed = peeking_had_no_memory
+of-journal _ read_failed = journal_refused faults.Device read_failed
 of-journal _ reads_no_journal = journal_refused faults.NotAJournal reads_no_journal
 of-journal _ (reads_version v) = journal_refused (faults.Version v) (reads_version v)
 of-journal _ reads_other_inputs = journal_refused faults.OtherInputs reads_other_inputs

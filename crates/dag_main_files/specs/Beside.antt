@@ -1,4 +1,4 @@
--- What stands beside a DAG file, and what is told of it.
+-- What stands beside a DAG file, and what is answered of it.
 use Rattle.std.specs.Prelude.{◌≡◌, ◌≢◌, ◌<◌, ◌≤◌, ◌+◌, ◌-◌, ℕ, Bool, true, false, nat_lt, List, ◌++◌, length, slice_index, Option, Some, None, Result, Ok, Err, is_some, codes, string_bytes, String, if◌then◌else◌}
 use Rattle.std.specs.Global.{Global}
 use Rattle.rescue_file.specs.Numbered.{IsFileNumber}
@@ -31,7 +31,7 @@ longest_path_of top = top ++ codes ".rescue999.old"
 abbrev pub HasRoomForNames : List ℕ → Type 0
 HasRoomForNames top = (bytes : ℕ) × IsNameLength (longest_path_of top) bytes × (bytes ≤ 255)
 
--- its name is too long, and it is told; or memory ran out
+-- its name is too long, and it is returned; or memory ran out
 pub data IsRoomFault (top : List ℕ) : RunFault → Type 0 where
   too_long : (file : String Global) (bytes : ℕ) → IsNameLength (longest_path_of top) bytes → 255 < bytes → string_bytes file ≡ longest_path_of top →
       IsRoomFault top (FileRefused file)
@@ -57,9 +57,9 @@ abbrev pub MayGoBack : Option ℕ → Type 0
 MayGoBack None = Unit {0}
 MayGoBack (Some number) = IsFileNumber number
 
--- Why it is not told which round this is, the first cause first. The rescue file is not there to which the round is to go back, if it is to:
--- no file has its number, or it is missing; then, the journal can't be read; the run is to go back and has not ended; it is to go on, and the
--- header of its journal has a number that no rescue file has; the system refuses the folder. Or memory ran out.
+-- Why it is not known which round this is, the first cause first. The rescue file is not there to which the round is to go back, if it is
+-- to: no file has its number, or it is missing; then, the journal can't be read; the run is to go back and has not ended; it is to go on,
+-- and the header of its journal has a number that no rescue file has; the system refuses the folder. Or memory ran out.
 pub data IsRoundFault (from : Option ℕ) : RunFault → Type 0 where
   not_there : (number : ℕ) → from ≡ Some number → IsRoundFault from (NotThere number)
   journal_not_read : (fault : RunFault) → MayGoBack from → IsJournalFault fault → IsRoundFault from fault
@@ -115,7 +115,7 @@ pub record IsRescueOf (round : Round) (rescue : Option (List ℕ)) : Type 0 wher
   pub none_read : round.used ≡ 0 → rescue ≡ None
   pub one_read : round.goes_back ≡ true → is_some rescue ≡ true
 
--- Why it is not told which they are: the file is missing to which the round goes back; the system refuses it; memory ran out.
+-- Why it is not known which they are: the file is missing to which the round goes back; the system refuses it; memory ran out.
 pub data IsRescueReadFault (round : Round) : RunFault → Type 0 where
   missing : round.goes_back ≡ true → IsRescueReadFault round (NotThere round.used)
   rescue_not_read : (fault : RunFault) → IsFileFault fault → IsRescueReadFault round fault

@@ -36,7 +36,7 @@ pub struct Place<'a> {
     pub top: &'a str,
 }
 
-/// What is told of the file of this path, which the system refuses: `Memory` for want of memory, or
+/// What is returned for the file of this path, which the system refuses: `Memory` for want of memory, or
 /// else `FileRefused` with the path.
 pub fn refused(alloc: Global, path: &str, error: &io::Error) -> RunFault
     ensures { IsFileFault result }
@@ -298,7 +298,7 @@ impl<'a> Place<'a> {
         }
     }
 
-    /// What is told where another manager runs the DAG.
+    /// What is returned where another manager runs the DAG.
     pub fn taken(&self, alloc: Global) -> RunFault
         ensures { IsFileFault result }
     {
@@ -325,7 +325,7 @@ impl<'a> Place<'a> {
     }
 
     /// Brings the names in the folder of the DAG file to the disk; where the system refuses it, this
-    /// path is told.
+    /// path is returned.
     fn sync_names<R: Files<File = File> + AllocGlobal>(
         &self,
         rt: &R,

@@ -67,7 +67,7 @@ pub trait Folder {
         ensures refused { IfErr result IsFileFault };
 
     /// Whether the path of a file that dagrun writes beside a DAG file is there. Where the system doesn't tell, it is taken
-    /// to be: what is refused is told as it is read.
+    /// to be: what is refused is returned as it is read.
     ///
     /// # Errors
     /// `Memory` alone.

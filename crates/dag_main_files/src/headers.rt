@@ -1,34 +1,22 @@
 //! What the header of a journal says.
 
 ghost use Rattle.std.specs.Prelude.{◌≡◌, IfOk, IfErr};
-ghost use Rattle.event_journal.specs.Memory.{disk_bytes};
 ghost use Rattle.event_journal_log.specs.Image.{replay_of};
 ghost use Rattle.event_journal_log.specs.Peeks.{ReadsPeek};
 ghost use Rattle.dag_main_files.specs.Beside.{IsJournalFault};
 ghost use Rattle.dag_main_files.specs.Journals.{read_fault, IsUnread};
 
 use dag_main_check::RunFault;
-use event_journal::MemDisk;
-use event_journal_log::{Disk, Journal, JournalFault, Peek};
+use event_journal_log::{Disk, Journal, JournalFault, Peek, peek_bytes};
 use recovery_manager::ManagerFault;
-use std::alloc::{AllocError, Global};
+use std::alloc::Global;
 
-/// A disk in memory of these bytes.
-fn disk_of(alloc: Global, bytes: &[u8]) -> Result<MemDisk, AllocError>
-    ensures { IfOk result (λ disk. disk_bytes disk ≡ bytes.now) }
-{
-    let mut copy = Vec::new(alloc);
-    copy.extend_from_slice(bytes)?;
-    Ok(MemDisk::of(alloc, copy, bytes.len()))
-}
-
-/// What is told of the fault of a journal's bytes.
+/// What is returned for the fault of a journal.
 pub fn read_fault(fault: JournalFault) -> RunFault
     ensures { result ≡ read_fault fault }
 {
     match fault {
-        // A disk in memory tells that it was refused memory as a failure.
-        JournalFault::Memory | JournalFault::Device => RunFault::Memory,
+        JournalFault::Memory => RunFault::Memory,
         fault => RunFault::InManager(ManagerFault::Journal(fault)),
     }
 }
@@ -42,8 +30,7 @@ pub fn peek_in(alloc: Global, bytes: &[u8]) -> Result<Option<Peek>, RunFault>
     ensures refused { IfErr result (IsUnread bytes.now) }
     ensures kind { IfErr result IsJournalFault }
 {
-    let mut disk = disk_of(alloc, bytes)?;
-    match Journal::peek(alloc, &mut disk) {
+    match peek_bytes(alloc, bytes) {
         Ok(peek) => Ok(peek),
         Err(fault) => Err(read_fault(fault)),
     }
@@ -59,7 +46,6 @@ pub(crate) fn peek_on<D: Disk + Drop>(alloc: Global, disk: &mut D) -> Result<Opt
 {
     match Journal::peek(alloc, disk) {
         Ok(peek) => Ok(peek),
-        Err(JournalFault::Memory) => Err(RunFault::Memory),
-        Err(fault) => Err(RunFault::InManager(ManagerFault::Journal(fault))),
+        Err(fault) => Err(read_fault(fault)),
     }
 }

@@ -38,7 +38,7 @@ pub(crate) fn is_trusted<R: Files>(rt: &R, folder: &str, path: &str, trusts_root
                 || (trusts_root && (user == ROOT || found.uid() == ROOT))
                 || !others_may_write(rt, folder, user)
         }
-        // Whoever opens it is told why it can't be looked at.
+        // Whoever opens it learns why it can't be looked at.
         Err(_) => true,
     }
 }

@@ -1,4 +1,4 @@
--- What is told of the last round is told of the files that are held.
+-- What is answered of the last round is answered of the files that are held.
 use Rattle.std.proofs.Common.{◌≡◌, ℕ, List, Option, Some, None, IfSome, sym, subst}
 use Rattle.std.specs.Prelude.{IfNone}
 use Rattle.splices_flat.specs.Opening.{Files}

@@ -1,4 +1,4 @@
--- What is told of a run by what stands beside its DAG file.
+-- What is answered of a run by what stands beside its DAG file.
 use Rattle.std.specs.Prelude.{ℕ, List, Option, None}
 use Rattle.splices_flat.specs.Opening.{Files}
 use Rattle.splices_flat.specs.FileSet.{bytes_of, entries_of}
@@ -43,8 +43,8 @@ pub record IsAnswerHeld (holds : Files) (question : Question) (path text warning
   pub beside : IsLastRound holds path journal rescue
   pub answered : IsAskAnswered question (bytes_of files) (entries_of files) path rescue journal text warnings status
 
--- Why there is no answer: it is not told which round is the last one, or memory runs out as the files are read; or what they and the
--- journal say is refused, the fault of a line of the rescue file told with that file's name.
+-- Why there is no answer: it is not known which round is the last one, or memory runs out as the files are read; or what they and the
+-- journal say is refused, the fault of a line of the rescue file returned with that file's name.
 pub data IsAnswerFault (question : Question) (path : List ℕ) : RunFault → Type 0 where
   no_last_round : (fault : RunFault) → IsRoundFault None fault → IsAnswerFault question path fault
   not_told : (files : FileSet) (rescue journal name : Option (List ℕ)) (fault : RunFault) →

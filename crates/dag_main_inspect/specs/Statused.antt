@@ -36,7 +36,7 @@ records_read (Err fault) = None
 abbrev pub records_in_bytes : Plan → List ℕ → Option (List Record)
 records_in_bytes plan bytes = records_read (replay_by plan bytes)
 
--- what is told of bytes that can't be read
+-- what is returned for bytes that can't be read
 abbrev pub bytes_fault : JournalFault → RunFault
 bytes_fault journal.Memory = Memory
 bytes_fault journal.Device = InManager (manager.Journal journal.Device)

@@ -1,7 +1,6 @@
-//! What is told of a run by its journal, from the files that stand beside its DAG file.
+//! What is answered of a run by its journal, from the files that stand beside its DAG file.
 
 ghost use Rattle.std.specs.Prelude.{◌≡◌, ◌≤◌, false, None, IfOk, IfErr, IfSome, IfNone, option_map, string_bytes};
-ghost use Rattle.event_journal.specs.Memory.{disk_bytes};
 ghost use Rattle.splices_flat.specs.FileSet.{bytes_of, entries_of};
 ghost use Rattle.event_journal_log.specs.Image.{replay_of};
 ghost use Rattle.dag_main_check.specs.declared.fault.RunFault.TheVariants.{Memory};
@@ -19,19 +18,9 @@ use crate::statuses::{bytes_in, status_of};
 use dag_main_check::{Answer, RunFault};
 use dag_main_files::{Folder, LAST_NUMBER, Reading, files_of, journal_path, named, rescue_path};
 use dag_reader::Text;
-use event_journal::MemDisk;
-use event_journal_log::{Journal, JournalFault, Peek};
+use event_journal_log::{JournalFault, Peek, peek_bytes};
 use splices_flat::FileSet;
-use std::alloc::{AllocError, Global};
-
-/// A disk in memory of these bytes.
-fn disk_of(alloc: Global, bytes: &[u8]) -> Result<MemDisk, AllocError>
-    ensures { IfOk result (λ disk. disk_bytes disk ≡ bytes.now) }
-{
-    let mut copy = Vec::new(alloc);
-    copy.extend_from_slice(bytes)?;
-    Ok(MemDisk::of(alloc, copy, bytes.len()))
-}
+use std::alloc::Global;
 
 /// What the header of a journal says, and whether it has ended: nothing where none was begun, and where its
 /// bytes are none.
@@ -41,12 +30,9 @@ fn peek_in(alloc: Global, bytes: &[u8]) -> Result<Option<Peek>, RunFault>
     ensures none { IfOk result (λ peek. IfNone peek ((used_read (replay_of bytes.now) ≡ 0) × (finished_read (replay_of bytes.now) ≡ false))) }
     ensures err { IfErr result (λ fault. fault ≡ Memory) }
 {
-    let mut disk = disk_of(alloc, bytes)?;
-    match Journal::peek(alloc, &mut disk) {
+    match peek_bytes(alloc, bytes) {
         Ok(peek) => Ok(peek),
-        // A disk in memory tells that it was refused memory as a failure.
         Err(JournalFault::Memory) => Err(RunFault::Memory),
-        Err(JournalFault::Device) => Err(RunFault::Memory),
         Err(_) => Ok(None),
     }
 }
@@ -125,11 +111,9 @@ fn journal_of<F: Folder>(alloc: Global, folder: &F, top: &str) -> Result<Option<
 fn can_be_read(alloc: Global, bytes: &[u8]) -> Result<bool, RunFault>
     ensures { IfErr result (λ fault. fault ≡ Memory) }
 {
-    let mut disk = disk_of(alloc, bytes)?;
-    match Journal::peek(alloc, &mut disk) {
+    match peek_bytes(alloc, bytes) {
         Ok(_) => Ok(true),
         Err(JournalFault::Memory) => Err(RunFault::Memory),
-        Err(JournalFault::Device) => Err(RunFault::Memory),
         Err(_) => Ok(false),
     }
 }

@@ -1,4 +1,4 @@
-//! What `status`, `audit` and `graph` answer, and `run --resume` of a run that has ended: what is told of a run by its
+//! What `status`, `audit` and `graph` answer, and `run --resume` of a run that has ended: what is answered of a run by its
 //! journal.
 #![tactic(auto)]
 

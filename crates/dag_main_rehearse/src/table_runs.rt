@@ -75,7 +75,7 @@ fn begin<'a>(
     }
 }
 
-/// What is told of a run that was stopped: that it has more records than its journal has slots; else memory was refused, since a
+/// What is returned for a run that was stopped: that it has more records than its journal has slots; else memory was refused, since a
 /// rehearsal wants nothing else.
 fn told(fault: DriveFault) -> RunFault
     ensures { (result ≡ Memory) ⊎ ((fault ≡ drives.Manager no_slot) × (result ≡ InManager no_slot)) }

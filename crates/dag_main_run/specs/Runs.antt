@@ -82,12 +82,12 @@ pub record IsRunFrom (holds : Files) (has : List ℕ → Bool) (path : List ℕ)
   pub answered : IsAnswerByPlan round.always_post (bytes_of files) (entries_of files) path (rescue_in holds path round.used)
       (λ plan. IsLedRun options.limits plan (start_by round) text status) warnings
 
--- Why it is not told which round this is and what its rescue file says, the first cause first: the second is met where the first is not.
+-- Why it is not known which round this is and what its rescue file says, the first cause first: the second is met where the first is not.
 pub data IsFindingFault (options : RunOptions) : RunFault → Type 0 where
   no_round : (fault : RunFault) → IsRoundFault options.dorescuefrom fault → IsFindingFault options fault
   no_rescue : (round : Round) (fault : RunFault) → IsRoundBy options.autorescue options.dorescuefrom options.always_post round → IsRescueReadFault round fault → IsFindingFault options fault
 
--- Why it is not told so under the lock: a name beside the DAG file would be too long; another manager is at work, or the lock is refused; or
+-- Why it is not known under the lock: a name beside the DAG file would be too long; another manager is at work, or the lock is refused; or
 -- as above.
 pub data IsLockedFault (path : List ℕ) (options : RunOptions) : RunFault → Type 0 where
   no_room_for_lock : (fault : RunFault) → IsRoomFault path fault → IsLockedFault path options fault
@@ -102,7 +102,7 @@ pub data IsFirstRunFault (path : List ℕ) (options : RunOptions) : RunFault →
   looked_again : (journal : ManagerFault) (fault : RunFault) → IsFindingFault options (InManager journal) → IsLockedFault path options fault →
       IsFirstRunFault path options fault
 
--- Why the round has no plan: a submit file, a text of a job or a line of the rescue file has a fault, that of a line told with the name
+-- Why the round has no plan: a submit file, a text of a job or a line of the rescue file has a fault, that of a line returned with the name
 -- of the rescue file; memory ran out.
 pub data IsRoundPlanFault (files : FileSet) (path : List ℕ) (graph : Network) : RunFault → Type 0 where
   not_planned : (fault : RunFault) → IsPlanByFault (bytes_of files) (entries_of files) None graph fault → IsRoundPlanFault files path graph fault
@@ -119,7 +119,7 @@ pub data IsStopFault : RunFault → Type 0 where
   no_ending_logged : IsStopFault WaitFault
   leading_had_no_memory : IsStopFault Memory
 
--- Why the round is not led to its end once the lock is held, the first cause first: it is not told again which round this is, or it is
+-- Why the round is not led to its end once the lock is held, the first cause first: it is not found again which round this is, or it is
 -- another one by now; or it is stopped.
 pub data IsHeldFault (options : RunOptions) : RunFault → Type 0 where
   not_found_again : (fault : RunFault) → IsFindingFault options fault → IsHeldFault options fault
@@ -136,9 +136,9 @@ pub record IsPlannedFor (path : List ℕ) (options : RunOptions) : Type 0 where
   pub is_round : IsRoundBy options.autorescue options.dorescuefrom options.always_post round
   pub planned : IsPlannedRun files graph round plan
 
--- Why `run` is refused, the first cause first. Each is met where those before it are not: the files make no graph; it is not
--- told which round this is, or what its rescue file says; the round has no plan; there is no launcher as it is asked for; a name beside the DAG file would be too long; another
--- manager is at work, or the lock is refused; under the lock the round is another one, or is not led to its end.
+-- Why `run` is refused, the first cause first. Each is met where those before it are not: the files make no graph; it is not known which
+-- round this is, or what its rescue file says; the round has no plan; there is no launcher as it is asked for; a name beside the DAG file
+-- would be too long; another manager is at work, or the lock is refused; under the lock the round is another one, or is not led to its end.
 pub data IsRunFault (path : List ℕ) (options : RunOptions) : RunFault → Type 0 where
   no_graph : (files : FileSet) (fault : RunFault) → IsGraphFault (bytes_of files) path fault → IsRunFault path options fault
   not_found : (files : FileSet) (graph : Network) (fault : RunFault) → IsGraphOf (bytes_of files) path graph → IsFirstRunFault path options fault → IsRunFault path options fault

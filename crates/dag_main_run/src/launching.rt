@@ -72,7 +72,7 @@ fn path_of<R: Files + Env + AllocGlobal>(
     }
 }
 
-/// What is told of a program that isn't found.
+/// What is returned for a program that isn't found.
 fn not_found(alloc: Global, name: &str) -> RunFault
     ensures { (given : List (List ℕ)) → slice_get given 0 ≡ Some name.now → IsLauncherFault given result }
 {

@@ -76,7 +76,7 @@ pub(crate) fn progress_of<
     progress
 }
 
-/// Who is told of the children of a round: first its log, then who shows how far it is.
+/// Who is informed of the children of a round: first its log, then who shows how far it is.
 #[derive(Drop)]
 pub(crate) struct RoundWatcher<'a, R: Files<File = File> + Clock + AllocGlobal + Drop> {
     pub(crate) log: RunWatcher<'a, R>,

@@ -127,7 +127,7 @@ fn reason_of<R: Files<File = File> + Drop>(
 }
 
 /// Leads a round of a plan to its end on these disks, with children of this process of which the watcher
-/// is told, and answers what it prints.
+/// is informed, and answers what it prints.
 fn led_by<
     R: Processes + Files<File = File> + Clock + AllocGlobal + Copy + Drop,
     W: ChildWatcher + Drop,
@@ -320,7 +320,7 @@ fn round_with_rescue<R: Files<File = File> + AllocGlobal + Copy + Drop, F: Folde
 
 /// The round and the bytes of its rescue file as they are found first, before the lock is taken. A journal
 /// that can't be read may be one that another manager writes just then: it is looked at again once that
-/// one has stopped, or it is told that one is at work.
+/// one has stopped, or it is answered that one is at work.
 ///
 /// # Errors
 /// `FileRefused` with a file beside the DAG file that may be another user's, or that is no regular file;

@@ -189,7 +189,7 @@ pub enum Command {
     },
 
     /// `DOT ..`, `JOBSTATE_LOG ..`, `NODE_STATUS_FILE ..` or `SET_JOB_ATTR ..`: a line that has no
-    /// effect here, of which the user is told. The span is that of its first word.
+    /// effect here, of which the user is warned. The span is that of its first word.
     Ignored(Span),
 }
 

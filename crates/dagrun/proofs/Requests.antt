@@ -33,7 +33,7 @@ pub exits : (words : List (List ℕ)) (request : Request) → AskFor words reque
 exits words request ask result is status (printed answer same) = answered request _ _ answer.status ask (IfOk-at_ok _ same is)
 exits words request ask result is status not_printed = refused
 
--- so is what is told of a fault
+-- so is what is displayed of a fault
 pub exits-refused : (words : List (List ℕ)) (fault : RunFault) (status : ℕ) → IsExitStatusOf (Err fault) status → IsExit words status
 exits-refused words fault status (printed answer same) = absurd cc
 exits-refused words fault status not_printed = refused

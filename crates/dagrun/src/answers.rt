@@ -180,7 +180,7 @@ fn check<R: Files<File = File> + Screen + AllocGlobal, F: Folder>(
     }
 }
 
-/// The answer to a check of files that are read once, with hints; where it is refused, they are told before the
+/// The answer to a check of files that are read once, with hints; where it is refused, they are printed before the
 /// refusal.
 fn check_with_hints<R: Files<File = File> + Screen + AllocGlobal, F: Folder>(
     rt: &R,

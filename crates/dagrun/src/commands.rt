@@ -23,7 +23,7 @@ use std::time::Clock;
 /// exit status.
 ///
 /// What the command prints stands on standard output, its warnings on standard error; a refused
-/// command line is told by clap's text on standard error, a refused input by one line
+/// command line is reported by clap's text on standard error, a refused input by one line
 /// `dagrun: CODE Name detail`, both with status 125 and nothing on standard output.
 pub fn run<
     R: Files<File = File> + Processes + Clock + Input + Print + Screen + AllocGlobal + Copy + Drop,
@@ -101,7 +101,7 @@ fn dag_in<'a>(request: &Request<'a>) -> Option<&'a str> {
     }
 }
 
-/// What a person at a terminal is told behind an answer.
+/// What is displayed at a terminal behind an answer.
 #[derive(Clone, Copy)]
 enum Postscript {
     Nothing,
@@ -111,7 +111,7 @@ enum Postscript {
     Worker,
 }
 
-/// What is told behind the answer to a request.
+/// What is displayed behind the answer to a request.
 fn postscript_to(request: &Request<'_>) -> Postscript {
     match request {
         Request::Status { .. } => Postscript::Totals,

@@ -1,4 +1,4 @@
-//! What a person at a terminal is told behind the line of a refusal, and behind a status.
+//! What is displayed at a terminal behind the line of a refusal, and behind a status.
 
 use dag_main_files::{Place, read_input};
 use dag_main_run::Screen;
@@ -60,7 +60,7 @@ fn reason_in_log<R: Files + AllocGlobal>(rt: &R, dag: &str) -> Result<Option<Str
     }
 }
 
-/// What the system said, as far as that can still be told.
+/// What the system said, as far as that can still be known.
 fn reason_of<R: Files + AllocGlobal>(
     rt: &R,
     dag: Option<&str>,
@@ -73,7 +73,7 @@ fn reason_of<R: Files + AllocGlobal>(
     }
 }
 
-/// What is told behind the line of a refusal of a request for this DAG file.
+/// What is displayed behind the line of a refusal of a request for this DAG file.
 fn hint_of<R: Files + AllocGlobal>(
     rt: &R,
     dag: Option<&str>,
@@ -167,7 +167,7 @@ pub(crate) fn tell_totals<R: Files<File = File> + Screen + AllocGlobal>(
     }
 }
 
-/// Tells who works on this DAG file, behind what was told of its nodes, where standard error is a terminal.
+/// Prints who works on this DAG file, behind what was printed of its nodes, where standard error is a terminal.
 pub(crate) fn tell_worker<R: Files<File = File> + Screen + AllocGlobal>(rt: &R, dag: &str) {
     if !rt.is_terminal() {
         return;

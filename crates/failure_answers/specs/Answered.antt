@@ -14,9 +14,9 @@ use Rattle.dag_main_inspect.specs.Statused.{journal_bytes, flag_by, records_in_b
 use Rattle.failure_report.specs.Reported.{HasAllFailed}
 use Rattle.failure_report.specs.Named.{HasNamed, IsUnknownName}
 
--- The answer of a run of the DAG file of a path to names: a text, the warnings of the files, and status 0, where the text has what is told of all
--- nodes in error where there is no name, and else of those that are named, in their order; or, where a name is none of a node, no text, the line
--- that says so as a warning, and status 125.
+-- The answer of a run of the DAG file of a path to names: a text, the warnings of the files, and status 0, where the text has what is
+-- reported of all nodes in error where there is no name, and else of those that are named, in their order; or, where a name is none of a
+-- node, no text, the line that says so as a warning, and status 125.
 pub data IsAnswerOf (plan : Plan) (past : List Record) (path : List ℕ) (names : List (List ℕ)) : (text warnings : List ℕ) → (status : ℕ) → Type 0 where
   reported_of_all : (text : List ℕ) → length names ≡ 0 → HasAllFailed plan past text → IsAnswerOf plan past path names text (warning_lines plan.graph.dag.warnings) 0
   reported_of_named : (text : List ℕ) → length names ≢ 0 → HasNamed plan past names text → IsAnswerOf plan past path names text (warning_lines plan.graph.dag.warnings) 0

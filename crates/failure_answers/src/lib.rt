@@ -99,7 +99,7 @@ fn why_of<R: Files<File = File> + AllocGlobal>(
 /// there is no name, of all that are in error, those first for which most nodes wait, and of as many in
 /// plan order.
 ///
-/// A name that is none of a node is told as a warning, with no text and with status 125.
+/// A name that is none of a node is answered by a warning, with no text and with status 125.
 ///
 /// # Errors
 /// As `answer_here` for the status: in this order a journal that the system refuses to read, a number of a

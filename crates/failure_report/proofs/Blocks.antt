@@ -1,4 +1,4 @@
--- What is told of nodes, one by one.
+-- What is reported of nodes, one by one.
 use Rattle.std.proofs.Common.{◌≡◌, ℕ, ◌+◌, ◌<◌, List, [], ◌++◌, Option, Some, length, take, get_or, sym, ap, ◌∙◌, subst}
 use Rattle.std.proofs.lemmas.List.{take_more}
 use Rattle.node_machine.specs.declared.Ended.{Ended}

@@ -22,11 +22,9 @@ last_end past node = last_phase (history past node)
 
 -- what a record makes of it
 abbrev pub noted_end : Option Ended → Record → ℕ → Option Ended
-noted_end before Life node = before
-noted_end before (Launch key number) node = before
 noted_end before (End key outcome) node =
     if key.node == node then Some (record { attempt = key.attempt; phase = key.phase; outcome = outcome }) else before
-noted_end before (Finish status) node = before
+noted_end before _ node = before
 
 -- of each node, FINAL's place behind the others, its last phase that ended
 pub record AreLastEnds (plan : Plan) (past : List Record) (ends : List (Option Ended)) : Type 0 where

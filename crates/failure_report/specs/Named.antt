@@ -1,4 +1,4 @@
--- What is told of nodes that are named.
+-- What is reported of nodes that are named.
 use Rattle.std.specs.Prelude.{◌≡◌, ◌≤◌, ℕ, Bool, true, false, List, [], ◌∷◌, ◌++◌, map, position, Option, Some, None, codes, string_bytes}
 use Rattle.std.specs.Str.{bytes_eq}
 use Rattle.dag_graph.specs.Graph.{names_of}
@@ -36,7 +36,7 @@ pub data AreReported (plan : Plan) (past : List Record) : (nodes : List ℕ) →
   one_more_reported : (nodes : List ℕ) (reported : List Reported) (node : ℕ) (one : Reported) → AreReported plan past nodes reported → IsReportedOfNode plan past node one →
       AreReported plan past (nodes ++ node ∷ []) (reported ++ one ∷ [])
 
--- the text has what is told of the nodes of these names, one behind another
+-- the text has what is reported of the nodes of these names, one behind another
 pub record HasNamed (plan : Plan) (past : List Record) (names : List (List ℕ)) (text : List ℕ) : Type 0 where
   pub numbers : List ℕ
   pub are_numbers : AreNumbers plan names numbers
@@ -49,7 +49,7 @@ abbrev pub nearest_words : Option (List ℕ) → List ℕ
 nearest_words None = codes "\n"
 nearest_words (Some name) = codes "; the nearest name is " ++ (word_text name ++ codes "\n")
 
--- `dagrun: x.dag has no node NAME`, and perhaps a near one: what is told of a name that is none of a node of the DAG file of this path
+-- `dagrun: x.dag has no node NAME`, and perhaps a near one: what is reported of a name that is none of a node of the DAG file of this path
 abbrev pub unknown_line : (path name : List ℕ) → (near : Option (List ℕ)) → List ℕ
 unknown_line path name near = codes "dagrun: " ++ (word_text path ++ (codes " has no node " ++ (word_text name ++ nearest_words near)))
 
@@ -57,7 +57,7 @@ pub record IsUnknownLine (path name line : List ℕ) : Type 0 where
   pub near : Option (List ℕ)
   pub line_is : line ≡ unknown_line path name near
 
--- that is told of the first of these names that is none of a node
+-- that is reported of the first of these names that is none of a node
 pub record IsUnknownName (plan : Plan) (path : List ℕ) (names : List (List ℕ)) (line : List ℕ) : Type 0 where
   pub before : List (List ℕ)
   pub name : List ℕ
@@ -68,12 +68,12 @@ pub record IsUnknownName (plan : Plan) (path : List ℕ) (names : List (List ℕ
   pub unknown : number_of_node plan name ≡ None
   pub reported : IsUnknownLine path name line
 
--- the numbers of the nodes of these names; or what is told of the first that is none
+-- the numbers of the nodes of these names; or what is reported of the first that is none
 abbrev pub IsNamed : Plan → (path : List ℕ) → (names : List (List ℕ)) → Named → Type 0
 IsNamed plan path names (Nodes numbers) = AreNumbers plan names numbers.items
 IsNamed plan path names (Unknown line) = IsUnknownName plan path names (string_bytes line)
 
--- what is told of the nodes of these names
+-- what is reported of the nodes of these names
 abbrev pub IsWhyOfNamed : Plan → List Record → (path : List ℕ) → (names : List (List ℕ)) → Why → Type 0
 IsWhyOfNamed plan past path names (why.Reported text) = HasNamed plan past names (string_bytes text)
 IsWhyOfNamed plan past path names (why.Unknown line) = IsUnknownName plan path names (string_bytes line)

@@ -1,4 +1,4 @@
--- What is told of nodes.
+-- What is reported of nodes.
 use Rattle.std.specs.Prelude.{◌≡◌, ℕ, ◌<◌, List, [], ◌∷◌, ◌++◌, map, Option, Some, None, string_bytes}
 use Rattle.node_machine.specs.declared.Ended.{Ended}
 use Rattle.node_machine.specs.declared.Record.{Record}
@@ -11,8 +11,8 @@ use Rattle.failure_report.specs.declared.why.Why.TheVariants as why
 use Rattle.failure_report.specs.Failures.{AreFailures}
 use Rattle.failure_report.specs.Heads.{head_line}
 
--- What is told of a node in error: its line, with some reason or none, and then some more. (One that the plan doesn't have, or no phase of
--- which ended, is not in error, and nothing is told of it.)
+-- What is reported of a node in error: its line, with some reason or none, and then some more. (One that the plan doesn't have, or no phase
+-- of which ended, is not in error, and nothing is reported of it.)
 pub data IsFailureBlock (plan : Plan) (failure : Failure) : List ℕ → Type 0 where
   has_line : (end : Ended) (reason : Option (List ℕ)) (more : List ℕ) → failure.end ≡ Some end →
       IsFailureBlock plan failure (head_line (node_at plan failure.node).name end reason (node_at plan failure.node).course.retries failure.waiting ++ more)
@@ -24,14 +24,14 @@ abbrev pub IsBlock : Plan → Reported → List ℕ → Type 0
 IsBlock plan (Failed failure) block = IsFailureBlock plan failure block
 IsBlock plan (Standing node) block = Unit {0}
 
--- what is told of a node stands behind a text, with something between them
+-- what is reported of a node stands behind a text, with something between them
 pub record HasBlock (plan : Plan) (one : Reported) (before now : List ℕ) : Type 0 where
   pub gap : List ℕ
   pub block : List ℕ
   pub reported : IsBlock plan one block
   pub added : now ≡ (before ++ gap) ++ block
 
--- what is told of some nodes stands in a text, one behind another, with something before and between them
+-- what is reported of some nodes stands in a text, one behind another, with something before and between them
 pub data HasBlocks (plan : Plan) : List Reported → List ℕ → Type 0 where
   front : (text : List ℕ) → HasBlocks plan [] text
   behind : {reported : List Reported} {one : Reported} {before now : List ℕ} → HasBlocks plan reported before → HasBlock plan one before now → HasBlocks plan (reported ++ one ∷ []) now
@@ -42,7 +42,7 @@ pub record AreAllFailed (plan : Plan) (past : List Record) (reported : List Repo
   pub are : AreFailures plan past failures
   pub each : reported ≡ map Failed failures
 
--- the text has what is told of all nodes in error, in their order
+-- the text has what is reported of all nodes in error, in their order
 pub record HasAllFailed (plan : Plan) (past : List Record) (text : List ℕ) : Type 0 where
   pub reported : List Reported
   pub all : AreAllFailed plan past reported

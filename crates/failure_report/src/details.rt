@@ -1,4 +1,4 @@
-//! What is told of a phase behind the line of its node: its command, its files, how long it took, and the
+//! What is reported of a phase behind the line of its node: its command, its files, how long it took, and the
 //! last lines of its error output.
 
 use crate::quotes::push_all_shown;
@@ -37,7 +37,7 @@ pub(crate) enum Quote {
     Refused(String),
 }
 
-/// What is told of a phase.
+/// What is reported of a phase.
 #[derive(Drop)]
 pub(crate) struct Details {
     /// Whether it is a script, whose output is never kept.
@@ -169,7 +169,7 @@ fn push_quote(text: &mut String, quote: &Quote) -> Result<(), AllocError> {
     }
 }
 
-/// Adds what is told of a phase.
+/// Adds what is reported of a phase.
 ///
 /// # Errors
 /// Want of memory.

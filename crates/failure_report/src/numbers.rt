@@ -13,7 +13,7 @@ use strsim::levenshtein;
 pub(crate) enum Named {
     /// The nodes of these numbers.
     Nodes(Vec<u32>),
-    /// This name is none of a node; what is told of that.
+    /// This name is none of a node; what is reported of that.
     Unknown(String),
 }
 
@@ -52,7 +52,7 @@ fn push_nearest(text: &mut String, near: Option<&str>) -> Result<(), AllocError>
     text.push_str("\n")
 }
 
-/// What is told of a name that is none of a node of this DAG file.
+/// What is reported of a name that is none of a node of this DAG file.
 fn unknown(alloc: Global, plan: &Plan, top: &str, name: &str) -> Result<String, AllocError>
     ensures { IfOk result (λ line. IsUnknownLine top.now name.now (string_bytes line)) }
 {

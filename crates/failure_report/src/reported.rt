@@ -1,4 +1,4 @@
-//! What is told of a node in error, or of one that runs: its command, its files, and what is found in them.
+//! What is reported of a node in error, or of one that runs: its command, its files, and what is found in them.
 
 ghost use Rattle.std.specs.Prelude.{◌≡◌, IfOk, string_bytes};
 ghost use Rattle.run_plan_node.specs.Commands.{starts_child};
@@ -29,7 +29,7 @@ pub(crate) struct Run<'c, 'p, 'l> {
     pub(crate) folder: String,
 }
 
-/// A phase of which is told: how it ended, where it did, and of what its command is made.
+/// A phase that is reported: how it ended, where it did, and of what its command is made.
 #[derive(Clone, Copy)]
 pub(crate) struct Story {
     pub(crate) key: Key,
@@ -145,7 +145,7 @@ fn repair_at<R: Files<File = File> + AllocGlobal>(
     }
 }
 
-/// Adds what is told of a phase behind its line.
+/// Adds what is reported of a phase behind its line.
 ///
 /// # Errors
 /// Want of memory.
@@ -219,7 +219,7 @@ fn before_post(story: &Story) -> Option<Story> {
     })
 }
 
-/// Adds what is told of a phase that had failed before the last one of its attempt.
+/// Adds what is reported of a phase that had failed before the last one of its attempt.
 fn push_before<R: Files<File = File> + AllocGlobal>(
     rt: &R,
     text: &mut String,
@@ -270,7 +270,7 @@ fn push_no_more(
     Ok(())
 }
 
-/// What is told of a node in error behind its line.
+/// What is reported of a node in error behind its line.
 fn rest_of<R: Files<File = File> + AllocGlobal>(
     rt: &R,
     run: &Run<'_, '_, '_>,
@@ -301,7 +301,7 @@ fn story_of(run: &Run<'_, '_, '_>, node: u32, end: &Ended) -> Story {
     }
 }
 
-/// What is told of a node in error: its line, and what stands behind it.
+/// What is reported of a node in error: its line, and what stands behind it.
 ///
 /// # Errors
 /// Want of memory.

@@ -1,4 +1,4 @@
-//! What is told of a node that is not in error: that it runs, is done, is ready or waits, and for whom.
+//! What is reported of a node that is not in error: that it runs, is done, is ready or waits, and for whom.
 
 ghost use Rattle.std.specs.Prelude.{◌≡◌, ◌≤◌};
 ghost use Rattle.run_plan.specs.Plan.{count_of};
@@ -246,7 +246,7 @@ fn push_running<R: Files<File = File> + AllocGlobal>(
     }
 }
 
-/// Adds what is told of a node that is not in error.
+/// Adds what is reported of a node that is not in error.
 ///
 /// # Errors
 /// Want of memory.

@@ -33,7 +33,7 @@ pub struct Surroundings<'a> {
     pub log: &'a [u8],
 }
 
-/// What is told of nodes.
+/// What is reported of nodes.
 #[derive(Drop)]
 pub enum Why {
     /// This text.
@@ -42,7 +42,7 @@ pub enum Why {
     Unknown(String),
 }
 
-/// A node of which is told.
+/// A node that is reported.
 #[derive(Clone, Copy)]
 enum Reported {
     /// It is in error.
@@ -100,7 +100,7 @@ fn all_named(alloc: Global, core: &Core<'_>, nodes: &[u32]) -> Result<Vec<Report
     Ok(reported)
 }
 
-/// Asks a log for the attempt of a node of which is told: its last one, or the one that runs.
+/// Asks a log for the attempt of a node that is reported: its last one, or the one that runs.
 fn ask(core: &Core<'_>, notes: &mut LogNotes<'_>, reported: &Reported) -> Result<(), AllocError> {
     match reported {
         Reported::Failed(failure) => match failure.end {
@@ -115,7 +115,7 @@ fn ask(core: &Core<'_>, notes: &mut LogNotes<'_>, reported: &Reported) -> Result
     }
 }
 
-/// What a log says of the nodes of which is told.
+/// What a log says of the nodes that are reported.
 fn notes_for<'l>(
     alloc: Global,
     core: &Core<'_>,
@@ -143,7 +143,7 @@ fn aborting(core: &Core<'_>) -> Option<u32>
     None
 }
 
-/// Adds what is told of the round as a whole: that none was begun, or that it was aborted.
+/// Adds what is reported of the round as a whole: that none was begun, or that it was aborted.
 fn push_round(text: &mut String, core: &Core<'_>) -> Result<(), AllocError> {
     if core.records().is_empty() {
         return text.push_str("no round was begun\n");
@@ -168,7 +168,7 @@ fn gap_behind(text: &str) -> &'static str {
     if text.is_empty() { "" } else { "\n" }
 }
 
-/// What is told of a node that is not in error.
+/// What is reported of a node that is not in error.
 fn standing_block<R: Files<File = File> + AllocGlobal>(
     rt: &R,
     run: &Run<'_, '_, '_>,
@@ -179,7 +179,7 @@ fn standing_block<R: Files<File = File> + AllocGlobal>(
     Ok(text)
 }
 
-/// What is told of a node.
+/// What is reported of a node.
 fn block_of<R: Files<File = File> + AllocGlobal>(
     rt: &R,
     run: &Run<'_, '_, '_>,
@@ -193,7 +193,7 @@ fn block_of<R: Files<File = File> + AllocGlobal>(
     }
 }
 
-/// Adds what is told of a node.
+/// Adds what is reported of a node.
 fn push_block<R: Files<File = File> + AllocGlobal>(
     rt: &R,
     text: &mut String,
@@ -208,7 +208,7 @@ fn push_block<R: Files<File = File> + AllocGlobal>(
     Ok(())
 }
 
-/// What is told before all nodes.
+/// What is reported before all nodes.
 fn front_of(alloc: Global, core: &Core<'_>, reported: &[Reported]) -> Result<String, AllocError> {
     let mut text = String::new(alloc);
     push_round(&mut text, core)?;
@@ -233,7 +233,7 @@ fn text_of<R: Files<File = File> + AllocGlobal>(
     Ok(text)
 }
 
-/// What is told of these nodes of a run.
+/// What is reported of these nodes of a run.
 fn reported_of<R: Files<File = File> + AllocGlobal>(
     rt: &R,
     core: &Core<'_>,
@@ -258,9 +258,9 @@ fn reported_of<R: Files<File = File> + AllocGlobal>(
     text_of(rt, &run, reported)
 }
 
-/// What is told of the nodes of these names in their order; where there is no name, of all that are in
+/// What is reported of the nodes of these names in their order; where there is no name, of all that are in
 /// error, those first for which most nodes wait, and of as many in plan order. What the log and the files
-/// of jobs say is told as far as they can be read.
+/// of jobs say is reported as far as they can be read.
 ///
 /// # Errors
 /// Want of memory, and nothing else.

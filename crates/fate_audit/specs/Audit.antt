@@ -53,7 +53,7 @@ pub data IsAuditNo (plan : Plan) (bytes : List ℕ) : AuditNo → Type 0 where
       IsAuditNo plan bytes Aborted
   no_memory : IsAuditNo plan bytes Memory
 
--- what is told of a journal that can't be read
+-- what is answered for a journal that can't be read
 abbrev pub no_of : JournalFault → AuditNo
 no_of journal.Memory = Memory
 no_of journal.Device = NotAJournal

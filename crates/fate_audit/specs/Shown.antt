@@ -36,6 +36,4 @@ with_ended fate ended = with_history fate (fate.history ++ ended ∷ [])
 abbrev pub with_ending : List Fate → Record → List Fate
 with_ending fates (End key outcome) =
     if nat_lt key.node (length fates) then slice_set fates key.node (with_ended (fate_at fates key.node) (ended_of key outcome)) else fates
-with_ending fates Life = fates
-with_ending fates (Launch key number) = fates
-with_ending fates (Finish status) = fates
+with_ending fates _ = fates

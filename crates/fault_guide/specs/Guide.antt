@@ -1,4 +1,4 @@
--- What is told of a fault.
+-- What is displayed of a fault.
 use Rattle.std.specs.Prelude.{ℕ, Bool, ◌==◌, List, [], ◌++◌, length, map, codes, if◌then◌else◌}
 use Rattle.std.specs.Char.{to_ascii_lowercase}
 use Rattle.std.specs.List.{flat_map}
@@ -17,7 +17,7 @@ part_text heading part = if length part == 0 then [] else codes "\n" ++ (heading
 abbrev pub detail_text : List ℕ → List ℕ
 detail_text detail = if length detail == 0 then [] else codes " " ++ detail
 
--- What is told of a fault: what is printed of it and when it comes, an example, and what to do.
+-- What is displayed of a fault: what is printed of it and when it comes, an example, and what to do.
 abbrev pub page_text : Fault → List ℕ
 page_text fault =
     fault.code.now ++ (codes " " ++ (fault.name.now ++ (detail_text fault.detail.now ++ (codes "\n    " ++ (fault.when.now ++ (codes "\n"

@@ -1,4 +1,4 @@
-//! What is told of a fault, from the table of faults.
+//! What is displayed of a fault, from the table of faults.
 
 ghost use Rattle.std.specs.Prelude.{◌≡◌, ◌++◌, map, find, OnOk, IfOk, string_bytes, option_map};
 ghost use Rattle.fault_guide.specs.Guide.{has_code, part_text, detail_text, page_text, list_line, list_text};
@@ -6,7 +6,7 @@ ghost use Rattle.fault_guide.specs.Guide.{has_code, part_text, detail_text, page
 use crate::{files, inner, jobs, lines, rounds, running};
 use std::alloc::{AllocError, Global};
 
-/// A fault: its code and its name, when it comes, what is told behind its name, an example of it as a
+/// A fault: its code and its name, when it comes, what is displayed behind its name, an example of it as a
 /// transcript, and what to do.
 #[derive(Clone, Copy, Debug)]
 pub struct Fault {
@@ -74,7 +74,7 @@ fn push_part(text: &mut String, heading: &str, part: &str) -> Result<(), AllocEr
     write!(text, "\n{heading}:\n{part}")
 }
 
-/// What is told of a fault.
+/// What is displayed of a fault.
 ///
 /// # Errors
 /// Want of memory, and nothing else.

@@ -45,7 +45,7 @@ abbrev pub noop_note : Option (List ℕ) → Option Hint
 noop_note None = None
 noop_note (Some name) = Some (NoopScript name)
 
--- what is told of a line of a file with these lines
+-- what is found in a line of a file with these lines
 abbrev pub note_of : List Command → Command → List Finding
 note_of commands (PreSkip node value) = findings_at (line_of_target node) (skip_note value)
 note_of commands (AbortDagOn node value status) = findings_at (line_of_target node) (signal_note (codes "ABORT-DAG-ON") value)

@@ -1,4 +1,4 @@
--- How hints are told.
+-- How hints are displayed.
 use Rattle.std.specs.Prelude.{ℕ, List, ◌++◌, codes}
 use Rattle.std.specs.Fmt.{decimal}
 use Rattle.file_hints.specs.declared.hint.Hint.{Hint}

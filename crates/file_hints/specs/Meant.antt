@@ -11,7 +11,7 @@ use Rattle.file_hints.specs.declared.hint.Finding.{Finding}
 abbrev pub known_names : CommandNames → List (List ℕ)
 known_names names = map (λ w. w.now) names.read.now ++ (map (λ row. row.0.now) names.passed_over.now ++ map (λ w. w.now) names.harmless.now)
 
--- what is told of a name of nothing, where this command is near, or none
+-- the hint for a name of nothing, where this command is near, or none
 abbrev pub guess_of : List ℕ → Option (List ℕ) → Hint
 guess_of name None = UnknownName name
 guess_of name (Some meant) = Misspelled name meant

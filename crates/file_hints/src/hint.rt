@@ -149,7 +149,7 @@ pub struct Finding {
     pub hint: Hint,
 }
 
-/// The line by which a finding in the file of this path is told: `hint:` or `condor:`, the place, and what it is.
+/// The line by which a finding in the file of this path is displayed: `hint:` or `condor:`, the place, and what it is.
 ///
 /// # Errors
 /// Want of memory.

@@ -11,7 +11,7 @@ use Rattle.splices_flat.specs.Dag.{Dag}
 use Rattle.splices_flat.specs.Forest.{Forest, none, more, Tree, tree_files}
 use Rattle.splices_flat.specs.Paths.{join, dir_text}
 use Rattle.splices_flat.specs.Faults.{files_fault}
-use Rattle.splices_flat.specs.Opening.{◌>>=◌, Files, Opener, says_at, check_file, with_file, with_forest, with_splice, parsed_file, forests_joined, enter_at, open_line, open_lines, open_said, open_file, opened_at}
+use Rattle.splices_flat.specs.Opening.{◌>>=◌, Files, Opener, says_at, check_file, with_file, with_forest, with_splice, parsed_file, forests_joined, enter_at, open_line, open_lines, open_said, open_file, tree_at}
 use Rattle.splices_flat.specs.Opened.{dag_of, dag_unless, dag_at}
 
 module _ (set holds : Files) (held : (path bytes : List ℕ) → set path ≡ Some bytes → holds path ≡ Some bytes) where
@@ -66,10 +66,10 @@ module _ (set holds : Files) (held : (path bytes : List ℕ) → set path ≡ So
       bind-same (says_at path (set path)) (says_at path (holds path)) _ _ (said-same path (set path) refl)
       (spoken-same (open_file set left) (open_file holds left) (file-same left) used above folder path)
 
-  pub opened-same : (top : List ℕ) → Same (opened_at set top) (opened_at holds top)
-  unfolding opened_at
+  pub opened-same : (top : List ℕ) → Same (tree_at set top) (tree_at holds top)
+  unfolding tree_at
   opened-same top = file-same 33 (record { nodes = 0; splices = 0 }) (top ∷ []) [] top
 
   pub dag-same : (top : List ℕ) → Same (dag_at set top) (dag_at holds top)
   unfolding dag_at
-  dag-same top = bind-same (opened_at set top) (opened_at holds top) _ _ (opened-same top) (λ tree misses. refl)
+  dag-same top = bind-same (tree_at set top) (tree_at holds top) _ _ (opened-same top) (λ tree misses. refl)

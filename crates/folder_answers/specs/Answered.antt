@@ -31,7 +31,7 @@ missing_in (InPlan fault) = missing_submit fault
 missing_in _ = None
 
 -- What becomes of a fault where these files are held: it stays, where the file that it tells of as missing is not held; the path of that file is
--- told, where it came meanwhile; memory ran out.
+-- returned, where it came meanwhile; memory ran out.
 pub data IsConfirmed (holds : Files) (fault : RunFault) : RunFault → Type 0 where
   stays : ((path : List ℕ) → missing_in fault ≡ Some path → holds path ≡ None) → IsConfirmed holds fault fault
   came_meanwhile : (file : String Global) → missing_in fault ≡ Some (string_bytes file) → IsConfirmed holds fault (FileRefused file)

@@ -63,7 +63,7 @@ fn status_text(status: Status) -> &'static str
     }
 }
 
-/// What is told of where a node stands, if that is to be seen.
+/// What is displayed of where a node stands, if that is to be seen.
 fn state_text(status: Option<Status>) -> &'static str
     ensures { result.now ≡ state_text status }
 {

@@ -78,7 +78,7 @@ impl Findings {
         Ok(())
     }
 
-    /// What is told of them, each line once: file by file, in the order of the lines.
+    /// What is displayed of them, each line once: file by file, in the order of the lines.
     pub(crate) fn text(mut self, alloc: Global) -> Result<String, AllocError> {
         let mut text = String::new(alloc);
         for file in self.files.iter_mut() {
@@ -89,7 +89,7 @@ impl Findings {
     }
 }
 
-/// Adds what is told of a file, each line once.
+/// Adds what is displayed of a file, each line once.
 fn push_lines(
     alloc: Global,
     text: &mut String,

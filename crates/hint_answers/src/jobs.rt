@@ -139,7 +139,7 @@ fn macros_of(
 }
 
 /// The command of a node's job in its first attempt, where its texts can be expanded. Each node has a launch number of
-/// its own, so that files that are named by it are told apart.
+/// its own, so that files that are named by it are kept apart.
 fn command_of(
     alloc: Global,
     node: &FlatNode,

@@ -1,4 +1,4 @@
-//! What is told of the files of a DAG.
+//! The hints of the files of a DAG.
 
 ghost use Rattle.std.specs.Prelude.{◌≡◌, ◌||◌, [], false, IfOk, string_bytes};
 
@@ -33,7 +33,7 @@ impl Wanted {
     }
 }
 
-/// What is told of the files of a DAG, of which the one of this path is the first: a line for each thing that is odd, file
+/// The hints of the files of a DAG, of which the one of this path is the first: a line for each thing that is odd, file
 /// by file, in the order of the lines. Where the DAG files can't be opened there is nothing; where they have a cycle,
 /// nothing of files that two nodes write.
 ///

@@ -7,7 +7,7 @@ use Rattle.node_machine.specs.declared.Outcome.TheVariants.{NoStart}
 use Rattle.run_plan_node.specs.declared.command.ChildCommand.{ChildCommand}
 use Rattle.throttles.specs.declared.Limits.{Limits}
 use Rattle.run_plan.specs.Plan.{Plan, node_at}
-use Rattle.run_plan_node.specs.Commands.{command_of, starts_child}
+use Rattle.run_plan_node.specs.Commands.{phase_command, starts_child}
 use Rattle.node_machine.specs.declared.Record.{Record}
 use Rattle.node_machine.specs.declared.Record.TheVariants.{End}
 use Rattle.sched_core.specs.Run.{is_lawful, launch_number}
@@ -29,7 +29,7 @@ use Rattle.job_starter_drive.specs.Spawned.{spawned, SpawnsAll, SpawnsAllButSome
 
 -- a phase and its command, by what the records say
 abbrev command_in : Plan → List Record → Key → Command
-command_in plan records key = (key, command_of (node_at plan key.node) key.attempt key.phase (facts_in plan records key))
+command_in plan records key = (key, phase_command (node_at plan key.node) key.attempt key.phase (facts_in plan records key))
 
 -- of these phases those that start a child, with their commands
 abbrev commands_for : Plan → List Record → List Key → List Command
@@ -53,11 +53,11 @@ module _ (plan : Plan) (now : List Record) (lawful : is_lawful plan now ≡ true
           ap (λ (l : List Record). facts_in plan l key) (sym is ∙ onto.1)
           ∙ together plan onto.0 past key (launch_number past key) (subst (λ (l : List Record). is_lawful plan l ≡ true) (sym is ∙ onto.1) lawful) onto.2
 
-      here : (key, command_of (node_at plan key.node) key.attempt key.phase (facts_in plan (launch_of past key ∷ past) key)) ≡ command_in plan now key
-      here = λ j. (key, command_of (node_at plan key.node) key.attempt key.phase (sym same j))
+      here : (key, phase_command (node_at plan key.node) key.attempt key.phase (facts_in plan (launch_of past key ∷ past) key)) ≡ command_in plan now key
+      here = λ j. (key, phase_command (node_at plan key.node) key.attempt key.phase (sym same j))
 
       go : (b : Bool)
-          → (if b then commands_in plan past ++ (key, command_of (node_at plan key.node) key.attempt key.phase (facts_in plan (launch_of past key ∷ past) key)) ∷ [] else commands_in plan past)
+          → (if b then commands_in plan past ++ (key, phase_command (node_at plan key.node) key.attempt key.phase (facts_in plan (launch_of past key ∷ past) key)) ∷ [] else commands_in plan past)
           ++ commands_for plan now keys
           ≡ commands_in plan past ++ (if b then command_in plan now key ∷ commands_for plan now keys else commands_for plan now keys)
       go true =

@@ -40,7 +40,7 @@ module _ {D : Type 0} (disks : Ghosts D) where
   abbrev pub Cut : Limits → Plan → (List Call → Key → Outcome → Type 0) → (List Call → Key → Outcome → Type 0) → ℕ → ℕ → Managed D → Managed D → Standing → List Call → DriveFault → Type 0
   Cut limits plan may may' before now old new from last fault = IsCutShort disks limits plan may may' before now old new from last fault
 
-  -- of the same limits and plan, told otherwise
+  -- of the same limits and plan, stated otherwise
   pub stretch-at : (limits limits' : Limits) → limits' ≡ limits → (plan plan' : Plan) → plan' ≡ plan → (may may' : List Call → Key → Outcome → Type 0) (before now : ℕ) (old new : Managed D) (from to : Standing)
       → Stretch limits' plan' may may' before now old new from to → Stretch limits plan may may' before now old new from to
   stretch-at limits limits' same_limits plan plan' same_plan may may' before now old new from to s =

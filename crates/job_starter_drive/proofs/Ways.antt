@@ -160,7 +160,7 @@ module _ (plan : Plan) (past : List Record) where
   pub way-rests : (call_log : List Call) → AreUnderWay plan past call_log [] [] → AreInStep plan past call_log
   way-rests call_log way = record { same = sym way.same; children = subst (λ (l : List Key). list_all (starting plan) l ≡ true) (sym way.same) way.children }
 
-  -- a child was told to have ended
+  -- a child was reported to have ended
   pub way-call_log : (call_log : List Call) (key : Key) (outcome : Outcome) → AreInStep plan past call_log → is_among key (running call_log) ≡ true → is_possible outcome ≡ true
       → AreUnderWay plan past (calls.Ended key outcome ∷ call_log) [] ((key, outcome) ∷ [])
   way-call_log call_log key outcome step ran possible =

@@ -19,14 +19,14 @@ abbrev pub with_started : Key → Started → List Key → List Key
 with_started key Running keys = key ∷ keys
 with_started key NotStarted keys = keys
 
--- The children that run, the newest first: from the start to the ending that is told, or to the kill.
+-- The children that run, the newest first: from the start to the ending that is reported, or to the kill.
 abbrev pub running : List Call → List Key
 running [] = []
 running (calls.Started key command answer ∷ call_log) = with_started key answer (running call_log)
 running (calls.Ended key outcome ∷ call_log) = without key (running call_log)
 running (calls.Killed key ∷ call_log) = without key (running call_log)
 
--- What may be told now might have been told before.
+-- What may be returned now might have been returned before.
 abbrev pub AllowsNoMore : (List Call → Key → Outcome → Type 0) → (List Call → Key → Outcome → Type 0) → Type 0
 AllowsNoMore old new = (call_log : List Call) (key : Key) (outcome : Outcome) → new call_log key outcome → old call_log key outcome
 

@@ -64,9 +64,7 @@ pub data IsDriveFault {D : Type 0} (disks : Ghosts D) (before now : ℕ) (old ma
 -- the manager refused
 abbrev pub IsOfManager : DriveFault → Type 0
 IsOfManager (drives.Manager fault) = Unit {0}
-IsOfManager drives.StartMemory = ⊥
-IsOfManager drives.WaitFault = ⊥
-IsOfManager drives.Memory = ⊥
+IsOfManager _ = ⊥
 
 -- memory was refused for a child or for its command
 abbrev pub IsUnspawned : DriveFault → Type 0

@@ -10,7 +10,7 @@ use Rattle.node_machine.specs.Story.{is_noop_job, is_possible, may_end_with}
 use Rattle.throttles.specs.declared.Limits.{Limits}
 use Rattle.run_plan_node.specs.declared.command.ChildCommand.{ChildCommand}
 use Rattle.run_plan.specs.Plan.{Plan, node_at}
-use Rattle.run_plan_node.specs.Commands.{command_of, starts_child}
+use Rattle.run_plan_node.specs.Commands.{phase_command, starts_child}
 use Rattle.sched_core.specs.declared.Choice.{Choice}
 use Rattle.sched_core.specs.declared.Choice.TheVariants as choices
 use Rattle.node_machine.specs.declared.Record.{Record}
@@ -36,7 +36,7 @@ limits_of manager = manager.core.limits
 -- the command of a phase by what the records say, its launch among them
 abbrev pub IsCommandIn : Plan → List Record → Key → ChildCommand → Type 0
 IsCommandIn plan records key command =
-    command_of (node_at plan key.node) key.attempt key.phase (facts_in plan records key) ≡ Ok command
+    phase_command (node_at plan key.node) key.attempt key.phase (facts_in plan records key) ≡ Ok command
 
 -- the children that run are the outstanding phases, and each of these starts a child
 pub record AreInStep (plan : Plan) (past : List Record) (call_log : List Call) : Type 0 where
@@ -108,7 +108,7 @@ calls_of (At past call_log keys owed) = call_log
 -- One step of a run. A round is launched, while the run goes on and the children that run are the outstanding phases. Of its phases the
 -- first is handed over with its command, and its child starts, or doesn't: then its end with NoStart is owed; the job of a NOOP is not
 -- handed over, and its end with Exit 0 is owed. Once all are handed over, what is owed is recorded together, up to the first that aborts
--- the run. Where nothing may be launched, a child is told to have ended, which is owed then. Or a child is killed whose phase is not
+-- the run. Where nothing may be launched, a child is reported to have ended, which is owed then. Or a child is killed whose phase is not
 -- outstanding.
 pub data IsStep (limits : Limits) (plan : Plan) (may : List Call → Key → Outcome → Type 0) : Standing → Standing → Type 0 where
   launch_round : {past : List Record} {call_log : List Call} {keys : List Key} → IsTrue (is_lawful plan past) → IsTrue (is_open past)
@@ -143,13 +143,12 @@ Drives limits plan may past call_log after last = Goes limits plan may (at_rest 
 
 -- the verdict of a choice to finish
 abbrev pub final_verdict : Choice → Option ℕ
-final_verdict (choices.Start key) = None
-final_verdict choices.Wait = None
 final_verdict (choices.Finish verdict) = Some verdict
+final_verdict _ = None
 
 -- Where each fault stops a run. Memory was refused for a child, or for its command: it and those behind it in its round are launched
 -- and not handed over. Memory was refused for the list of a round, or for that of the endings that it may owe: nothing of it is launched.
--- Where no ending was told, nothing more may be launched and some phase is outstanding. The manager refused to record a round, or what
+-- Where no ending was reported, nothing more may be launched and some phase is outstanding. The manager refused to record a round, or what
 -- is owed.
 pub data IsStoppedAt (limits : Limits) (plan : Plan) : DriveFault → Standing → Type 0 where
   child_refused : {past : List Record} {call_log : List Call} {key : Key} {keys : List Key} {owed : List (Key × Outcome)}

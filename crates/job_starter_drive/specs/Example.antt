@@ -1,4 +1,4 @@
--- A run of one child, and the calls that its starter was told.
+-- A run of one child, and the calls that its starter answered.
 use Rattle.std.specs.Prelude.{◌≡◌, List, [], ◌∷◌, codes}
 use Rattle.node_machine.specs.declared.Key.{Key}
 use Rattle.node_machine.specs.declared.Outcome.{Outcome}
@@ -24,6 +24,6 @@ exits_well call_log key outcome = outcome ≡ Exit 0
 abbrev pub child_of_a : ChildCommand
 child_of_a = bare_command [] (codes "a") []
 
--- A's child was started, and its end was told
+-- A's child was started, and its end was reported
 abbrev pub its_calls : List Call
 its_calls = calls.Ended (key 0 0 Job) (Exit 0) ∷ calls.Started (key 0 0 Job) (snapshot_of child_of_a) Running ∷ []

@@ -11,8 +11,7 @@ use Rattle.job_starter_drive.specs.Drives.{most_at_once}
 abbrev pub spawned : List Call → List Command
 spawned [] = []
 spawned (calls.Started key command answer ∷ call_log) = spawned call_log ++ (key, Ok command.value) ∷ []
-spawned (calls.Ended key outcome ∷ call_log) = spawned call_log
-spawned (calls.Killed key ∷ call_log) = spawned call_log
+spawned (_ ∷ call_log) = spawned call_log
 
 -- from these records and calls on, the commands of the own launches were handed over, once each and in their order
 pub record SpawnsAll (plan : Plan) (begun held : List Record) (call_log later_log : List Call) : Type 0 where

@@ -1,4 +1,4 @@
-//! A run: each launch is handed over to a starter, and each ending recorded as it was told.
+//! A run: each launch is handed over to a starter, and each ending recorded as it was reported.
 ghost use Rattle.std.specs.Prelude.{◌≡◌, [], ◌∷◌, ◌≤◌, not, ◌&&◌, None, IsTrue, IsFalse, IfOk, IfErr, IfSome, IfNone, OnOk, OnErr};
 ghost use Rattle.sched_core.specs.Run.{is_aborted, is_over, is_open, is_nothing, outstanding, may_follow, table_of};
 ghost use Rattle.sched_core.specs.Fate.{AreFates, shown};
@@ -209,7 +209,7 @@ fn run<D: Disk + Drop, S: Starter>(
 }
 
 /// Runs a plan to its end: launches what may be launched, waits where nothing can be, and records
-/// each ending as it was told. At an abort and behind a fault each running child is killed, so that
+/// each ending as it was reported. At an abort and behind a fault each running child is killed, so that
 /// none runs when the call returns.
 ///
 /// # Errors

@@ -7,7 +7,7 @@ ghost use Rattle.recovery_manager.specs.Example.{one_node, its_header, end_of_a,
 ghost use Rattle.job_starter_drive.specs.Example.{unlimited, exits_well, its_calls};
 ghost use Rattle.job_starter_drive.specs.Moments.{IsMomentOfRun};
 
-/// A life that found a launch whose child was lost launched it again, started its child and was told its
+/// A life that found a launch whose child was lost launched it again, started its child and learned its
 /// end: these bytes, which have the end, may be left of it.
 pub fn examples()
     ensures moment { IsMomentOfRun unlimited one_node exits_well (Life ∷ first_held) []

@@ -1,5 +1,5 @@
 //! The children of a run: started, waited for, killed; and the run itself, each launch handed over
-//! to a starter and each ending recorded as the starter told it.
+//! to a starter and each ending recorded as the starter reported it.
 //!
 //! The rules are those of the HTCondor manual, DAGMan workflows, as docs/MANUAL.md states them.
 #![tactic(auto)]
@@ -47,7 +47,7 @@ pub enum Killed {
 pub enum Call {
     /// A child was to be started by this command, with this answer.
     Started(Key, Snapshot<ChildCommand>, Started),
-    /// A child was told to have ended.
+    /// A child was reported to have ended.
     Ended(Key, Outcome),
     /// A child was killed.
     Killed(Key),

@@ -12,15 +12,15 @@ use crate::{Call, Killed, StartFault, Started};
 use node_machine::{Key, Outcome};
 use run_plan_node::ChildCommand;
 
-/// Children that are started and waited for, of which whichever ends first is told.
+/// Children that are started and waited for, of which whichever ends first is reported.
 ///
 /// Each call that is answered stands in a list, so that contracts can say what was handed over
-/// and what was told. A child runs from its start until its ending is told or it is killed.
+/// and what was answered. A child runs from its start until its ending is reported or it is killed.
 pub trait Starter {
     /// The calls that were answered, the newest first.
     ghost call_log: { Self → List Call };
 
-    /// How the child of a key may be told to end, behind these calls.
+    /// Which endings may be reported of the child of a key, behind these calls.
     ghost may_return: { Self → List Call → Key → Outcome → Type 0 };
 
     /// The count of the system's refusals, which stays at 2 ^ 64 - 1: each adds one. That no child runs
@@ -91,7 +91,7 @@ pub trait System {
     /// The calls that were answered, the newest first.
     ghost call_log: { Self → List Call };
 
-    /// How the child of a key may be told to end, behind these calls.
+    /// Which endings may be reported of the child of a key, behind these calls.
     ghost may_return: { Self → List Call → Key → Outcome → Type 0 };
 
     /// The count of refusals, which stays at 2 ^ 64 - 1: each adds one. A kill counts as none.

@@ -46,7 +46,7 @@ enum Seen {
     Refused,
 }
 
-/// A child whose ending was not told yet.
+/// A child whose ending was not reported yet.
 #[derive(Drop)]
 struct RunningChild<R: Processes> {
     key: Key,
@@ -318,7 +318,7 @@ impl<'a, R: Processes + Files<File = File> + Clock + Drop, W: ChildWatcher + Dro
     W,
 > {
     /// A system of no children. The folder is an absolute path; jobs are started by the launcher; the watcher is
-    /// told what is done.
+    /// informed of what is done.
     pub fn new(
         alloc: Global,
         rt: R,
@@ -343,7 +343,7 @@ impl<'a, R: Processes + Files<File = File> + Clock + Drop, W: ChildWatcher + Dro
         })
     }
 
-    /// A child ended with this status: it is let go, and its outcome told.
+    /// A child ended with this status: it is let go, and its outcome reported.
     fn end(&mut self, key: &Key, status: ExitStatus) -> Outcome
         requires { IsTrue (is_among key.now (running self.old.log.calls)) }
         ensures call_log { self.new.log.calls ≡ Call.Ended key.now result ∷ self.old.log.calls }

@@ -1,4 +1,4 @@
-//! Who is told what a system does with its children.
+//! Who is informed of what a system does with its children.
 
 use job_starter_drive::Killed;
 use node_machine::{Key, Outcome};
@@ -39,7 +39,7 @@ pub trait ChildWatcher {
         error: &io::Error,
     );
 
-    /// A child was told to have ended.
+    /// A child was reported to have ended.
     fn ended(&mut self, key: &Key, outcome: Outcome);
 
     /// A child was killed, or let go where that was refused.

@@ -28,7 +28,7 @@ none-of : (machine : MachineState) (o : Option Phase) → is_none (next_of machi
 none-of machine None = refl
 none-of machine (Some phase) = refl
 
--- what the job of a NOOP may end with is Exit 0, and so counts as it was told
+-- what the job of a NOOP may end with is Exit 0, and so counts as it is given
 pub may-end : (course : Course) (phase : Phase) (outcome : Outcome) → may_end_with course phase (ends_with course phase outcome) ≡ true
 may-end course phase outcome = go (is_noop_job course phase)
   where

@@ -17,7 +17,7 @@ use Rattle.node_machine.specs.declared.outcomes.TableFault.{TableFault}
 use Rattle.node_machine.specs.Story.{is_possible}
 use Rattle.node_machine.specs.OutcomeTable.{Entry, is_of, outcome_at, SameOutcomes, HasPossibleOutcomes}
 use Rattle.node_machine.specs.OutcomesFile.{SayEntries}
-use Rattle.node_machine.specs.OutcomesReading.{phase_in, ending_in, signal_of, signal_in, spelled_outcome, phased_in, entry_in, words_say_entry, text_says_entry, line_at}
+use Rattle.node_machine.specs.OutcomesReading.{phase_in, ending_in, signal_of, signal_in, spelled_outcome, phased_in, entry_in, words_say_entry, text_says_entry, entry_at}
 
 abbrev some : {A : Type 0} → A → Option A
 some x = Some x
@@ -111,8 +111,8 @@ text-possible : (number : ℕ) (r : Result (List ℕ) LineFault) (o : Option Ent
 text-possible number (Err f) o e = absurd cc
 text-possible number (Ok text) o e = words-possible (words number 0 text) o e
 
-said-possible : (number : ℕ) (line : List ℕ) (o : Option Entry) (entries : List Entry) → line_at number line ≡ Some o → ArePossible entries → ArePossible (option_to_list o ++ entries)
-unfolding line_at
+said-possible : (number : ℕ) (line : List ℕ) (o : Option Entry) (entries : List Entry) → entry_at number line ≡ Some o → ArePossible entries → ArePossible (option_to_list o ++ entries)
+unfolding entry_at
 said-possible number line o entries e rest = with-rest o (text-possible number (text_of number line) o e)
   where
     with-rest : (o : Option Entry) → IsPossibleEntry o → ArePossible (option_to_list o ++ entries)

@@ -67,8 +67,8 @@ text_says_entry number (Ok text) = words_say_entry (words number 0 text)
 text_says_entry number (Err f) = None
 
 -- what a line says, if it says an entry or nothing
-unfoldable pub line_at : ℕ → List ℕ → Option (Option Entry)
-line_at number bytes = text_says_entry number (text_of number bytes)
+unfoldable pub entry_at : ℕ → List ℕ → Option (Option Entry)
+entry_at number bytes = text_says_entry number (text_of number bytes)
 
 abbrev pub then_lines : ℕ → Option (Option Entry) → Result (List Entry) ℕ → Result (List Entry) ℕ
 then_lines number None later = Err number
@@ -76,9 +76,9 @@ then_lines number (Some first) (Ok others) = Ok (option_to_list first ++ others)
 then_lines number (Some first) (Err bad) = Err bad
 
 -- the entries of lines, the first of which has this number, or the number of the first bad line
-unfoldable pub lines_at : ℕ → List (List ℕ) → Result (List Entry) ℕ
-lines_at number [] = Ok []
-lines_at number (line ∷ more) = then_lines number (line_at number line) (lines_at (number + 1) more)
+unfoldable pub entries_at : ℕ → List (List ℕ) → Result (List Entry) ℕ
+entries_at number [] = Ok []
+entries_at number (line ∷ more) = then_lines number (entry_at number line) (entries_at (number + 1) more)
 
 -- the fault is what reading gives, unless memory ran out
 abbrev pub IsFaultOf : Result (List Entry) ℕ → TableFault → Type 0

@@ -44,15 +44,11 @@ is_set_to (Some wanted) value = int_eq wanted value
 -- an exit of PRE that skips the job and POST
 abbrev pub skips : Course → Outcome → Bool
 skips course (Exit code) = is_set_to course.pre_skip (pos code)
-skips course (Signal number) = false
-skips course NoStart = false
-skips course Untold = false
+skips course _ = false
 
 abbrev pub is_exit_0 : Outcome → Bool
 is_exit_0 (Exit code) = code == 0
-is_exit_0 (Signal number) = false
-is_exit_0 NoStart = false
-is_exit_0 Untold = false
+is_exit_0 _ = false
 
 -- a phase of attempt i that ended with what its outcomes say
 abbrev pub ended : ℕ → (Phase → Outcome) → Phase → Ended

@@ -37,7 +37,7 @@ pub enum Outcome {
     Signal(u8),
     /// It could not be started.
     NoStart,
-    /// It ended, and the system told neither an exit code nor a signal.
+    /// It ended, and the system reported neither an exit code nor a signal.
     Untold,
 }
 
@@ -116,7 +116,7 @@ pub struct MachineState {
 }
 
 /// The value of an outcome: an exit's code, a signal's number below zero, -1001 for a phase that
-/// could not be started, -1000 for one whose ending was not told.
+/// could not be started, -1000 for one whose ending was not reported.
 pub fn value_of(outcome: Outcome) -> i32
     ensures { result ≡ value_of outcome }
 {

@@ -11,7 +11,7 @@ ghost use Rattle.node_machine.specs.OutcomeTable.{Entry, SameOutcomes, HasPossib
 ghost use Rattle.node_machine.specs.TableMaps.{entry_of};
 ghost use Rattle.node_machine.specs.OutcomesFile.{SayEntries, IsFirstBadEntry};
 ghost use Rattle.node_machine.specs.OutcomesReading.{phase_in, ending_in, signal_in, spelled_outcome};
-ghost use Rattle.node_machine.specs.OutcomesReading.{entry_in, line_at, lines_at, IsFaultOf, IsLineFault};
+ghost use Rattle.node_machine.specs.OutcomesReading.{entry_in, entry_at, entries_at, IsFaultOf, IsLineFault};
 
 use crate::table::{NamedOutcome, Table};
 use crate::{Outcome, Phase};
@@ -91,8 +91,8 @@ pub fn read_table(alloc: Global, text: &[u8]) -> Result<Table, TableFault>
 
 fn read_lines(alloc: Global, text: &[u8]) -> Result<Table, TableFault>
     ensures ok { IfOk result (λ table. (entries : List Entry)
-        × (lines_at 1 (lines text.now) ≡ Ok entries) × SameOutcomes table entries) }
-    ensures err { IfErr result (IsFaultOf (lines_at 1 (lines text.now))) }
+        × (entries_at 1 (lines text.now) ≡ Ok entries) × SameOutcomes table entries) }
+    ensures err { IfErr result (IsFaultOf (entries_at 1 (lines text.now))) }
 {
     let mut table = Table::empty(alloc);
     let mut rest = text;
@@ -107,16 +107,16 @@ fn read_lines(alloc: Global, text: &[u8]) -> Result<Table, TableFault>
 }
 
 /// Puts what the line of this number says, if anything, at the end of the table.
-#[tactic(auto, unfolding(crate::specs::OutcomesReading::line_at))]
+#[tactic(auto, unfolding(crate::specs::OutcomesReading::entry_at))]
 fn read_line(
     alloc: Global,
     number: usize,
     bytes: &[u8],
     table: &mut Table,
 ) -> Result<(), TableFault>
-    ensures ok { OnOk result ((o : Option Entry) × (line_at number bytes.now ≡ Some o)
+    ensures ok { OnOk result ((o : Option Entry) × (entry_at number bytes.now ≡ Some o)
         × SameOutcomes table.new (table.old ++ option_to_list o)) }
-    ensures err { IfErr result (IsLineFault number (line_at number bytes.now)) }
+    ensures err { IfErr result (IsLineFault number (entry_at number bytes.now)) }
 {
     let Ok(text) = line_text(number, bytes) else {
         return Err(TableFault::BadLine(number));
@@ -179,7 +179,7 @@ fn read_outcome(line: &mut LineReader<'_>) -> Option<Outcome>
     }
 }
 
-/// An exit code, or a phase that was not started or whose ending was not told.
+/// An exit code, or a phase that was not started or whose ending was not reported.
 #[tactic(auto, unfolding(crate::specs::OutcomesReading::ending_in))]
 fn ending(word: &Token<'_>) -> Option<Outcome>
     ensures { result ≡ ending_in (word_of word.now) }

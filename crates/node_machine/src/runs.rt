@@ -107,7 +107,7 @@ impl NodeRun {
         Ok(())
     }
 
-    /// The phase that runs is taken as not launched: its ending will never be told.
+    /// The phase that runs is taken as not launched: its ending will never be reported.
     ///
     /// `NotRunning` where none runs; nothing changes then.
     pub fn forget_launch(&mut self) -> Result<(), NodeFault>

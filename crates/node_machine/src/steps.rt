@@ -132,7 +132,7 @@ fn after_job(course: &Course, machine: MachineState, outcome: Outcome) -> Machin
     }
 }
 
-/// What this phase ends with, where that is told: the job of a NOOP ends with Exit 0.
+/// What this phase ends with, where this outcome is given: the job of a NOOP ends with Exit 0.
 fn counted(course: &Course, phase: Phase, outcome: Outcome) -> Outcome
     ensures { result ≡ ends_with course.now phase outcome }
 {

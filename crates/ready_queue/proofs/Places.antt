@@ -1,11 +1,13 @@
 -- Places in a queue.
-use Rattle.std.proofs.Common.{◌≡◌, ◌≢◌, ℕ, ◌+◌, ◌<◌, ◌≤◌, inl, inr, Bool, true, false, List, length, get_or, sym, ◌∙◌, subst, arith, Some}
-use Rattle.std.specs.Prelude.{ℤ, ◌≤ℤ◌}
+use Rattle.std.proofs.Common.{◌≡◌, ◌≢◌, ℕ, ◌<◌, ◌≤◌, inl, inr, Bool, true, false, List, length, get_or, refl, sym, ◌∙◌, subst, arith, Some}
+use Rattle.std.specs.Prelude.{ℤ, ◌≤ℤ◌, int_lt, nat_lt, not, ◌&&◌, ◌||◌}
 use Rattle.std.specs.List.{Contains, insert}
 use Rattle.std.proofs.lemmas.Int.{ints, by_lt_z}
+use Rattle.std.proofs.lemmas.Bool.{false≢true, lt-ltb, ltb-true}
 use Rattle.std.proofs.lemmas.List.{get_or_default}
+use Rattle.std.specs.List.Sorted.{IsPartitionPoint, IsPartitionedBy}
 use Rattle.ready_queue.specs.declared.Member.{Member}
-use Rattle.ready_queue.specs.Queue.{ComesBefore, IsOrdered, IsPlaceOf, IsBest}
+use Rattle.ready_queue.specs.Queue.{comes_before, ComesBefore, IsOrdered, IsPlaceOf, IsBest}
 use Rattle.ready_queue.proofs.Edits.{by_lt, pairs-insert}
 
 pub trans : (a b c : Member) → ComesBefore a b → ComesBefore b c → ComesBefore a c
@@ -34,24 +36,41 @@ either a b not_before ne =
     by_lt b.node a.node (λ lt. inr (sym p, lt))
     (λ le'. by_lt a.node b.node (λ lt. absurd (not_before (inr (p, lt)))) (λ ge'. absurd (ne (same a b (omega arith) p))))))
 
-module _ (members : List Member) (ordered : IsOrdered members) (member : Member) (middle : ℕ) (z : Member) (inside : middle < length members) where
-  -- where the middle one comes before, all up to it do
-  pub rises : ComesBefore (get_or members middle z) member → (k : ℕ) (d : Member) → k < middle + 1 → ComesBefore (get_or members k d) member
-  rises b k d lt = by_lt k middle
-      (λ less. trans (get_or members k d) (get_or members middle d) member (ordered k middle d less inside) here)
-      (λ more. let e : middle ≡ k = omega arith in subst (λ i. ComesBefore (get_or members i d) member) e here)
-    where
-      here : ComesBefore (get_or members middle d) member
-      here = subst (λ m. ComesBefore m member) (get_or_default members middle z d inside) b
+-- the test says so
+pub is-before : (a b : Member) → ComesBefore a b → comes_before a b ≡ true
+is-before a b before = by (int_lt b.priority a.priority) (int_lt a.priority b.priority) refl refl before
+  where
+    by : (more less : Bool) → int_lt b.priority a.priority ≡ more → int_lt a.priority b.priority ≡ less → ComesBefore a b
+        → more || (not less && nat_lt a.node b.node) ≡ true
+    by true less m l before = refl
+    by false less m l (inl greater) = let wrong : ⊥ = omega (arith, ints) in absurd wrong
+    by false true m l (inr alike) = let e = alike.0 in let wrong : ⊥ = omega (arith, ints) in absurd wrong
+    by false false m l (inr alike) = lt-ltb a.node b.node alike.1
 
-  -- where it does not, none from it on does
-  pub falls : (ComesBefore (get_or members middle z) member → ⊥) → (k : ℕ) (d : Member) → middle ≤ k → k < length members → ComesBefore (get_or members k d) member → ⊥
-  falls nb k d le lt b = by_lt middle k
-      (λ less. here (trans (get_or members middle d) (get_or members k d) member (ordered middle k d less lt) b))
-      (λ more. let e : k ≡ middle = omega arith in here (subst (λ i. ComesBefore (get_or members i d) member) e b))
-    where
-      here : ComesBefore (get_or members middle d) member → ⊥
-      here h = nb (subst (λ m. ComesBefore m member) (sym (get_or_default members middle z d inside)) h)
+pub comes-before : (a b : Member) → comes_before a b ≡ true → ComesBefore a b
+comes-before a b = by (int_lt b.priority a.priority) (int_lt a.priority b.priority) refl refl
+  where
+    by : (more less : Bool) → int_lt b.priority a.priority ≡ more → int_lt a.priority b.priority ≡ less
+        → more || (not less && nat_lt a.node b.node) ≡ true → ComesBefore a b
+    by true less m l is = inl (omega (arith, ints))
+    by false true m l is = absurd (false≢true is)
+    by false false m l is = inr (equal a.priority b.priority (omega (arith, ints)) (omega (arith, ints)), ltb-true a.node b.node is)
+
+-- those that stand before a member are the first in a queue
+pub parted : (members : List Member) (member : Member) → IsOrdered members → IsPartitionedBy (λ other. comes_before other member) members
+parted members member ordered i j d below within is =
+    by_lt i j
+    (λ less. is-before (get_or members i d) member (trans (get_or members i d) (get_or members j d) member (ordered i j d less within) (comes-before (get_or members j d) member is)))
+    (λ more. let e : j ≡ i = omega arith in subst (λ k. comes_before (get_or members k d) member ≡ true) e is)
+
+-- and where they end is the member's place
+pub parts-at : (members : List Member) (member : Member) (place : ℕ) → place ≤ length members
+    → IsPartitionPoint (λ other. comes_before other member ≡ true) (λ other. comes_before other member ≡ false) members place → IsPlaceOf members member place
+parts-at members member place within parts = record {
+  within = within;
+  before = λ k d lt. comes-before (get_or members k d) member (parts.0 k d (omega arith) lt);
+  behind = λ k d le lt before. false≢true (sym (parts.1 k d le lt) ∙ is-before (get_or members k d) member before);
+}
 
 -- a member stands at its place and nowhere else
 pub at-place : (members : List Member) (member : Member) (place : ℕ) → IsOrdered members → IsPlaceOf members member place

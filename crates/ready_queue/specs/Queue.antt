@@ -1,5 +1,5 @@
 -- A queue of the nodes that may start, best first.
-use Rattle.std.specs.Prelude.{◌≡◌, ◌≢◌, ℕ, ◌<◌, ◌≤◌, ◌<ℤ◌, ◌⊎◌, Bool, true, false, List, length, map, slice_index_or, Option, Some, None}
+use Rattle.std.specs.Prelude.{◌≡◌, ◌≢◌, ℕ, ◌<◌, ◌≤◌, ◌<ℤ◌, ◌⊎◌, Bool, true, false, List, length, map, slice_index_or, int_lt, nat_lt, not, ◌&&◌, ◌||◌, Option, Some, None}
 use Rattle.std.specs.List.{AllPairs, Contains}
 use Rattle.ready_queue.specs.declared.Member.{Member}
 
@@ -11,6 +11,11 @@ pub record Queue : Type 0 where
 -- a member's priority is greater, or the same and its node comes first in plan order
 abbrev pub ComesBefore : Member → Member → Type 0
 ComesBefore member other = (other.priority <ℤ member.priority) ⊎ ((member.priority ≡ other.priority) × (member.node < other.node))
+
+-- whether it is so
+abbrev pub comes_before : Member → Member → Bool
+comes_before member other =
+    int_lt other.priority member.priority || (not (int_lt member.priority other.priority) && nat_lt member.node other.node)
 
 -- each member stands before the later ones
 abbrev pub IsOrdered : List Member → Type 0

@@ -6,7 +6,7 @@ ghost use Rattle.std.specs.Prelude.{◌≡◌, ◌<◌, ◌≤◌, ◌+◌, ℕ,
 ghost use Rattle.std.specs.List.{Contains, insert, remove};
 ghost use Rattle.ready_queue.specs.declared.Member.{Member};
 ghost use Rattle.ready_queue.specs.declared.QueueFault.TheVariants.{Present, Absent, Memory};
-ghost use Rattle.ready_queue.specs.Queue.{nodes_of, ComesBefore, IsOrdered, AreApart, IsBest, IsPlaceOf};
+ghost use Rattle.ready_queue.specs.Queue.{nodes_of, comes_before, ComesBefore, IsOrdered, AreApart, IsBest, IsPlaceOf};
 
 mod nodes;
 mod row;
@@ -78,7 +78,7 @@ impl Model for ReadyQueue {
 
 /// Whether one member stands before another.
 fn comes_before(member: Member, other: Member) -> bool
-    ensures { IsTrue result ↔ ComesBefore member other }
+    ensures { result ≡ comes_before member other }
 {
     if member.priority == other.priority {
         member.node < other.node
@@ -92,17 +92,7 @@ fn place_of(members: &[Member], member: Member) -> usize
     requires { IsOrdered members.now }
     ensures { IsPlaceOf members.now member result }
 {
-    let mut low = 0;
-    let mut high = members.len();
-    while low < high {
-        let middle = low + (high - low) / 2;
-        if comes_before(members[middle], member) {
-            low = middle + 1;
-        } else {
-            high = middle;
-        }
-    }
-    low
+    members.partition_point(|other| comes_before(*other, member))
 }
 
 fn is_same(member: Member, other: Member) -> bool

@@ -34,7 +34,7 @@ pub fn lives()
     ensures grows { (plan : Plan) (last : LifeRecords) (before : List LifeRecords) →
         AreLives plan (last ∷ before) → (earlier : LifeRecords) → Contains before earlier →
         (more : List Record) × (last.held ≡ more ++ earlier.held) }
-    // A record that the last life left and was not told to be there counts too, as the run's end: by what it
+    // A record that the last life left without learning of it counts too, as the run's end: by what it
     // left these are lives as well.
     ensures left { (plan : Plan) (last : ManagerLife) (before : List ManagerLife)
         (past : List Record) → AreManagerLives plan (last ∷ before) →

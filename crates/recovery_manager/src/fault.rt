@@ -40,12 +40,13 @@ impl fmt::Display for ManagerFault {
     }
 }
 
-/// A journal's fault as a manager tells it.
-pub fn told(fault: JournalFault) -> ManagerFault
-    ensures { result ≡ manager_fault fault }
-{
-    match fault {
-        JournalFault::Memory => ManagerFault::Memory,
-        fault => ManagerFault::Journal(fault),
+impl From<JournalFault> for ManagerFault {
+    ghost from_gives = { λ refusal fault. fault ≡ manager_fault refusal };
+
+    fn from(refusal: JournalFault) -> ManagerFault {
+        match refusal {
+            JournalFault::Memory => ManagerFault::Memory,
+            fault => ManagerFault::Journal(fault),
+        }
     }
 }

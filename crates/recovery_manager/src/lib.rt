@@ -12,6 +12,6 @@ mod manager;
 mod seal;
 
 pub use calls::append;
-pub use fault::{ManagerFault, told};
+pub use fault::ManagerFault;
 pub use manager::Manager;
 pub use seal::Sealed;

@@ -1,4 +1,4 @@
--- What is told behind the line of a refusal.
+-- What is displayed behind the line of a refusal.
 use Rattle.std.specs.Prelude.{◌≡◌, ◌||◌, ℕ, Bool, false, List, [], ◌++◌, Option, Some, None, find, codes, option_map, if◌then◌else◌}
 use Rattle.std.specs.Str.{bytes_eq}
 use Rattle.fault_guide.specs.Guide.{has_code}
@@ -26,8 +26,8 @@ pub record IsGuideText (code before now : List ℕ) : Type 0 where
   pub guide : List (Bor Fault)
   pub added : now ≡ before ++ guide_text code (option_map (λ f. f.now) (find (λ f. has_code code f.now) guide))
 
--- What is told of a refusal of this code, where the system said this or nothing: what stands about the place that it names, which is nothing where
--- the file of it isn't known; what the system said; and what the guide says.
+-- What is displayed of a refusal of this code, where the system said this or nothing: what stands about the place that it names, which is
+-- nothing where the file of it isn't known; what the system said; and what the guide says.
 pub record IsHint (code : List ℕ) (reason : Option (List ℕ)) (has_source : Bool) (text : List ℕ) : Type 0 where
   pub about : List ℕ
   pub nothing_about : has_source ≡ false → about ≡ []

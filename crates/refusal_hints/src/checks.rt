@@ -3,7 +3,7 @@
 use crate::{Evidence, Refusal, hint_text};
 use std::alloc::{AllocError, Global};
 
-/// A line of a refusal, the file that it names, what the system said, and what is told.
+/// A line of a refusal, the file that it names, what the system said, and what is displayed.
 struct Row {
     line: &'static str,
     source: &'static [u8],

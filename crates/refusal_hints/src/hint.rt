@@ -1,4 +1,4 @@
-//! What is told behind a refusal.
+//! What is displayed behind a refusal.
 
 ghost use Rattle.std.specs.Prelude.{◌≡◌, ◌++◌, [], List, false, find, is_some, option_map, IfOk, OnOk, string_bytes};
 ghost use Rattle.fault_guide.specs.Guide.{has_code};
@@ -144,7 +144,7 @@ fn push_reason(text: &mut String, reason: Option<&str>) -> Result<(), AllocError
     }
 }
 
-/// Whether what is to be written instead is told at once.
+/// Whether what is to be written instead is displayed at once.
 fn tells_what_to_write(code: &str) -> bool
     ensures { result ≡ tells_what_to_write code.now }
 {
@@ -171,7 +171,7 @@ fn push_guide(alloc: Global, text: &mut String, code: &str) -> Result<(), AllocE
     push_fault(text, code, fault_of(&faults, code))
 }
 
-/// What a person is told behind the line of a refusal, each line of it behind four blanks: the line of the file at
+/// What is displayed behind the line of a refusal, each line of it behind four blanks: the line of the file at
 /// the place that it names, what may have been meant there, what the system said, and what to do.
 ///
 /// # Errors

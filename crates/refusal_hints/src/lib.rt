@@ -1,4 +1,4 @@
-//! What a person at a terminal is told behind the line of a refusal: the line of the file that it names, with a caret
+//! What is displayed at a terminal behind the line of a refusal: the line of the file that it names, with a caret
 //! below the place; the nearest word that would do; what the system said; and what to write instead.
 #![tactic(auto)]
 

@@ -21,7 +21,7 @@ use Rattle.splices_flat.specs.Nodes.{job_names, jobs_in, splice_name, splice_nam
 use Rattle.splices_flat.specs.Forest.{Forest, none, more, Tree, tree_files}
 use Rattle.splices_flat.specs.OpenedFiles.{Spliced, splice_folder, splice_path}
 use Rattle.splices_flat.specs.Opened.{flat_of, dag_unless, dag_at}
-use Rattle.splices_flat.specs.Opening.{Files, Opener, in_file, says_at, check_final, check_lines, check_count, check_file, forest_declared, with_file, with_forest, with_splice, parsed_file, forests_joined, enter_at, open_line, open_lines, open_said, open_file, opened_at}
+use Rattle.splices_flat.specs.Opening.{Files, Opener, in_file, says_at, check_final, check_lines, check_count, check_file, forest_declared, with_file, with_forest, with_splice, parsed_file, forests_joined, enter_at, open_line, open_lines, open_said, open_file, tree_at}
 use Rattle.splices_flat.proofs.Opened.{declared-joined}
 use Rattle.splices_flat.proofs.Own.{names-length}
 use Rattle.rescue_file.specs.Written.{ordinary_names}
@@ -187,7 +187,7 @@ made_of top None tree dag is = given (flat_of top tree) dag is
 made_of top (Some fault) tree dag is = absurd cc
 
 pub dag_fit : (files : Files) (top : List ℕ) (dag : Dag) → dag_at files top ≡ Ok dag → AreFit dag
-unfolding dag_at opened_at
+unfolding dag_at tree_at
 dag_fit files top dag is =
     let (tree, opened, made) = then_ok (open_file files 33 (record { nodes = 0; splices = 0 }) (top ∷ []) [] top) (λ tree. dag_unless top (files_fault (tree_files [] tree)) tree) dag is in
     subst AreFit (made_of top (files_fault (tree_files [] tree)) tree dag made) (tree_fit top 32 0 tree (omega arith) (file_tree files 33 (record { nodes = 0; splices = 0 }) (top ∷ []) [] top tree opened))

@@ -1,4 +1,4 @@
-//! The files of a child's streams, which are brought to the disk before its ending is told.
+//! The files of a child's streams, which are brought to the disk before its ending is reported.
 
 use dag_reader::Text;
 use run_plan_node::ChildCommand;

@@ -60,13 +60,13 @@ pub built-fine : (always : Bool) (graph : Network) (files : Files) (digest : Lis
 unfolding plan_at
 built-fine always graph files digest plan is = fine-from always graph files digest (first_plan_fault (Some files) (all_nodes graph.dag)) plan is
 
--- or the first one is told
+-- or the first fault is returned
 pub built-faulty : (always : Bool) (graph : Network) (files : Files) (digest : List ℕ) (fault : PlanFault) → plan_at always graph (Some files) None digest ≡ Err fault
     → first_plan_fault (Some files) (all_nodes graph.dag) ≡ Err fault
 unfolding plan_at
 built-faulty always graph files digest fault is = faulty-from always graph files digest (first_plan_fault (Some files) (all_nodes graph.dag)) fault is
 
--- a fault that is told, and not for memory
+-- a fault that is returned, and not for memory
 pub told-fault : {A : Type 0} (fault : PlanFault) (answer : Result A PlanFault) → Fails fault answer → is_memory fault ≡ false → answer ≡ Err fault
 told-fault Memory answer fails other = absurd (subst is-true other tt)
   where

@@ -6,7 +6,7 @@ ghost use Rattle.splices_flat.specs.FileSet.{bytes_of, entries_of};
 ghost use Rattle.dag_graph.specs.Graph.{rank_in};
 ghost use Rattle.rescue_file.specs.declared.fault.RescueFault.TheVariants as rescue;
 ghost use Rattle.run_plan.specs.declared.fault.PlanFault.TheVariants.{Memory, InRescue};
-ghost use Rattle.run_plan_node.specs.Commands.{command_of, is_expandable, starts_child, uses_whole_run};
+ghost use Rattle.run_plan_node.specs.Commands.{phase_command, is_expandable, starts_child, uses_whole_run};
 ghost use Rattle.run_plan.specs.Digest.{digest_of};
 ghost use Rattle.run_plan.specs.Plan.{node_at, count_of, has_parents_below, IsRankedBy};
 ghost use Rattle.run_plan.specs.PlanAnswers.{Gives, Fails};
@@ -247,7 +247,7 @@ impl Plan {
         requires known { key.now.node ≤ count_of self.now }
         requires child { IsTrue (starts_child (node_at self.now key.now.node) key.now.phase) }
         requires allowed { key.now.attempt ≤ (node_at self.now key.now.node).course.retries }
-        ensures command { IfOk result (λ command. command_of (node_at self.now key.now.node) key.now.attempt key.now.phase facts.now ≡ Ok command) }
+        ensures command { IfOk result (λ command. phase_command (node_at self.now key.now.node) key.now.attempt key.now.phase facts.now ≡ Ok command) }
         ensures refused { IfErr result (λ fault. fault ≡ Memory) }
     {
         let spec = self.spec(key.node);

@@ -23,7 +23,7 @@ use Rattle.run_plan_node.specs.declared.job.JobFault.{JobFault}
 use Rattle.run_plan_node.specs.declared.job.JobFault.TheVariants.{InMacro}
 use Rattle.run_plan_node.specs.Node as plans
 use Rattle.run_plan_node.specs.Node.{NodeSpec, Program, Described}
-use Rattle.run_plan_node.specs.Commands.{◌>>=◌, in_macro, scope_in, greatest, present, expanded, value_at, text_of_value, text_at, program_in, words_in, is_setting, settings_in, environment_in, program_at, words_at, environment_at, places_at, job_command, bare_command, command_of_job, command_of_script, command_of, is_expandable}
+use Rattle.run_plan_node.specs.Commands.{◌>>=◌, in_macro, scope_in, greatest, present, expanded, value_at, text_of_value, text_value_at, program_in, words_in, is_setting, settings_in, environment_in, program_at, words_at, environment_at, places_at, job_command, bare_command, command_of_job, command_of_script, phase_command, is_expandable}
 
 -- The texts of a job in an attempt have lesser numbers than those in a later one.
 pub lesser_attempt : (name : List ℕ) (assigned : List Macro) (attempt retries launch most : ℕ) → attempt ≤ retries → launch ≤ most →
@@ -71,8 +71,8 @@ expanded_follows small big h (Some m) = by_answer (expansion big m.vars m.value)
         subst (λ (r : Result Expansion MacroFault). Follows TextsAlike (Ok (Some e.text)) (text_of_value (present r))) (sym p.1) p.2.text
     by_answer (Err fault) is = tt
 
-text_follows : (small big : MacroScope) → HasLesserNumbers small big → (name : List ℕ) → Follows TextsAlike (text_at big name) (text_at small name)
-unfolding text_at value_at
+text_follows : (small big : MacroScope) → HasLesserNumbers small big → (name : List ℕ) → Follows TextsAlike (text_value_at big name) (text_value_at small name)
+unfolding text_value_at value_at
 text_follows small big h name =
     subst (λ (ms : List Macro). Follows TextsAlike (text_of_value (expanded big (last_macro big.assigned name))) (text_of_value (expanded small (last_macro ms name)))) (sym h.assigned)
     (expanded_follows small big h (last_macro big.assigned name))
@@ -188,8 +188,8 @@ job_command_exists folder (Described name assigned) attempt retries launch most 
     (command_exists folder _ _ (lesser_attempt name assigned attempt retries launch most earlier less)) sound
 
 pub each_command_exists : (node : NodeSpec) (attempt : ℕ) (phase : Phase) (facts : PhaseFacts) → is_expandable node ≡ true → attempt ≤ node.course.retries → facts.launch ≤ greatest →
-    (command : ChildCommand) × (command_of node attempt phase facts ≡ Ok command)
-unfolding command_of is_expandable
+    (command : ChildCommand) × (phase_command node attempt phase facts ≡ Ok command)
+unfolding phase_command is_expandable
 each_command_exists node attempt Pre facts sound earlier less = (command_of_script node node.launch_spec.pre attempt false facts, refl)
 each_command_exists node attempt Job facts sound earlier less =
     job_command_exists node.launch_spec.folder node.launch_spec.job attempt node.course.retries facts.launch greatest sound earlier less

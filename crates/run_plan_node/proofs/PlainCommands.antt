@@ -18,7 +18,7 @@ use Rattle.run_plan_node.specs.declared.command.PhaseFacts.{PhaseFacts}
 use Rattle.run_plan_node.specs.declared.job.JobFault.{JobFault}
 use Rattle.run_plan_node.specs.Node as plans
 use Rattle.run_plan_node.specs.Node.{NodeSpec, Program, Described}
-use Rattle.run_plan_node.specs.Commands.{◌>>=◌, scope_in, greatest, present, expanded, value_at, text_of_value, text_at, program_in, words_in, environment_in, program_at, words_at, environment_at, places_at, job_command, command_of_job, words_of, command_of_words, script_facts, command_of_script, command_of, is_expandable, is_whole, is_whole_at, reads_launch, job_reads_launch, uses_whole_run, HaveSameEnds}
+use Rattle.run_plan_node.specs.Commands.{◌>>=◌, scope_in, greatest, present, expanded, value_at, text_of_value, text_value_at, program_in, words_in, environment_in, program_at, words_at, environment_at, places_at, job_command, command_of_job, words_of, command_of_words, script_facts, command_of_script, phase_command, is_expandable, is_whole, is_whole_at, reads_launch, job_reads_launch, uses_whole_run, HaveSameEnds}
 use Rattle.run_plan_node.proofs.CommandsExist.{lesser_attempt}
 
 -- Where the first is a value, the other two are the same.
@@ -58,8 +58,8 @@ expanded_same small big h launch (Some m) plain = by_answer (expansion big m.var
     by_answer (Err fault) is known = tt
 
 text_same : (small big : MacroScope) → HasLesserNumbers small big → (launch name : List ℕ) → is_whole_at big name ≡ false →
-    SameWhere (text_at big name) (text_at small name) (text_at (record small { launch = launch }) name)
-unfolding text_at value_at is_whole_at
+    SameWhere (text_value_at big name) (text_value_at small name) (text_value_at (record small { launch = launch }) name)
+unfolding text_value_at value_at is_whole_at
 text_same small big h launch name plain =
     subst (λ (ms : List Macro). SameWhere (text_of_value (expanded big (last_macro big.assigned name))) (text_of_value (expanded small (last_macro ms name))) (text_of_value (expanded (record small { launch = launch }) (last_macro ms name)))) (sym h.assigned)
     (expanded_same small big h launch (last_macro big.assigned name) plain)
@@ -90,15 +90,15 @@ reads_no_launch s plain =
 module _ (folder : List ℕ) (small big : MacroScope) (lesser : HasLesserNumbers small big) (launch : List ℕ) (plain : ReadsNoLaunch big) where
   program_same : SameWhere (program_at folder big) (program_at folder small) (program_at folder (record small { launch = launch }))
   unfolding program_at
-  program_same = then_same (text_at big (codes "executable")) _ _ _ _ _ (text_same small big lesser launch (codes "executable") plain.executable) (λ x y. same_itself (program_in folder x) (program_in folder y))
+  program_same = then_same (text_value_at big (codes "executable")) _ _ _ _ _ (text_same small big lesser launch (codes "executable") plain.executable) (λ x y. same_itself (program_in folder x) (program_in folder y))
 
   words_same : SameWhere (words_at big) (words_at small) (words_at (record small { launch = launch }))
   unfolding words_at
-  words_same = then_same (text_at big (codes "arguments")) _ _ _ _ _ (text_same small big lesser launch (codes "arguments") plain.arguments) (λ x y. same_itself (words_in x) (words_in y))
+  words_same = then_same (text_value_at big (codes "arguments")) _ _ _ _ _ (text_same small big lesser launch (codes "arguments") plain.arguments) (λ x y. same_itself (words_in x) (words_in y))
 
   environment_same : SameWhere (environment_at big) (environment_at small) (environment_at (record small { launch = launch }))
   unfolding environment_at
-  environment_same = then_same (text_at big (codes "environment")) _ _ _ _ _ (text_same small big lesser launch (codes "environment") plain.environment) (λ x y. same_itself (environment_in x) (environment_in y))
+  environment_same = then_same (text_value_at big (codes "environment")) _ _ _ _ _ (text_same small big lesser launch (codes "environment") plain.environment) (λ x y. same_itself (environment_in x) (environment_in y))
 
   places_same : SameWhere (places_at folder big) (places_at folder small) (places_at folder (record small { launch = launch }))
   unfolding places_at
@@ -164,8 +164,8 @@ is_plain node known =
     record { pre = pre.0; post = post.0; job = post.1 }
 
 pub plain_command_same : (node : NodeSpec) (attempt : ℕ) (phase : Phase) (facts other : PhaseFacts) → is_expandable node ≡ true → uses_whole_run node ≡ false →
-    attempt ≤ node.course.retries → HaveSameEnds phase facts other → command_of node attempt phase facts ≡ command_of node attempt phase other
-unfolding command_of is_expandable
+    attempt ≤ node.course.retries → HaveSameEnds phase facts other → phase_command node attempt phase facts ≡ phase_command node attempt phase other
+unfolding phase_command is_expandable
 plain_command_same node attempt Pre facts other sound known earlier ends = ap Ok (pre_script_alike node attempt facts other (is_plain node known).pre)
 plain_command_same node attempt Job facts other sound known earlier ends =
     let plain = (is_plain node known).job in

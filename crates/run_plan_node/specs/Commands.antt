@@ -56,8 +56,8 @@ text_of_value (Ok value) = Ok (option_map (λ (e : Expansion). e.text) value)
 text_of_value (Err fault) = Err (InMacro fault)
 
 -- the same as a text
-unfoldable pub text_at : MacroScope → List ℕ → Result (Option (List ℕ)) JobFault
-text_at s name = text_of_value (value_at s name)
+unfoldable pub text_value_at : MacroScope → List ℕ → Result (Option (List ℕ)) JobFault
+text_value_at s name = text_of_value (value_at s name)
 
 -- All universes run as local children; a job without one is vanilla.
 unfoldable pub is_universe : List ℕ → Bool
@@ -68,13 +68,12 @@ known_universe None = Ok tt
 known_universe (Some text) = if is_universe text then Ok tt else Err BadUniverse
 
 unfoldable pub universe_of : MacroScope → Result (Unit {0}) JobFault
-universe_of s = text_at s (codes "universe") >>= known_universe
+universe_of s = text_value_at s (codes "universe") >>= known_universe
 
 -- the program, seen from the node's folder
 abbrev pub program_in : List ℕ → Option (List ℕ) → Result (List ℕ) JobFault
-program_in folder None = Err NoExecutable
-program_in folder (Some []) = Err NoExecutable
 program_in folder (Some (b ∷ bs)) = Ok (join folder (b ∷ bs))
+program_in folder _ = Err NoExecutable
 
 abbrev pub words_in : Option (List ℕ) → Result (List (List ℕ)) JobFault
 words_in None = Ok []
@@ -91,24 +90,22 @@ settings_in (Err fault) = Err (InMacro fault)
 
 -- An environment is empty, or new style, and each of its words a setting.
 abbrev pub environment_in : Option (List ℕ) → Result (List (List ℕ)) JobFault
-environment_in None = Ok []
-environment_in (Some []) = Ok []
 environment_in (Some (b ∷ bs)) = if b == 34 then settings_in (arguments (b ∷ bs)) else Err (InMacro BadQuote)
+environment_in _ = Ok []
 
 -- the path of a file seen from the child's folder; an empty one is none
 abbrev pub path_at : List ℕ → Option (List ℕ) → Option (List ℕ)
-path_at folder None = None
-path_at folder (Some []) = None
 path_at folder (Some (b ∷ bs)) = Some (join folder (b ∷ bs))
+path_at folder _ = None
 
 unfoldable pub program_at : List ℕ → MacroScope → Result (List ℕ) JobFault
-program_at folder s = text_at s (codes "executable") >>= program_in folder
+program_at folder s = text_value_at s (codes "executable") >>= program_in folder
 
 unfoldable pub words_at : MacroScope → Result (List (List ℕ)) JobFault
-words_at s = text_at s (codes "arguments") >>= words_in
+words_at s = text_value_at s (codes "arguments") >>= words_in
 
 unfoldable pub environment_at : MacroScope → Result (List (List ℕ)) JobFault
-environment_at s = text_at s (codes "environment") >>= environment_in
+environment_at s = text_value_at s (codes "environment") >>= environment_in
 
 abbrev pub places_in : List ℕ → Option (List ℕ) → Option (List ℕ) → Option (List ℕ) → Places
 places_in folder input output error =
@@ -117,8 +114,8 @@ places_in folder input output error =
 -- the folder of the child, and its files seen from there
 unfoldable pub places_at : List ℕ → MacroScope → Result Places JobFault
 places_at folder s =
-    text_at s (codes "input") >>= λ input. text_at s (codes "output") >>= λ output. text_at s (codes "error") >>= λ error.
-    text_at s (codes "initialdir") >>= λ dir. Ok (places_in (join folder (unwrap_or dir [])) input output error)
+    text_value_at s (codes "input") >>= λ input. text_value_at s (codes "output") >>= λ output. text_value_at s (codes "error") >>= λ error.
+    text_value_at s (codes "initialdir") >>= λ dir. Ok (places_in (join folder (unwrap_or dir [])) input output error)
 
 abbrev pub command_with : List ℕ → List (List ℕ) → Places → List (List ℕ) → ChildCommand
 command_with program words places environment = record {
@@ -183,10 +180,10 @@ command_of_script node script attempt post facts =
 
 -- The command of a phase in an attempt: a script with each of its words replaced by what it stands for, or the job with its
 -- texts expanded.
-unfoldable pub command_of : NodeSpec → ℕ → Phase → PhaseFacts → CommandOrFault
-command_of node attempt Pre facts = Ok (command_of_script node node.launch_spec.pre attempt false facts)
-command_of node attempt Job facts = command_of_job node.launch_spec.folder node.launch_spec.job attempt facts.launch
-command_of node attempt Post facts = Ok (command_of_script node node.launch_spec.post attempt true facts)
+unfoldable pub phase_command : NodeSpec → ℕ → Phase → PhaseFacts → CommandOrFault
+phase_command node attempt Pre facts = Ok (command_of_script node node.launch_spec.pre attempt false facts)
+phase_command node attempt Job facts = command_of_job node.launch_spec.folder node.launch_spec.job attempt facts.launch
+phase_command node attempt Post facts = Ok (command_of_script node node.launch_spec.post attempt true facts)
 
 -- The texts of the job can be expanded in the last attempt that is allowed, with the greatest launch number. So they can in
 -- each attempt (`laws::commands_exist`).
@@ -195,8 +192,7 @@ is_expandable node = is_ok (command_of_job node.launch_spec.folder node.launch_s
 
 abbrev pub is_whole : Result (Option Expansion) MacroFault → Bool
 is_whole (Ok (Some e)) = e.whole_run
-is_whole (Ok None) = false
-is_whole (Err fault) = false
+is_whole _ = false
 
 unfoldable pub is_whole_at : MacroScope → List ℕ → Bool
 is_whole_at s name = is_whole (value_at s name)

@@ -9,7 +9,7 @@ ghost use Rattle.vars_macros.specs.Expansion.{expansion};
 ghost use Rattle.vars_macros.specs.Meaning.{scope_of};
 ghost use Rattle.vars_macros.specs.Output.{expansion_of};
 ghost use Rattle.vars_macros.specs.Answers as expanding;
-ghost use Rattle.run_plan_node.specs.Commands.{value_at, text_at, is_universe, known_universe, universe_of, program_in, program_at, words_in, words_at, settings_in, environment_in, environment_at, is_setting, path_at, places_in, places_at, job_command, is_whole_at, reads_launch};
+ghost use Rattle.run_plan_node.specs.Commands.{value_at, text_value_at, is_universe, known_universe, universe_of, program_in, program_at, words_in, words_at, settings_in, environment_in, environment_at, is_setting, path_at, places_in, places_at, job_command, is_whole_at, reads_launch};
 ghost use Rattle.run_plan_node.specs.JobAnswers.{Gives, job_fault};
 ghost use Rattle.run_plan_node.specs.declared.job.JobFault.TheVariants.{Memory};
 
@@ -98,13 +98,13 @@ fn expanded(
 }
 
 /// The same as a text.
-fn text_at(
+fn text_value_at(
     alloc: Global,
     macros: &Macros,
     attempt: Attempt,
     name: &str,
 ) -> Result<Option<Text>, JobFault>
-    ensures { Gives (λ t. t) result (text_at (scope_of macros.now attempt) name.now) }
+    ensures { Gives (λ t. t) result (text_value_at (scope_of macros.now attempt) name.now) }
 {
     match value_at(alloc, macros, attempt, name)? {
         Some(value) => Ok(Some(value.text)),
@@ -143,7 +143,7 @@ fn is_universe(text: &str) -> bool
 pub fn check_universe(alloc: Global, macros: &Macros, attempt: Attempt) -> Result<(), JobFault>
     ensures { Gives (λ u. u) result (universe_of (scope_of macros.now attempt)) }
 {
-    let universe = text_at(alloc, macros, attempt, "universe")?;
+    let universe = text_value_at(alloc, macros, attempt, "universe")?;
     known_universe(&universe)
 }
 
@@ -168,7 +168,7 @@ fn program_at(
 ) -> Result<Text, JobFault>
     ensures { Gives (λ t. t) result (program_at folder.now (scope_of macros.now attempt)) }
 {
-    let executable = text_at(alloc, macros, attempt, "executable")?;
+    let executable = text_value_at(alloc, macros, attempt, "executable")?;
     program_in(alloc, folder, &executable)
 }
 
@@ -191,7 +191,7 @@ fn words_in(alloc: Global, arguments: &Option<Text>) -> Result<Texts, JobFault>
 fn words_at(alloc: Global, macros: &Macros, attempt: Attempt) -> Result<Texts, JobFault>
     ensures { Gives (λ t. t) result (words_at (scope_of macros.now attempt)) }
 {
-    let arguments = text_at(alloc, macros, attempt, "arguments")?;
+    let arguments = text_value_at(alloc, macros, attempt, "arguments")?;
     words_in(alloc, &arguments)
 }
 
@@ -230,7 +230,7 @@ fn are_settings(words: &[Text]) -> bool
 fn environment_at(alloc: Global, macros: &Macros, attempt: Attempt) -> Result<Texts, JobFault>
     ensures { Gives (λ t. t) result (environment_at (scope_of macros.now attempt)) }
 {
-    let environment = text_at(alloc, macros, attempt, "environment")?;
+    let environment = text_value_at(alloc, macros, attempt, "environment")?;
     environment_in(alloc, &environment)
 }
 
@@ -299,10 +299,10 @@ fn places_at(
 ) -> Result<Places, JobFault>
     ensures { Gives (λ p. p) result (places_at folder.now (scope_of macros.now attempt)) }
 {
-    let input = text_at(alloc, macros, attempt, "input")?;
-    let output = text_at(alloc, macros, attempt, "output")?;
-    let error = text_at(alloc, macros, attempt, "error")?;
-    let dir = text_at(alloc, macros, attempt, "initialdir")?;
+    let input = text_value_at(alloc, macros, attempt, "input")?;
+    let output = text_value_at(alloc, macros, attempt, "output")?;
+    let error = text_value_at(alloc, macros, attempt, "error")?;
+    let dir = text_value_at(alloc, macros, attempt, "initialdir")?;
     Ok(places_in(alloc, folder, &dir, &input, &output, &error)?)
 }
 

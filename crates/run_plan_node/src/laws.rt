@@ -5,14 +5,14 @@ ghost use Rattle.node_machine.specs.declared.Phase.{Phase};
 ghost use Rattle.run_plan_node.specs.declared.command.ChildCommand.{ChildCommand};
 ghost use Rattle.run_plan_node.specs.declared.command.PhaseFacts.{PhaseFacts};
 ghost use Rattle.run_plan_node.specs.Node.{NodeSpec};
-ghost use Rattle.run_plan_node.specs.Commands.{command_of, is_expandable, uses_whole_run, greatest, HaveSameEnds};
+ghost use Rattle.run_plan_node.specs.Commands.{phase_command, is_expandable, uses_whole_run, greatest, HaveSameEnds};
 
 /// Where the texts of a node's job can be expanded in its last attempt with the greatest launch
 /// number, each of its phases has a command in each attempt that is allowed.
 pub fn commands_exist()
     ensures { (node : NodeSpec) (attempt : ℕ) (phase : Phase) (facts : PhaseFacts) →
         is_expandable node ≡ true → attempt ≤ node.course.retries → facts.launch ≤ greatest →
-        (command : ChildCommand) × (command_of node attempt phase facts ≡ Ok command) }
+        (command : ChildCommand) × (phase_command node attempt phase facts ≡ Ok command) }
 {}
 
 /// The commands of a node without whole-run words follow from the attempt and from how the phases
@@ -21,5 +21,5 @@ pub fn plain_commands()
     ensures { (node : NodeSpec) (attempt : ℕ) (phase : Phase) (facts other : PhaseFacts) →
         is_expandable node ≡ true → uses_whole_run node ≡ false → attempt ≤ node.course.retries →
         HaveSameEnds phase facts other →
-        command_of node attempt phase facts ≡ command_of node attempt phase other }
+        phase_command node attempt phase facts ≡ phase_command node attempt phase other }
 {}

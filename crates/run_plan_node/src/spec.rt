@@ -6,7 +6,7 @@ ghost use Rattle.std.specs.Option.{option_map};
 ghost use Rattle.std.specs.List.{list_any};
 ghost use Rattle.vars_macros.specs.Script.{is_whole_run};
 ghost use Rattle.run_plan_node.specs.Node.{no_node};
-ghost use Rattle.run_plan_node.specs.Commands.{command_of, command_of_job, script_facts, words_of, job_reads_launch, uses_whole_run};
+ghost use Rattle.run_plan_node.specs.Commands.{phase_command, command_of_job, script_facts, words_of, job_reads_launch, uses_whole_run};
 ghost use Rattle.run_plan_node.specs.JobAnswers.{Gives};
 ghost use Rattle.run_plan_node.specs.Specs.{course_of, retries_of, unless_exit_of, abort_return_of, priority_of, category_place, spec_of};
 ghost use Rattle.run_plan_node.specs.declared.job.JobFault.TheVariants.{Memory};
@@ -214,7 +214,7 @@ impl NodeSpec {
         phase: Phase,
         facts: &PhaseFacts,
     ) -> Result<ChildCommand, JobFault>
-        ensures { Gives (λ command. command) result (command_of self.now attempt phase facts.now) }
+        ensures { Gives (λ command. command) result (phase_command self.now attempt phase facts.now) }
     {
         let folder = self.launch_spec.folder();
         match phase {

@@ -220,7 +220,7 @@ impl Tally {
         }
     }
 
-    /// What was launched and not told to have ended is launched no more.
+    /// What was launched and not recorded as ended is launched no more.
     fn forget_launches(&mut self, plan: &Plan) {
         for node in 0..plan.count() + 1 {
             if let Some(before) = self.node(node) {

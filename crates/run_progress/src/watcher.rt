@@ -1,4 +1,4 @@
-//! Who shows how far a run is, while it is told what is done with its children.
+//! Who shows how far a run is, while it learns what is done with its children.
 
 use crate::failures::{Failure, failure_line, last_lines, outcome_text};
 use crate::line::{Counts, ProgressLine, RunningNode, line_text};
@@ -25,7 +25,7 @@ const REDRAWN_EACH: u64 = 100;
 /// How many milliseconds it is from one plain line to the next at least.
 const PLAIN_EACH: u64 = 10_000;
 
-/// So many children for each processor are told of where no limit holds them.
+/// Of more children than so many for each processor the user is warned, where no limit holds them.
 const MANY: u64 = 4;
 
 /// A child that runs: since when, and the file that takes its errors.
@@ -54,7 +54,7 @@ pub struct Watched<'a> {
 struct Progress<'a, R: Drop> {
     rt: R,
     run: Watched<'a>,
-    /// none where memory was refused, or what was told is not what was to come
+    /// none where memory was refused, or what was reported is not what was to come
     tally: Option<Tally>,
     /// those that run longest first
     live: Vec<LiveChild>,
@@ -70,7 +70,7 @@ struct Progress<'a, R: Drop> {
     told_many: bool,
 }
 
-/// It shows how far a run is, as it is told what is done with its children. Where memory or standard error is refused,
+/// It shows how far a run is, as it learns what is done with its children. Where memory or standard error is refused,
 /// less is shown, and nothing else.
 #[derive(Drop)]
 pub struct ProgressWatcher<'a, R: Drop> {
@@ -283,7 +283,7 @@ impl<'a, R: Screen + Processes + Files<File = File> + Clock + AllocGlobal + Copy
         Ok(taken)
     }
 
-    /// What is told of a phase that ended so.
+    /// What is displayed of a phase that ended so.
     fn tell_ending(&mut self, failure: Failure, ending: Ending) -> Result<(), AllocError> {
         if ending == Ending::Suffered {
             self.suffered.push(failure)?;

@@ -42,7 +42,7 @@ abbrev pub IsEndOf : Plan → List Record → Record → Type 0
 IsEndOf plan past entry = entry ≡ Finish (exit_status plan past)
 
 -- Why a run isn't led to its end, by the starter's counts of refusals, and by the manager and the disk for the rescue file that were
--- there and that are left; and what was recorded and told until then. It was stopped on the way, and no rescue file was begun; or, behind
+-- there and that are left; and what was recorded and answered so far. It was stopped on the way, and no rescue file was begun; or, behind
 -- all its steps, the rescue file that it needs isn't written; or that is written, and the run's end was refused as a record; or it ended, and
 -- memory was refused for its report. A run that needs no rescue file leaves none behind its steps.
 pub data IsRunToEndFault {D R : Type 0} (disks : Ghosts D) (rescues : Ghosts R) (before now : ℕ)
@@ -75,9 +75,7 @@ pub data IsManagerStop : ManagerFault → Type 0 where
 -- a round may be stopped so
 abbrev pub MayStop : DriveFault → Type 0
 MayStop (drives.Manager fault) = IsManagerStop fault
-MayStop drives.StartMemory = Unit {0}
-MayStop drives.WaitFault = Unit {0}
-MayStop drives.Memory = Unit {0}
+MayStop _ = Unit {0}
 
 -- Why a round isn't run to its end, and what is left of the journal's disk and of the rescue file's: its manager refuses to begin, or to
 -- go on, and nothing was handed over; or, begun on what stood there, it isn't led to its end.

@@ -334,7 +334,7 @@ fn push_bars(
 
 /// A picture of these phases, with a mark for each: whether it is on the critical path. Each node has a row, in
 /// the order in which they began; of many nodes those share one that did not run at one time. Each phase
-/// has a bar: green where it ended well, red where it failed, grey where it was killed or is not told, blue
+/// has a bar: green where it ended well, red where it failed, grey where it was killed or its ending is unknown, blue
 /// where it runs; scripts are paler. The critical path is framed, and its names are bold.
 ///
 /// # Errors

@@ -101,7 +101,7 @@ module _ (plan : Plan) (journal digest : List ℕ) (always_post : Bool) (flag : 
 
   pub no-records : (fault : JournalFault) → FailsAs fault (replay_for digest always_post journal) → IsUnsalvaged plan journal (read_fault fault)
   no-records journals.Memory is = salvaging_had_no_memory
-  no-records journals.Device is = salvaging_had_no_memory
+  no-records journals.Device is = absurd is
   no-records journals.DiskFull is = absurd is
   no-records journals.NotAJournal is = failed-as journals.NotAJournal is
   no-records (journals.Version v) is = failed-as (journals.Version v) is

@@ -82,7 +82,7 @@ pub data IsOtherRescue (listed : List Listed) (top : List ℕ) (used : ℕ) : Sa
   rescue_refused : (fault : RunFault) → IsFileFault fault → IsOtherRescue listed top used (Refused fault)
 
 -- Why there is no plan of the files of a path and of a rescue file of this number, 0 for none: the files make no graph; or the rescue file can't
--- be read, which is told with its path.
+-- be read, which is returned with its path.
 pub data IsBarePlanFault (always_post : Bool) (files : Files) (path : List ℕ) (used : ℕ) (rescue : Option (List ℕ)) : RunFault → Type 0 where
   has_no_graph : (fault : RunFault) → IsGraphFault files path fault → IsBarePlanFault always_post files path used rescue fault
   not_planned : (graph : Network) (fault : PlanFault) → used ≡ 0 → IsGraphOf files path graph →
@@ -93,7 +93,7 @@ pub data IsBarePlanFault (always_post : Bool) (files : Files) (path : List ℕ) 
   planning_had_no_memory : IsBarePlanFault always_post files path used rescue Memory
 
 -- Why the bytes of a journal have no records of a run of the plan: they can't be read; they are of a run with the other flag; a record may not
--- follow those before it, and its slot is told. Or memory ran out.
+-- follow those before it, and its slot is returned. Or memory ran out.
 pub data IsUnsalvaged (plan : Plan) (journal : List ℕ) : RunFault → Type 0 where
   no_records : (fault : JournalFault) → replay_of journal ≡ Err fault → IsUnsalvaged plan journal (InManager (manager.Journal fault))
   of_other_flag : has_other_flag plan.always_post journal ≡ true → IsUnsalvaged plan journal (InManager (manager.Journal journals.OtherFlag))

@@ -125,7 +125,7 @@ fn changes<F: Folder>(alloc: Global, folder: &F, inputs: &Inputs) -> Result<Stri
     Ok(text)
 }
 
-/// What is told of a round that is salvaged.
+/// What is printed of a round that is salvaged.
 fn report_of(
     alloc: Global,
     place: &Place<'_>,

@@ -15,7 +15,7 @@ use Rattle.node_machine.proofs.Beginnings.{masked, next-some}
 use Rattle.run_plan_node.specs.declared.command.PhaseFacts.{PhaseFacts}
 use Rattle.run_plan_node.specs.Node.{NodeSpec}
 use Rattle.run_plan.specs.Plan.{Plan, node_at, count_of, IsRankedBy, at}
-use Rattle.run_plan_node.specs.Commands.{command_of, starts_child, is_expandable, uses_whole_run, HaveSameEnds}
+use Rattle.run_plan_node.specs.Commands.{phase_command, starts_child, is_expandable, uses_whole_run, HaveSameEnds}
 use Rattle.run_plan_node.proofs.PlainCommands.{plain_command_same}
 use Rattle.node_machine.specs.declared.Record.{Record}
 use Rattle.node_machine.specs.declared.Record.TheVariants.{Launch}
@@ -73,7 +73,7 @@ module _ (course : Course) (es : List Ended) (column : ℕ → Phase → Outcome
 pub launch-command : (plan : Plan) (table : Table) (newer past : List Record) (key : Key) (number : ℕ)
     → is_lawful plan (newer ++ Launch key number ∷ past) ≡ true → HasOutcomesOf plan table past
     → is_expandable (node_at plan key.node) ≡ true → uses_whole_run (node_at plan key.node) ≡ false
-    → command_of (node_at plan key.node) key.attempt key.phase (facts_in plan (Launch key number ∷ past) key)
+    → phase_command (node_at plan key.node) key.attempt key.phase (facts_in plan (Launch key number ∷ past) key)
     ≡ command_by plan table key.node key.attempt key.phase
 launch-command plan table newer past key number h o sound_texts plain =
     let lawful = lawful-tail plan newer (Launch key number ∷ past) h in
@@ -103,7 +103,7 @@ pub same-command : (plan : Plan) (table : Table) (plan' : Plan) (table' : Table)
     → (attempt : ℕ) → attempt ≤ (node_at plan node).course.retries → (phase : Phase) → starts_child (node_at plan node) phase ≡ true
     → command_by plan table node attempt phase ≡ command_by plan' table' node' attempt phase
 same-command plan table plan' table' node node' alike commands attempt allowed phase starts =
-    (λ j. command_of (node_at plan node) attempt phase (plain_facts
+    (λ j. phase_command (node_at plan node) attempt phase (plain_facts
     (job_value_of (alike.course j) (alike.outcomes attempt Pre j) (ends_with (alike.course j) Job (alike.outcomes attempt Job j)))
     (pre_value_of (alike.course j) (alike.outcomes attempt Pre j))))
     ∙ commands.same attempt allowed phase starts _ _

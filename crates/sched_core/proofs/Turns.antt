@@ -23,7 +23,7 @@ HasBefore course es i Post =
     ((told : ℕ → Phase → Outcome) → Told told es → is_without_job course (told i Pre) ≡ false → has_ended es i Job ≡ true)
     × (course.pre ≡ true → has_ended es i Pre ≡ true)
 
--- what was told of the phase that ended last
+-- what was reported of the phase that ended last
 told-last : (told : ℕ → Phase → Outcome) (es : List Ended) (e : Ended) → Told told (es ++ e ∷ []) → told e.attempt e.phase ≡ e.outcome
 told-last told [] e t = t.0
 told-last told (x ∷ es) e t = told-last told es e t.1
@@ -113,7 +113,7 @@ pub turn-order : (course : Course) (es : List Ended) (i : ℕ) (phase : Phase) (
     → after (tree_of course) es ≡ Ask i phase next → HasBefore course es i phase
 turn-order course es i phase next p h = order-played course (tree_of course) es [] i phase next (order-from course [] 0 course.retries []) p h
 
--- a phase that ended has the outcome that was told
+-- a phase that ended has the outcome that was reported
 pub told-outcome : (told : ℕ → Phase → Outcome) (es : List Ended) (i : ℕ) (phase : Phase) → Told told es → has_ended es i phase ≡ true → outcome_in es i phase ≡ told i phase
 told-outcome told [] i phase t h = absurd (false≢true h)
 told-outcome told (e ∷ es) i phase t h = go (is_phase e i phase) refl h (told-outcome told es i phase t.1)

@@ -35,9 +35,7 @@ all_phases plan = sum_below (phases_of_node plan) (node_total plan)
 abbrev pub has_no_life : List Record → Bool
 has_no_life [] = true
 has_no_life (Life ∷ past) = false
-has_no_life (Launch key number ∷ past) = has_no_life past
-has_no_life (End key outcome ∷ past) = has_no_life past
-has_no_life (Finish status ∷ past) = has_no_life past
+has_no_life (_ ∷ past) = has_no_life past
 
 -- of an attempt: this phase and those behind it, as far as there are such
 abbrev pub phases_from : Course → Phase → ℕ

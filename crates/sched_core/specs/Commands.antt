@@ -9,7 +9,7 @@ use Rattle.node_machine.specs.declared.Course.{Course}
 use Rattle.node_machine.specs.Story.{Table, value_of, ends_with, is_exit_0}
 use Rattle.run_plan_node.specs.declared.command.PhaseFacts.{PhaseFacts}
 use Rattle.run_plan.specs.Plan.{Plan, node_at, count_of}
-use Rattle.run_plan_node.specs.Commands.{CommandOrFault, command_of, starts_child}
+use Rattle.run_plan_node.specs.Commands.{CommandOrFault, phase_command, starts_child}
 use Rattle.node_machine.specs.declared.Record.{Record}
 use Rattle.node_machine.specs.declared.Record.TheVariants.{Life, Launch, End, Finish}
 use Rattle.sched_core.specs.Run.{table_of, is_in_error, is_aborted, is_same}
@@ -47,7 +47,7 @@ facts_by course column attempt =
 -- the command of a phase in an attempt, read from the table
 abbrev pub command_by : Plan → Table → ℕ → ℕ → Phase → CommandOrFault
 command_by plan table node attempt phase =
-    command_of (node_at plan node) attempt phase (facts_by (node_at plan node).course (table node) attempt)
+    phase_command (node_at plan node) attempt phase (facts_by (node_at plan node).course (table node) attempt)
 
 -- of phases of a node those that start a child, each with its command
 abbrev pub with_commands : Plan → Table → ℕ → List Ended → List (Ended × CommandOrFault)
@@ -69,9 +69,7 @@ dag_status_in plan past = if is_aborted plan past then 3 else if failed_in plan 
 abbrev pub newest_launch : List Record → Key → ℕ
 newest_launch [] key = 0
 newest_launch (Launch other number ∷ past) key = if is_same other key then number else newest_launch past key
-newest_launch (Life ∷ past) key = newest_launch past key
-newest_launch (End other outcome ∷ past) key = newest_launch past key
-newest_launch (Finish status ∷ past) key = newest_launch past key
+newest_launch (_ ∷ past) key = newest_launch past key
 
 -- What the records say when a key is launched, its launch among them. A job that did not end has the value 0, and -1004
 -- behind a failed PRE, where it does not run.
@@ -88,6 +86,4 @@ facts_in plan records key = record {
 
 abbrev pub is_launch : Record → Bool
 is_launch (Launch key number) = true
-is_launch Life = false
-is_launch (End key outcome) = false
-is_launch (Finish status) = false
+is_launch _ = false

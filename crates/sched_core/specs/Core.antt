@@ -67,16 +67,12 @@ is_stuck_at plan runs node =
 
 -- what a record makes of the nodes, of the flag for an abort, and of the number of job launches
 abbrev pub runs_ended : Plan → List NodeProgress → Record → List NodeProgress
-runs_ended plan runs Life = runs
-runs_ended plan runs (Launch key number) = runs
 runs_ended plan runs (End key outcome) = slice_set runs key.node (ended_with (run_at runs key.node) outcome)
-runs_ended plan runs (Finish status) = runs
+runs_ended plan runs _ = runs
 
 abbrev pub aborted_after : Plan → List NodeProgress → Bool → Record → Bool
-aborted_after plan runs aborted Life = aborted
-aborted_after plan runs aborted (Launch key number) = aborted
 aborted_after plan runs aborted (End key outcome) = aborted_in plan (runs_ended plan runs (End key outcome))
-aborted_after plan runs aborted (Finish status) = aborted
+aborted_after plan runs aborted _ = aborted
 
 abbrev pub runs_after : Plan → List NodeProgress → Bool → Record → List NodeProgress
 runs_after plan runs aborted Life = map stopped runs
@@ -87,17 +83,13 @@ runs_after plan runs aborted (End key outcome) =
 runs_after plan runs aborted (Finish status) = runs
 
 abbrev pub jobs_after : ℕ → Record → ℕ
-jobs_after jobs Life = jobs
 jobs_after jobs (Launch key number) = (if phase_number key.phase == 1 then 1 else 0) + jobs
-jobs_after jobs (End key outcome) = jobs
-jobs_after jobs (Finish status) = jobs
+jobs_after jobs _ = jobs
 
 -- the ordinary nodes in error, once a record made these of the nodes
 abbrev pub failed_after : Plan → List NodeProgress → ℕ → Record → ℕ
-failed_after plan runs failed Life = failed
-failed_after plan runs failed (Launch key number) = failed
 failed_after plan runs failed (End key outcome) = if is_stuck_at plan runs key.node then suc failed else failed
-failed_after plan runs failed (Finish status) = failed
+failed_after plan runs failed _ = failed
 
 -- a launch is of a node of the plan and of its next phase, while none runs; an ending is of one that runs,
 -- whose abort value doesn't stand there

@@ -170,7 +170,7 @@ scripted words = record {
   always_post = false;
 }
 
--- its script is told the attempt; how many nodes failed, which is known in the whole run alone; and 0 always
+-- its script is given the attempt; how many nodes failed, which is known in the whole run alone; and 0 always
 abbrev pub told_attempt : Plan
 told_attempt = scripted (codes "check.sh" ∷ codes "$JOB" ∷ codes "$RETRY" ∷ [])
 

@@ -19,8 +19,7 @@ pub record Fate : Type 0 where
 
 abbrev pub is_done_state : State → Bool
 is_done_state Done = true
-is_done_state Error = false
-is_done_state NotRun = false
+is_done_state _ = false
 
 -- no attempts
 abbrev pub without_attempts : State → Fate

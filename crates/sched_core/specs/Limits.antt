@@ -38,7 +38,7 @@ IsBetter plan node other = ComesBefore (member_of plan node) (member_of plan oth
 abbrev pub IsThrottled : Plan → List Record → Throttled → Type 0
 IsThrottled plan past throttled = throttled ≡ throttled_in throttled.limits plan (outstanding plan past)
 
--- what a record makes of the throttles, where it is told whether the record aborts the run
+-- what a record makes of the throttles, where it is given whether the record aborts the run
 abbrev pub throttled_after : Plan → Throttled → Record → Bool → Throttled
 throttled_after plan throttled Life stops = record throttled { running = none_running throttled.categories }
 throttled_after plan throttled (Launch key number) stops =
@@ -60,7 +60,5 @@ IsOfNode plan (Finish status) = Unit {0}
 
 -- what ends runs
 abbrev pub IsCounted : Plan → Throttled → Record → Type 0
-IsCounted plan throttled Life = Unit {0}
-IsCounted plan throttled (Launch key number) = Unit {0}
 IsCounted plan throttled (End key outcome) = 0 < such_in throttled.running key.phase (node_at plan key.node).category
-IsCounted plan throttled (Finish status) = Unit {0}
+IsCounted plan throttled _ = Unit {0}

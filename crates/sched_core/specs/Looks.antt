@@ -21,7 +21,7 @@ most_looks plan past (End key outcome) =
     else 2 + length (children_of plan.graph.dag key.node)
 most_looks plan past (Finish status) = 1
 
--- those beside the state of its own node, where it is told whether the record aborts the run
+-- those beside the state of its own node, where it is given whether the record aborts the run
 abbrev pub further_looks : Plan → Record → Bool → ℕ
 further_looks plan Life stopped = node_total plan
 further_looks plan (Launch key number) stopped = 0

@@ -17,10 +17,8 @@ use Rattle.sched_core.specs.Commands.{newest_launch, job_value_of, pre_value_of,
 
 -- the outcome that a record says of a phase, and the one that the oldest record that says one does
 abbrev pub ended_by : Record → Key → Option Outcome
-ended_by Life key = None
-ended_by (Launch other number) key = None
 ended_by (End other outcome) key = if is_same other key then Some outcome else None
-ended_by (Finish status) key = None
+ended_by _ key = None
 
 abbrev pub first_ended : List Record → Key → Option Outcome
 first_ended [] key = None
@@ -30,16 +28,12 @@ first_ended (newest ∷ past) key = if is_none (first_ended past key) then ended
 abbrev pub newest_launch_attempt : List Record → ℕ → ℕ
 newest_launch_attempt [] node = 0
 newest_launch_attempt (Launch key number ∷ past) node = if key.node == node then key.attempt else newest_launch_attempt past node
-newest_launch_attempt (Life ∷ past) node = newest_launch_attempt past node
-newest_launch_attempt (End key outcome ∷ past) node = newest_launch_attempt past node
-newest_launch_attempt (Finish status ∷ past) node = newest_launch_attempt past node
+newest_launch_attempt (_ ∷ past) node = newest_launch_attempt past node
 
 abbrev pub last_launch : List Record → ℕ → ℕ
 last_launch [] node = 0
 last_launch (Launch key number ∷ past) node = if key.node == node then number else last_launch past node
-last_launch (Life ∷ past) node = last_launch past node
-last_launch (End key outcome ∷ past) node = last_launch past node
-last_launch (Finish status ∷ past) node = last_launch past node
+last_launch (_ ∷ past) node = last_launch past node
 
 abbrev pub phase_key : ℕ → ℕ → Phase → Key
 phase_key node attempt phase = record { node = node; attempt = attempt; phase = phase }

@@ -21,9 +21,7 @@ history (End key outcome ∷ past) node =
     if key.node == node
     then history past node ++ record { attempt = key.attempt; phase = key.phase; outcome = outcome } ∷ []
     else history past node
-history (Life ∷ past) node = history past node
-history (Launch key number ∷ past) node = history past node
-history (Finish status ∷ past) node = history past node
+history (_ ∷ past) node = history past node
 
 -- the outcome of each node, attempt and phase that ended; Exit 0 where none did (in a lawful list no
 -- phase ends twice)
@@ -121,9 +119,7 @@ may_launch plan past node =
 abbrev pub job_launches : List Record → ℕ
 job_launches [] = 0
 job_launches (Launch key number ∷ past) = (if phase_number key.phase == 1 then 1 else 0) + job_launches past
-job_launches (Life ∷ past) = job_launches past
-job_launches (End key outcome ∷ past) = job_launches past
-job_launches (Finish status ∷ past) = job_launches past
+job_launches (_ ∷ past) = job_launches past
 
 abbrev pub launch_number : List Record → Key → ℕ
 launch_number past key = if phase_number key.phase == 1 then suc (job_launches past) else 0
@@ -131,9 +127,8 @@ launch_number past key = if phase_number key.phase == 1 then suc (job_launches p
 -- the exit status of an abort: its RETURN, else its value where that is a status
 abbrev pub abort_status : Option ℕ → Option ℤ → ℕ
 abort_status (Some status) value = status
-abort_status None None = 1
 abort_status None (Some (pos value)) = if nat_lt value 256 then value else 1
-abort_status None (Some (negsuc value)) = 1
+abort_status None _ = 1
 
 -- that of the node below n that aborted
 abbrev pub status_of_abort : Plan → List Record → ℕ → ℕ
@@ -152,11 +147,8 @@ exit_status plan past =
 
 -- Finish is the newest record
 abbrev pub is_over : List Record → Bool
-is_over [] = false
 is_over (Finish status ∷ past) = true
-is_over (Life ∷ past) = false
-is_over (Launch key number ∷ past) = false
-is_over (End key outcome ∷ past) = false
+is_over _ = false
 
 -- a run that has begun and is not over
 abbrev pub is_open : List Record → Bool
@@ -200,9 +192,7 @@ is_finished plan past = is_over past && is_lawful plan past
 abbrev pub is_launched : List Record → ℕ → Bool
 is_launched [] node = false
 is_launched (Launch key number ∷ past) node = (key.node == node) || is_launched past node
-is_launched (Life ∷ past) node = is_launched past node
-is_launched (End key outcome ∷ past) node = is_launched past node
-is_launched (Finish status ∷ past) node = is_launched past node
+is_launched (_ ∷ past) node = is_launched past node
 
 -- a rescue file is written: the run was aborted, an ordinary node isn't done, or the FINAL node is in error
 abbrev pub needs_rescue : Plan → List Record → Bool

@@ -30,7 +30,7 @@ abbrev pub undone_in : (ℕ → Bool) → List ℕ → ℕ
 undone_in done [] = 0
 undone_in done (node ∷ nodes) = (if done node then 0 else 1) + undone_in done nodes
 
--- an ordinary node, of which it is told whether it is done from the start, may be launched where it stands so and so many of its
+-- an ordinary node, of which it is given whether it is done from the start, may be launched where it stands so and so many of its
 -- parents are not done
 abbrev pub is_ready_by : Bool → Bool → NodeProgress → ℕ → Bool
 is_ready_by done aborted run left =

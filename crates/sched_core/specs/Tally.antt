@@ -16,10 +16,8 @@ status_of_node plan node = abort_status (node_at plan node).abort_return (node_a
 
 -- and the one by the end of a phase
 abbrev pub stop_status : Plan → ℕ → Record → ℕ
-stop_status plan status Life = status
-stop_status plan status (Launch key number) = status
 stop_status plan status (End key outcome) = status_of_node plan key.node
-stop_status plan status (Finish other) = status
+stop_status plan status _ = status
 
 -- what is counted is what the records say
 pub record IsTallied (plan : Plan) (past : List Record) (done status : ℕ) : Type 0 where

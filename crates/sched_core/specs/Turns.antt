@@ -59,19 +59,13 @@ turn_of plan node run = record {
 
 -- the ordinary node whose phase a record ends has its abort value, is done, is in error
 abbrev pub has_abort_by : Plan → List NodeProgress → Record → Bool
-has_abort_by plan runs Life = false
-has_abort_by plan runs (Launch key number) = false
 has_abort_by plan runs (End key outcome) = has_abort_at plan runs key.node
-has_abort_by plan runs (Finish status) = false
+has_abort_by plan runs _ = false
 
 abbrev pub done_by : Plan → List NodeProgress → Record → Bool
-done_by plan runs Life = false
-done_by plan runs (Launch key number) = false
 done_by plan runs (End key outcome) = nat_lt key.node (count_of plan) && done_at plan runs key.node
-done_by plan runs (Finish status) = false
+done_by plan runs _ = false
 
 abbrev pub stuck_by : Plan → List NodeProgress → Record → Bool
-stuck_by plan runs Life = false
-stuck_by plan runs (Launch key number) = false
 stuck_by plan runs (End key outcome) = is_stuck_at plan runs key.node
-stuck_by plan runs (Finish status) = false
+stuck_by plan runs _ = false

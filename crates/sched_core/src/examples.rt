@@ -13,7 +13,7 @@ ghost use Rattle.node_machine.specs.declared.Phase.TheVariants.{Pre, Job, Post};
 ghost use Rattle.node_machine.specs.declared.Outcome.TheVariants.{Exit, Signal};
 ghost use Rattle.node_machine.specs.declared.State.TheVariants.{Done, Error, NotRun};
 ghost use Rattle.run_plan.specs.Plan.{Plan, node_at, count_of, IsRankedBy};
-ghost use Rattle.run_plan_node.specs.Commands.{bare_command, command_of, is_expandable, uses_whole_run};
+ghost use Rattle.run_plan_node.specs.Commands.{bare_command, phase_command, is_expandable, uses_whole_run};
 ghost use Rattle.sched_core.specs.Run.{table_of, history, is_done, is_lawful, is_finished, is_aborted, is_launched, may_follow};
 ghost use Rattle.sched_core.specs.Fate.{Fate, AreFates, shown, is_done_state};
 ghost use Rattle.sched_core.specs.Bound.{all_phases};
@@ -85,8 +85,8 @@ pub fn refusals()
     ensures after_abort { IsFalse (may_follow abort_plan
         (drop 3 abort_run) (Launch (key 1 0 Job) 3)) }
     // Where no launch has a number and no node failed, these two scripts have the same words; but
-    // their nodes agree on no command, since one is told what the whole run knows.
-    ensures same_at_0 { command_of (node_at told_failed 0) 0 Pre (plain_facts (pos 0) (pos 0))
-        ≡ command_of (node_at told_0 0) 0 Pre (plain_facts (pos 0) (pos 0)) }
+    // their nodes agree on no command, since one is given what the whole run knows.
+    ensures same_at_0 { phase_command (node_at told_failed 0) 0 Pre (plain_facts (pos 0) (pos 0))
+        ≡ phase_command (node_at told_0 0) 0 Pre (plain_facts (pos 0) (pos 0)) }
     ensures whole_run { HaveSameCommands told_failed told_0 0 0 → ⊥ }
 {}

@@ -16,7 +16,7 @@ ghost use Rattle.node_machine.specs.declared.Phase.TheVariants.{Job};
 ghost use Rattle.node_machine.specs.declared.Outcome.TheVariants.{Exit};
 ghost use Rattle.node_machine.specs.declared.State.TheVariants.{Done, Error, NotRun};
 ghost use Rattle.run_plan.specs.Plan.{Plan, node_at, count_of, IsRankedBy};
-ghost use Rattle.run_plan_node.specs.Commands.{command_of, is_expandable, uses_whole_run};
+ghost use Rattle.run_plan_node.specs.Commands.{phase_command, is_expandable, uses_whole_run};
 ghost use Rattle.sched_core.specs.Run.{chronological, table_of, history, is_done, is_lawful, is_finished, is_aborted, is_launched, is_open, launch_number, may_follow};
 ghost use Rattle.sched_core.specs.Fate.{Fate, AreFates, final_fate, shown, is_done_state};
 ghost use Rattle.sched_core.specs.Agree.{AgreeOnFates, Agree};
@@ -80,7 +80,7 @@ pub fn launches()
         (number : ℕ) → IsTrue (is_lawful plan (newer ++ Launch key number ∷ past)) →
         HasOutcomesOf plan table past → is_expandable (node_at plan key.node) ≡ true →
         uses_whole_run (node_at plan key.node) ≡ false →
-        command_of (node_at plan key.node) key.attempt key.phase
+        phase_command (node_at plan key.node) key.attempt key.phase
         (facts_in plan (Launch key number ∷ past) key)
         ≡ command_by plan table key.node key.attempt key.phase }
     // Launches behind it change nothing of what is known of a launch: several may be recorded, and then be handed over.

@@ -55,7 +55,7 @@ fn dequeue(plan: &Plan, queue: &mut ReadyQueue, node: u32)
     let _ = queue.remove(member);
 }
 
-/// Whether a node is a member is told, and whether it is one from here on.
+/// Whether a node is a member is given, and whether it is one from here on.
 fn requeue(plan: &Plan, queue: &mut ReadyQueue, node: u32, was: bool, now: bool)
     requires node { node < count_of plan.now }
     requires are { AreMembers plan.now queue.old }
@@ -172,7 +172,7 @@ impl ClassedQueue {
         self.queue.members()
     }
 
-    /// A node changes: whether it was a member and of which class is told, and whether it is one
+    /// A node changes: whether it was a member and of which class is given, and whether it is one
     /// from here on and of which.
     fn change(&mut self, plan: &Plan, node: u32, was: bool, before: usize, now: bool, class: usize)
         requires node { node < count_of plan.now }

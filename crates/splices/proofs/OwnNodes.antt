@@ -47,7 +47,7 @@ split_fits f own n jobs is count names =
     let front : n ≡ length (job_nodes f) = count_is f n jobs count names in
     omega arith
 
--- a file's own nodes are added, and it is told
+-- a file's own nodes are added, and its lines noted
 pub own_added : (f : OpenFile) (old new : DagBuilder) (own front back : List FlatNode) (n : ℕ) (jobs : List (List ℕ))
     → own ≡ all_nodes f → n ≡ length jobs → jobs ≡ job_names f.said.commands → front ≡ take n own → back ≡ drop n own
     → new.nodes.items ≡ old.nodes.items ++ front → new.finals.items ≡ old.finals.items ++ back → new.warned ≡ warn_file f.said.path f.prefix f.said.commands old.warned

@@ -1,4 +1,4 @@
--- What is told after one more line.
+-- What is noted after one more line.
 use Rattle.std.proofs.Common.{◌≡◌, ℕ, ◌+◌, ◌<◌, ◌++◌, List, [], ◌∷◌, length, get_or, take, drop, sym, ap, ◌∙◌}
 use Rattle.std.proofs.lemmas.List.{drop_more, take_at, take_more}
 use Rattle.dag_reader.specs.declared.command.Command.{Command}
@@ -7,7 +7,7 @@ use Rattle.splices_flat.specs.Warnings.{Warned, replaced_lines, warn_line, warn_
 pub next_lines : (commands : List Command) (i : ℕ) (c : Command) → i < length commands → c ≡ get_or commands i c → take (i + 1) commands ≡ take i commands ++ c ∷ []
 next_lines commands i c lt is = take_more commands i c lt ∙ ap (λ d. take i commands ++ d ∷ []) (sym is)
 
--- one more line of a file is told
+-- one more line of a file is noted
 pub line_more : (path prefix : List ℕ) (commands : List Command) (i : ℕ) (c : Command) (warned after all : Warned) (lines : List ℕ) → i < length commands → c ≡ get_or commands i c
     → lines ≡ replaced_lines prefix commands (take i commands) c → after ≡ warn_line path prefix warned c lines
     → warn_lines path prefix commands (take i commands) warned (drop i commands) ≡ all → warn_lines path prefix commands (take (i + 1) commands) after (drop (i + 1) commands) ≡ all

@@ -16,7 +16,7 @@ use Rattle.splices_flat.specs.Dag.{IsBelow, IsGroupBelow}
 use Rattle.splices_flat.specs.Nodes.{own_count, jobs_in, job_names}
 use Rattle.splices_flat.specs.Forest.{Forest, none, more, Tree, forest_count}
 use Rattle.splices_flat.specs.Places.{edge, edges_of, pairs, is_end}
-use Rattle.splices_flat.specs.Edges.{NodeScope, node_scope, side_of, part_nodes, splice_nodes, job_or_splice, stands_for, all_stand_for, unseen, line_edges, file_edges, part_of, forest_edges, forest_parts, tree_count, tree_edges}
+use Rattle.splices_flat.specs.Edges.{NodeScope, node_scope, side_of, part_nodes, splice_nodes, job_or_splice, nodes_named, all_stand_for, unseen, line_edges, file_edges, part_of, forest_edges, forest_parts, tree_count, tree_edges}
 use Rattle.splices_flat.proofs.Own.{names-length}
 
 abbrev Below : ℕ → ℕ → Type 0
@@ -67,7 +67,7 @@ named_below n side scope w None is fits below = spliced_below n side scope (posi
 
 all_below : (n : ℕ) (side : Side) (scope : NodeScope) (ws : List PlacedText) → scope.first + length scope.jobs ≤ n → All (PartBelow n) scope.parts → All (Below n) (all_stand_for side scope ws)
 all_below n side scope ws fits below =
-    all_flat (Below n) (stands_for side scope) (unseen [] ws) (λ w. named_below n side scope w (position (bytes_eq w.text) scope.jobs) refl fits below)
+    all_flat (Below n) (nodes_named side scope) (unseen [] ws) (λ w. named_below n side scope w (position (bytes_eq w.text) scope.jobs) refl fits below)
 
 row_below : (n p : ℕ) (children : List ℕ) → p < n → All (Below n) children → All (IsBelow n) (map (λ c. edge p c) children)
 row_below n p children small below = All-map (IsBelow n) (λ c. edge p c) children (All-weaker (Below n) (λ c. IsBelow n (edge p c)) (λ c less. record { parent = small; child = less }) children below)

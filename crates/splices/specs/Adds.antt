@@ -19,7 +19,7 @@ pub record IsFew (used : Used) : Type 0 where
   pub nodes : used.nodes ≤ 65536
   pub splices : used.splices ≤ 4096
 
--- these files were told and their nodes added to the draft
+-- the lines of these files were noted and their nodes added to the draft
 pub record AddsFiles (old new : DagBuilder) (files : List OpenFile) : Type 0 where
   pub nodes : new.nodes.items ≡ old.nodes.items ++ flat_map job_nodes files
   pub finals : new.finals.items ≡ old.finals.items ++ flat_map final_nodes files

@@ -1,4 +1,4 @@
--- What is told of lines, as the code has it.
+-- The notices of lines, as the code has them.
 use Rattle.std.specs.Prelude.{string_bytes}
 use Rattle.splices.specs.declared.notices.Notice.{Notice as KeptNotice}
 use Rattle.splices.specs.declared.notices.Place.{Place as KeptPlace}

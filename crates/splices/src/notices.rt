@@ -1,4 +1,4 @@
-//! What the user is told of lines.
+//! The warnings of lines, for the user.
 
 ghost use Rattle.std.specs.Prelude.{◌≡◌, [], map, IfOk, OnOk};
 ghost use Rattle.splices_flat.specs.Notices.{ignored, overridden, place, warning_of, with_notice, with_notices};
@@ -28,7 +28,7 @@ impl Place {
     }
 }
 
-/// A line that is told, and the line that tells it.
+/// A line that is warned of, and the line that causes the warning.
 #[derive(PartialEq, Eq, Hash, Drop)]
 pub(crate) struct Notice {
     warned: Place,
@@ -50,8 +50,8 @@ impl Notice {
     }
 }
 
-/// What is told of lines, in the order in which it was told first. A contract sees the list of
-/// the notices, none of which stands there twice.
+/// The notices of lines, in the order in which each was added first. A contract sees the list of
+/// them, none of which stands there twice.
 #[derive(Drop)]
 pub(crate) struct Notices {
     notices: IndexSet<Notice>,
@@ -68,7 +68,7 @@ impl Model for Notices {
 }
 
 impl Notices {
-    /// Nothing is told.
+    /// There are no notices.
     pub(crate) fn new(alloc: Global) -> Notices
         ensures { result ≡ [] }
     {

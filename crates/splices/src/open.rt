@@ -31,7 +31,7 @@ use splices_flat::{
 };
 use std::alloc::{AllocError, Global};
 
-/// The nodes and edges of the files that were opened, and what the user is told of them.
+/// The nodes and edges of the files that were opened, and the warnings of them.
 pub(crate) struct DagBuilder {
     pub(crate) nodes: Vec<FlatNode>,
     pub(crate) finals: Vec<FlatNode>,
@@ -189,7 +189,7 @@ fn check_file(
     Ok(names)
 }
 
-/// Adds a file's own nodes to the draft, and tells what is to be told of it.
+/// Adds a file's own nodes to the draft, and notes the warnings of it.
 fn add_own(
     alloc: Global,
     path: &str,

@@ -15,7 +15,7 @@ use splices_flat::{FlatNode, Settings, path_in};
 use std::alloc::{AllocError, Global};
 
 /// The nodes that a file declares itself, with their settings: those of the JOB lines, and then
-/// FINAL. What the user is to be told of the file is told.
+/// FINAL. The user's warnings of the file are noted.
 pub(crate) fn own_nodes(
     alloc: Global,
     path: &str,
@@ -104,90 +104,53 @@ fn plain_nodes(
     ensures { IfOk result (λ nodes. nodes.items
         ≡ map (plain_node prefix.now folder.now) (jobs_in commands.now ++ finals_in commands.now)) }
 {
-    let mut nodes = Vec::new(alloc);
-    add_jobs(alloc, prefix, folder, commands, &mut nodes)?;
-    add_finals(alloc, prefix, folder, commands, &mut nodes)?;
-    Ok(nodes)
-}
-
-fn add_jobs(
-    alloc: Global,
-    prefix: &str,
-    folder: &str,
-    commands: &[Command],
-    nodes: &mut Vec<FlatNode>,
-) -> Result<(), AllocError>
-    ensures { OnOk result (nodes.new.items
-        ≡ nodes.old.items ++ map (plain_node prefix.now folder.now) (jobs_in commands.now)) }
-{
+    let mut jobs = Vec::new(alloc);
+    let mut finals = Vec::new(alloc);
     for command in commands {
-        add_job(alloc, prefix, folder, command, nodes)?;
+        add_declared(alloc, prefix, folder, command, &mut jobs, &mut finals)?;
     }
-    Ok(())
+    jobs.append(&mut finals)?;
+    Ok(jobs)
 }
 
-fn add_job(
+/// Adds the node that a line declares, if it declares one: a JOB line to the jobs, FINAL to the finals.
+fn add_declared(
     alloc: Global,
     prefix: &str,
     folder: &str,
     command: &Command,
-    nodes: &mut Vec<FlatNode>,
+    jobs: &mut Vec<FlatNode>,
+    finals: &mut Vec<FlatNode>,
 ) -> Result<(), AllocError>
-    ensures { OnOk result (nodes.new.items
-        ≡ nodes.old.items ++ map (plain_node prefix.now folder.now) (job_in command.now)) }
+    ensures jobs { OnOk result (jobs.new.items
+        ≡ jobs.old.items ++ map (plain_node prefix.now folder.now) (job_in command.now)) }
+    ensures finals { OnOk result (finals.new.items
+        ≡ finals.old.items ++ map (plain_node prefix.now folder.now) (final_in command.now)) }
 {
-    if let Command::Job {
-        name,
-        file,
-        dir,
-        noop,
-        done,
-    } = command
-    {
-        let mut node = plain_node(alloc, prefix, folder, name, file, dir)?;
-        node.noop = *noop;
-        node.done = *done;
-        nodes.push(node)?;
-    }
-    Ok(())
-}
-
-fn add_finals(
-    alloc: Global,
-    prefix: &str,
-    folder: &str,
-    commands: &[Command],
-    nodes: &mut Vec<FlatNode>,
-) -> Result<(), AllocError>
-    ensures { OnOk result (nodes.new.items
-        ≡ nodes.old.items ++ map (plain_node prefix.now folder.now) (finals_in commands.now)) }
-{
-    for command in commands {
-        add_final(alloc, prefix, folder, command, nodes)?;
-    }
-    Ok(())
-}
-
-fn add_final(
-    alloc: Global,
-    prefix: &str,
-    folder: &str,
-    command: &Command,
-    nodes: &mut Vec<FlatNode>,
-) -> Result<(), AllocError>
-    ensures { OnOk result (nodes.new.items
-        ≡ nodes.old.items ++ map (plain_node prefix.now folder.now) (final_in command.now)) }
-{
-    if let Command::Final {
-        name,
-        file,
-        dir,
-        noop,
-    } = command
-    {
-        let mut node = plain_node(alloc, prefix, folder, name, file, dir)?;
-        node.noop = *noop;
-        nodes.push(node)?;
+    match command {
+        Command::Job {
+            name,
+            file,
+            dir,
+            noop,
+            done,
+        } => {
+            let mut node = plain_node(alloc, prefix, folder, name, file, dir)?;
+            node.noop = *noop;
+            node.done = *done;
+            jobs.push(node)?;
+        }
+        Command::Final {
+            name,
+            file,
+            dir,
+            noop,
+        } => {
+            let mut node = plain_node(alloc, prefix, folder, name, file, dir)?;
+            node.noop = *noop;
+            finals.push(node)?;
+        }
+        _ => (),
     }
     Ok(())
 }

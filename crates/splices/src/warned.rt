@@ -1,4 +1,4 @@
-//! What is told of the files: the limits of categories, and the lines that are ignored or replaced.
+//! What is noted of files: the limits of categories, and the lines that are ignored or replaced.
 
 ghost use Rattle.std.specs.Prelude.{◌≡◌, [], map, OnOk, IfOk};
 ghost use Rattle.splices_flat.specs.Notices.{warning_of, with_notices};
@@ -12,7 +12,7 @@ use splices_flat::{CategoryLimit, DagWarning, NameTable, full_category, target_l
 use std::alloc::{AllocError, Global};
 use std::marker::Model;
 
-/// What is told of the files so far. A contract sees the limits and the notices.
+/// What is noted of the files so far. A contract sees the limits and the notices.
 pub(crate) struct Warned {
     names: NameTable,
     limits: Vec<CategoryLimit>,
@@ -42,7 +42,7 @@ impl Model for Warned {
 }
 
 impl Warned {
-    /// Nothing is told.
+    /// Nothing is noted.
     pub(crate) fn new(alloc: Global) -> Warned
         ensures { result ≡ record { limits = []; notices = [] } }
     {
@@ -71,7 +71,7 @@ impl Warned {
     }
 
     /// Puts in the limit of a category: a later one takes the place of that there, and the user is
-    /// told so.
+    /// warned of it.
     fn set_limit(&mut self, alloc: Global, limit: CategoryLimit) -> Result<(), AllocError>
         ensures { OnOk result (self.new ≡ warn_limit self.old limit) }
     {

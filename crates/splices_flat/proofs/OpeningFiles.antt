@@ -9,7 +9,7 @@ use Rattle.dag_reader.specs.Reading.{text_at}
 use Rattle.splices_flat.specs.declared.fault.DagFault.{DagFault}
 use Rattle.splices_flat.specs.declared.used.Used.{Used}
 use Rattle.splices_flat.specs.Forest.{ParsedFile, Forest, none, more, Tree}
-use Rattle.splices_flat.specs.Opening.{◌>>=◌, Files, Opener, in_file, says_at, check_file, with_file, with_forest, with_splice, parsed_file, forests_joined, enter_at, open_line, open_lines, open_said, open_file, opened_at}
+use Rattle.splices_flat.specs.Opening.{◌>>=◌, Files, Opener, in_file, says_at, check_file, with_file, with_forest, with_splice, parsed_file, forests_joined, enter_at, open_line, open_lines, open_said, open_file, tree_at}
 use Rattle.splices_flat.specs.OpenedFiles.{Spliced, splice_in, splices_in, splice_folder, splice_path, IsSaid, AreOpened, IsOpenedTree}
 
 -- what stands before a last step that succeeds
@@ -77,8 +77,8 @@ file-opens files (suc left) used above folder path tree is =
     subst (Opens files above folder path) (given (record { file = parsed_file path folder contents; inner = d.0 }) tree d.2)
     (said files folder path contents (files path) refl a.1, lines-open files (open_file files left) (file-opens files left) contents (with_file used contents) above folder d.0 d.1)
 
-pub is-opened : (files : Files) (top : List ℕ) (tree : Tree) → opened_at files top ≡ Ok tree → IsOpenedTree files top tree
-unfolding opened_at
+pub is-opened : (files : Files) (top : List ℕ) (tree : Tree) → tree_at files top ≡ Ok tree → IsOpenedTree files top tree
+unfolding tree_at
 is-opened files top tree is = file-opens files 33 (record { nodes = 0; splices = 0 }) (top ∷ []) [] top tree is
 
 -- There is one way to open files.

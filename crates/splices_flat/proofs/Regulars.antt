@@ -14,7 +14,7 @@ use Rattle.splices_flat.specs.Faults.{files_fault}
 use Rattle.splices_flat.specs.Nodes.{Declared, finals_in, own_count}
 use Rattle.splices_flat.specs.Forest.{ParsedFile, Forest, none, more, Tree, tree_files}
 use Rattle.splices_flat.specs.Opened.{dag_at, dag_of, dag_unless, flat_of}
-use Rattle.splices_flat.specs.Opening.{◌>>=◌, Files, Opener, in_file, says_at, final_fault, check_final, check_lines, check_count, check_file, forest_declared, forest_splices, with_file, with_forest, with_splice, parsed_file, forests_joined, enter_at, open_line, open_lines, open_said, open_file, opened_at}
+use Rattle.splices_flat.specs.Opening.{◌>>=◌, Files, Opener, in_file, says_at, final_fault, check_final, check_lines, check_count, check_file, forest_declared, forest_splices, with_file, with_forest, with_splice, parsed_file, forests_joined, enter_at, open_line, open_lines, open_said, open_file, tree_at}
 use Rattle.splices_flat.specs.OpenedFiles.{Spliced, splices_in, splice_folder, splice_path, IsSaid, AreOpened, IsOpenedTree}
 use Rattle.splices_flat.specs.Regular.{DeclareOnce, AreRegular, IsRegular, forest_depth}
 use Rattle.splices_flat.proofs.DeclaredOnce.{accepted, once_passes, passes_once}
@@ -156,8 +156,8 @@ file_open files (suc left) used above folder path tree some may fits is are =
     ∙ ap (λ (r : Result Forest DagFault). r >>= λ f. Ok (record { file = parsed_file path folder cs; inner = f })) inner
     ∙ ap (λ (s : ParsedFile). Ok (record { file = s; inner = tree.inner })) (said_is files folder path tree.file is)
 
-pub all_opened : (files : Files) (top : List ℕ) (tree : Tree) → IsOpenedTree files top tree → IsRegular tree → opened_at files top ≡ Ok tree
-unfolding opened_at
+pub all_opened : (files : Files) (top : List ℕ) (tree : Tree) → IsOpenedTree files top tree → IsRegular tree → tree_at files top ≡ Ok tree
+unfolding tree_at
 all_opened files top tree is regular =
     let used : Used = record { nodes = 0; splices = 0 } in
     let nodes = regular.nodes in
@@ -229,8 +229,8 @@ file_fits files (suc left) used above folder path tree some is =
     subst (λ (t : Tree). FitsTree (suc left) used t × MayHaveFinal above t.file.commands) (given (record { file = parsed_file path folder cs; inner = d.0 }) tree d.2)
     ((passes_once path cs q.1, lines_fit left (open_file files left) (file_fits files left) cs (with_file used cs) above folder d.0 some d.1 few.0 few.1), passes_final above path cs p.1)
 
-pub opened_regular : (files : Files) (top : List ℕ) (tree : Tree) → opened_at files top ≡ Ok tree → IsRegular tree
-unfolding opened_at
+pub opened_regular : (files : Files) (top : List ℕ) (tree : Tree) → tree_at files top ≡ Ok tree → IsRegular tree
+unfolding tree_at
 opened_regular files top tree is =
     let used : Used = record { nodes = 0; splices = 0 } in
     let f = file_fits files 33 used (top ∷ []) [] top tree (omega arith) is in
@@ -252,6 +252,6 @@ made_of top (Some fault) tree dag is = absurd cc
 pub opened_dag : (files : Files) (top : List ℕ) (dag : Dag) → dag_at files top ≡ Ok dag → (tree : Tree) × IsOpenedTree files top tree × IsRegular tree × (files_fault (tree_files [] tree) ≡ None) × (dag ≡ flat_of top tree)
 unfolding dag_at
 opened_dag files top dag is =
-    let b = bound (opened_at files top) (λ tree. dag_unless top (files_fault (tree_files [] tree)) tree) dag is in
+    let b = bound (tree_at files top) (λ tree. dag_unless top (files_fault (tree_files [] tree)) tree) dag is in
     let made = made_of top (files_fault (tree_files [] b.0)) b.0 dag b.2 in
     (b.0, is-opened files top b.0 b.1, opened_regular files top b.0 b.1, made.0, made.1)

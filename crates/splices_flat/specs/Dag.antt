@@ -8,7 +8,7 @@ use Rattle.splices_flat.specs.declared.flat.CategoryLimit.{CategoryLimit}
 use Rattle.splices_flat.specs.declared.flat.DagWarning.{DagWarning}
 
 -- the path of the file that was opened first, the ordinary nodes in plan order, the FINAL node, the pairs of parents and children by their numbers, each
--- category that has a MAXJOBS, and what the user is told
+-- category that has a MAXJOBS, and the warnings for the user
 pub record Dag : Type 0 where
   pub top : List ℕ
   pub nodes : List FlatNode

@@ -42,8 +42,8 @@ abbrev pub job_or_splice : Side → NodeScope → List ℕ → Option ℕ → Li
 job_or_splice side scope name (Some k) = (scope.first + k) ∷ []
 job_or_splice side scope name None = splice_nodes side scope (position (bytes_eq name) scope.splices)
 
-abbrev pub stands_for : Side → NodeScope → PlacedText → List ℕ
-stands_for side scope w = job_or_splice side scope w.text (position (bytes_eq w.text) scope.jobs)
+abbrev pub nodes_named : Side → NodeScope → PlacedText → List ℕ
+nodes_named side scope w = job_or_splice side scope w.text (position (bytes_eq w.text) scope.jobs)
 
 -- of these words those whose text stands in no word before and is not seen yet
 abbrev pub unseen : List (List ℕ) → List PlacedText → List PlacedText
@@ -52,7 +52,7 @@ unseen seen (w ∷ ws) = if list_any (bytes_eq w.text) seen then unseen seen ws 
 
 -- the nodes that names stand for, each name once
 abbrev pub all_stand_for : Side → NodeScope → List PlacedText → List ℕ
-all_stand_for side scope ws = flat_map (stands_for side scope) (unseen [] ws)
+all_stand_for side scope ws = flat_map (nodes_named side scope) (unseen [] ws)
 
 -- the edges of a line: each node that its parents stand for is a parent of each that its children stand for
 abbrev pub line_edges : NodeScope → Command → List EdgeGroup

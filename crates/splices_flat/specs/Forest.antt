@@ -62,7 +62,7 @@ abbrev pub final_nodes : OpenFile → List FlatNode
 final_nodes f =
     declared_nodes f.prefix f.said.folder (settings_at f.prefix f.said.commands f.said.commands) (own_count f.said.commands) (finals_in f.said.commands)
 
--- the files are told in their order
+-- the warnings of the files are given in their order
 abbrev pub warn_files : Warned → List OpenFile → Warned
 warn_files warned [] = warned
 warn_files warned (f ∷ fs) = warn_files (warn_file f.said.path f.prefix f.said.commands warned) fs

@@ -1,4 +1,4 @@
--- What is told of lines: each notice once, however many nodes it touches and however often its files are opened.
+-- The warnings of lines: each notice once, however many nodes it touches and however often its files are opened.
 use Rattle.std.specs.Prelude.{ℕ, ◌==◌, ◌&&◌, Bool, true, false, not, List, [], ◌∷◌, ◌++◌, if◌then◌else◌}
 use Rattle.std.specs.List.{list_any}
 use Rattle.std.specs.Str.{bytes_eq}
@@ -13,7 +13,7 @@ pub record Place : Type 0 where
 abbrev pub place : List ℕ → ℕ → Place
 place path line = record { path = path; line = line }
 
--- The line that is told, and the line that tells it: an ignored line tells of itself, and a line whose setting is replaced is told
+-- The line that is warned of, and the line that causes it: an ignored line causes its own notice, and that of a replaced setting is caused
 -- by the later one.
 pub record Notice : Type 0 where
   pub warned : Place

@@ -9,7 +9,7 @@ use Rattle.splices_flat.specs.Places.{edges_of}
 use Rattle.splices_flat.specs.Faults.{files_fault}
 use Rattle.splices_flat.specs.Notices.{warning_of}
 use Rattle.splices_flat.specs.Warnings.{Warned}
-use Rattle.splices_flat.specs.Opening.{Files, opened_at, ◌>>=◌}
+use Rattle.splices_flat.specs.Opening.{Files, tree_at, ◌>>=◌}
 
 abbrev pub first_of : {X : Type 0} → List X → Option X
 first_of [] = None
@@ -40,4 +40,4 @@ dag_of top read = read >>= λ tree. dag_unless top (files_fault (tree_files [] t
 
 -- the DAG of the file with this path, or the first fault
 unfoldable pub dag_at : Files → List ℕ → Result Dag DagFault
-dag_at files top = dag_of top (opened_at files top)
+dag_at files top = dag_of top (tree_at files top)

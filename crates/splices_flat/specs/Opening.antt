@@ -137,5 +137,5 @@ open_file files (suc depth) used above folder path =
     says_at path (files path) >>= open_said (open_file files depth) used above folder path
 
 -- The files of the DAG with this path: the top file lies in no folder, and at most 32 files lie in it, one in the other.
-unfoldable pub opened_at : Files → List ℕ → Result Tree DagFault
-opened_at files top = open_file files 33 (record { nodes = 0; splices = 0 }) (top ∷ []) [] top
+unfoldable pub tree_at : Files → List ℕ → Result Tree DagFault
+tree_at files top = open_file files 33 (record { nodes = 0; splices = 0 }) (top ∷ []) [] top

@@ -1,4 +1,4 @@
--- What a user is told: the ignored lines, and the lines with a setting that a later one replaces.
+-- What a user is warned of: the ignored lines, and the lines with a setting that a later one replaces.
 use Rattle.std.specs.Prelude.{ℕ, ◌==◌, List, [], ◌∷◌, ◌++◌, length, map, find, Option, Some, None, if◌then◌else◌}
 use Rattle.std.specs.List.{flat_map, list_any, range_with_len}
 use Rattle.std.specs.Str.{bytes_eq}
@@ -61,7 +61,7 @@ abbrev pub with_limit : List CategoryLimit → CategoryLimit → List CategoryLi
 with_limit [] limit = limit ∷ []
 with_limit (other ∷ limits) limit = if bytes_eq limit.name other.name then limit ∷ limits else other ∷ with_limit limits limit
 
--- what is known behind some lines: the limits, and what is told of lines
+-- what is known behind some lines: the limits, and the notices of lines
 pub record Warned : Type 0 where
   pub limits : List CategoryLimit
   pub notices : List Notice
@@ -90,18 +90,18 @@ abbrev pub replaced_settings : List ℕ → Option Target → List ℕ → List 
 replaced_settings path None replaced = []
 replaced_settings path (Some target) replaced = map (λ line. overridden (place path line) (place path (line_of_target target))) replaced
 
--- a line of the file of this path, whose names have this prefix, is told: it replaces the settings of these lines
+-- a line of the file of this path, whose names have this prefix, is noted: it replaces the settings of these lines
 abbrev pub warn_line : List ℕ → List ℕ → Warned → Command → List ℕ → Warned
 warn_line path prefix warned (MaxJobs category n) replaced = warn_limit warned (category_limit path prefix category n)
 warn_line path prefix warned (Ignored span) replaced = record warned { notices = with_notice warned.notices (ignored (place path span.line)) }
 warn_line path prefix warned c replaced = record warned { notices = with_notices warned.notices (replaced_settings path (setting_target c) replaced) }
 
--- some lines of such a file, which has these lines, are told; the lines before them are these
+-- some lines of such a file, which has these lines, are noted; the lines before them are these
 abbrev pub warn_lines : List ℕ → List ℕ → List Command → List Command → Warned → List Command → Warned
 warn_lines path prefix commands before warned [] = warned
 warn_lines path prefix commands before warned (c ∷ cs) =
     warn_lines path prefix commands (before ++ c ∷ []) (warn_line path prefix warned c (replaced_lines prefix commands before c)) cs
 
--- a file is told
+-- all lines of a file are noted
 abbrev pub warn_file : List ℕ → List ℕ → List Command → Warned → Warned
 warn_file path prefix commands warned = warn_lines path prefix commands [] warned commands

@@ -215,7 +215,7 @@ pub struct CategoryLimit {
     pub line: usize,
 }
 
-/// What a user is told of a line of a file that is no fault. It is displayed as `FILE:LINE` and
+/// A warning of a line of a file that is no fault. It is displayed as `FILE:LINE` and
 /// what happens to the line.
 #[derive(Debug, Drop)]
 pub enum DagWarning {
@@ -350,7 +350,7 @@ impl FlatDag {
         self.categories.as_slice()
     }
 
-    /// What the user is told of lines, each notice once, in the order of the files and of their lines.
+    /// The warnings of lines, each notice once, in the order of the files and of their lines.
     pub fn warnings(&self) -> &[DagWarning]
         ensures { result.now ≡ self.now.warnings }
     {

@@ -5,7 +5,7 @@ ghost use Rattle.splices_flat.specs.Dag.{Dag};
 ghost use Rattle.splices_flat.specs.Faults.{files_fault};
 ghost use Rattle.splices_flat.specs.Forest.{Tree, tree_files};
 ghost use Rattle.splices_flat.specs.Opened.{dag_at, flat_of};
-ghost use Rattle.splices_flat.specs.Opening.{Files, opened_at};
+ghost use Rattle.splices_flat.specs.Opening.{Files, tree_at};
 ghost use Rattle.splices_flat.specs.OpenedFiles.{IsOpenedTree};
 ghost use Rattle.splices_flat.specs.Regular.{IsRegular};
 
@@ -13,7 +13,7 @@ ghost use Rattle.splices_flat.specs.Regular.{IsRegular};
 /// and the files of its SPLICE lines are opened in their order. There is one such opening alone.
 pub fn one_opening()
     ensures opened { (files : Files) (top : List ℕ) (tree : Tree) →
-        opened_at files top ≡ Ok tree → IsOpenedTree files top tree }
+        tree_at files top ≡ Ok tree → IsOpenedTree files top tree }
     ensures one { (files : Files) (top : List ℕ) (tree other : Tree) →
         IsOpenedTree files top tree → IsOpenedTree files top other → tree ≡ other }
 {}
@@ -23,9 +23,9 @@ pub fn one_opening()
 /// too deep. They make a DAG exactly where no name in them stands where it can't.
 pub fn refused_by_rules_alone()
     ensures opens { (files : Files) (top : List ℕ) (tree : Tree) →
-        IsOpenedTree files top tree → IsRegular tree → opened_at files top ≡ Ok tree }
+        IsOpenedTree files top tree → IsRegular tree → tree_at files top ≡ Ok tree }
     ensures regular { (files : Files) (top : List ℕ) (tree : Tree) →
-        opened_at files top ≡ Ok tree → IsRegular tree }
+        tree_at files top ≡ Ok tree → IsRegular tree }
     ensures dag { (files : Files) (top : List ℕ) (tree : Tree) →
         IsOpenedTree files top tree → IsRegular tree → files_fault (tree_files [] tree) ≡ None →
         dag_at files top ≡ Ok (flat_of top tree) }

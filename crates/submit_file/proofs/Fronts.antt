@@ -4,7 +4,7 @@ use Rattle.std.proofs.lemmas.Bool.{false≢true, and_parts, and_from, ne_eqb, ca
 use Rattle.std.proofs.lemmas.List.{take_all, take-append-le, length-append}
 use Rattle.std.specs.Option.{option_to_list}
 use Rattle.std.specs.List.{list_all}
-use Rattle.submit_file.specs.Lines.{is_blank, trim_start, is_the_byte, is_comment, is_continued}
+use Rattle.submit_file.specs.Lines.{is_blank, trim_start, is_the_byte, is_comment_line, is_continued}
 use Rattle.submit_file.specs.Fronts.{BeginsWithBlanks}
 
 -- no byte is read yet
@@ -50,7 +50,7 @@ pub kept : (text front : List ℕ) (last : Option ℕ) (below : List ℕ) (n : �
 unfolding is_continued
 kept text front last below n e is goes =
     let within = is.within in
-    let byte = (and_parts (is_the_byte 92 (slice_get text (length text - 1))) (not (is_comment text)) goes).0 in
+    let byte = (and_parts (is_the_byte 92 (slice_get text (length text - 1))) (not (is_comment_line text)) goes).0 in
     let not_all : n < length text = ⊎_elim (λ less. less)
     (λ (past : length text ≤ n). absurd (false≢true (sym (blank_end text (subst (λ (t : List ℕ). list_all is_blank t ≡ true) (take_all n text past) is.blank)) ∙ byte)))
     (cases_lt n (length text)) in

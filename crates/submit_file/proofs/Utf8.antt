@@ -11,8 +11,8 @@ use Rattle.std.proofs.lemmas.List.Sums.{take_while-cons, fails_before_first, pas
 use Rattle.std.specs.List.{All, AllByRecursion, position_or_len, slice_get, slice_split}
 use Rattle.std.specs.Str.{IsUtf8}
 use Rattle.std.specs.Str.Lines.{lines, lines_of_parts, strip_carriage_return}
-use Rattle.submit_file.specs.Lines.{Statement, is_blank, trim_start, is_the_byte, is_comment, is_continued, front, statements, joined}
-use Rattle.submit_file.specs.Forms.{Saying, Silent, Assigns, Queues, Wrong, trimmed, before_equals, name_before, assigned_value, is_name, is_assignment, Form, forms, first_form, line_says}
+use Rattle.submit_file.specs.Lines.{Statement, is_blank, trim_start, is_the_byte, is_comment_line, is_continued, front, statements, joined}
+use Rattle.submit_file.specs.Forms.{Saying, Silent, Assigns, Queues, Wrong, trimmed, before_equals, name_before, assigned_value, is_assigned_name, is_assignment, Form, forms, first_form, line_says}
 
 -- up to an ASCII byte, and behind it
 pub utf8_before : (bs : List ℕ) (i c : ℕ) → IsUtf8 bs → i < length bs → get_or bs i 0 ≡ c → c < 128 → IsUtf8 (take i bs)
@@ -106,7 +106,7 @@ IsText (Wrong fault) = Unit {0}
 assigned_text : (line : List ℕ) → IsUtf8 line → is_assignment line ≡ true → IsText (Assigns (name_before line) (assigned_value line))
 assigned_text line u is =
     let n = length (before_equals line) in
-    let inside = both_left (nat_lt n (length line)) (is_name (name_before line)) is in
+    let inside = both_left (nat_lt n (length line)) (is_assigned_name (name_before line)) is in
     let lt : n < length line = grind (arith, inside) in
     let at = cut_equals line lt in (
       utf8_trimmed (before_equals line) (subst IsUtf8 (front_equals line) (utf8_before line n 61 u lt at (omega arith))),
@@ -138,7 +138,7 @@ last_is c (Some b) h = ap (λ (x : ℕ). Some x) (eqb-true b c h)
 utf8_front : (text : List ℕ) → IsUtf8 text → is_continued text ≡ true → IsUtf8 (front text)
 unfolding is_continued
 utf8_front text u h =
-    let at : slice_get text (length text - 1) ≡ Some 92 = last_is 92 _ (both_left _ (not (is_comment text)) h) in
+    let at : slice_get text (length text - 1) ≡ Some 92 = last_is 92 _ (both_left _ (not (is_comment_line text)) h) in
     utf8_before text (length text - 1) 92 u (slice_get_within text (length text - 1) 92 at) (get_or_from_slice_get text (length text - 1) 92 0 at) (omega arith)
 
 utf8_last : (n : ℕ) (text : List ℕ) → IsUtf8 text → AreTexts (record { number = n; text = cond (is_continued text) (front text) text } ∷ [])

@@ -54,38 +54,38 @@ is_once (d ∷ []) = d == 49
 is_once (d ∷ e ∷ ds) = d == 48 && is_once (e ∷ ds)
 
 -- words that begin what is left out
-unfoldable pub is_left_out : List ℕ → Bool
-is_left_out word = (is_word word (codes "if") || (is_word word (codes "elif") || is_word word (codes "else"))) || (is_word word (codes "endif") || is_word word (codes "include"))
+unfoldable pub begins_left_out : List ℕ → Bool
+begins_left_out word = (is_word word (codes "if") || (is_word word (codes "elif") || is_word word (codes "else"))) || (is_word word (codes "endif") || is_word word (codes "include"))
 
 -- A name is not empty and holds no blank.
-abbrev pub is_name : List ℕ → Bool
-is_name name = nat_lt 0 (length name) && not (list_any is_blank name)
+abbrev pub is_assigned_name : List ℕ → Bool
+is_assigned_name name = nat_lt 0 (length name) && not (list_any is_blank name)
 
 abbrev pub is_assignment : List ℕ → Bool
-is_assignment line = nat_lt (length (before_equals line)) (length line) && is_name (name_before line)
+is_assignment line = nat_lt (length (before_equals line)) (length line) && is_assigned_name (name_before line)
 
--- A row of the table: what a line looks like without the blanks at its front, and what it says.
+-- A a_form of the table: what a line looks like without the blanks at its front, and what it says.
 pub record Form : Type 0 where
   pub looks : List ℕ → Bool
   pub says : List ℕ → Saying
 
-abbrev row : (List ℕ → Bool) → (List ℕ → Saying) → Form
-row looks says = record { looks = looks; says = says }
+abbrev a_form : (List ℕ → Bool) → (List ℕ → Saying) → Form
+a_form looks says = record { looks = looks; says = says }
 
 -- The table, where a queue line stands above (queued) or none does. A line has the first form that it looks like: so U5
 -- comes before U4, and U4 before U2, which is what a line of no form is.
 abbrev pub forms : Bool → List Form
 forms queued =
     -- no word, or a comment
-    row is_silent (λ line. Silent)
+    a_form is_silent (λ line. Silent)
     -- U5: queue with other words than a count, or what is left out
-    ∷ row (λ line. is_queue line && not (list_all is_ascii_digit (behind_word line))) (λ line. Wrong Unsupported)
-    ∷ row (λ line. is_left_out (word_and_rest line) && not (begins_with 61 (behind_word line))) (λ line. Wrong Unsupported)
+    ∷ a_form (λ line. is_queue line && not (list_all is_ascii_digit (behind_word line))) (λ line. Wrong Unsupported)
+    ∷ a_form (λ line. begins_left_out (word_and_rest line) && not (begins_with 61 (behind_word line))) (λ line. Wrong Unsupported)
     -- U4: queue once more, or with another count than 1
-    ∷ row (λ line. is_queue line && (queued || not (is_once (behind_word line)))) (λ line. Wrong QueueCount)
-    ∷ row is_queue (λ line. Queues)
+    ∷ a_form (λ line. is_queue line && (queued || not (is_once (behind_word line)))) (λ line. Wrong QueueCount)
+    ∷ a_form is_queue (λ line. Queues)
     -- a name, an equals sign and a value; any other line is U2
-    ∷ row is_assignment (λ line. Assigns (name_before line) (assigned_value line))
+    ∷ a_form is_assignment (λ line. Assigns (name_before line) (assigned_value line))
     ∷ []
 
 abbrev pub first_form : List Form → List ℕ → Saying

@@ -13,17 +13,13 @@ a_placed queued number name value = record { line = number; counts = not queued;
 
 -- what a line assigns; nothing where it can't be read
 abbrev pub placed_in : (queued : Bool) → (number : ℕ) → Saying → List PlacedAssignment
-placed_in queued number Silent = []
 placed_in queued number (Assigns name value) = a_placed queued number name value ∷ []
-placed_in queued number Queues = []
-placed_in queued number (Wrong fault) = []
+placed_in queued number _ = []
 
 -- whether a queue line stands above what is below such a line
 abbrev pub is_queued_below : Bool → Saying → Bool
-is_queued_below queued Silent = queued
-is_queued_below queued (Assigns name value) = queued
 is_queued_below queued Queues = true
-is_queued_below queued (Wrong fault) = queued
+is_queued_below queued _ = queued
 
 -- the assignments of all lines
 unfoldable pub placed_from : (queued : Bool) → List Statement → List PlacedAssignment
@@ -36,8 +32,8 @@ abbrev pub placed_of : List ℕ → List PlacedAssignment
 placed_of text = placed_from false (statements 1 (lines text))
 
 -- those that count, without their places
-abbrev pub counted : List PlacedAssignment → List Assignment
-counted placed = map (λ p. p.assignment) (filter (λ p. p.counts) placed)
+abbrev pub effective_assignments : List PlacedAssignment → List Assignment
+effective_assignments placed = map (λ p. p.assignment) (filter (λ p. p.counts) placed)
 
 -- the assignments so far, and whether the queue line stood
 pub record Placing : Type 0 where

@@ -63,7 +63,7 @@ fn blanks_end(text: &[u8], from: usize) -> usize
 }
 
 /// Whether a line with so many blanks at its front is continued.
-#[tactic(auto, unfolding(crate::specs::Lines::is_continued, crate::specs::Lines::is_comment))]
+#[tactic(auto, unfolding(crate::specs::Lines::is_continued, crate::specs::Lines::is_comment_line))]
 fn is_continued(text: &[u8], blanks: usize) -> bool
     requires { HasBlanks blanks text.now }
     ensures { result ≡ is_continued text.now }

@@ -4,7 +4,7 @@ ghost use Rattle.std.specs.Prelude.{◌≡◌, List, Ok, Err, IfOk};
 ghost use Rattle.std.specs.Str.{IsUtf8};
 ghost use Rattle.submit_file.specs.Forms.{line_says};
 ghost use Rattle.submit_file.specs.Placings.{placing_of};
-ghost use Rattle.submit_file.specs.Placed.{with_placed, placed_of, counted};
+ghost use Rattle.submit_file.specs.Placed.{with_placed, placed_of, effective_assignments};
 ghost use Rattle.submit_file.specs.Submit.{Gives, SaysAssignments};
 ghost use Rattle.submit_file.specs.declared.submit.Assignment.{Assignment};
 ghost use Rattle.submit_file.specs.declared.fault.SubmitFault.TheVariants.{NotText};
@@ -66,7 +66,7 @@ pub fn placed_assignments(alloc: Global, text: &[u8]) -> Result<Vec<PlacedAssign
     ensures not_text { ¬ (IsUtf8 text.now) → result ≡ Err NotText }
 
     // Those that count are what `read_submit` reads.
-    ensures same { (pairs : List Assignment) → SaysAssignments text.now pairs → IfOk result (λ found. counted found.items ≡ pairs) }
+    ensures same { (pairs : List Assignment) → SaysAssignments text.now pairs → IfOk result (λ found. effective_assignments found.items ≡ pairs) }
 {
     match str::from_utf8(text) {
         Ok(_) => place_lines(alloc, text),

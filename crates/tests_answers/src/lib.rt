@@ -1,4 +1,4 @@
-//! Tests of what is answered of folders and told on consoles, over ones in memory.
+//! Tests of what is answered of folders and printed on consoles, over ones in memory.
 #![tactic(auto)]
 
 #[cfg(test)]

@@ -117,7 +117,7 @@ fn make<D: Disk + Drop>(
             fill(rt, &mut journal, call)?;
             Ok(journal.into_disk())
         }
-        Ok(Opened::Found(journal)) => Ok(journal.into_disk()),
+        Ok(Opened::Found(journal, _)) => Ok(journal.into_disk()),
         Err((_, fault)) => Err(fault),
     }
 }

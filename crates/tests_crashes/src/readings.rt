@@ -40,10 +40,7 @@ pub fn records_of(
     digest: &[u8; 32],
 ) -> Result<Option<Vec<Record>>, Fail> {
     match Journal::open(alloc, disk_of(alloc, bytes)?, digest, false, SLOTS) {
-        Ok(Opened::Found(journal)) => {
-            let mut journal = journal;
-            Ok(Some(journal.records(alloc)?))
-        }
+        Ok(Opened::Found(_, records)) => Ok(Some(records)),
         Ok(Opened::Fresh(_)) => Ok(None),
         Err((_, fault)) => Err(Fail::from(fault)),
     }

@@ -59,7 +59,7 @@ pub fn written(
             add_all(&mut journal, records)?;
             Ok(journal.into_disk())
         }
-        Ok(Opened::Found(journal)) => Ok(journal.into_disk()),
+        Ok(Opened::Found(journal, _)) => Ok(journal.into_disk()),
         Err((_, fault)) => Err(fault),
     }
 }
@@ -96,7 +96,7 @@ fn opened(rt: HostRuntime, disk: MemDisk) -> Result<()> {
     let size = disk.bytes().len();
     for _ in 0..2 {
         match Journal::open(rt.alloc(), disk, &DIGEST, false, SLOTS) {
-            Ok(Opened::Found(journal)) => {
+            Ok(Opened::Found(journal, _)) => {
                 let mut journal = journal;
                 println!(rt; "open found")?;
                 if say(rt, records_line(rt.alloc(), &mut journal))? {

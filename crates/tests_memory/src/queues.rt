@@ -65,7 +65,7 @@ const ONE_JOB: Limits = Limits {
     ..NO_LIMITS
 };
 
-// What a second job and the end of no PRE script are told.
+// What is answered to a second job, and to the end of a PRE script that is not there.
 fn throttled(alloc: Global) -> Result<(ThrottleFault, ThrottleFault), ThrottleFault> {
     let mut throttles = Throttles::new(alloc, ONE_JOB, &[4, 5])?;
     throttles.start(Phase::Job, None)?;

@@ -170,11 +170,7 @@ fn live(alloc: Global, disk: MemDisk, plan: &Plan, table: &Table, stop: &Stop) -
 // The records of a journal, and its disk.
 fn read_back(alloc: Global, plan: &Plan, disk: MemDisk) -> Result<(MemDisk, Vec<Record>), Fail> {
     match Journal::open(alloc, disk, plan.digest(), plan.always_post(), SLOTS) {
-        Ok(Opened::Found(journal)) => {
-            let mut journal = journal;
-            let records = journal.records(alloc)?;
-            Ok((journal.into_disk(), records))
-        }
+        Ok(Opened::Found(journal, records)) => Ok((journal.into_disk(), records)),
         Ok(Opened::Fresh(journal)) => Ok((journal.into_disk(), Vec::new(alloc))),
         Err((_, fault)) => Err(Fail::from(fault)),
     }

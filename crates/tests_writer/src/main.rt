@@ -28,18 +28,18 @@ fn entry_at(place: u32) -> Record
     Record::Launch(key, u64::from(place))
 }
 
-fn begin<D: Disk + Drop>(alloc: Global, disk: D) -> Result<Journal<D>, JournalFault>
-    ensures settled { IfOk result (λ journal. D.honest (journal_disk journal)
-        → IsFalse (is_broken journal) → IsSettled D.Disk journal) }
+fn begin<D: Disk + Drop>(alloc: Global, disk: D) -> Result<(Journal<D>, Vec<Record>), JournalFault>
+    ensures settled { IfOk result (λ begun. D.honest (journal_disk begun.0)
+        → IsFalse (is_broken begun.0) → IsSettled D.Disk begun.0) }
 {
     match Journal::open(alloc, disk, &DIGEST, false, SLOTS) {
         Ok(Opened::Fresh(journal)) => {
             let mut journal = journal;
             journal.create_gate()?;
             journal.create_header(0, 1, &DIGEST, false)?;
-            Ok(journal)
+            Ok((journal, Vec::new(alloc)))
         }
-        Ok(Opened::Found(journal)) => Ok(journal),
+        Ok(Opened::Found(journal, records)) => Ok((journal, records)),
         Err((_, fault)) => Err(fault),
     }
 }
@@ -66,20 +66,6 @@ fn count_of(records: &[Record]) -> Option<u32> {
     Some(count)
 }
 
-/// How many records the journal holds, where they are those that this program appends.
-fn count_in<D: Disk + Drop>(
-    alloc: Global,
-    journal: &mut Journal<D>,
-) -> Result<Option<u32>, JournalFault>
-    requires settled { D.honest (journal_disk journal.old) → IsFalse (is_broken journal.old)
-        → IsSettled D.Disk journal.old }
-    ensures settled { D.honest (journal_disk journal.new) → IsFalse (is_broken journal.new)
-        → IsSettled D.Disk journal.new }
-{
-    let records = journal.records(alloc)?;
-    Ok(count_of(&records))
-}
-
 /// The path of the journal, and how many records it is to have.
 fn words_of(rt: HostRuntime) -> Result<(String, u32)> {
     let mut words = env::args(&rt)?;
@@ -94,8 +80,8 @@ fn words_of(rt: HostRuntime) -> Result<(String, u32)> {
 fn main(rt: HostRuntime) -> Result<()> {
     let alloc = rt.alloc();
     let (path, most) = words_of(rt)?;
-    let mut journal = begin(alloc, FileDisk::at(rt, path))?;
-    let Some(count) = count_in(alloc, &mut journal)? else {
+    let (mut journal, records) = begin(alloc, FileDisk::at(rt, path))?;
+    let Some(count) = count_of(&records) else {
         bail!("a record that was never appended");
     };
     println!(rt; "{count}")?;

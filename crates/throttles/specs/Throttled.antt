@@ -45,9 +45,8 @@ lets_category t (Some place) = is_below (slice_index t.categories place) (slice_
 
 -- the limit of the category counts jobs alone
 abbrev pub lets_phase : Throttled → Phase → Option ℕ → Bool
-lets_phase t Pre category = true
 lets_phase t Job category = lets_category t category
-lets_phase t Post category = true
+lets_phase t _ category = true
 
 -- no limit that counts the phase is reached
 abbrev pub may_start : Throttled → Phase → Option ℕ → Bool

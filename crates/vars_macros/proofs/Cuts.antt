@@ -1,6 +1,6 @@
 -- There are always cuts enough.
 use Rattle.std.proofs.Common.{◌≡◌, ◌∙◌, sym, ap, refl, ℕ, suc, zero, ◌+◌, ◌≤◌, ◌<◌, Bool, true, false, List, [], ◌∷◌, ◌++◌, ◌&&◌, inl, inr, length, arith, cond, Option, Some, None, drop, length-take, length-drop, unwrap_or, codes, is_none, ◌==◌}
-use Rattle.vars_macros.specs.Names.{same_name, is_name_open, is_lawful}
+use Rattle.vars_macros.specs.Names.{same_name, is_name_open, is_reference_name}
 use Rattle.vars_macros.specs.Cut.{Piece, End, Plain, Reference, Bad, first_piece, after_dollar, reference_to, closing, begins_with, is_foreign, reference_name, default_of, colon_in, rest_behind}
 use Rattle.vars_macros.specs.Meaning.{MacroScope, Meaning, Fixed, Value, stands_for, unassigned, assigned_or, last_macro, is_launch_macro, is_process}
 use Rattle.vars_macros.specs.Expansion.{Event, Wrote, Replaced, Expander, room, events, events_within, one_cut, piece_events, reference_events, meaning_events, value_events}
@@ -91,7 +91,7 @@ cond_agrees b x y z h = ap (λ v. cond b v z) h
 reference_agrees : (s : MacroScope) (n : ℕ) (e f : Expander) (opened : List (List ℕ)) (vars : Bool) (inside : List ℕ) →
     AgreeBelow s n e f → room s.assigned opened + length inside < n → reference_events e s opened vars inside ≡ reference_events f s opened vars inside
 reference_agrees s n e f opened vars inside agree small =
-    cond_agrees (is_lawful (reference_name inside)) _ _ _
+    cond_agrees (is_reference_name (reference_name inside)) _ _ _
     (meaning_agrees s n (length inside) e f opened (reference_name inside) (stands_for s vars (reference_name inside) (default_of inside)) agree small
     (λ shut. meaning_fits s vars opened (reference_name inside) (default_of inside) (length inside) shut (default_shorter (colon_in inside) inside)))
 

@@ -1,7 +1,7 @@
 -- What is not known in a whole run alone doesn't depend on the launch.
 use Rattle.std.proofs.Common.{◌≡◌, ◌∙◌, sym, ap, refl, ℕ, zero, suc, ◌+◌, Bool, true, false, List, [], ◌∷◌, ◌++◌, map, length, Option, Ok}
 use Rattle.std.proofs.lemmas.Bool.{true≢false, or_parts}
-use Rattle.vars_macros.specs.Names.{is_name_open, is_lawful}
+use Rattle.vars_macros.specs.Names.{is_name_open, is_reference_name}
 use Rattle.vars_macros.specs.Cut.{Piece, End, Plain, Reference, Bad, first_piece, reference_name, default_of}
 use Rattle.vars_macros.specs.Meaning.{MacroScope, Meaning, Fixed, Value, stands_for, is_launch_macro}
 use Rattle.vars_macros.specs.Expansion.{Event, Wrote, Replaced, Expander, Expansion, expansion, no_tally, counted, room, events, events_within, piece_events, reference_events, meaning_events, value_events}
@@ -59,7 +59,7 @@ meaning_known e f opened name m n gives means known =
 reference_known : (e f : Expander) (s : MacroScope) (launch : List ℕ) (opened : List (List ℕ)) (vars : Bool) (inside : List ℕ) → GivesKnown e f →
     MeetsKnown (reference_events e s opened vars inside) (reference_events f (record s { launch = launch }) opened vars inside)
 reference_known e f s launch opened vars inside gives =
-    both_chosen MeetsKnown (is_lawful (reference_name inside)) _ _ _ _
+    both_chosen MeetsKnown (is_reference_name (reference_name inside)) _ _ _ _
     (meaning_known e f opened (reference_name inside) (stands_for s vars (reference_name inside) (default_of inside)) (stands_for (record s { launch = launch }) vars (reference_name inside) (default_of inside)) gives
     (launch_stands s launch vars (reference_name inside) (default_of inside)))
     (λ known. refl)

@@ -1,6 +1,6 @@
 -- Lesser numbers change an expansion in numbers alone.
 use Rattle.std.proofs.Common.{◌≡◌, ◌∙◌, sym, ap, refl, subst, ℕ, zero, suc, ◌+◌, ◌≤◌, Bool, true, false, ◌||◌, ◌&&◌, cond, List, [], ◌∷◌, ◌++◌, map, length, arith, Option, Some, None, unwrap_or, is_none, codes, Ok, length-append}
-use Rattle.vars_macros.specs.Names.{same_name, is_name_open, is_lawful}
+use Rattle.vars_macros.specs.Names.{same_name, is_name_open, is_reference_name}
 use Rattle.vars_macros.specs.Cut.{Piece, End, Plain, Reference, Bad, first_piece, reference_name, default_of}
 use Rattle.vars_macros.specs.Meaning.{NodeMacros, MacroScope, scope_of, Meaning, Fixed, Value, stands_for, assigned_or, last_macro, is_launch_macro, is_process}
 use Rattle.vars_macros.specs.Expansion.{Event, Wrote, Replaced, Refused, Expander, Expansion, expansion, room, events, events_within, piece_events, reference_events, meaning_events, value_events}
@@ -121,7 +121,7 @@ meaning_meets e f opened name (Value vars x) (Fixed other y) gives h = absurd h
 reference_lesser : (e f : Expander) (s l : MacroScope) (opened : List (List ℕ)) (vars : Bool) (inside : List ℕ) → GivesLesser e f → StandsLesser s l →
     MeetsLesser (reference_events e s opened vars inside) (reference_events f l opened vars inside)
 reference_lesser e f s l opened vars inside gives stands =
-    both_chosen MeetsLesser (is_lawful (reference_name inside)) _ _ _ _
+    both_chosen MeetsLesser (is_reference_name (reference_name inside)) _ _ _ _
     (meaning_meets e f opened (reference_name inside) (stands_for s vars (reference_name inside) (default_of inside)) (stands_for l vars (reference_name inside) (default_of inside)) gives
     (stands vars (reference_name inside) (default_of inside)))
     (meets_same (Refused BadReference ∷ []))

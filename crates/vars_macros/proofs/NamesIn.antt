@@ -4,7 +4,7 @@ use Rattle.std.proofs.lemmas.Bool.{false≢true, eqb-true}
 use Rattle.std.proofs.lemmas.Bool.Decides.{nat_tests}
 use Rattle.std.proofs.lemmas.List.{drop-take, drop-drop, take-append-drop, append-nil}
 use Rattle.std.specs.List.{list_all, position_or_len}
-use Rattle.vars_macros.specs.Names.{lower, is_lawful, is_name_byte}
+use Rattle.vars_macros.specs.Names.{lower, is_reference_name, is_name_byte}
 use Rattle.vars_macros.specs.Cut.{begins_with, reference_name, default_of, colon_in, before, rest_behind}
 use Rattle.vars_macros.specs.NameTable.{number_of_name, KeepsNumbers}
 use Rattle.vars_macros.specs.NamePlaces.{AreNamesOf, AreNamesIn, IsNameOf}
@@ -47,7 +47,7 @@ names_in_first names start n part table fits are k name at within =
     ap (take name.len) rest ∙ take_take name.len (n - k) (drop k part) (omega (arith, within, count)) in
     record {
       within = omega (arith, within, length-drop k (take n part));
-      lawful = ap is_lawful cut ∙ base.lawful;
+      lawful = ap is_reference_name cut ∙ base.lawful;
       numbered = ap (λ (t : List ℕ). number_of_name names (lower t)) cut ∙ base.numbered;
     }
 
@@ -83,8 +83,8 @@ and_right : (a b : Bool) → (a && b) ≡ true → b ≡ true
 and_right true b h = h
 and_right false b h = absurd (false≢true h)
 
-pub lawful_bytes : (name : List ℕ) → is_lawful name ≡ true → list_all is_name_byte name ≡ true
-unfolding is_lawful
+pub lawful_bytes : (name : List ℕ) → is_reference_name name ≡ true → list_all is_name_byte name ≡ true
+unfolding is_reference_name
 lawful_bytes name h = and_left (list_all is_name_byte name) _ (and_right (nat_lt 0 (length name)) _ h)
 
 no_colon_byte : (b : ℕ) → is_name_byte b ≡ true → (b == 58) ≡ false
@@ -132,14 +132,14 @@ colon_first [] h = absurd (false≢true h)
 colon_first (b ∷ bs) h = ap (λ (c : ℕ). c ∷ bs) (eqb-true b 58 h)
 
 -- Nothing is behind the name.
-pub named_whole : (text : List ℕ) (n : ℕ) → is_lawful (take n text) ≡ true → drop n text ≡ [] → (take n text ≡ reference_name text) × (None ≡ default_of text)
+pub named_whole : (text : List ℕ) (n : ℕ) → is_reference_name (take n text) ≡ true → drop n text ≡ [] → (take n text ≡ reference_name text) × (None ≡ default_of text)
 named_whole text n lawful none =
     let whole : take n text ≡ text = sym (append-nil (take n text)) ∙ ap (λ (rest : List ℕ). take n text ++ rest) (sym none) ∙ take-append-drop n text in
     let colon : colon_in text ≡ None = ap colon_in (sym whole) ∙ no_colon (take n text) (lawful_bytes (take n text) lawful) in
     (whole ∙ ap (λ (o : Option ℕ). before o text) (sym colon), ap (λ (o : Option ℕ). rest_behind o text) (sym colon))
 
 -- A colon is behind it, and then the default.
-pub named_before : (text rest : List ℕ) (n : ℕ) → n ≤ length text → is_lawful (take n text) ≡ true → drop n text ≡ 58 ∷ rest →
+pub named_before : (text rest : List ℕ) (n : ℕ) → n ≤ length text → is_reference_name (take n text) ≡ true → drop n text ≡ 58 ∷ rest →
     (take n text ≡ reference_name text) × (Some (drop (n + 1) text) ≡ default_of text)
 named_before text rest n within lawful next =
     let parts : take n text ++ 58 ∷ rest ≡ text = ap (λ (more : List ℕ). take n text ++ more) (sym next) ∙ take-append-drop n text in
@@ -148,11 +148,11 @@ named_before text rest n within lawful next =
     (ap (λ (o : Option ℕ). before o text) (sym colon), ap (λ (o : Option ℕ). rest_behind o text) (sym colon))
 
 -- the name that the code cuts off
-pub name_ahead : (names : Names) (text name : List ℕ) (n : ℕ) (found : Name) → n ≤ length text → Some name ≡ cond (is_lawful (take n text)) (Some (take n text)) None →
+pub name_ahead : (names : Names) (text name : List ℕ) (n : ℕ) (found : Name) → n ≤ length text → Some name ≡ cond (is_reference_name (take n text)) (Some (take n text)) None →
     found.len ≡ length name → number_of_name names (lower name) ≡ Some found.number → IsNameOf names text found
-name_ahead names text name n found within is count numbered = by_lawful (is_lawful (take n text)) refl is
+name_ahead names text name n found within is count numbered = by_lawful (is_reference_name (take n text)) refl is
   where
-    by_lawful : (b : Bool) → is_lawful (take n text) ≡ b → Some name ≡ cond b (Some (take n text)) None → IsNameOf names text found
+    by_lawful : (b : Bool) → is_reference_name (take n text) ≡ b → Some name ≡ cond b (Some (take n text)) None → IsNameOf names text found
     by_lawful false unlawful e = absurd cc
     by_lawful true holds e =
         let same : name ≡ take n text = cc in
@@ -160,6 +160,6 @@ name_ahead names text name n found within is count numbered = by_lawful (is_lawf
         let cut : take found.len text ≡ take n text = ap (λ (m : ℕ). take m text) len in
         record {
           within = omega (arith, len);
-          lawful = ap is_lawful cut ∙ holds;
+          lawful = ap is_reference_name cut ∙ holds;
           numbered = ap (λ (t : List ℕ). number_of_name names (lower t)) (cut ∙ sym same) ∙ numbered;
         }

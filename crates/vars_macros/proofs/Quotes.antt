@@ -1,6 +1,6 @@
 -- Groups that are not closed.
 use Rattle.std.proofs.Common.{◌≡◌, ◌∙◌, ap, refl, ℕ, ◌<◌, Bool, true, false, List, [], ◌∷◌, length, arith, Ok, Err}
-use Rattle.vars_macros.specs.Symbols.{gathered, is_escape, old_symbol, old_symbols, is_pair, new_symbol, grouped_after, new_symbols}
+use Rattle.vars_macros.specs.Symbols.{gathered, is_quote_escape, old_symbol, old_symbols, is_pair, new_symbol, grouped_after, new_symbols}
 use Rattle.vars_macros.specs.Gathered.{Gathering, word_closed}
 use Rattle.vars_macros.specs.declared.words.Symbol.{Symbol}
 use Rattle.vars_macros.specs.declared.fault.MacroFault.TheVariants.{BadQuote}
@@ -28,9 +28,9 @@ pub old_skips : (g : Gathering) (escaped : Bool) (b : ℕ) (rest bs : List ℕ) 
 old_skips g escaped b rest bs is e = ap (λ (x : Bool). gathered g (old_symbols x rest)) is ∙ ap (λ (xs : List ℕ). gathered g (old_symbols true xs)) e
 
 pub old_takes : (g h : Gathering) (escaped : Bool) (b : ℕ) (rest bs : List ℕ) → escaped ≡ false → rest ≡ b ∷ bs
-    → ((more : List Symbol) → gathered g (old_symbol b bs ∷ more) ≡ gathered h more) → gathered g (old_symbols escaped rest) ≡ gathered h (old_symbols (is_escape b bs) bs)
+    → ((more : List Symbol) → gathered g (old_symbol b bs ∷ more) ≡ gathered h more) → gathered g (old_symbols escaped rest) ≡ gathered h (old_symbols (is_quote_escape b bs) bs)
 old_takes g h escaped b rest bs other e takes =
-    ap (λ (x : Bool). gathered g (old_symbols x rest)) other ∙ ap (λ (xs : List ℕ). gathered g (old_symbols false xs)) e ∙ takes (old_symbols (is_escape b bs) bs)
+    ap (λ (x : Bool). gathered g (old_symbols x rest)) other ∙ ap (λ (xs : List ℕ). gathered g (old_symbols false xs)) e ∙ takes (old_symbols (is_quote_escape b bs) bs)
 
 pub new_skips : (g : Gathering) (paired grouped : Bool) (b : ℕ) (rest bs : List ℕ) → paired ≡ true → rest ≡ b ∷ bs → gathered g (new_symbols paired grouped rest) ≡ gathered g (new_symbols false grouped bs)
 new_skips g paired grouped b rest bs is e = ap (λ (x : Bool). gathered g (new_symbols x grouped rest)) is ∙ ap (λ (xs : List ℕ). gathered g (new_symbols true grouped xs)) e
@@ -42,7 +42,7 @@ new_takes g h paired grouped b rest bs other e takes =
     ap (λ (x : Bool). gathered g (new_symbols x grouped rest)) other ∙ ap (λ (xs : List ℕ). gathered g (new_symbols false grouped xs)) e ∙ takes (new_symbols (is_pair grouped b bs) (grouped_after grouped b bs) bs)
 
 -- What comes first in what is left.
-pub old_first : (g : Gathering) (escaped : Bool) (b : ℕ) (rest bs : List ℕ) → escaped ≡ false → rest ≡ b ∷ bs → gathered g (old_symbols escaped rest) ≡ gathered g (old_symbol b bs ∷ old_symbols (is_escape b bs) bs)
+pub old_first : (g : Gathering) (escaped : Bool) (b : ℕ) (rest bs : List ℕ) → escaped ≡ false → rest ≡ b ∷ bs → gathered g (old_symbols escaped rest) ≡ gathered g (old_symbol b bs ∷ old_symbols (is_quote_escape b bs) bs)
 old_first g escaped b rest bs other e = ap (λ (x : Bool). gathered g (old_symbols x rest)) other ∙ ap (λ (xs : List ℕ). gathered g (old_symbols false xs)) e
 
 pub new_first : (g : Gathering) (paired grouped : Bool) (b : ℕ) (rest bs : List ℕ) → paired ≡ false → rest ≡ b ∷ bs

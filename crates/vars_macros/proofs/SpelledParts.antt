@@ -2,7 +2,7 @@
 use Rattle.std.proofs.Common.{◌≡◌, ◌∙◌, sym, ap, refl, subst, ℕ, zero, suc, ◌<◌, ◌==◌, Bool, true, false, ◌||◌, ◌&&◌, List, [], ◌∷◌, ◌++◌, length, drop, arith, Ok, Err, append_assoc, append-nil}
 use Rattle.std.proofs.lemmas.Bool.{eqb-true, and_parts}
 use Rattle.vars_macros.specs.Cut.{begins_with}
-use Rattle.vars_macros.specs.Symbols.{gathered, is_pair, new_symbol, grouped_after, new_symbols, is_escape, old_symbol, old_symbols}
+use Rattle.vars_macros.specs.Symbols.{gathered, is_pair, new_symbol, grouped_after, new_symbols, is_quote_escape, old_symbol, old_symbols}
 use Rattle.vars_macros.specs.ArgumentGrammar.{is_space_or_tab}
 use Rattle.vars_macros.specs.Gathered.{Gathering}
 use Rattle.vars_macros.specs.declared.words.Symbol.{Symbol}
@@ -179,11 +179,11 @@ new_symbols_are = record { at_end = refl; at_blank = new_blank; at_part = new_re
 
 -- Old style.
 escape : (rest : List ℕ) → old_symbols false (92 ∷ 34 ∷ rest) ≡ Letter 34 ∷ old_symbols false rest
-unfolding is_escape old_symbol
+unfolding is_quote_escape old_symbol
 escape rest = refl
 
 other_byte : (b : ℕ) (rest : List ℕ) → is_space_or_tab b ≡ false → (b == 92 && begins_with 34 rest) ≡ false → old_symbols false (b ∷ rest) ≡ Letter b ∷ old_symbols false rest
-unfolding is_escape old_symbol
+unfolding is_quote_escape old_symbol
 other_byte b rest other no_escape = rw (no_escape, other) refl
 
 old_read : {text bytes rest : List ℕ} → SpellsOldPart text bytes rest → (ws : List (List ℕ)) (w : List ℕ) (begun : Bool) →
@@ -202,7 +202,7 @@ old_part b bs other = by_escape (b == 92 && begins_with 34 bs) refl
     by_escape false e = (b ∷ [], bs, old_byte b other e, omega arith)
 
 old_blank : (b : ℕ) (rest : List ℕ) → is_space_or_tab b ≡ true → old_symbols false (b ∷ rest) ≡ Gap ∷ old_symbols false rest
-unfolding is_escape old_symbol
+unfolding is_quote_escape old_symbol
 old_blank b rest is = by_blank (λ (c : ℕ). old_symbols false (c ∷ rest) ≡ Gap ∷ old_symbols false rest) refl refl b is
 
 pub old_symbols_are : AreSymbolsOf SpellsOldPart (old_symbols false)

@@ -9,7 +9,7 @@ use Rattle.vars_macros.specs.declared.fault.MacroFault.{MacroFault}
 use Rattle.vars_macros.specs.declared.fault.MacroFault.TheVariants.{Unclosed, Loop, TooLong, BadQuote, BadReference, Memory}
 use Rattle.vars_macros.specs.declared.words.Symbol.{Symbol}
 use Rattle.vars_macros.specs.declared.words.Symbol.TheVariants.{Letter, Mark, Gap, Broken}
-use Rattle.vars_macros.specs.Symbols.{gathered, is_pair, new_symbol, grouped_after, is_escape, old_symbol}
+use Rattle.vars_macros.specs.Symbols.{gathered, is_pair, new_symbol, grouped_after, is_quote_escape, old_symbol}
 use Rattle.vars_macros.proofs.WordTexts.{MayTake, Leaves}
 
 abbrev fine : Gathering → Result Gathering MacroFault
@@ -67,10 +67,10 @@ pub grouped_so : (t grouped : Bool) (b : ℕ) (bs : List ℕ) →
 unfolding is_pair grouped_after
 grouped_so t grouped b bs h = h
 
-pub escape_so : (t : Bool) (b : ℕ) (bs : List ℕ) → t ≡ (b == 92 && begins_with 34 bs) → t ≡ is_escape b bs
-unfolding is_escape
+pub escape_so : (t : Bool) (b : ℕ) (bs : List ℕ) → t ≡ (b == 92 && begins_with 34 bs) → t ≡ is_quote_escape b bs
+unfolding is_quote_escape
 escape_so t b bs h = h
 
 pub old_so : (s : Symbol) (b : ℕ) (bs : List ℕ) → s ≡ cond (b == 92 && begins_with 34 bs) (Letter 34) (cond (is_space_or_tab b) Gap (Letter b)) → s ≡ old_symbol b bs
-unfolding is_escape old_symbol
+unfolding is_quote_escape old_symbol
 old_so s b bs h = h

@@ -5,7 +5,7 @@ use Rattle.std.proofs.lemmas.Str.{IsUtf8-append}
 use Rattle.std.proofs.lemmas.Option.{get_or_from_slice_get, slice_get_within}
 use Rattle.std.specs.Str.{IsUtf8}
 use Rattle.vars_macros.specs.Cut.{begins_with}
-use Rattle.vars_macros.specs.Symbols.{is_pair, new_symbol, is_escape, old_symbol, ends_with_byte, is_byte}
+use Rattle.vars_macros.specs.Symbols.{is_pair, new_symbol, is_quote_escape, old_symbol, ends_with_byte, is_byte}
 use Rattle.vars_macros.specs.ArgumentGrammar.{is_space_or_tab}
 use Rattle.vars_macros.specs.declared.words.Symbol.{Symbol}
 use Rattle.vars_macros.specs.declared.words.Symbol.TheVariants.{Letter, Mark, Gap, Broken}
@@ -66,7 +66,7 @@ new_fits grouped b bs =
     decided P (is_space_or_tab b && not grouped) Gap (Letter b) (λ yes. blank_low b (and_left (is_space_or_tab b) (not grouped) yes)) (λ _. inl refl))))
 
 old_fits : (b : ℕ) (bs : List ℕ) → Fits (old_symbol b bs) b
-unfolding old_symbol is_escape
+unfolding old_symbol is_quote_escape
 old_fits b bs =
     let P : Symbol → Type 0 = λ (s : Symbol). Fits s b in
     decided P (nat_eq b 92 && begins_with 34 bs) (Letter 34) (cond (is_space_or_tab b) Gap (Letter b))
@@ -122,8 +122,8 @@ pair_ascii grouped b bs h =
     let quote = nat_eq b 34 || (nat_eq b 39 && grouped) in
     begins_ascii b bs (quote_low grouped b (and_left quote (begins_with b bs) h)) (and_right quote (begins_with b bs) h)
 
-pub escape_ascii : (b : ℕ) (bs : List ℕ) → is_escape b bs ≡ true → BeginsAscii bs
-unfolding is_escape
+pub escape_ascii : (b : ℕ) (bs : List ℕ) → is_quote_escape b bs ≡ true → BeginsAscii bs
+unfolding is_quote_escape
 escape_ascii b bs h = begins_ascii 34 bs (omega arith) (and_right (nat_eq b 92) (begins_with 34 bs) h)
 
 pub left_out : (b : ℕ) (bs word : List ℕ) → BeginsAscii (b ∷ bs) → IsUtf8 (word ++ b ∷ bs) → IsUtf8 (word ++ bs)

@@ -5,7 +5,7 @@ use Rattle.std.proofs.lemmas.List.Elements.{AllZip-push}
 use Rattle.std.specs.Char.{is_ascii_digit}
 use Rattle.std.specs.Str.{all_ascii_digits}
 use Rattle.vars_macros.specs.Cut.{begins_with}
-use Rattle.vars_macros.specs.Symbols.{gathered, is_pair, new_symbol, grouped_after, new_symbols, is_escape, old_symbol, old_symbols, is_byte, ends_with_byte, quoted_symbols, argument_symbols, arguments}
+use Rattle.vars_macros.specs.Symbols.{gathered, is_pair, new_symbol, grouped_after, new_symbols, is_quote_escape, old_symbol, old_symbols, is_byte, ends_with_byte, quoted_symbols, argument_symbols, arguments}
 use Rattle.vars_macros.specs.ArgumentGrammar.{is_space_or_tab}
 use Rattle.vars_macros.specs.Gathered.{Gathering, word_closed, no_words}
 use Rattle.vars_macros.specs.declared.words.Symbol.{Symbol}
@@ -70,8 +70,8 @@ gathered_alike (spelt {ss = ss} {ts = ts} d e p q alike) ws vs w v b out all h i
 blank_digit : (b : ℕ) → is_ascii_digit b ≡ true → is_space_or_tab b ≡ false
 blank_digit b d = rw (digit_is_not b 32 d refl, digit_is_not b 9 d refl) refl
 
-digit_escape : (b : ℕ) (rest : List ℕ) → is_ascii_digit b ≡ true → is_escape b rest ≡ false
-unfolding is_escape
+digit_escape : (b : ℕ) (rest : List ℕ) → is_ascii_digit b ≡ true → is_quote_escape b rest ≡ false
+unfolding is_quote_escape
 digit_escape b rest d = rw (digit_is_not b 92 d refl) refl
 
 digit_old : (b : ℕ) (rest : List ℕ) → is_ascii_digit b ≡ true → old_symbol b rest ≡ Letter b
@@ -119,15 +119,15 @@ no_number d x is at =
     let p = at refl in
     false≢true (sym (number_begins p.0 d x p.1 is) ∙ p.2)
 
-escape_alike : (b : ℕ) (x y : List ℕ) → DifferInNumbers x y → is_escape b y ≡ is_escape b x
-unfolding is_escape
+escape_alike : (b : ℕ) (x y : List ℕ) → DifferInNumbers x y → is_quote_escape b y ≡ is_quote_escape b x
+unfolding is_quote_escape
 escape_alike b x y h = ap (λ (t : Bool). b == 92 && t) (sym (begins_alike 34 refl h))
 
-escape_pair : (b : ℕ) (x : List ℕ) → AtPair (is_escape b x) x
-unfolding is_escape
+escape_pair : (b : ℕ) (x : List ℕ) → AtPair (is_quote_escape b x) x
+unfolding is_quote_escape
 escape_pair b x e = (34, refl, (and_parts (b == 92) (begins_with 34 x) e).1)
 
-old_alike_at : (b : ℕ) (x y : List ℕ) → is_escape b y ≡ is_escape b x → old_symbol b y ≡ old_symbol b x
+old_alike_at : (b : ℕ) (x y : List ℕ) → is_quote_escape b y ≡ is_quote_escape b x → old_symbol b y ≡ old_symbol b x
 unfolding old_symbol
 old_alike_at b x y e = rw e refl
 
@@ -136,7 +136,7 @@ old_alike ends escaped at = over
 old_alike (byte {x = x} b h) true at = old_alike h false (unpaired x)
 old_alike (byte {x = x} {y = y} b h) false at =
     let same = escape_alike b x y h in
-    rw (old_alike_at b x y same, same) (also (old_symbol b x) (old_alike h (is_escape b x) (escape_pair b x)))
+    rw (old_alike_at b x y same, same) (also (old_symbol b x) (old_alike h (is_quote_escape b x) (escape_pair b x)))
 old_alike (numbers {x = x} d e p q h) true at = absurd (no_number d x p at)
 old_alike (numbers {x = x} {y = y} d e p q h) false at =
     rw (old_digits d x p.digits, old_digits e y q.digits) (spelt d e p q (old_alike h false (unpaired x)))

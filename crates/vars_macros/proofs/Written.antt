@@ -4,7 +4,7 @@ use Rattle.std.proofs.lemmas.Bool.{cases_Bool, eqb-true}
 use Rattle.std.proofs.lemmas.List.Quantifiers.{position-Some}
 use Rattle.std.proofs.lemmas.Str.{IsUtf8-nil, IsUtf8-append}
 use Rattle.std.specs.Str.{IsUtf8}
-use Rattle.vars_macros.specs.Names.{same_name, is_name_open, is_lawful}
+use Rattle.vars_macros.specs.Names.{same_name, is_name_open, is_reference_name}
 use Rattle.vars_macros.specs.Cut.{Piece, End, Plain, Reference, Bad, first_piece, after_dollar, reference_to, closing, closing_from, depth_after, begins_with, is_foreign, reference_name, default_of, colon_in, rest_behind}
 use Rattle.vars_macros.specs.Meaning.{MacroScope, Meaning, Fixed, Value, stands_for, unassigned, assigned_or, last_macro, last_from, is_launch_macro, is_process}
 use Rattle.vars_macros.specs.Scopes.{IsTextScope}
@@ -141,7 +141,7 @@ reference_text : (s : MacroScope) (n : ℕ) (opened : List (List ℕ)) (vars : B
     → room s.assigned opened + length inside < n → TextWhere (reference_events (events s) s opened vars inside)
 reference_text s n opened vars inside smaller texts u small =
     let name = reference_name inside in
-    decided TextWhere (is_lawful name) (meaning_events (events s) opened name (stands_for s vars name (default_of inside))) (Refused BadReference ∷ [])
+    decided TextWhere (is_reference_name name) (meaning_events (events s) opened name (stands_for s vars name (default_of inside))) (Refused BadReference ∷ [])
     (λ _. events_text s n (length inside) opened name (stands_for s vars name (default_of inside)) smaller
     (meaning_text s vars name (default_of inside) texts (default_text (colon_in inside) inside u refl)) small
     (λ shut. meaning_fits s vars opened name (default_of inside) (length inside) shut (default_shorter (colon_in inside) inside)))

@@ -1,6 +1,6 @@
 -- The expansion of a text.
 use Rattle.std.specs.Prelude.{ℕ, zero, suc, Bool, true, false, ◌||◌, ◌+◌, nat_lt, List, [], ◌∷◌, ◌++◌, map, length, Result, Ok, Err, if◌then◌else◌}
-use Rattle.vars_macros.specs.Names.{is_lawful, is_name_open}
+use Rattle.vars_macros.specs.Names.{is_reference_name, is_name_open}
 use Rattle.vars_macros.specs.Cut.{Piece, End, Plain, Reference, Bad, first_piece, reference_name, default_of}
 use Rattle.vars_macros.specs.Meaning.{MacroScope, Meaning, Fixed, Value, stands_for}
 use Rattle.vars_macros.specs.declared.assignment.Macro.{Macro}
@@ -31,7 +31,7 @@ meaning_events expand opened name (Value vars text) = value_events expand opened
 -- a reference to the name
 abbrev pub reference_events : Expander → MacroScope → List (List ℕ) → Bool → List ℕ → List Event
 reference_events expand s opened vars inside =
-    if is_lawful (reference_name inside) then meaning_events expand opened (reference_name inside) (stands_for s vars (reference_name inside) (default_of inside))
+    if is_reference_name (reference_name inside) then meaning_events expand opened (reference_name inside) (stands_for s vars (reference_name inside) (default_of inside))
     else Refused BadReference ∷ []
 
 -- What is met in a text that is cut at its first piece: the piece's, and what is met in the rest.

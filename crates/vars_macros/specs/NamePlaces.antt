@@ -2,7 +2,7 @@
 use Rattle.std.specs.Prelude.{◌≡◌, ℕ, ◌+◌, ◌≤◌, true, List, length, take, drop, Option, Some, None}
 use Rattle.std.specs.BTreeMap.{get}
 use Rattle.std.specs.Ordering.{nat_cmp}
-use Rattle.vars_macros.specs.Names.{lower, is_lawful}
+use Rattle.vars_macros.specs.Names.{lower, is_reference_name}
 use Rattle.vars_macros.specs.NameTable.{number_of_name}
 use Rattle.vars_macros.specs.declared.numbering.Names.{Names}
 use Rattle.vars_macros.specs.declared.naming.Name.{Name}
@@ -15,7 +15,7 @@ name_at places at = get nat_cmp places.names at
 -- A text begins with a name that a reference may have, and these are its length and its number.
 pub record IsNameOf (names : Names) (text : List ℕ) (name : Name) : Type 0 where
   pub within : name.len ≤ length text
-  pub lawful : is_lawful (take name.len text) ≡ true
+  pub lawful : is_reference_name (take name.len text) ≡ true
   pub numbered : number_of_name names (lower (take name.len text)) ≡ Some name.number
 
 -- Each of these names stands in the text at its place.

@@ -41,6 +41,6 @@ abbrev pub told_of : List ℕ → Option ℕ → Option ℕ × List ℕ
 told_of lowered None = (None, lowered)
 told_of lowered (Some number) = (Some number, [])
 
--- A name is told by its number, or by its bytes in lower case where it has none.
+-- A name is known by its number, or by its bytes in lower case where it has none.
 abbrev pub IsKeyOf : Names → List ℕ → Key → Type 0
 IsKeyOf names name key = key_parts key ≡ told_of (lower name) (number_of_name names (lower name))

@@ -2,7 +2,7 @@
 
 ghost use Rattle.std.specs.Prelude.{◌≡◌, ◌<◌, ◌≤◌, Some, None, false, length, take, drop, slice_get, IfSome, IfNone, option_copied, option_map, if◌then◌else◌, codes};
 ghost use Rattle.std.specs.List.{list_all, take_while};
-ghost use Rattle.vars_macros.specs.Names.{is_lawful, is_name_byte, same_name};
+ghost use Rattle.vars_macros.specs.Names.{is_reference_name, is_name_byte, same_name};
 ghost use Rattle.vars_macros.specs.Cut.{closing, is_foreign, first_piece, after_dollar, reference_to, colon_in, reference_name, default_of, begins_with};
 ghost use Rattle.vars_macros.specs.NamePlaces.{IsNameOf};
 ghost use Rattle.vars_macros.specs.Pieces.{piece_of, PieceHasNames, IsNamedIn};
@@ -112,7 +112,7 @@ pub(crate) struct Named<'a> {
 /// The reference between whose parentheses this stands, if it may have its name.
 pub(crate) fn reference_in(inside: Part<'_>) -> Option<Named<'_>>
     ensures some { IfSome result (λ named. IsNamedIn inside.entry named) }
-    ensures none { IfNone result (is_lawful (reference_name inside.entry.bytes.now) ≡ false) }
+    ensures none { IfNone result (is_reference_name (reference_name inside.entry.bytes.now) ≡ false) }
 {
     match inside.name() {
         Some(name) => known_reference(inside, name),
@@ -124,7 +124,7 @@ pub(crate) fn reference_in(inside: Part<'_>) -> Option<Named<'_>>
 fn known_reference(inside: Part<'_>, name: Name) -> Option<Named<'_>>
     requires { IsNameOf inside.names.now inside.bytes.now name }
     ensures some { IfSome result (λ named. IsNamedIn inside.entry named) }
-    ensures none { IfNone result (is_lawful (reference_name inside.entry.bytes.now) ≡ false) }
+    ensures none { IfNone result (is_reference_name (reference_name inside.entry.bytes.now) ≡ false) }
 {
     let rest = inside.behind(name.len).bytes();
     if rest.is_empty() {
@@ -153,7 +153,7 @@ fn numbered<'a>(inside: Part<'a>, name: Name, default: Option<Part<'a>>) -> Name
 /// The same where all is read from the bytes.
 fn spelled_reference(inside: Part<'_>) -> Option<Named<'_>>
     ensures some { IfSome result (λ named. IsNamedIn inside.entry named) }
-    ensures none { IfNone result (is_lawful (reference_name inside.entry.bytes.now) ≡ false) }
+    ensures none { IfNone result (is_reference_name (reference_name inside.entry.bytes.now) ≡ false) }
 {
     let (name, default) = name_and_default(inside);
     let name = lawful_name(name)?;
@@ -192,9 +192,9 @@ fn is_name_byte(byte: u8) -> bool
 }
 
 /// The name, if a reference may have it.
-#[tactic(auto, unfolding(crate::specs::Names::is_lawful))]
+#[tactic(auto, unfolding(crate::specs::Names::is_reference_name))]
 pub(crate) fn lawful_name(name: &[u8]) -> Option<&str>
-    ensures { option_copied result ≡ (if is_lawful name.now then Some name.now else None) }
+    ensures { option_copied result ≡ (if is_reference_name name.now then Some name.now else None) }
 {
     if name.is_empty() || !has_name_bytes(name) {
         return None;

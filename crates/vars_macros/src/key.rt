@@ -1,4 +1,4 @@
-//! How names are told apart.
+//! How names are distinguished.
 
 ghost use Rattle.std.specs.Prelude.{IfOk};
 ghost use Rattle.vars_macros.specs.NameTable.{IsKeyOf};

@@ -1,31 +1,12 @@
-use Rattle.std.proofs.Common.{◌+◌, ◌-◌, ◌<◌, ◌/◌, length, arith, refl}
-use Rattle.std.specs.Prelude.{pos}
-use Rattle.std.proofs.lemmas.Bool.{false≢true}
-use Rattle.ready_queue.proofs.Places.{rises, falls}
+use Rattle.std.proofs.Common.{rules}
+use Rattle.std.proofs.lemmas.List.Sorted.{IsPartitionPoint-from_clause}
+use Rattle.ready_queue.specs.Queue.{comes_before}
+use Rattle.ready_queue.proofs.Places.{parted, parts-at}
 use Rattle.ready_queue.proofs.place_of.Goals as goal
 
-pub loop-low-preserved-then-comes_before : goal.loop-low-preserved-then-comes_before
-loop-low-preserved-then-comes_before c =
-    let lt = c.loop-low-test.true in
-    let w = c.loop-low.invariant.within in
-    let middle = c.loop-low.low + (c.loop-low.high - c.loop-low.low) / 2 in
-    let inside : middle < length c.args.members.now = omega arith in
-    record {
-      sides = omega arith;
-      within = w;
-      before = rises c.args.members.now c.requires c.args.member middle (record { node = 0; priority = pos 0 }) inside (c.if-comes_before.ensures.0 refl);
-      behind = c.loop-low.invariant.behind;
-    }
-
-pub loop-low-preserved : goal.loop-low-preserved
-loop-low-preserved c =
-    let lt = c.loop-low-test.true in
-    let w = c.loop-low.invariant.within in
-    let middle = c.loop-low.low + (c.loop-low.high - c.loop-low.low) / 2 in
-    let inside : middle < length c.args.members.now = omega arith in
-    record {
-      sides = omega arith;
-      within = omega arith;
-      before = c.loop-low.invariant.before;
-      behind = falls c.args.members.now c.requires c.args.member middle (record { node = 0; priority = pos 0 }) inside (λ b. false≢true (c.if-comes_before.ensures.1 b));
-    }
+pub returns : goal.returns
+returns c =
+    let members = c.args.members.now in
+    let member = c.args.member in
+    parts-at members member c.partition_point.result c.partition_point.ensures.bound
+    (IsPartitionPoint-from_clause (λ other. comes_before other member) members c.partition_point.result c.partition_point.ensures.partitioned (parted members member c.requires) (λ a r f k. search rules))

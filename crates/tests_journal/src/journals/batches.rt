@@ -133,9 +133,11 @@ fn faults_of_a_batch(rt: HostRuntime) -> Result<(), Fail> {
 fn goes_on_behind_a_batch(rt: HostRuntime) -> Result<(), Fail> {
     let alloc = rt.alloc();
     let disk = changed(alloc, &TOGETHER, SIZE, 192, 0)?;
-    let Ok(Opened::Found(mut journal)) = Journal::open(alloc, disk, &DIGEST, false, 5) else {
+    let Ok(Opened::Found(mut journal, records)) = Journal::open(alloc, disk, &DIGEST, false, 5)
+    else {
         panic!(rt; "a journal");
     };
+    same(&rt, records.as_slice(), RECORDS.as_slice());
     same(&rt, add(&mut journal, &Record::Life), Ok(()));
     same(&rt, journal.records(alloc)?.len(), 4);
     same(

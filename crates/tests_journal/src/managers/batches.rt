@@ -182,7 +182,7 @@ fn with_strange(
     disk: MemDisk,
     alone: bool,
 ) -> MemDisk {
-    let Ok(Opened::Found(mut journal)) = Journal::open(alloc, disk, plan.digest(), false, SLOTS)
+    let Ok(Opened::Found(mut journal, _)) = Journal::open(alloc, disk, plan.digest(), false, SLOTS)
     else {
         panic!(rt; "no journal");
     };
@@ -195,7 +195,7 @@ fn with_strange(
     journal.into_disk()
 }
 
-// Who goes on with the journal, and who audits it, is told the slot of that record.
+// Who goes on with the journal, and who audits it, learns the slot of that record.
 fn is_told(rt: &impl Abort, alloc: Global, plan: &Plan, disk: MemDisk, slot: u64) {
     let told = audit(alloc, plan, disk.bytes()).err();
     same(rt, told, Some(AuditNo::NotARun(slot)));

@@ -140,10 +140,7 @@ pub fn run(rt: &impl Abort, alloc: Global, plan: &Plan, table: &Table, lives: &[
 /// The records of a journal.
 pub fn records_on(alloc: Global, plan: &Plan, disk: MemDisk) -> Result<Vec<Record>, Fail> {
     match Journal::open(alloc, disk, plan.digest(), false, SLOTS) {
-        Ok(Opened::Found(journal)) => {
-            let mut journal = journal;
-            Ok(journal.records(alloc)?)
-        }
+        Ok(Opened::Found(_, records)) => Ok(records),
         Ok(Opened::Fresh(_)) => Ok(Vec::new(alloc)),
         Err((_, fault)) => Err(Fail::from(fault)),
     }

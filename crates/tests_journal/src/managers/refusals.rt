@@ -113,7 +113,7 @@ fn not_sealed(rt: &impl Abort, alloc: Global, manager: &mut Manager<'_, MemDisk>
     drop(sealed);
 }
 
-// What may not follow is told.
+// A record that may not follow is refused.
 fn out_of_place(rt: &impl Abort, alloc: Global, plan: &Plan) {
     let unlawful = ManagerFault::NotLawful;
     let mut manager = given(rt, life(alloc, MemDisk::new(alloc, ROOM), plan, SLOTS));

@@ -1,4 +1,4 @@
-//! The texts that are told.
+//! The texts that are displayed.
 
 use run_plan::PlanFault;
 use std::alloc::{AllocError, Global};

@@ -19,7 +19,7 @@ returns-in-Ok-clause-sound c =
 
 pub returns-in-Err-clause-refused : goal.returns-in-Err-clause-refused
 returns-in-Err-clause-refused c =
-    rw (c.in_plan.ensures) (full-refused false (bytes_of c.args.files.now) c.args.path.now c.in_ok-graph.graph _ c.in_ok-graph.ensures.graph.is_dag c.in_ok-graph.ensures.graph.acyclic c.in-Err.fault c.in-Err.ensures.refused.1)
+    rw (c.from.ensures) (full-refused false (bytes_of c.args.files.now) c.args.path.now c.in_ok-graph.graph _ c.in_ok-graph.ensures.graph.is_dag c.in_ok-graph.ensures.graph.acyclic c.in-Err.fault c.in-Err.ensures.refused.1)
 
 pub returns-in_err-graph-clause-refused : goal.returns-in_err-graph-clause-refused
 returns-in_err-graph-clause-refused c =

@@ -4,4 +4,4 @@ use Rattle.dag_main_check.proofs.plans.plan_by.Goals as goal
 
 pub returns-in-Err-clause-refused : goal.returns-in-Err-clause-refused
 returns-in-Err-clause-refused c =
-    rw (c.in_plan.ensures) (by-fault c.args.always_post (bytes_of c.args.files.now) (entries_of c.args.files.now) _ c.args.graph c.in-Err.fault c.in-Err.ensures.refused.1)
+    rw (c.from.ensures) (by-fault c.args.always_post (bytes_of c.args.files.now) (entries_of c.args.files.now) _ c.args.graph c.in-Err.fault c.in-Err.ensures.refused.1)

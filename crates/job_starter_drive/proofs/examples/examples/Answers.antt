@@ -6,7 +6,7 @@ use Rattle.node_machine.specs.declared.Outcome.TheVariants.{Exit, NoStart}
 use Rattle.node_machine.specs.declared.Record.{Record}
 use Rattle.node_machine.specs.declared.Record.TheVariants.{Life}
 use Rattle.node_machine.specs.Story.{story, attempts_after, next_after, is_good_after, value_after}
-use Rattle.run_plan_node.specs.Commands.{command_of}
+use Rattle.run_plan_node.specs.Commands.{phase_command}
 use Rattle.sched_core.specs.Run.{is_aborted, is_ready, is_final_ready, may_launch, may_follow}
 use Rattle.sched_core.specs.Limits.{IsBetter}
 use Rattle.sched_core.specs.Choices.{startable, if_let_in}
@@ -51,7 +51,7 @@ never_better zero other is (inr before) = lt_irrefl 0 before.1
 never_better (suc node) other is before = none-some other (sym (no_other node) ∙ is)
 
 pub returns : goal.returns
-unfolding story attempts_after next_after is_good_after value_after is_aborted is_ready is_final_ready may_launch may_follow replay_of groups_of records_at record_in guess command_of
+unfolding story attempts_after next_after is_good_after value_after is_aborted is_ready is_final_ready may_launch may_follow replay_of groups_of records_at record_in guess phase_command
 returns c = record {
   moment = record {
     held = end_of_a ∷ second_held;

@@ -2,7 +2,7 @@ use Rattle.std.proofs.Common.{[], ◌∷◌, refl, inl, inr, arith}
 use Rattle.node_machine.specs.declared.Record.TheVariants.{Finish}
 use Rattle.node_machine.specs.Story.{story, attempts_after, next_after, is_good_after, value_after}
 use Rattle.sched_core.specs.Run.{is_aborted, is_ready, is_final_ready, may_launch, may_follow}
-use Rattle.run_plan_node.specs.Commands.{command_of, is_expandable, uses_whole_run}
+use Rattle.run_plan_node.specs.Commands.{phase_command, is_expandable, uses_whole_run}
 use Rattle.event_journal_log.specs.Slot.{record_in, guess}
 use Rattle.event_journal_log.specs.Groups.{groups_of, records_at}
 use Rattle.event_journal_log.specs.Image.{replay_of}
@@ -10,7 +10,7 @@ use Rattle.recovery_manager.specs.Example.{its_header, launch_of_a, end_of_a, co
 use Rattle.recovery_manager.proofs.examples.examples.Goals as goal
 
 pub returns-clause-on_bytes : goal.returns-clause-on_bytes
-unfolding story attempts_after next_after is_good_after value_after is_aborted is_ready is_final_ready may_launch may_follow replay_of groups_of records_at record_in guess command_of
+unfolding story attempts_after next_after is_good_after value_after is_aborted is_ready is_final_ready may_launch may_follow replay_of groups_of records_at record_in guess phase_command
 returns-clause-on_bytes c = (
   record {
     reads = inr (its_header, refl, (refl, refl));

@@ -8,7 +8,7 @@ use Rattle.node_machine.specs.Story.{story, attempts_after, next_after, is_good_
 use Rattle.sched_core.specs.Run.{is_aborted, is_ready, is_final_ready, may_launch, may_follow}
 use Rattle.std.specs.Fmt.{digits}
 use Rattle.vars_macros.specs.Script.{script_word, is_exactly}
-use Rattle.run_plan_node.specs.Commands.{command_of, is_expandable, uses_whole_run}
+use Rattle.run_plan_node.specs.Commands.{phase_command, is_expandable, uses_whole_run}
 use Rattle.sched_core.proofs.Namesakes.{b-agrees, told-agrees}
 use Rattle.sched_core.proofs.examples.examples.Goals as goal
 
@@ -136,7 +136,7 @@ unfolding story attempts_after next_after is_good_after value_after is_aborted i
 returns-clause-told c = refl
 
 pub returns-clause-told_command : goal.returns-clause-told_command
-unfolding command_of script_word is_exactly digits
+unfolding phase_command script_word is_exactly digits
 returns-clause-told_command c = refl
 
 pub returns-clause-told_agree : goal.returns-clause-told_agree

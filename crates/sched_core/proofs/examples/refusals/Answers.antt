@@ -1,7 +1,7 @@
 use Rattle.std.proofs.Common.{◌≡◌, ◌∙◌, true, refl, sym}
 use Rattle.std.proofs.lemmas.Bool.{true≢false}
 use Rattle.run_plan.specs.Plan.{node_at}
-use Rattle.run_plan_node.specs.Commands.{command_of, uses_whole_run}
+use Rattle.run_plan_node.specs.Commands.{phase_command, uses_whole_run}
 use Rattle.std.specs.Fmt.{digits}
 use Rattle.vars_macros.specs.Script.{script_word, is_whole_run, is_exactly}
 use Rattle.sched_core.specs.Example.{told_failed}
@@ -46,7 +46,7 @@ unfolding uses_whole_run is_whole_run is_exactly
 told-whole = refl
 
 pub returns-clause-same_at_0 : goal.returns-clause-same_at_0
-unfolding command_of script_word is_exactly digits
+unfolding phase_command script_word is_exactly digits
 returns-clause-same_at_0 c = refl
 
 pub returns-clause-whole_run : goal.returns-clause-whole_run

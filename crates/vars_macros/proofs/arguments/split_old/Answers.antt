@@ -7,7 +7,7 @@ use Rattle.vars_macros.specs.Gathered.{gathering_of, no_words}
 use Rattle.vars_macros.specs.declared.words.Symbol.{Symbol}
 use Rattle.vars_macros.proofs.Quotes.{old_skips, old_takes, old_first, old_over}
 use Rattle.vars_macros.proofs.Splits.{old_split}
-use Rattle.vars_macros.specs.Symbols.{gathered, is_escape, old_symbols}
+use Rattle.vars_macros.specs.Symbols.{gathered, is_quote_escape, old_symbols}
 use Rattle.vars_macros.proofs.Takes.{takes, leaves, fails, escape_so, old_so}
 use Rattle.vars_macros.proofs.WordTexts.{MayTake, Leaves, old_may, old_leaves, escape_ascii, BeginsAscii, left_out}
 use Rattle.vars_macros.proofs.arguments.split_old.Goals as goal
@@ -64,7 +64,7 @@ returns-in_err-take c =
     let byte = c.in-Some.byte.now in
     let after = c.in-Some.after.now in
     let s = c.old_symbol.result in
-    let more = old_symbols (is_escape byte after) after in
+    let more = old_symbols (is_quote_escape byte after) after in
     let total = gathered no_words (old_symbols false c.args.text.now) in
     let fault = c.in_err-take.field-0.0 in
     let so_far : gathered g (s ∷ more) ≡ total = ap (λ (x : Symbol). gathered g (x ∷ more)) (old_so s byte after c.old_symbol.ensures)

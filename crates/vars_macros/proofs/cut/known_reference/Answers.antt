@@ -1,5 +1,5 @@
 use Rattle.std.proofs.Common.{◌≡◌, ◌∙◌, sym, ap, subst, ℕ, List, [], ◌∷◌, drop, Option, Some, option_map, IfSome}
-use Rattle.vars_macros.specs.Names.{lower, is_lawful}
+use Rattle.vars_macros.specs.Names.{lower, is_reference_name}
 use Rattle.vars_macros.specs.Cut.{reference_name}
 use Rattle.vars_macros.specs.NameTable.{number_of_name}
 use Rattle.vars_macros.specs.Pieces.{IsNamedBy}
@@ -18,7 +18,7 @@ returns-then-is_empty-clause-some c =
     let parts = named_whole inside.bytes.now name.len c.requires.lawful none in
     record {
       name = c.numbered.ensures.name ∙ parts.0;
-      lawful = ap is_lawful (sym parts.0) ∙ c.requires.lawful;
+      lawful = ap is_reference_name (sym parts.0) ∙ c.requires.lawful;
       naming = subst (λ (n : Naming). IsNamedBy inside.names.now (reference_name inside.bytes.now) n) (sym c.numbered.ensures.naming)
           (ap (λ (t : List ℕ). number_of_name inside.names.now (lower t)) (sym parts.0) ∙ c.requires.numbered);
       default = ap (λ (o : Option Part). option_map text_of_part o) c.numbered.ensures.default ∙ parts.1;
@@ -36,7 +36,7 @@ returns-then-begins_with-clause-some c =
     let default = c.numbered-then-begins_with.ensures.default in
     record {
       name = c.numbered-then-begins_with.ensures.name ∙ parts.0;
-      lawful = ap is_lawful (sym parts.0) ∙ c.requires.lawful;
+      lawful = ap is_reference_name (sym parts.0) ∙ c.requires.lawful;
       naming = subst (λ (n : Naming). IsNamedBy inside.names.now (reference_name inside.bytes.now) n) (sym c.numbered-then-begins_with.ensures.naming)
           (ap (λ (t : List ℕ). number_of_name inside.names.now (lower t)) (sym parts.0) ∙ c.requires.numbered);
       default = ap (λ (o : Option Part). option_map text_of_part o) default ∙ ap Some c.behind-default.ensures.bytes ∙ parts.1;

@@ -1,7 +1,0 @@
-use Rattle.std.proofs.Common.{◌≡◌, ◌++◌, map, take}
-use Rattle.splices_flat.specs.Nodes.{jobs_in}
-use Rattle.splices.specs.NodeChanges.{plain_node}
-use Rattle.splices.proofs.own_nodes.add_jobs.Given as goal
-
-abbrev pub invariant-loop-command : goal.invariant-loop-command
-invariant-loop-command l = l.nodes.items ≡ l.initial.nodes.items ++ map (plain_node l.prefix l.folder) (jobs_in (take l.command-index l.commands))
