@@ -83,6 +83,11 @@ class Folder:
     def wait_for(self, name):
         wait_until(lambda: self.there(name), f"{name} is not there")
 
+    def wait_for_start(self, dag, node, count=1):
+        """Waits until the log says so often that a phase of this node was started: the child may be faster than the manager's note of it."""
+        word = f"\tstart\t{node}\t".encode()
+        wait_until(lambda: self.read(f"{dag}.log").count(word) >= count, f"the log has not {count} starts of {node}")
+
     def wait_for_launch(self, count):
         """Waits until the journal has so many records."""
         wait_until(lambda: self.there("x.dag.journal") and len(slots_in(self.read("x.dag.journal"))[0]) >= count, f"there are no {count} records")
@@ -1692,6 +1697,7 @@ def why_while_it_runs(folder):
     folder.echo("b")
     manager = folder.start("run", "x.dag")
     folder.wait_for("begun")
+    folder.wait_for_start("x.dag", "A")
     text = why(folder, "A", "B")
     here = os.path.realpath(folder.path)
     found = re.fullmatch(rf"A SUBMITTED: its job runs, in attempt 1 of 1, since (\S+Z), as process (\d+)\n    command  /bin/sh a.sh\n    folder   {here}\n"
@@ -1710,7 +1716,7 @@ def why_behind_a_kill(folder):
     folder.write("x.dag", "JOB A a.sub\n")
     manager = folder.start("run", "x.dag")
     folder.wait_for("begun")
-    wait_until(lambda: b"\tstart\tA\t" in folder.read("x.dag.log"), "the log has no start")
+    folder.wait_for_start("x.dag", "A")
     manager.kill()
     manager.wait(timeout=PATIENCE)
     manager.stdout.close()
@@ -2784,12 +2790,14 @@ def when_the_steps_ran(folder):
     folder.shell("e", ": >begun\nexec sleep 60\n")
     first = folder.start("run", "y.dag")
     folder.wait_for("begun")
+    folder.wait_for_start("y.dag", "E")
     same([line.split("\t")[5:] for line in folder.call("times", "y.dag")[0].splitlines()[1:]], [["exit 0", "*"], ["runs", "*"]])
     first.kill()
     first.wait(timeout=PATIENCE)
     os.remove(folder.at("begun"))
     second = folder.start("run", "y.dag")
     folder.wait_for("begun")
+    folder.wait_for_start("y.dag", "E", 2)
     same([line.split("\t")[5] for line in folder.call("times", "y.dag")[0].splitlines()[1:]], ["exit 0", "lost", "runs"])
     second.kill()
     second.wait(timeout=PATIENCE)
