@@ -1,6 +1,7 @@
 //! Where an answer is displayed.
 
-ghost use Rattle.std.specs.Prelude.{◌≡◌, ℕ, Bool, List, [], ◌++◌, false, IsTrue, OnOk, OnErr, string_bytes};
+ghost use Rattle.std.specs.Prelude.{◌≡◌, [], false, IsTrue, OnOk, OnErr, string_bytes};
+ghost use Rattle.answer_console.specs.Display.{Streams, with_printed, with_warned};
 
 use std::alloc::Global;
 use std::io::{self, ErrorKind};
@@ -9,16 +10,10 @@ use std::io::{self, ErrorKind};
 ///
 /// What is said of texts is said of a console that is honest in the end: nobody else wrote there, and no warning was lost.
 pub trait Console {
-    /// The bytes that stand on standard output.
-    ghost printed: { Self → List ℕ };
+    /// What stands on both, whether standard output has refused a text, and whether standard error is a terminal.
+    ghost shown: { Self → Streams };
 
-    /// The bytes that stand on standard error.
-    ghost warned: { Self → List ℕ };
-
-    /// Whether standard output refused a text.
-    ghost refuses: { Self → Bool };
-
-    /// The premise under which they do: so far it was honest.
+    /// The premise under which that stands there: so far it was honest.
     ghost honest: { Self → Type 0 };
 
     /// Writes a text to standard output.
@@ -26,18 +21,20 @@ pub trait Console {
     /// # Errors
     /// What the system says where it refuses the text or a part of it: a part may be written.
     fn print(&mut self, text: &str) -> io::Result<()>
-        ensures printed { honest self.new → OnOk result (printed self.new ≡ printed self.old ++ text.now) }
-        ensures warned { honest self.new → warned self.new ≡ warned self.old }
-        ensures taken { honest self.new → OnOk result (refuses self.new ≡ refuses self.old) }
-        ensures refused { honest self.new → OnErr result (IsTrue (refuses self.new)) }
+        ensures printed { honest self.new → OnOk result (shown self.new ≡ with_printed (shown self.old) text.now) }
+        ensures refused { honest self.new → OnErr result (IsTrue (shown self.new).refuses) }
+        ensures warned { honest self.new → (shown self.new).warned ≡ (shown self.old).warned }
+        ensures at_terminal { honest self.new → (shown self.new).at_terminal ≡ (shown self.old).at_terminal }
         ensures back { honest self.new → honest self.old };
 
     /// Writes a text to standard error; where that is refused, there is nowhere left to say so.
     fn warn(&mut self, text: &str)
-        ensures warned { honest self.new → warned self.new ≡ warned self.old ++ text.now }
-        ensures printed { honest self.new → printed self.new ≡ printed self.old }
-        ensures refuses { honest self.new → refuses self.new ≡ refuses self.old }
+        ensures warned { honest self.new → shown self.new ≡ with_warned (shown self.old) text.now }
         ensures back { honest self.new → honest self.old };
+
+    /// Whether standard error is a terminal.
+    fn is_terminal(&self) -> bool
+        ensures { result ≡ (shown self.now).at_terminal };
 }
 
 /// The streams of this process. That they are honest is a premise, which nothing here proves.
@@ -45,14 +42,12 @@ pub trait Console {
 pub struct SystemConsole<'a, R> {
     /// The system.
     pub rt: &'a R,
+    /// Whether standard error is a terminal.
+    pub at_terminal: bool,
 }
 
 impl<'a, R: Print + Eprint> Console for SystemConsole<'a, R> {
-    ghost printed = { λ _. [] };
-
-    ghost warned = { λ _. [] };
-
-    ghost refuses = { λ _. false };
+    ghost shown = { λ c. record { printed = []; warned = []; refuses = false; at_terminal = c.at_terminal } };
 
     ghost honest = { λ _. ⊥ };
 
@@ -63,9 +58,13 @@ impl<'a, R: Print + Eprint> Console for SystemConsole<'a, R> {
     fn warn(&mut self, text: &str) {
         let _ = eprint!(self.rt; "{text}");
     }
+
+    fn is_terminal(&self) -> bool {
+        self.at_terminal
+    }
 }
 
-/// A console in memory. It is honest until a text is too long for the memory that is left.
+/// A console in memory, which is no terminal. It is honest until a text is too long for the memory that is left.
 #[derive(Drop)]
 pub struct MemConsole {
     printed: String,
@@ -106,11 +105,7 @@ impl MemConsole {
 }
 
 impl Console for MemConsole {
-    ghost printed = { λ c. string_bytes c.printed };
-
-    ghost warned = { λ c. string_bytes c.warned };
-
-    ghost refuses = { λ c. c.refuses };
+    ghost shown = { λ c. record { printed = string_bytes c.printed; warned = string_bytes c.warned; refuses = c.refuses; at_terminal = false } };
 
     ghost honest = { λ c. c.lost ≡ false };
 
@@ -128,5 +123,9 @@ impl Console for MemConsole {
         if self.warned.push_str(text).is_err() {
             self.lost = true;
         }
+    }
+
+    fn is_terminal(&self) -> bool {
+        false
     }
 }

@@ -2,7 +2,7 @@
 #![tactic(auto)]
 
 mod console;
-mod telling;
+mod display;
 
 pub use console::{Console, MemConsole, SystemConsole};
-pub use telling::tell_answer;
+pub use display::display_reply;

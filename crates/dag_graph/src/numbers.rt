@@ -1,6 +1,6 @@
 //! Lists of numbers of nodes.
 
-ghost use Rattle.std.specs.Prelude.{replicate, ◌≡◌, ◌++◌, ◌∷◌, [], ◌<◌, ◌≤◌, ◌^◌, ℕ, OnOk, IfOk, length, slice_index_or, map, if◌then◌else◌};
+ghost use Rattle.std.specs.Prelude.{replicate, ◌≡◌, ◌++◌, ◌∷◌, [], ◌<◌, ◌^◌, ℕ, OnOk, IfOk, length, slice_index_or, map, if◌then◌else◌};
 ghost use Rattle.std.specs.List.{All, range_with_len, sum_by};
 ghost use Rattle.dag_graph.specs.Numbers.{has, IsLast, AreBelow, holders_of};
 

@@ -1,7 +1,7 @@
 //! The parents and the children of each node.
 
 ghost use Rattle.std.specs.Prelude.{◌≡◌, ◌<◌, ◌≤◌, IfOk, length, map};
-ghost use Rattle.std.specs.List.{All, flat_map, range_with_len};
+ghost use Rattle.std.specs.List.{All, range_with_len};
 ghost use Rattle.splices_flat.specs.Dag.{IsGroupBelow};
 ghost use Rattle.splices_flat.specs.Places.{nodes_on_side};
 ghost use Rattle.dag_graph.specs.Numbers.{AreBelow, holders_of, all_named, named};

@@ -1,6 +1,6 @@
 //! The commands and their options, as clap reads them.
 
-ghost use Rattle.std.specs.Prelude.{◌≡◌, ◌⊎◌, [], false, Some, IfErr, IfOk, option_map, ◌∷◌};
+ghost use Rattle.std.specs.Prelude.{◌≡◌, ◌⊎◌, [], false, Some, IfErr, IfOk, option_map};
 ghost use Rattle.clap.specs.Words.{app_of, rule_of, with_subcommand};
 ghost use Rattle.clap.specs.Walk.{texts};
 ghost use Rattle.dag_main_args.specs.Table.{IsDagrunApp, rule_by, shape_by};

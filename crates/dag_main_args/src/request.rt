@@ -1,9 +1,9 @@
 //! What the words of a command line ask for.
 
-ghost use Rattle.std.specs.Prelude.{◌≡◌, ◌<◌, ◌≤◌, true, false, None, length, codes, ◌⊎◌, IsOkAnd, IfOk, IfErr, IfSome, string_bytes, map, option_map};
+ghost use Rattle.std.specs.Prelude.{◌≡◌, ◌<◌, ◌≤◌, true, false, None, length, codes, ◌⊎◌, IsOkAnd, IfOk, IfErr, IfSome, map, option_map};
 ghost use Rattle.std.specs.Option.{option_map_or};
 ghost use Rattle.clap.specs.Words.{found_of, rows_of, first_of, kind_of, subcommand_rows_of};
-ghost use Rattle.dag_main_args.specs.Requests.{rehearses, shows, asked_by, no_limits, limits_in, AreLimits};
+ghost use Rattle.dag_main_args.specs.Requests.{rehearses, asked_by, no_limits, limits_in, AreLimits};
 ghost use Rattle.dag_main_args.specs.Matched as matched;
 ghost use Rattle.dag_main_args.specs.Launchers.{HasNoLauncher};
 ghost use Rattle.clap.specs.Walk.{texts};

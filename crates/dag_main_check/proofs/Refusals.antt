@@ -1,5 +1,5 @@
 -- Why a command is refused.
-use Rattle.std.proofs.Common.{Bool, ◌≡◌, ℕ, List, Option, Some, Result, Ok, Err}
+use Rattle.std.proofs.Common.{Bool, ℕ, List, Option, Some, Result, Ok, Err}
 use Rattle.std.specs.Prelude.{IfErr, IsErrAnd}
 use Rattle.splices_flat.specs.Opening.{Files}
 use Rattle.dag_graph.specs.Graph.{Network}

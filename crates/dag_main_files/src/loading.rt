@@ -2,7 +2,6 @@
 
 ghost use Rattle.std.specs.Prelude.{◌≡◌, Some, IfOk, IfErr, OnOk};
 ghost use Rattle.std.specs.Option.{option_map};
-ghost use Rattle.splices_flat.specs.FileSet.{bytes_of};
 ghost use Rattle.dag_main_check.specs.declared.fault.RunFault.TheVariants.{Memory};
 ghost use Rattle.dag_main_files.specs.Beside.{IsInputFault};
 ghost use Rattle.dag_main_files.specs.Folder.{AreHeld, KeepsFiles, IsReadFrom};

@@ -1,5 +1,5 @@
 -- The report of a rehearsal is that of the fates.
-use Rattle.std.proofs.Common.{◌≡◌, ℕ, Bool, List, Option, Result, Ok, Err, sym, subst}
+use Rattle.std.proofs.Common.{◌≡◌, ℕ, Bool, List, Option, Result, Ok, Err, subst}
 use Rattle.std.specs.Prelude.{IfOk, IfErr}
 use Rattle.node_machine.specs.OutcomeTable.{Entry, SameOutcomes}
 use Rattle.throttles.specs.declared.Limits.{Limits}

@@ -1,6 +1,5 @@
 //! One command from the words of a line.
 
-ghost use Rattle.std.specs.Prelude.{◌≡◌};
 ghost use Rattle.dag_reader.specs.LineReader.{left_of, word_of};
 ghost use Rattle.dag_reader.specs.Reading.{Gives, vars_of, command_at};
 

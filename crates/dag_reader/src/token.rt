@@ -1,7 +1,6 @@
 //! A word that still stands in its line, and what it can be.
 
 ghost use Rattle.std.specs.Prelude.{◌≡◌, IfOk};
-ghost use Rattle.std.specs.Option.{option_map};
 
 use crate::command::{ScriptKind, Target};
 use crate::fault::LineFault;

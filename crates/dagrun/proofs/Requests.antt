@@ -1,15 +1,18 @@
 -- What comes of a request.
-use Rattle.std.proofs.Common.{◌≡◌, ◌≤◌, ◌<◌, ◌∙◌, ℕ, Bor, List, None, false, Result, Ok, Err, IfOk, codes, length, map, string_bytes, sym, subst}
-use Rattle.std.specs.Prelude.{IfSome, IsOkAnd}
+use Rattle.std.proofs.Common.{◌≡◌, ◌⊎◌, inl, inr, ◌≤◌, ◌<◌, ℕ, Bor, List, None, true, false, Result, Ok, Err, IfOk, codes, length, map, string_bytes, String, Global, refl, sym, subst}
+use Rattle.std.specs.Prelude.{IfErr, IsErrAnd, IfSome}
 use Rattle.std.proofs.lemmas.List.{length-map}
-use Rattle.std.proofs.lemmas.Result.{IfOk-at_ok}
 use Rattle.dag_main_args.specs.declared.request.Request.{Request}
-use Rattle.dag_main_args.specs.Requests.{asked_by, rehearses, no_limits, limits_in, AreLimits}
-use Rattle.dag_main_args.specs.Answered.{IsAskedFor}
+use Rattle.dag_main_args.specs.declared.request.WordsFault.{WordsFault}
+use Rattle.dag_main_args.specs.declared.request.WordsFault.TheVariants.{Refused, Memory}
+use Rattle.dag_main_args.specs.Requests.{Asked, asked_by, checks, runs, tells_status, audits, rehearses, draws, asks_why, times, salvages, shows, no_limits, limits_in, AreLimits}
+use Rattle.dag_main_args.specs.Answered.{IsAskedFor, IsRefused}
 use Rattle.dag_main_check.specs.declared.fault.RunFault.{RunFault}
+use Rattle.dag_main_check.specs.declared.fault.RunFault.TheVariants.{Memory as NoMemory}
 use Rattle.dag_main_check.specs.declared.warnings.Answer.{Answer}
-use Rattle.dagrun.specs.Answered.{AskFor, IsAnswerTo, IsExit, answered, refused}
-use Rattle.answer_console.specs.Telling.{IsExitStatusOf, printed, not_printed}
+use Rattle.answer_console.specs.Display.{Streams, IsExitStatusOf, printed, not_printed}
+use Rattle.answer_console.proofs.Lines.{no-warning}
+use Rattle.dagrun.specs.Answered.{AskFor, IsAnswerTo, IsRefusedRequest, IsReplyTo, IsExit, of_no_memory, AreHints}
 
 -- the words as they are lent
 abbrev pub lent_words : List (Bor (List ℕ)) → List (List ℕ)
@@ -26,14 +29,39 @@ asks-for words request none said limited = record {
   limited = limited;
 }
 
--- an answer is printed with its status, or refused
-pub exits : (words : List (List ℕ)) (request : Request) → AskFor words request → (result : Result Answer RunFault)
-    → IfOk result (λ answer. IsAnswerTo (asked_by request) (string_bytes answer.text) (string_bytes answer.warnings) answer.status)
-    → (status : ℕ) → IsExitStatusOf result status → IsExit words status
-exits words request ask result is status (printed answer same) = answered request _ _ answer.status ask (IfOk-at_ok _ same is)
-exits words request ask result is status not_printed = refused
+-- what comes of a request, by what is said of its answer and of its refusal
+pub reply-to : (asked : Asked) (reply : Result Answer RunFault)
+    → IfOk reply (λ answer. IsAnswerTo asked (string_bytes answer.text) (string_bytes answer.warnings) answer.status)
+    → IfErr reply (IsRefusedRequest asked) → IsReplyTo asked reply
+reply-to asked (Ok answer) is why = is
+reply-to asked (Err fault) is why = why
 
--- so is what is displayed of a fault
-pub exits-refused : (words : List (List ℕ)) (fault : RunFault) (status : ℕ) → IsExitStatusOf (Err fault) status → IsExit words status
-exits-refused words fault status (printed answer same) = absurd cc
-exits-refused words fault status not_printed = refused
+-- so comes a refusal that is handed on
+pub refused-reply : (asked : Asked) (given : RunFault) → IsRefusedRequest asked given → (reply : Result Answer RunFault) → IsErrAnd reply (λ fault. fault ≡ given)
+    → IsReplyTo asked reply
+refused-reply asked given why (Ok answer) same = absurd same
+refused-reply asked given why (Err fault) same = subst (IsRefusedRequest asked) (sym same) why
+
+-- clap's text is no want of memory
+pub no-request : (words : List (List ℕ)) (text : String Global) (fault : WordsFault) → fault ≡ Refused text → (fault ≡ Memory) ⊎ IsRefused words → IsRefused words
+no-request words text fault is (inl same) = absurd cc
+no-request words text fault is (inr refused) = refused
+
+-- where memory is refused, the status is 125
+pub exits-without-memory : (words : List (List ℕ)) (status : ℕ) → IsExitStatusOf (Err NoMemory) status → IsExit words status
+exits-without-memory words status (printed answer same) = absurd cc
+exits-without-memory words status not_printed = of_no_memory
+
+-- nothing is displayed of no hints
+pub no-hints : (asked : Asked) (streams : Streams) → AreHints asked streams streams
+no-hints (checks path true) streams = no-warning streams
+no-hints (checks path false) streams = refl
+no-hints (runs path options) streams = refl
+no-hints (tells_status path) streams = refl
+no-hints (audits path) streams = refl
+no-hints (rehearses path outcomes limits always_post) streams = refl
+no-hints (draws path) streams = refl
+no-hints (asks_why path nodes) streams = refl
+no-hints (times path svg) streams = refl
+no-hints (salvages path) streams = refl
+no-hints (shows page) streams = refl

@@ -6,7 +6,7 @@ use Rattle.dag_main_check.specs.declared.warnings.Answer.{Answer}
 use Rattle.salvage.specs.Faults.{fault_text}
 use Rattle.salvage.specs.Refused.{IsSalvageFault}
 use Rattle.salvage.specs.declared.fault.SalvageFault.{SalvageFault}
-use Rattle.dagrun.specs.Answered.{Said, IsSalvageWith, IsWarnedCause, not_salvaged}
+use Rattle.dagrun.specs.Answered.{Said, IsSalvageWith, not_salvaged}
 
 -- what holds of a text that is there
 some-text : (text : Option (List ℕ)) (P : List ℕ → Type 0) → IsTrue (is_some text) → IfSome text P → (line : List ℕ) × (text ≡ Some line) × P line

@@ -1,9 +1,9 @@
 -- What the program answers to a request, and its exit status (docs/MANUAL.md, "The command line").
-use Rattle.std.specs.Prelude.{◌≡◌, ◌<◌, ◌≤◌, ℕ, Bool, true, false, List, [], ◌++◌, Option, Some, None, codes, length, is_some, IfSome}
+use Rattle.std.specs.Prelude.{◌≡◌, ◌<◌, ◌≤◌, ℕ, Bool, true, false, List, [], ◌++◌, Option, Some, None, Result, Ok, Err, codes, length, is_some, string_bytes, IfSome}
 use Rattle.splices_flat.specs.Opening.{Files}
 use Rattle.throttles.specs.declared.Limits.{Limits}
 use Rattle.dag_main_args.specs.declared.request.Request.{Request}
-use Rattle.dag_main_args.specs.Answered.{IsAskedFor}
+use Rattle.dag_main_args.specs.Answered.{IsAskedFor, IsRefused}
 use Rattle.dag_main_args.specs.Requests.{Asked, asked_by, checks, runs, tells_status, audits, rehearses, draws, asks_why, times, salvages, shows, no_limits, limits_in, AreLimits}
 use Rattle.dag_main_args.specs.declared.request.RunOptions.{RunOptions}
 use Rattle.dag_main_files.specs.Beside.{IsFileFault}
@@ -11,6 +11,9 @@ use Rattle.dag_main_check.specs.Checked.{IsCheckOf}
 use Rattle.dag_main_rehearse.specs.Rehearsed.{IsRehearsalOf}
 use Rattle.folder_answers.specs.Answered.{IsCheckOfSome, IsCheckRefusal, IsRehearsalOfSome, IsRehearsalRefusal}
 use Rattle.dag_main_check.specs.declared.fault.RunFault.{RunFault}
+use Rattle.dag_main_check.specs.declared.fault.RunFault.TheVariants.{Memory}
+use Rattle.dag_main_check.specs.declared.warnings.Answer.{Answer}
+use Rattle.answer_console.specs.Display.{Streams, OnlyWarns, OnlyWarnsAtTerminal, IsDisplayedAs, IsExitStatusOf}
 use Rattle.dag_main_run.specs.Runs.{IsRunOf, IsRunFrom, IsRunFault}
 use Rattle.dag_main_inspect.specs.Asked.{IsAnswerOfRun, IsAnswerHeld, IsAnswerFault}
 use Rattle.dag_main_inspect.specs.Reported.{IsReportHere, IsReportFrom}
@@ -110,8 +113,35 @@ pub record AskFor (words : List (List ℕ)) (request : Request) : Type 0 where
   pub said : 1 < length words → IsAskedFor words request
   pub limited : IfSome (limits_in (asked_by request)) AreLimits
 
--- The exit status of the program on a command line of these words: that of an answer to what they ask for, or 125.
+-- What comes of a request: its answer, or why it is refused.
+abbrev pub IsReplyTo : Asked → Result Answer RunFault → Type 0
+IsReplyTo asked (Ok answer) = IsAnswerTo asked (string_bytes answer.text) (string_bytes answer.warnings) answer.status
+IsReplyTo asked (Err fault) = IsRefusedRequest asked fault
+
+-- The exit status of the program on a command line of these words: that with which the reply to what they ask for is displayed; or 125, where they ask for
+-- nothing, and where there is no memory to read them.
 pub data IsExit (words : List (List ℕ)) : ℕ → Type 0 where
-  answered : (request : Request) (text warnings : List ℕ) (status : ℕ) → AskFor words request → IsAnswerTo (asked_by request) text warnings status →
-      IsExit words status
-  refused : IsExit words 125
+  of_reply : (request : Request) (reply : Result Answer RunFault) (status : ℕ) → AskFor words request → IsReplyTo (asked_by request) reply →
+      IsExitStatusOf reply status → IsExit words status
+  of_refused_words : IsRefused words → IsExit words 125
+  of_no_memory : IsExit words 125
+
+-- the hints of a check, where they are asked for; else nothing is displayed
+abbrev pub AreHints : Asked → Streams → Streams → Type 0
+AreHints (checks path true) before after = OnlyWarns before after
+AreHints _ before after = after ≡ before
+
+-- a reply is displayed, and at a terminal more behind it on standard error
+pub record IsDisplayedThen (before after : Streams) (reply : Result Answer RunFault) (status : ℕ) : Type 0 where
+  pub shown : Streams
+  pub displayed : IsDisplayedAs before shown reply status
+  pub more : OnlyWarnsAtTerminal shown after
+
+-- What the program displays for a command line of these words, and its exit status: the reply to what they ask for, behind hints where these are asked for,
+-- and at a terminal what may help behind it; or, where they ask for nothing, one text on standard error, which says why; or that there is no memory to
+-- read them.
+pub data IsCall (words : List (List ℕ)) (before after : Streams) : ℕ → Type 0 where
+  replied : (request : Request) (reply : Result Answer RunFault) (hinted : Streams) (status : ℕ) → AskFor words request → IsReplyTo (asked_by request) reply →
+      AreHints (asked_by request) before hinted → IsDisplayedThen hinted after reply status → IsCall words before after status
+  words_refused : IsRefused words → OnlyWarns before after → IsCall words before after 125
+  no_memory : (status : ℕ) → IsDisplayedThen before after (Err Memory) status → IsCall words before after status

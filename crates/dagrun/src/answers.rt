@@ -1,6 +1,6 @@
 //! What is answered to a request by the files of a folder.
 
-ghost use Rattle.std.specs.Prelude.{◌≡◌, ◌⊎◌, ◌||◌, true, ℕ, List, [], ◌++◌, Some, IfOk, IfErr, IfSome, is_some, map, string_bytes, codes};
+ghost use Rattle.std.specs.Prelude.{◌≡◌, ◌⊎◌, ◌||◌, true, [], ◌++◌, IfOk, IfErr, IfSome, is_some, string_bytes, codes};
 ghost use Rattle.std.specs.Option.{option_map};
 ghost use Rattle.dag_main_args.specs.Requests.{asked_by, checks, runs, rehearses, salvages, shows};
 ghost use Rattle.dag_main_files.specs.Beside.{IsFileFault};
@@ -8,9 +8,10 @@ ghost use Rattle.dag_main_check.specs.Checked.{IsCheckOf};
 ghost use Rattle.folder_answers.specs.Answered.{IsCheckOfSome, IsCheckRefusal};
 ghost use Rattle.dag_main_check.specs.declared.fault.RunFault.TheVariants.{Memory};
 ghost use Rattle.salvage.specs.Faults.{fault_text};
-ghost use Rattle.salvage.specs.Refused.{IsSalvageFault};
-ghost use Rattle.dagrun.specs.Answered.{is_run, IsAnswerTo, IsAnswerFrom, IsCheckWith, IsRefusedRequest};
+ghost use Rattle.answer_console.specs.Display.{OnlyWarns};
+ghost use Rattle.dagrun.specs.Answered.{is_run, IsAnswerTo, IsAnswerFrom, IsCheckWith, IsRefusedRequest, AreHints};
 
+use answer_console::Console;
 use dag_main_args::{Request, RunOptions};
 use dag_main_check::{Answer, RunFault};
 use dag_main_files::{Folder, Place, Reading, files_of, read_input, refused};
@@ -32,14 +33,16 @@ use throttles::Limits;
 pub(crate) const REFUSED: u8 = 125;
 
 /// What is answered to a request by the files of a folder. What a run writes, and what the system has besides, as a
-/// table of outcomes or the output of a job, stands where the system says, seen from the path of that folder.
+/// table of outcomes or the output of a job, stands where the system says, seen from the path of that folder. The hints
+/// of a check that is refused are displayed at once.
 ///
 /// # Errors
 /// Those of the call that the request is for; a table of outcomes that the system refuses to read; memory.
 pub(crate) fn answer_in<
     R: Files<File = File> + Processes + Clock + Screen + AllocGlobal + Copy + Drop,
+    C: Console,
     F: Folder,
->(rt: &R, folder: &F, seat: &str, request: Request<'_>) -> Result<Answer, RunFault>
+>(rt: &R, console: &mut C, folder: &F, seat: &str, request: Request<'_>) -> Result<Answer, RunFault>
     ensures answered { IfOk result (λ answer. IsAnswerTo (asked_by request.entry)
         (string_bytes answer.text) (string_bytes answer.warnings) answer.status) }
     // It is that of the files that the folder holds.
@@ -49,6 +52,8 @@ pub(crate) fn answer_in<
     // It is refused for a cause of the call; `run` does not read standard input.
     ensures refused { (is_run (asked_by request.entry) ≡ true → ¬ (F.streams folder.now))
         → IfErr result (IsRefusedRequest (asked_by request.entry)) }
+    ensures hinted { C.honest console.new → AreHints (asked_by request.entry) (C.shown console.old) (C.shown console.new) }
+    ensures back { C.honest console.new → C.honest console.old }
 {
     let alloc = rt.alloc();
     match request {
@@ -72,7 +77,9 @@ pub(crate) fn answer_in<
             salvage_in(rt, folder, &place)
         }
         Request::Page { text } => Ok(page(alloc, text)),
-        Request::Check { dag, hints, condor } => check(rt, folder, dag, Wanted { hints, condor }),
+        Request::Check { dag, hints, condor } => {
+            check(rt, console, folder, dag, Wanted { hints, condor })
+        }
         Request::Rehearse {
             dag,
             outcomes,
@@ -160,8 +167,9 @@ fn salvage_in<R: Files<File = File> + Clock + AllocGlobal + Copy + Drop, F: Fold
 }
 
 /// What `check` answers, with hints behind its warnings where they are asked for.
-fn check<R: Files<File = File> + Screen + AllocGlobal, F: Folder>(
+fn check<R: Files<File = File> + Screen + AllocGlobal, C: Console, F: Folder>(
     rt: &R,
+    console: &mut C,
     folder: &F,
     dag: &str,
     wanted: Wanted,
@@ -172,18 +180,21 @@ fn check<R: Files<File = File> + Screen + AllocGlobal, F: Folder>(
         IsAnswerFrom (F.holds folder.now) (F.has folder.now) (checks dag.now (wanted.hints || wanted.condor))
         (string_bytes answer.text) (string_bytes answer.warnings) answer.status) }
     ensures refused { IfErr result (IsRefusedRequest (checks dag.now (wanted.hints || wanted.condor))) }
+    ensures hinted { C.honest console.new → AreHints (checks dag.now (wanted.hints || wanted.condor)) (C.shown console.old) (C.shown console.new) }
+    ensures back { C.honest console.new → C.honest console.old }
 {
     if wanted.any() {
-        check_with_hints(rt, folder, dag, wanted)
+        check_with_hints(rt, console, folder, dag, wanted)
     } else {
         check_here(rt.alloc(), folder, dag)
     }
 }
 
-/// The answer to a check of files that are read once, with hints; where it is refused, they are printed before the
-/// refusal.
-fn check_with_hints<R: Files<File = File> + Screen + AllocGlobal, F: Folder>(
+/// The answer to a check of files that are read once, with hints; where it is refused, they are displayed at once, and
+/// so before the refusal.
+fn check_with_hints<R: Files<File = File> + Screen + AllocGlobal, C: Console, F: Folder>(
     rt: &R,
+    console: &mut C,
     folder: &F,
     dag: &str,
     wanted: Wanted,
@@ -193,6 +204,8 @@ fn check_with_hints<R: Files<File = File> + Screen + AllocGlobal, F: Folder>(
     ensures held { F.honest folder.now → IfOk result (λ answer. IsCheckWith (IsCheckOf (F.holds folder.now) dag.now) true
         (string_bytes answer.text) (string_bytes answer.warnings) answer.status) }
     ensures refused { IfErr result (IsCheckRefusal dag.now) }
+    ensures hinted { C.honest console.new → OnlyWarns (C.shown console.old) (C.shown console.new) }
+    ensures back { C.honest console.new → C.honest console.old }
 {
     let alloc = rt.alloc();
     let files = files_of(alloc, folder, dag, Reading::SubmitFilesToo)?;
@@ -204,8 +217,7 @@ fn check_with_hints<R: Files<File = File> + Screen + AllocGlobal, F: Folder>(
     match reply {
         Ok(answer) => Ok(with_hints(answer, hints.as_str())),
         Err(fault) => {
-            let hints = hints.as_str();
-            let _ = eprint!(rt; "{hints}");
+            console.warn(hints.as_str());
             Err(fault)
         }
     }

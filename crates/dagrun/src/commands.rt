@@ -1,14 +1,14 @@
 //! The program's commands over the system's files and streams.
 
-ghost use Rattle.std.specs.Prelude.{◌≡◌, true, IfOk, IfErr, map, string_bytes};
+ghost use Rattle.std.specs.Prelude.{◌≡◌, true, IfErr, map};
 ghost use Rattle.dag_main_args.specs.Requests.{asked_by};
 ghost use Rattle.dag_main_files.specs.Beside.{IsFileFault};
-ghost use Rattle.dagrun.specs.Answered.{is_run, IsAnswerTo, IsRefusedRequest, IsExit};
-ghost use Rattle.answer_console.specs.Telling.{IsExitStatusOf};
+ghost use Rattle.answer_console.specs.Display.{IsExitStatusOf};
+ghost use Rattle.dagrun.specs.Answered.{is_run, IsReplyTo, IsExit, AreHints, IsDisplayedThen, IsCall};
 
 use crate::answers::{REFUSED, answer_in};
-use crate::telling::{tell_more, tell_totals, tell_worker};
-use answer_console::{SystemConsole, tell_answer};
+use crate::terminal::{Postscript, display_hint, display_postscript};
+use answer_console::{Console, display_reply};
 use dag_main_args::{Request, WordsFault, read_words};
 use dag_main_check::{Answer, RunFault};
 use dag_main_files::{StreamOrFolder, SystemFolder, refused};
@@ -24,21 +24,38 @@ use std::time::Clock;
 ///
 /// What the command prints stands on standard output, its warnings on standard error; a refused
 /// command line is reported by clap's text on standard error, a refused input by one line
-/// `dagrun: CODE Name detail`, both with status 125 and nothing on standard output.
+/// `dagrun: CODE Name detail`, both with status 125 and nothing on standard output. At a terminal, what may help
+/// stands behind it on standard error, and so does what is displayed while a run goes on, which isn't written to this console.
 pub fn run<
-    R: Files<File = File> + Processes + Clock + Input + Print + Screen + AllocGlobal + Copy + Drop,
->(rt: &R, words: &[&str]) -> u8
-    // It is that of the answer to what the words ask for, or 125.
-    ensures { IsExit (map (λ w. w.now) words.now) result }
+    R: Files<File = File> + Processes + Clock + Input + Screen + AllocGlobal + Copy + Drop,
+    C: Console,
+>(rt: &R, console: &mut C, words: &[&str]) -> u8
+    // It is that of the reply to what the words ask for, or 125 where they ask for nothing.
+    ensures exit { IsExit (map (λ w. w.now) words.now) result }
+    // On an honest console that reply is displayed: all that is printed is the text of the answer.
+    ensures shown { C.honest console.new → IsCall (map (λ w. w.now) words.now) (C.shown console.old) (C.shown console.new) result }
+    ensures back { C.honest console.new → C.honest console.old }
 {
     match read_words(rt.alloc(), words) {
         Ok(request) => {
             let dag = dag_in(&request);
             let postscript = postscript_to(&request);
-            finish(rt, dag, postscript, &answer(rt, request))
+            let reply = answer(rt, console, request);
+            finish(rt, console, dag, postscript, &reply)
         }
-        Err(WordsFault::Refused(text)) => refuse_words(rt, text.as_str()),
-        Err(WordsFault::Memory) => finish(rt, None, Postscript::Nothing, &Err(RunFault::Memory)),
+        Err(WordsFault::Refused(text)) => {
+            console.warn(text.as_str());
+            REFUSED
+        }
+        Err(WordsFault::Memory) => {
+            finish(
+                rt,
+                console,
+                None,
+                Postscript::Nothing,
+                &Err(RunFault::Memory),
+            )
+        }
     }
 }
 
@@ -48,23 +65,23 @@ pub fn run<
 /// # Errors
 /// The system refuses the folder in which the program was called or a file, or memory; else those of
 /// the call that the request is for.
-fn answer<R: Files<File = File> + Processes + Clock + Screen + Input + AllocGlobal + Copy + Drop>(
-    rt: &R,
-    request: Request<'_>,
-) -> Result<Answer, RunFault>
-    ensures answered { IfOk result (λ answer. IsAnswerTo (asked_by request.entry)
-        (string_bytes answer.text) (string_bytes answer.warnings) answer.status) }
-    ensures refused { IfErr result (IsRefusedRequest (asked_by request.entry)) }
+fn answer<
+    R: Files<File = File> + Processes + Clock + Screen + Input + AllocGlobal + Copy + Drop,
+    C: Console,
+>(rt: &R, console: &mut C, request: Request<'_>) -> Result<Answer, RunFault>
+    ensures reply { IsReplyTo (asked_by request.entry) result }
+    ensures hinted { C.honest console.new → AreHints (asked_by request.entry) (C.shown console.old) (C.shown console.new) }
+    ensures back { C.honest console.new → C.honest console.old }
 {
     if !is_beside(&request) {
-        return answer_in(rt, &StreamOrFolder { rt }, "", request);
+        return answer_in(rt, console, &StreamOrFolder { rt }, "", request);
     }
     let folder = folder_now(rt)?;
     let here = SystemFolder {
         rt,
         seat: folder.as_str(),
     };
-    answer_in(rt, &here, folder.as_str(), request)
+    answer_in(rt, console, &here, folder.as_str(), request)
 }
 
 /// Whether a request is for a run, and so for the files that stand beside a DAG file.
@@ -75,14 +92,6 @@ fn is_beside(request: &Request<'_>) -> bool
         Request::Check { .. } | Request::Rehearse { .. } | Request::Page { .. } => false,
         _ => true,
     }
-}
-
-/// Tells why the words are no request.
-fn refuse_words<R: Eprint>(rt: &R, text: &str) -> u8
-    ensures { result ≡ 125 }
-{
-    let _ = eprint!(rt; "{text}");
-    REFUSED
 }
 
 /// The path of the DAG file that a request is for; none for a page.
@@ -101,16 +110,6 @@ fn dag_in<'a>(request: &Request<'a>) -> Option<&'a str> {
     }
 }
 
-/// What is displayed at a terminal behind an answer.
-#[derive(Clone, Copy)]
-enum Postscript {
-    Nothing,
-    /// How many nodes stand in which state, and who works on them.
-    Totals,
-    /// Who works on the DAG.
-    Worker,
-}
-
 /// What is displayed behind the answer to a request.
 fn postscript_to(request: &Request<'_>) -> Postscript {
     match request {
@@ -120,29 +119,30 @@ fn postscript_to(request: &Request<'_>) -> Postscript {
     }
 }
 
-/// Tells the result of a request for this DAG file, and gives the exit status; at a terminal, also what may help
+/// Displays the reply to a request for this DAG file, and gives the exit status; at a terminal, also what may help
 /// where it is refused, and who works on the DAG.
-fn finish<R: Files<File = File> + Print + Screen + AllocGlobal>(
+fn finish<R: Files<File = File> + AllocGlobal, C: Console>(
     rt: &R,
+    console: &mut C,
     dag: Option<&str>,
     postscript: Postscript,
-    answer: &Result<Answer, RunFault>,
+    reply: &Result<Answer, RunFault>,
 ) -> u8
-    ensures { IsExitStatusOf answer.now result }
+    ensures exit { IsExitStatusOf reply.now result }
+    ensures shown { C.honest console.new → IsDisplayedThen (C.shown console.old) (C.shown console.new) reply.now result }
+    ensures back { C.honest console.new → C.honest console.old }
 {
-    let status = tell_answer(rt.alloc(), &mut SystemConsole { rt }, answer);
-    match (answer, dag) {
-        (Ok(answer), Some(dag)) if status == 0 => match postscript {
-            Postscript::Nothing => {}
-            Postscript::Totals => tell_totals(rt, dag, answer.text.as_str()),
-            Postscript::Worker => tell_worker(rt, dag),
-        },
+    let status = display_reply(rt.alloc(), console, reply);
+    match (reply, dag) {
+        (Ok(answer), Some(dag)) if status == 0 => {
+            display_postscript(rt, console, dag, postscript, answer.text.as_str());
+        }
+        (Ok(_), _) => {}
         (Err(fault), _) => {
             if let Ok(line) = format!(in rt.alloc(); "{fault}") {
-                tell_more(rt, dag, line.as_str());
+                display_hint(rt, console, dag, line.as_str());
             }
         }
-        _ => {}
     }
     status
 }

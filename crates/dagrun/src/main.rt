@@ -3,9 +3,11 @@
 
 mod answers;
 mod commands;
-mod telling;
+mod terminal;
 
+use answer_console::SystemConsole;
 use commands::run;
+use dag_main_run::Screen;
 use std::alloc::Global;
 use std::fs::OpenOptions;
 use std::io::ErrorKind;
@@ -93,5 +95,9 @@ fn run_words(rt: &HostRuntime) -> io::Result<u8> {
         .chain(owned.iter().skip(2))
         .map(|word| word.as_str())
         .collect(rt.alloc())?;
-    Ok(run(rt, &words))
+    let mut console = SystemConsole {
+        rt,
+        at_terminal: rt.is_terminal(),
+    };
+    Ok(run(rt, &mut console, &words))
 }

@@ -1,5 +1,5 @@
 -- The nodes that are named, one more.
-use Rattle.std.proofs.Common.{◌≡◌, ℕ, ◌+◌, ◌<◌, ◌≤◌, List, [], ◌∷◌, ◌++◌, Bor, Option, Some, None, map, length, take, drop, get_or, refl, sym, ap, ◌∙◌, subst, append_assoc}
+use Rattle.std.proofs.Common.{◌≡◌, ℕ, ◌+◌, ◌<◌, ◌≤◌, List, [], ◌∷◌, ◌++◌, Bor, Some, None, map, length, take, drop, get_or, sym, ap, ◌∙◌, subst, append_assoc}
 use Rattle.std.proofs.Common.{take-append-drop}
 use Rattle.std.proofs.lemmas.List.{take_more, take_all, map_push, map-append}
 use Rattle.std.specs.Str.{bytes_eq}
@@ -8,7 +8,7 @@ use Rattle.dag_graph.specs.Graph.{Network, names_of}
 use Rattle.node_machine.specs.declared.Record.{Record}
 use Rattle.run_plan.specs.Plan.{Plan}
 use Rattle.failure_report.specs.declared.why.Reported.{Reported}
-use Rattle.failure_report.specs.Named.{number_of_node, AreNumbers, IsReportedOfNode, AreReported, none_reported, one_more_reported, IsUnknownLine, IsUnknownName}
+use Rattle.failure_report.specs.Named.{number_of_node, AreNumbers, IsReportedOfNode, AreReported, one_more_reported, IsUnknownLine, IsUnknownName}
 
 pub reported-more : (plan : Plan) (past : List Record) (nodes : List ℕ) (i : ℕ) (reported new : List Reported) (one : Reported) → i < length nodes
     → AreReported plan past (take i nodes) reported → IsReportedOfNode plan past (get_or nodes i 0) one → new ≡ reported ++ one ∷ [] → AreReported plan past (take (i + 1) nodes) new

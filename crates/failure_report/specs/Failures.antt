@@ -4,7 +4,7 @@ use Rattle.std.specs.List.{All, range_with_len}
 use Rattle.std.specs.List.Sorted.{IsPermutation, IsNonDecreasingBy}
 use Rattle.node_machine.specs.declared.Ended.{Ended}
 use Rattle.node_machine.specs.declared.Record.{Record}
-use Rattle.node_machine.specs.declared.Record.TheVariants.{Life, Launch, End, Finish}
+use Rattle.node_machine.specs.declared.Record.TheVariants.{End}
 use Rattle.run_plan.specs.Plan.{Plan, count_of}
 use Rattle.sched_core.specs.Run.{history, is_in_error}
 use Rattle.failure_report.specs.declared.failed.Failure.{Failure}

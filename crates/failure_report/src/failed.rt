@@ -1,10 +1,9 @@
 //! The nodes in error: how each of them failed, and how many nodes wait for it.
 
-ghost use Rattle.std.specs.Prelude.{◌≡◌, ◌≤◌, ◌<◌, ◌+◌, ◌^◌, ℕ, None, length, map, slice_index_or, suc, IfOk};
-ghost use Rattle.std.specs.List.{range_with_len};
+ghost use Rattle.std.specs.Prelude.{◌≡◌, ◌≤◌, ◌<◌, ◌+◌, ℕ, None, length, slice_index_or, suc, IfOk};
 ghost use Rattle.run_plan.specs.Plan.{count_of};
 ghost use Rattle.sched_core.specs.Run.{is_in_error};
-ghost use Rattle.failure_report.specs.Failures.{last_end, noted_end, rank_of, AreFailures, AreInPlanOrder, AreLastEnds};
+ghost use Rattle.failure_report.specs.Failures.{noted_end, rank_of, AreFailures, AreInPlanOrder, AreLastEnds};
 
 use crate::waiting::{held_lists, waiting_for};
 use node_machine::{Ended, Record};

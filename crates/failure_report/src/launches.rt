@@ -1,7 +1,5 @@
 //! What was known at the newest launch of each node, of which its command is made.
 
-ghost use Rattle.std.specs.Prelude.{◌≡◌};
-
 use node_machine::Record;
 use run_plan_node::PhaseFacts;
 use sched_core::Core;

@@ -1,6 +1,6 @@
 //! How many nodes are reached from one.
 
-ghost use Rattle.std.specs.Prelude.{◌≡◌, ◌<◌, ◌≤◌, ◌^◌, ℕ, [], false, IfOk, OnOk, length, map, replicate, slice_index};
+ghost use Rattle.std.specs.Prelude.{◌≡◌, ◌<◌, ◌^◌, [], false, IfOk, OnOk, length, replicate, slice_index};
 ghost use Rattle.std.specs.List.{All};
 ghost use Rattle.dag_graph.specs.Search.{IsSearch, MeetsNodes, with_met};
 ghost use Rattle.failure_report.specs.Reaching.{ListsAreBelow, IsReached, IsCountOf, nodes_in};

@@ -1,6 +1,6 @@
 //! What is reported of a node that is not in error: that it runs, is done, is ready or waits, and for whom.
 
-ghost use Rattle.std.specs.Prelude.{◌≡◌, ◌≤◌};
+ghost use Rattle.std.specs.Prelude.{◌≤◌};
 ghost use Rattle.run_plan.specs.Plan.{count_of};
 
 use crate::failed::is_in_error;

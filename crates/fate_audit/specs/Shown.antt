@@ -5,7 +5,7 @@ use Rattle.node_machine.specs.declared.Key.{Key}
 use Rattle.node_machine.specs.declared.Outcome.{Outcome}
 use Rattle.run_plan.specs.Plan.{Plan, count_of}
 use Rattle.node_machine.specs.declared.Record.{Record}
-use Rattle.node_machine.specs.declared.Record.TheVariants.{Life, Launch, End, Finish}
+use Rattle.node_machine.specs.declared.Record.TheVariants.{End}
 use Rattle.sched_core.specs.Run.{history}
 use Rattle.sched_core.specs.Fate.{Fate, shown}
 use Rattle.fate_audit.specs.Fates.{fate_at}

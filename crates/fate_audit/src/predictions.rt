@@ -7,7 +7,7 @@ ghost use Rattle.node_machine.specs.MachineState.{next_of};
 ghost use Rattle.node_machine.specs.NodeRun.{ended_with};
 ghost use Rattle.node_machine.specs.OutcomeTable.{outcome_at};
 ghost use Rattle.dag_graph.specs.Graph.{rank_in, IsOrderOf};
-ghost use Rattle.run_plan.specs.Plan.{node_at, count_of, IsRankedBy};
+ghost use Rattle.run_plan.specs.Plan.{count_of, IsRankedBy};
 ghost use Rattle.sched_core.specs.Fate.{is_done_state, fate_by_story, fate_by};
 ghost use Rattle.fate_audit.specs.Fates.{table_by, fate_at, filled, AreFatesOf};
 

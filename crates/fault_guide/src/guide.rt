@@ -1,7 +1,7 @@
 //! What is displayed of a fault, from the table of faults.
 
 ghost use Rattle.std.specs.Prelude.{◌≡◌, ◌++◌, map, find, OnOk, IfOk, string_bytes, option_map};
-ghost use Rattle.fault_guide.specs.Guide.{has_code, part_text, detail_text, page_text, list_line, list_text};
+ghost use Rattle.fault_guide.specs.Guide.{has_code, part_text, page_text, list_line, list_text};
 
 use crate::{files, inner, jobs, lines, rounds, running};
 use std::alloc::{AllocError, Global};

@@ -1,5 +1,5 @@
 -- What would be otherwise of the lines of a DAG file under condor_submit_dag.
-use Rattle.std.specs.Prelude.{ℕ, ℤ, pos, negsuc, Bool, true, false, ◌&&◌, List, [], ◌∷◌, ◌++◌, Option, Some, None, nat_lt, if◌then◌else◌, codes}
+use Rattle.std.specs.Prelude.{ℕ, ℤ, pos, negsuc, ◌&&◌, List, [], ◌∷◌, ◌++◌, Option, Some, None, nat_lt, if◌then◌else◌, codes}
 use Rattle.std.specs.Str.{bytes_eq}
 use Rattle.dag_reader.specs.declared.command.Command.{Command}
 use Rattle.dag_reader.specs.declared.command.Command.TheVariants.{Job, Final, Script, Retry, PreSkip, AbortDagOn}

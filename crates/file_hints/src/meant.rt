@@ -1,6 +1,6 @@
 //! The command that may have been meant.
 
-ghost use Rattle.std.specs.Prelude.{◌≡◌, ◌++◌, map, IfOk};
+ghost use Rattle.std.specs.Prelude.{◌≡◌, map, IfOk};
 ghost use Rattle.file_hints.specs.Meant.{known_names, IsBetterHint, AreBetter};
 
 use crate::hint::{Finding, Hint};

@@ -1,7 +1,6 @@
 //! Files that two nodes may write at once.
 
-ghost use Rattle.std.specs.Prelude.{◌≡◌, ◌++◌, ◌↔◌, ◌⊎◌, [], None, IsTrue, IfOk, IfErr, OnOk, option_copied};
-ghost use Rattle.std.specs.Str.{bytes_eq};
+ghost use Rattle.std.specs.Prelude.{◌≡◌, ◌↔◌, [], None, IsTrue, IfOk, IfErr, OnOk, option_copied};
 ghost use Rattle.dag_graph.specs.declared.fault.GraphFault.TheVariants.{Memory};
 ghost use Rattle.file_hints.specs.Outputs.{last_writer, AreRelated, HasClash, AreClashes};
 

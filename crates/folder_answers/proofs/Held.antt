@@ -4,13 +4,12 @@ use Rattle.std.specs.Option.{option_map}
 use Rattle.splices_flat.specs.Dag.{Dag}
 use Rattle.splices_flat.specs.Opening.{Files}
 use Rattle.splices_flat.specs.declared.flat.FlatNode.{FlatNode}
-use Rattle.splices_flat.specs.declared.fault.DagFault.{DagFault}
 use Rattle.splices_flat.specs.declared.fault.DagFault.TheVariants.{MissingFile}
 use Rattle.splices_flat.specs.Opened.{dag_at}
-use Rattle.run_plan_node.specs.Node.{Job, Program}
+use Rattle.run_plan_node.specs.Node.{Program}
 use Rattle.run_plan.specs.declared.fault.PlanFault.{PlanFault}
 use Rattle.run_plan.specs.declared.fault.PlanFault.TheVariants as plans
-use Rattle.run_plan.specs.Submitted.{◌>>=◌, submit_at, described, assigned_to, described_by, job_at, first_plan_fault, all_nodes}
+use Rattle.run_plan.specs.Submitted.{◌>>=◌, submit_at, described_by, job_at, first_plan_fault, all_nodes}
 use Rattle.dag_main_check.specs.Planned.{IsGraphFault, not_opened, cyclic, opening_had_no_memory}
 use Rattle.dag_main_check.specs.Checked.{IsCheckOf, IsCheckFault, has_no_graph, not_sound, checking_had_no_memory}
 use Rattle.dag_main_check.specs.declared.fault.RunFault.{RunFault}

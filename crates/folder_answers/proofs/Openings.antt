@@ -1,5 +1,5 @@
 -- A DAG whose files are read where they are held is that of the files that are held.
-use Rattle.std.proofs.Common.{◌≡◌, ℕ, zero, suc, List, [], ◌∷◌, ◌++◌, Option, Some, None, Result, Ok, Err, refl, sym, ap, ◌∙◌}
+use Rattle.std.proofs.Common.{◌≡◌, ℕ, zero, suc, List, [], ◌∷◌, ◌++◌, Option, Some, None, Result, Ok, Err, refl, ap, ◌∙◌}
 use Rattle.std.specs.Prelude.{position}
 use Rattle.std.specs.Str.{bytes_eq}
 use Rattle.dag_reader.specs.declared.command.Command.{Command}
@@ -7,12 +7,10 @@ use Rattle.dag_reader.specs.declared.command.Command.TheVariants.{Splice}
 use Rattle.splices_flat.specs.declared.fault.DagFault.{DagFault}
 use Rattle.splices_flat.specs.declared.fault.DagFault.TheVariants.{MissingFile}
 use Rattle.splices_flat.specs.declared.used.Used.{Used}
-use Rattle.splices_flat.specs.Dag.{Dag}
-use Rattle.splices_flat.specs.Forest.{Forest, none, more, Tree, tree_files}
+use Rattle.splices_flat.specs.Forest.{none, more}
 use Rattle.splices_flat.specs.Paths.{join, dir_text}
-use Rattle.splices_flat.specs.Faults.{files_fault}
-use Rattle.splices_flat.specs.Opening.{◌>>=◌, Files, Opener, says_at, check_file, with_file, with_forest, with_splice, parsed_file, forests_joined, enter_at, open_line, open_lines, open_said, open_file, tree_at}
-use Rattle.splices_flat.specs.Opened.{dag_of, dag_unless, dag_at}
+use Rattle.splices_flat.specs.Opening.{◌>>=◌, Files, Opener, says_at, check_file, with_file, with_forest, with_splice, enter_at, open_line, open_lines, open_said, open_file, tree_at}
+use Rattle.splices_flat.specs.Opened.{dag_at}
 
 module _ (set holds : Files) (held : (path bytes : List ℕ) → set path ≡ Some bytes → holds path ≡ Some bytes) where
   -- a file that a result tells of as missing is not held

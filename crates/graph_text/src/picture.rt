@@ -1,11 +1,11 @@
 //! The picture of a DAG: its nodes, within the clusters of their splices, and its edges.
 
-ghost use Rattle.std.specs.Prelude.{◌≡◌, ◌<◌, ◌≤◌, ◌+◌, ◌++◌, map, length, OnOk, IfOk, string_bytes, flat_map};
+ghost use Rattle.std.specs.Prelude.{◌≡◌, ◌<◌, ◌≤◌, ◌+◌, ◌++◌, map, OnOk, IfOk, string_bytes, flat_map};
 ghost use Rattle.run_plan.specs.Plan.{node_at, count_of};
 ghost use Rattle.dag_graph.specs.Graph.{children_of};
 ghost use Rattle.status_report.specs.Text.{reported};
-ghost use Rattle.graph_text.specs.Names.{splices_of_name, own_of, parts_of, splices_among};
-ghost use Rattle.graph_text.specs.Picture.{drawn_plan, states_of, status_text, state_text, frame_text, attributes_text, drawn_node, node_lines, scope_before, all_drawn, edge_line, edge_lines, dot_text_of};
+ghost use Rattle.graph_text.specs.Names.{parts_of, splices_among};
+ghost use Rattle.graph_text.specs.Picture.{drawn_plan, states_of, status_text, state_text, frame_text, attributes_text, drawn_node, all_drawn, edge_line, edge_lines, dot_text_of};
 ghost use Rattle.graph_text.specs.Clusters.{moved};
 
 use crate::clusters::{push_closings, push_indent, push_move};

@@ -1,10 +1,10 @@
 //! A run: each launch is handed over to a starter, and each ending recorded as it was reported.
-ghost use Rattle.std.specs.Prelude.{◌≡◌, [], ◌∷◌, ◌≤◌, not, ◌&&◌, None, IsTrue, IsFalse, IfOk, IfErr, IfSome, IfNone, OnOk, OnErr};
+ghost use Rattle.std.specs.Prelude.{◌≡◌, [], ◌≤◌, None, IsTrue, IsFalse, IfOk, IfErr, IfSome, IfNone, OnOk, OnErr};
 ghost use Rattle.sched_core.specs.Run.{is_aborted, is_over, is_open, is_nothing, outstanding, may_follow, table_of};
 ghost use Rattle.sched_core.specs.Fate.{AreFates, shown};
 ghost use Rattle.sched_core.specs.Choices.{IsChoice};
 ghost use Rattle.sched_core.specs.Ahead.{NothingToStart};
-ghost use Rattle.recovery_manager.specs.Managed.{Managed, plan_of, past_of, KeepsDisk};
+ghost use Rattle.recovery_manager.specs.Managed.{plan_of, past_of, KeepsDisk};
 ghost use Rattle.job_starter_drive.specs.Calls.{running, AllowsNoMore};
 ghost use Rattle.job_starter_drive.specs.Drives.{limits_of, at_rest, AreInStep, IsNearerEnd, IsTurn, final_verdict, Drives, Kills, IsStopped};
 ghost use Rattle.job_starter_drive.specs.Causes.{IsDriveFault};

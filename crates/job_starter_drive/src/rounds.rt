@@ -1,5 +1,5 @@
 //! A round of a run: phases that are launched together, handed over one after another, and the ends that come of that at once.
-ghost use Rattle.std.specs.Prelude.{◌≡◌, ℕ, ◌∷◌, [], ◌+◌, ◌≤◌, ◌<◌, ◌&&◌, not, length, drop, IsTrue, IsFalse, IfOk, IfErr, OnOk, OnErr};
+ghost use Rattle.std.specs.Prelude.{◌≡◌, [], ◌+◌, ◌≤◌, ◌<◌, ◌&&◌, not, length, drop, IsTrue, IsFalse, IfOk, IfErr, OnOk, OnErr};
 ghost use Rattle.std.specs.Vec.{vec_capacity};
 ghost use Rattle.node_machine.specs.declared.Key.{Key};
 ghost use Rattle.node_machine.specs.declared.Outcome.TheVariants.{NoStart};

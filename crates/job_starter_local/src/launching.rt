@@ -1,8 +1,7 @@
 //! What stands before the commands of jobs.
 
 ghost use Rattle.std.specs.Prelude.{◌≡◌, ◌∷◌, ◌++◌, None, IfOk, OnOk, unwrap_or};
-ghost use Rattle.splices_flat.specs.Paths.{join};
-ghost use Rattle.job_starter_local.specs.Launching.{is_job, is_spared, has_launcher, behind_launcher, started_by};
+ghost use Rattle.job_starter_local.specs.Launching.{is_job, is_spared, has_launcher, started_by};
 
 use dag_reader::{Text, Texts};
 use node_machine::{Key, Phase};

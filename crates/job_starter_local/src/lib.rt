@@ -3,12 +3,11 @@
 //! The rules are those of the HTCondor manual, DAGMan workflows, as docs/MANUAL.md states them.
 #![tactic(auto)]
 
-ghost use Rattle.std.specs.Prelude.{◌≡◌, ◌∷◌, [], ◌≤◌, ◌<◌, None, Some, pos, ℕ, length, map, reverse, slice_index_or, vec_len, vec_capacity, IsTrue, IsFalse, IfOk, IfSome, IfNone, OnOk, OnErr, IfErr};
+ghost use Rattle.std.specs.Prelude.{◌≡◌, ◌∷◌, [], ◌≤◌, ◌<◌, None, Some, pos, ℕ, length, map, reverse, vec_len, vec_capacity, IsTrue, IfOk};
 ghost use Rattle.std.specs.Process.{exit_code, exit_signal};
 ghost use Rattle.node_machine.specs.Story.{is_possible};
-ghost use Rattle.sched_core.specs.Run.{is_same, is_among, without};
-ghost use Rattle.job_starter_drive.specs.Calls.{running, AllowsNoMore};
-ghost use Rattle.job_starter_drive.specs.Causes.{IsStartFault, IsAskFault};
+ghost use Rattle.sched_core.specs.Run.{is_among, without};
+ghost use Rattle.job_starter_drive.specs.Calls.{running};
 ghost use Rattle.job_starter_local.specs.Commands.{longest_pause};
 
 mod launching;

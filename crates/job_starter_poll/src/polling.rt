@@ -1,5 +1,5 @@
 //! A starter over a system whose children are asked one by one.
-ghost use Rattle.std.specs.Prelude.{◌≡◌, ◌∷◌, ◌≤◌, [], None, IsTrue, IsFalse, IfOk, IfSome, OnOk, OnErr, IfErr, reverse};
+ghost use Rattle.std.specs.Prelude.{◌≡◌, ◌∷◌, ◌≤◌, None, IsTrue, IfOk, IfSome, OnOk, OnErr, IfErr};
 ghost use Rattle.node_machine.specs.Story.{is_possible};
 ghost use Rattle.sched_core.specs.Run.{is_among};
 ghost use Rattle.job_starter_drive.specs.Calls.{running, AllowsNoMore};

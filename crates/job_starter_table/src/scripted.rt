@@ -1,11 +1,8 @@
 //! A starter that starts nothing: a table says how each child ends.
-ghost use Rattle.std.specs.Prelude.{◌≡◌, ◌≢◌, ◌∷◌, [], ◌≤◌, ◌<◌, length, suc, IsTrue, IsFalse, IfOk, IfSome, OnErr, IfErr, reverse};
+ghost use Rattle.std.specs.Prelude.{◌≡◌, ◌≢◌, [], ◌<◌, IsTrue};
 ghost use Rattle.node_machine.specs.Story.{is_possible};
 ghost use Rattle.node_machine.specs.OutcomeTable.{HasPossibleOutcomes};
-ghost use Rattle.run_plan.specs.Plan.{count_of};
-ghost use Rattle.sched_core.specs.Run.{is_among};
-ghost use Rattle.job_starter_drive.specs.Calls.{running, MayRun, AllowsNoMore};
-ghost use Rattle.job_starter_drive.specs.Causes.{IsStartFault, IsWaitFault};
+ghost use Rattle.job_starter_drive.specs.Calls.{running};
 ghost use Rattle.job_starter_drive.specs.Scripts.{scripted_outcome, IsScripted};
 
 use job_starter_drive::{

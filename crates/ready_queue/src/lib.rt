@@ -6,7 +6,7 @@ ghost use Rattle.std.specs.Prelude.{◌≡◌, ◌<◌, ◌≤◌, ◌+◌, ℕ,
 ghost use Rattle.std.specs.List.{Contains, insert, remove};
 ghost use Rattle.ready_queue.specs.declared.Member.{Member};
 ghost use Rattle.ready_queue.specs.declared.QueueFault.TheVariants.{Present, Absent, Memory};
-ghost use Rattle.ready_queue.specs.Queue.{nodes_of, comes_before, ComesBefore, IsOrdered, AreApart, IsBest, IsPlaceOf};
+ghost use Rattle.ready_queue.specs.Queue.{nodes_of, comes_before, IsOrdered, AreApart, IsBest, IsPlaceOf};
 
 mod nodes;
 mod row;

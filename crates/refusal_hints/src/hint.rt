@@ -1,7 +1,6 @@
 //! What is displayed behind a refusal.
 
-ghost use Rattle.std.specs.Prelude.{◌≡◌, ◌++◌, [], List, false, find, is_some, option_map, IfOk, OnOk, string_bytes};
-ghost use Rattle.fault_guide.specs.Guide.{has_code};
+ghost use Rattle.std.specs.Prelude.{◌≡◌, ◌++◌, [], false, is_some, option_map, IfOk, OnOk, string_bytes};
 ghost use Rattle.refusal_hints.specs.Told.{reason_line, tells_what_to_write, guide_text, IsGuideText, IsHint};
 
 use crate::excerpt::push_excerpt;

@@ -1,6 +1,6 @@
 //! The names of rescue files.
 
-ghost use Rattle.std.specs.Prelude.{◌≡◌, ◌≢◌, ◌<◌, ◌≤◌, ◌+◌, ◌∷◌, [], ℕ, Ok, Err, MatchOption};
+ghost use Rattle.std.specs.Prelude.{◌≡◌, ◌≢◌, ◌<◌, ◌+◌, ◌∷◌, [], ℕ, Ok, Err, MatchOption};
 ghost use Rattle.rescue_file.specs.Reading.{Gives};
 ghost use Rattle.rescue_file.specs.Numbered.{IsFileNumber, three_digits, rescue_name_of, IsFound, IsHighest};
 ghost use Rattle.rescue_file.specs.declared.fault.RescueFault.TheVariants.{NotThere};

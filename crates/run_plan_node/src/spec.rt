@@ -1,7 +1,6 @@
 //! What the files say of a node.
 
-ghost use Rattle.std.specs.Prelude.{◌≡◌, [], is_some, position, IfOk, IfErr};
-ghost use Rattle.std.specs.Str.{bytes_eq};
+ghost use Rattle.std.specs.Prelude.{◌≡◌, is_some, IfOk, IfErr};
 ghost use Rattle.std.specs.Option.{option_map};
 ghost use Rattle.std.specs.List.{list_any};
 ghost use Rattle.vars_macros.specs.Script.{is_whole_run};

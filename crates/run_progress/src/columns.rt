@@ -1,6 +1,6 @@
 //! The columns that a text takes on a terminal.
 
-ghost use Rattle.std.specs.Prelude.{◌≡◌, ◌≤◌, nat_le, chars, IfOk, string_bytes};
+ghost use Rattle.std.specs.Prelude.{◌≡◌, ◌≤◌, nat_le, chars};
 ghost use Rattle.run_progress.specs.Columns.{column_count, columns};
 
 use unicode_width::UnicodeWidthChar;

@@ -1,8 +1,8 @@
 //! The line that says how far a run is.
 
-ghost use Rattle.std.specs.Prelude.{◌≡◌, ◌≤◌, ◌-◌, ◌+◌, ◌<◌, ◌++◌, ◌∷◌, [], map, take, length, chars, OnOk, IfOk, option_map, string_bytes};
+ghost use Rattle.std.specs.Prelude.{◌≡◌, ◌≤◌, ◌-◌, ◌+◌, ◌<◌, ◌++◌, ◌∷◌, [], map, take, length, chars, OnOk, IfOk, string_bytes};
 ghost use Rattle.run_progress.specs.Columns.{columns};
-ghost use Rattle.run_progress.specs.Line.{two_digits, clock_of, duration_of, front_of, back_of, shown_node, further_nodes, list_end, list_of, longest_list, cut_text, first_fitting, progress_line};
+ghost use Rattle.run_progress.specs.Line.{two_digits, clock_of, duration_of, front_of, back_of, shown_node, further_nodes, list_of, longest_list, cut_text, first_fitting, progress_line};
 
 use crate::columns::fits;
 use std::alloc::{AllocError, Global};

@@ -1,6 +1,6 @@
 //! What holds of the definitions alone. No program calls this function.
 
-ghost use Rattle.std.specs.Prelude.{◌≡◌, ℕ, List, ◌∷◌, Option};
+ghost use Rattle.std.specs.Prelude.{ℕ, List, ◌∷◌, Option};
 ghost use Rattle.throttles.specs.declared.Limits.{Limits};
 ghost use Rattle.run_plan.specs.Plan.{Plan};
 ghost use Rattle.node_machine.specs.declared.Record.{Record};

@@ -1,6 +1,6 @@
 //! A table of the phases that were run, for a spreadsheet.
 
-ghost use Rattle.std.specs.Prelude.{◌≡◌, ◌++◌, length, codes, OnOk, IfOk, string_bytes};
+ghost use Rattle.std.specs.Prelude.{◌≡◌, ◌++◌, length, OnOk, IfOk, string_bytes};
 ghost use Rattle.run_times.specs.Table.{seconds_text, ending_text, mark_text, when_text, row_text, table_text_of};
 
 use crate::runs::{Ending, PhaseRun};

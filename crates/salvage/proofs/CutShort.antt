@@ -1,8 +1,8 @@
 -- Rounds that were cut short, by what a header says.
-use Rattle.std.proofs.Common.{◌≡◌, ◌≤◌, ◌<◌, ℕ, List, Bool, true, false, Option, Some, None, Ok, length, arith, sym, ap, ◌∙◌}
+use Rattle.std.proofs.Common.{◌≡◌, ◌≤◌, ◌<◌, ℕ, List, false, Some, length, arith, sym, ap, ◌∙◌}
 use Rattle.std.specs.Prelude.{slice_range}
 use Rattle.event_journal_log.specs.declared.journal.Peek.{Peek}
-use Rattle.event_journal_log.specs.Image.{Header, Found, replay_of, IsRescueNumber}
+use Rattle.event_journal_log.specs.Image.{Header, replay_of, IsRescueNumber}
 use Rattle.event_journal_log.specs.Peeks.{ReadsPeek}
 use Rattle.event_journal_log.proofs.Replays.{journals}
 use Rattle.salvage.specs.Round.{IsUnfinishedRound}

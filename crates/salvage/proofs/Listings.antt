@@ -6,7 +6,6 @@ use Rattle.std.proofs.lemmas.List.Elements.{All-map}
 use Rattle.splices_flat.specs.FileSet.{entries_of}
 use Rattle.splices_flat.specs.declared.file_set.FileSet.{FileSet}
 use Rattle.salvage.specs.Inputs.{listed_of}
-use Rattle.salvage.specs.declared.inputs.Listed.{Listed}
 
 -- a name and a file, as a set's iterator lends them
 abbrev pub lent_file : Bor (String Global) × Bor (Vec ℕ Global) → List ℕ × List ℕ

@@ -1,5 +1,5 @@
 -- The records of a journal, whatever it is a journal of.
-use Rattle.std.proofs.Common.{◌≡◌, ◌∙◌, ℕ, List, [], Bool, true, Option, Some, None, Result, Ok, Err, IfOk, string_bytes, unwrap_or, refl, sym, ap, subst}
+use Rattle.std.proofs.Common.{◌≡◌, ◌∙◌, ℕ, List, [], Bool, true, Option, Some, None, Result, Ok, Err, IfOk, string_bytes, unwrap_or, refl, sym, subst}
 use Rattle.std.specs.List.{count_by}
 use Rattle.run_plan.specs.Plan.{Plan}
 use Rattle.sched_core.specs.Core.{Progress}
@@ -7,7 +7,7 @@ use Rattle.sched_core.specs.Run.{chronological, is_lawful}
 use Rattle.recovery_manager.specs.Rescue.{marks_of, rescue_text_for}
 use Rattle.dag_main_check.specs.declared.fault.RunFault.{RunFault}
 use Rattle.node_machine.specs.declared.Record.{Record}
-use Rattle.event_journal_log.specs.Image.{Found, replay_of}
+use Rattle.event_journal_log.specs.Image.{replay_of}
 use Rattle.event_journal_log.specs.Journal.{Replay}
 use Rattle.event_journal_log.specs.Reading.{ReadsRecords, replay_for}
 use Rattle.event_journal_log.proofs.Readings.{replay_for-ok}

@@ -18,7 +18,7 @@ use Rattle.event_journal_log.specs.declared.journal.Peek.{Peek}
 use Rattle.event_journal_log.specs.Groups.{IsSlotAt}
 use Rattle.event_journal_log.specs.Image.{Found, replay_of, groups_in, header_in, is_headed}
 use Rattle.event_journal_log.specs.Peeks.{ReadsPeek}
-use Rattle.event_journal_log.specs.Reading.{RefusedAs, FailsAs, has_other, has_other_flag, is_known, replay_for}
+use Rattle.event_journal_log.specs.Reading.{FailsAs, has_other, has_other_flag, is_known, replay_for}
 use Rattle.recovery.specs.Replay.{IsFirstForeign, IsReplayFault}
 use Rattle.recovery.proofs.Slots.{first_at, foreign_slot, groups_read}
 use Rattle.recovery_manager.specs.declared.fault.ManagerFault.TheVariants as manager

@@ -6,7 +6,7 @@ use Rattle.node_machine.specs.declared.Course.{Course}
 use Rattle.node_machine.specs.NodeProgress.{NodeProgress}
 use Rattle.run_plan.specs.Plan.{Plan, node_at, count_of}
 use Rattle.node_machine.specs.declared.Record.{Record}
-use Rattle.node_machine.specs.declared.Record.TheVariants.{Life, Launch, End, Finish}
+use Rattle.node_machine.specs.declared.Record.TheVariants.{Life}
 use Rattle.sched_core.specs.Run.{is_aborted}
 use Rattle.sched_core.specs.Core.{node_progress}
 

@@ -11,7 +11,7 @@ use Rattle.run_plan_node.specs.declared.command.PhaseFacts.{PhaseFacts}
 use Rattle.run_plan.specs.Plan.{Plan, node_at, count_of}
 use Rattle.run_plan_node.specs.Commands.{CommandOrFault, phase_command, starts_child}
 use Rattle.node_machine.specs.declared.Record.{Record}
-use Rattle.node_machine.specs.declared.Record.TheVariants.{Life, Launch, End, Finish}
+use Rattle.node_machine.specs.declared.Record.TheVariants.{Launch}
 use Rattle.sched_core.specs.Run.{table_of, is_in_error, is_aborted, is_same}
 use Rattle.sched_core.specs.Bound.{sum_below}
 

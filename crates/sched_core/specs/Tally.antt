@@ -1,7 +1,7 @@
 -- What a core counts beside its states, so that the end of a run is judged without a look at them.
 use Rattle.std.specs.Prelude.{◌≡◌, ℕ, List, if◌then◌else◌}
 use Rattle.node_machine.specs.declared.Record.{Record}
-use Rattle.node_machine.specs.declared.Record.TheVariants.{Life, Launch, End, Finish}
+use Rattle.node_machine.specs.declared.Record.TheVariants.{End}
 use Rattle.run_plan.specs.Plan.{Plan, node_at, count_of}
 use Rattle.sched_core.specs.Bound.{sum_below}
 use Rattle.sched_core.specs.Run.{is_done, status_of_abort, abort_status}

@@ -1,9 +1,9 @@
 //! What a record makes of the nodes, and of those that may start. It looks only at the states of the nodes that it touches.
 
-ghost use Rattle.std.specs.Prelude.{◌≡◌, ℕ, ◌<◌, ◌≤◌, ◌+◌, ◌-◌, ◌&&◌, ◌||◌, ◌==◌, suc, true, false, length, not, map, slice_set, if◌then◌else◌};
+ghost use Rattle.std.specs.Prelude.{◌≡◌, ℕ, ◌<◌, ◌≤◌, ◌+◌, ◌-◌, ◌&&◌, ◌||◌, ◌==◌, suc, false, length, map, slice_set, if◌then◌else◌};
 ghost use Rattle.dag_graph.specs.Graph.{children_of};
 ghost use Rattle.node_machine.specs.NodeRun.{started, stopped, ended_with};
-ghost use Rattle.run_plan.specs.Plan.{node_at, count_of};
+ghost use Rattle.run_plan.specs.Plan.{count_of};
 ghost use Rattle.sched_core.specs.Core.{TakesRecord, run_at, aborted_in, runs_after, aborted_after};
 ghost use Rattle.sched_core.specs.Notes.{notes_at, notes_after, with_launch, with_phase_outcome};
 ghost use Rattle.sched_core.specs.States.{AreMany, AreLeft, left_at};

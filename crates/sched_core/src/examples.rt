@@ -2,27 +2,21 @@
 //! refused.
 //! No program calls these functions.
 
-ghost use Rattle.std.specs.Prelude.{◌≡◌, ◌≢◌, ℕ, ◌<◌, ◌+◌, ◌*◌, length, List, [], ◌∷◌, ◌++◌, map, drop, pos, codes, negsuc, Ok, true, false, IsTrue, IsFalse};
-ghost use Rattle.std.specs.List.{list_all, Contains};
-ghost use Rattle.node_machine.specs.declared.Phase.{Phase};
-ghost use Rattle.node_machine.specs.declared.Outcome.{Outcome};
-ghost use Rattle.node_machine.specs.Story.{Table, story, phases_of, BeginsWith};
-ghost use Rattle.node_machine.specs.declared.Record.{Record};
+ghost use Rattle.std.specs.Prelude.{◌≡◌, ◌+◌, ◌*◌, length, [], ◌∷◌, map, drop, pos, codes, negsuc, Ok, true, false, IsTrue, IsFalse};
 ghost use Rattle.node_machine.specs.declared.Record.TheVariants.{Life, Launch, End, Finish};
 ghost use Rattle.node_machine.specs.declared.Phase.TheVariants.{Pre, Job, Post};
 ghost use Rattle.node_machine.specs.declared.Outcome.TheVariants.{Exit, Signal};
 ghost use Rattle.node_machine.specs.declared.State.TheVariants.{Done, Error, NotRun};
-ghost use Rattle.run_plan.specs.Plan.{Plan, node_at, count_of, IsRankedBy};
+ghost use Rattle.run_plan.specs.Plan.{node_at, IsRankedBy};
 ghost use Rattle.run_plan_node.specs.Commands.{bare_command, phase_command, is_expandable, uses_whole_run};
-ghost use Rattle.sched_core.specs.Run.{table_of, history, is_done, is_lawful, is_finished, is_aborted, is_launched, may_follow};
-ghost use Rattle.sched_core.specs.Fate.{Fate, AreFates, shown, is_done_state};
+ghost use Rattle.sched_core.specs.Run.{is_finished, is_aborted, may_follow};
+ghost use Rattle.sched_core.specs.Fate.{shown};
 ghost use Rattle.sched_core.specs.Bound.{all_phases};
 ghost use Rattle.sched_core.specs.Commands.{plain_facts, command_by, facts_in};
 ghost use Rattle.sched_core.specs.Agree.{HaveSameCommands, Agree};
-ghost use Rattle.sched_core.specs.Lives.{HasOutcomesOf, IsRunBy, IsTurnOf};
-ghost use Rattle.sched_core.specs.Rounds.{Round, AreRounds, AreCalm, RoundsAgree, WasMarked, is_marked};
+ghost use Rattle.sched_core.specs.Lives.{IsRunBy};
+ghost use Rattle.sched_core.specs.Rounds.{AreRounds, AreCalm, is_marked};
 ghost use Rattle.sched_core.specs.Example.{key, two_nodes, its_run, diamond, diamond_run, diamond_life, abort_plan, abort_run, always_plan, always_run, noop_plan, noop_table, noop_run, plan_p, plan_q, first_fails, round_of, stopped_round, next_round, told_attempt, told_failed, told_0, told_run, first_good};
-ghost use Rattle.node_machine.specs.declared.Key.{Key};
 
 /// Such plans and runs exist: each list is lawful and finished, and shows these states and values.
 pub fn examples()

@@ -1,8 +1,7 @@
 //! Laws of the definitions alone. No program calls them.
 
-ghost use Rattle.std.specs.Prelude.{◌≡◌, ◌≢◌, ℕ, ◌<◌, ◌≤◌, ◌+◌, ◌*◌, length, true, false, List, [], ◌∷◌, ◌++◌, map, drop, pos, is_some, IsTrue, IsFalse};
+ghost use Rattle.std.specs.Prelude.{◌≡◌, ◌≢◌, ℕ, ◌<◌, ◌≤◌, ◌+◌, ◌*◌, length, true, false, List, [], ◌∷◌, ◌++◌, is_some, IsTrue, IsFalse};
 ghost use Rattle.std.specs.List.{list_all, Contains};
-ghost use Rattle.node_machine.specs.declared.Phase.{Phase};
 ghost use Rattle.node_machine.specs.declared.Outcome.{Outcome};
 ghost use Rattle.node_machine.specs.Story.{Table, story, phases_of, is_history, BeginsWith};
 ghost use Rattle.node_machine.specs.declared.Record.{Record};
@@ -12,9 +11,6 @@ ghost use Rattle.throttles.specs.declared.Limits.{Limits};
 ghost use Rattle.sched_core.specs.Choices.{IsChoice};
 ghost use Rattle.sched_core.specs.Bound.{records_left, has_no_life, all_phases};
 ghost use Rattle.node_machine.specs.declared.Record.TheVariants.{Life, Launch, End, Finish};
-ghost use Rattle.node_machine.specs.declared.Phase.TheVariants.{Job};
-ghost use Rattle.node_machine.specs.declared.Outcome.TheVariants.{Exit};
-ghost use Rattle.node_machine.specs.declared.State.TheVariants.{Done, Error, NotRun};
 ghost use Rattle.run_plan.specs.Plan.{Plan, node_at, count_of, IsRankedBy};
 ghost use Rattle.run_plan_node.specs.Commands.{phase_command, is_expandable, uses_whole_run};
 ghost use Rattle.sched_core.specs.Run.{chronological, table_of, history, is_done, is_lawful, is_finished, is_aborted, is_launched, is_open, launch_number, may_follow};
@@ -23,7 +19,7 @@ ghost use Rattle.sched_core.specs.Agree.{AgreeOnFates, Agree};
 ghost use Rattle.sched_core.specs.Commands.{command_by, with_commands, facts_in, is_launch};
 ghost use Rattle.sched_core.specs.Lives.{HasOutcomesOf, IsRunBy, IsTurnOf};
 ghost use Rattle.sched_core.specs.Rounds.{Round, AreRounds, AreCalm, RoundsAgree, WasMarked, is_marked};
-ghost use Rattle.sched_core.specs.Example.{key, two_nodes, its_run, diamond, diamond_run, abort_plan, abort_run, noop_plan, noop_table, noop_run, plan_p, plan_q, first_fails, round_of};
+ghost use Rattle.sched_core.specs.Example.{key};
 ghost use Rattle.node_machine.specs.declared.Key.{Key};
 
 /// At every moment each node has the beginning of its story behind it, and only nodes whose parents

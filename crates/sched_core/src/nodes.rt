@@ -1,6 +1,6 @@
 //! What a core keeps of each node, and what a record makes of it.
 
-ghost use Rattle.std.specs.Prelude.{None, Some, true, false, IfOk, IfErr, ◌≡◌, ℕ, ◌+◌, ◌^◌, ◌<◌, ◌≤◌, ◌++◌, ◌∷◌, [], ◌==◌, ◌||◌, ◌&&◌, suc, map, length, not, slice_set, vec_len, vec_capacity, is_none, IsTrue, if◌then◌else◌};
+ghost use Rattle.std.specs.Prelude.{None, Some, true, false, IfOk, ◌≡◌, ◌+◌, ◌^◌, ◌<◌, ◌≤◌, ◌++◌, ◌∷◌, [], ◌==◌, ◌||◌, ◌&&◌, suc, map, length, slice_set, vec_len, vec_capacity, is_none, if◌then◌else◌};
 ghost use Rattle.node_machine.specs.Story.{phase_number, is_possible, may_end_with};
 ghost use Rattle.node_machine.specs.MachineState.{next_of};
 ghost use Rattle.run_plan.specs.Plan.{node_at, count_of};

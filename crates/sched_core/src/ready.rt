@@ -1,6 +1,6 @@
 //! The nodes that may start, best first, so that what is to be done next is found at once.
 
-ghost use Rattle.std.specs.Prelude.{◌≡◌, ◌<◌, ◌≤◌, ◌+◌, ◌∷◌, ◌^◌, ◌==◌, ◌||◌, ℕ, List, suc, true, false, length, not, replicate, slice_set, IfOk, IfErr, IfSome, []};
+ghost use Rattle.std.specs.Prelude.{◌≡◌, ◌<◌, ◌≤◌, ◌+◌, ◌^◌, ◌==◌, ◌||◌, ℕ, List, suc, true, false, length, replicate, slice_set, IfOk, IfErr, IfSome, []};
 ghost use Rattle.std.specs.List.{Contains};
 ghost use Rattle.node_machine.specs.NodeProgress.{NodeProgress};
 ghost use Rattle.ready_queue.specs.declared.Member.{Member};
@@ -8,7 +8,7 @@ ghost use Rattle.ready_queue.specs.Queue.{IsOrdered};
 ghost use Rattle.throttles.specs.Throttled.{IsPlace};
 ghost use Rattle.run_plan.specs.Plan.{node_at, count_of};
 ghost use Rattle.sched_core.specs.Limits.{member_of};
-ghost use Rattle.sched_core.specs.States.{AreMany, AreNew, is_ready_by, is_ready_at};
+ghost use Rattle.sched_core.specs.States.{AreMany, is_ready_by, is_ready_at};
 ghost use Rattle.sched_core.specs.Queued.{AreMembers, IsQueued, IsSet, class_of, class_by, classes_of, count_at, share, holds_class, holds_categories, holds_all};
 
 use crate::CoreFault;

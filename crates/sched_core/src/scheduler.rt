@@ -1,10 +1,9 @@
 //! The scheduler's core: a run of a plan as a lawful list of records.
 
-ghost use Rattle.std.specs.Prelude.{◌≡◌, ℕ, ◌+◌, ◌^◌, ◌<◌, ◌≤◌, List, ◌∷◌, [], ◌==◌, ◌&&◌, ◌||◌, ◌↔◌, not, suc, length, IsTrue, IsFalse, IsOk, IfOk, IfErr, IfSome, OnOk, OnErr, is_some, is_none, nat_le, nat_lt, if◌then◌else◌};
+ghost use Rattle.std.specs.Prelude.{◌≡◌, ◌+◌, ◌<◌, ◌≤◌, ◌∷◌, [], ◌==◌, ◌&&◌, ◌||◌, ◌↔◌, not, suc, length, IsTrue, IsOk, IfOk, IfErr, IfSome, OnOk, OnErr, is_none, nat_le};
 ghost use Rattle.std.specs.List.{list_all};
-ghost use Rattle.node_machine.specs.Story.{may_end_with, phase_number};
 ghost use Rattle.run_plan.specs.Plan.{node_at, count_of, all_below};
-ghost use Rattle.sched_core.specs.Run.{chronological, history, next, is_done, is_in_error, attempts_in, value_in, has_abort_value, is_aborted, outstanding, is_among, is_free, is_nothing, is_ready, is_final_ready, may_launch, job_launches, launch_number, status_of_abort, exit_status, is_over, is_open, may_follow, is_lawful, needs_rescue};
+ghost use Rattle.sched_core.specs.Run.{chronological, history, next, is_done, is_in_error, attempts_in, value_in, is_aborted, outstanding, is_among, is_free, is_nothing, is_ready, is_final_ready, may_launch, job_launches, launch_number, status_of_abort, exit_status, is_over, is_open, may_follow, is_lawful, needs_rescue};
 ghost use Rattle.sched_core.specs.Fate.{shown};
 ghost use Rattle.sched_core.specs.Core.{Progress, is_running, fault_after, better_of, AreDoneMarks, IsBestBelow};
 ghost use Rattle.sched_core.specs.States.{IsStateOf};

@@ -2,7 +2,7 @@
 
 ghost use Rattle.std.specs.Prelude.{◌≡◌, Some, IfOk, position};
 ghost use Rattle.std.specs.Str.{bytes_eq};
-ghost use Rattle.splices_flat.specs.Faults.{Names as NamesValue, is_name_among, first_some, line_fault, edge_fault, setting_fault, target_fault, job_target_fault, is_empty_at};
+ghost use Rattle.splices_flat.specs.Faults.{first_some, line_fault, edge_fault, setting_fault, target_fault, job_target_fault, is_empty_at};
 
 use crate::names::Names;
 use dag_reader::{Command, Target, Text, Word};

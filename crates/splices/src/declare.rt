@@ -1,11 +1,11 @@
 //! The names that the lines of a file declare, each once.
 
-ghost use Rattle.std.specs.Prelude.{◌≡◌, ◌++◌, ◌||◌, ◌<◌, nat_lt, length, false, [], OnOk, IfOk, IfErr, List};
+ghost use Rattle.std.specs.Prelude.{◌≡◌, ◌++◌, ◌||◌, ◌<◌, false, [], OnOk, IfOk, List};
 ghost use Rattle.std.specs.List.{list_any};
 ghost use Rattle.std.specs.Str.{bytes_eq};
 ghost use Rattle.dag_reader.specs.declared.command.Command.{Command};
 ghost use Rattle.splices_flat.specs.Nodes.{job_names, final_names, splice_names, splice_name, names_in, job_in, final_in, finals_in};
-ghost use Rattle.splices_flat.specs.Opening.{check_lines, check_line, check_final, final_fault, once, is_declared, has_final, check_file, check_count};
+ghost use Rattle.splices_flat.specs.Opening.{check_lines, check_line, final_fault, once};
 ghost use Rattle.splices.specs.Adds.{Gives};
 
 use crate::names::Names;

@@ -1,6 +1,6 @@
 //! Opens the files of a DAG, each with those of its splices.
 
-ghost use Rattle.std.specs.Prelude.{◌≡◌, ◌+◌, ◌-◌, ◌∷◌, [], ◌++◌, ◌<◌, ◌≤◌, ◌^◌, length, drop, map, IfOk, OnOk, vec_len, ℕ, List};
+ghost use Rattle.std.specs.Prelude.{◌≡◌, ◌+◌, ◌-◌, ◌∷◌, [], ◌++◌, ◌<◌, ◌≤◌, length, drop, map, IfOk, OnOk, ℕ, List};
 ghost use Rattle.std.specs.List.{All, flat_map};
 ghost use Rattle.std.specs.Option.{option_or};
 ghost use Rattle.dag_reader.specs.Reading.{commands_of};

@@ -1,6 +1,6 @@
 //! What a splice is to the lines of the file that names it.
 
-ghost use Rattle.std.specs.Prelude.{◌≡◌, ◌++◌, [], ◌∷◌, length, IfOk, OnOk, OnErr};
+ghost use Rattle.std.specs.Prelude.{◌≡◌, ◌++◌, [], ◌∷◌, OnOk, OnErr};
 
 use crate::flat::Side;
 use std::alloc::{AllocError, Global};

@@ -1,6 +1,6 @@
 //! What a line sets for a node.
 
-ghost use Rattle.std.specs.Prelude.{◌≡◌, ◌∷◌, [], Some, find, map, IfOk, OnOk};
+ghost use Rattle.std.specs.Prelude.{◌≡◌, ◌∷◌, [], Some, find, IfOk, OnOk};
 ghost use Rattle.splices_flat.specs.MacroKeys.{macro_key};
 ghost use Rattle.splices_flat.specs.Settings.{full_category, is_namesake, line_of_target, macro_setting, macros_of, no_settings, with_line, with_macro, with_macros, with_script, words_said};
 ghost use Rattle.splices_flat.specs.Warnings.{with_numbers, line_if, replaced_by, replaced_in, script_setting};

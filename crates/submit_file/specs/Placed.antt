@@ -2,7 +2,7 @@
 use Rattle.std.specs.Prelude.{ℕ, Bool, true, false, not, List, [], ◌∷◌, ◌++◌, map, filter}
 use Rattle.std.specs.Str.Lines.{lines}
 use Rattle.submit_file.specs.Lines.{Statement, statements}
-use Rattle.submit_file.specs.Forms.{Saying, Silent, Assigns, Queues, Wrong, line_says}
+use Rattle.submit_file.specs.Forms.{Saying, Assigns, Queues, line_says}
 use Rattle.submit_file.specs.Submit.{an_assignment}
 use Rattle.submit_file.specs.declared.submit.Assignment.{Assignment}
 use Rattle.submit_file.specs.declared.placed.PlacedAssignment.{PlacedAssignment}

@@ -1,6 +1,6 @@
 //! The lines of a submit description, those that are continued joined with what is below them.
 
-ghost use Rattle.std.specs.Prelude.{◌≡◌, ◌+◌, ◌<◌, ◌≤◌, ◌∷◌, ℕ, length, IfOk, IsTrue};
+ghost use Rattle.std.specs.Prelude.{◌≡◌, ◌+◌, ◌<◌, ◌≤◌, ◌∷◌, ℕ, length, IfOk};
 ghost use Rattle.std.specs.Str.Lines.{lines};
 ghost use Rattle.submit_file.specs.Lines.{is_continued, statements};
 ghost use Rattle.submit_file.specs.Fronts.{BeginsWithBlanks, HasBlanks};

@@ -1,7 +1,7 @@
 //! What stands on a console behind an answer and behind a refusal.
 
 use crate::same::same;
-use answer_console::{MemConsole, tell_answer};
+use answer_console::{Console, MemConsole, display_reply};
 use dag_main_check::{Answer, RunFault};
 use std::alloc::Global;
 use std::process::Abort;
@@ -16,8 +16,8 @@ fn answer(alloc: Global, text: &str, warnings: &str, status: u8) -> Result<Answe
     })
 }
 
-/// Tells a result, and compares what stands on the console with this, and the exit status.
-fn told(
+/// Displays a result, and compares what stands on the console with this, and the exit status.
+fn displayed(
     rt: &impl Abort,
     alloc: Global,
     reply: &Result<Answer, RunFault>,
@@ -26,9 +26,10 @@ fn told(
     status: u8,
 ) {
     let mut console = MemConsole::new(alloc);
-    same(rt, tell_answer(alloc, &mut console, reply), status);
+    same(rt, display_reply(alloc, &mut console, reply), status);
     same(rt, console.printed(), printed);
     same(rt, console.warned(), warned);
+    same(rt, console.is_terminal(), false);
 }
 
 #[test]
@@ -40,7 +41,7 @@ fn answers(rt: HostRuntime) -> Result<(), Fail> {
         ("", "dagrun: R2 Ended x.dag.journal\n", 125),
     ] {
         let reply = Ok(answer(alloc, text, warnings, status)?);
-        told(&rt, alloc, &reply, text, warnings, status);
+        displayed(&rt, alloc, &reply, text, warnings, status);
     }
     Ok(())
 }
@@ -48,7 +49,7 @@ fn answers(rt: HostRuntime) -> Result<(), Fail> {
 #[test]
 fn refusals(rt: HostRuntime) -> Result<(), Fail> {
     let alloc = rt.alloc();
-    told(
+    displayed(
         &rt,
         alloc,
         &Err(RunFault::NotThere(7)),
@@ -56,7 +57,7 @@ fn refusals(rt: HostRuntime) -> Result<(), Fail> {
         "dagrun: E4 NotThere 7\n",
         125,
     );
-    told(
+    displayed(
         &rt,
         alloc,
         &Err(RunFault::Unfinished),
@@ -66,7 +67,7 @@ fn refusals(rt: HostRuntime) -> Result<(), Fail> {
     );
     let path = String::from_str(alloc, "x.dag.lock")?;
     let reply = Err(RunFault::FileRefused(path));
-    told(
+    displayed(
         &rt,
         alloc,
         &reply,

@@ -1,5 +1,5 @@
 // Each call of a journal, torn at each moment.
-ghost use Rattle.std.specs.Prelude.{IfOk, IsFalse};
+ghost use Rattle.std.specs.Prelude.{IsFalse};
 ghost use Rattle.event_journal_log.specs.Journal.{journal_disk, is_broken, IsSettled};
 
 use crate::readings::{Due, SLOTS, disk_of, torn_everywhere};

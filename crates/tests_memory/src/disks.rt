@@ -1,5 +1,5 @@
 //! Journals on disks in memory, and the growth of such a disk.
-ghost use Rattle.std.specs.Prelude.{◌≡◌, ◌≤◌, OnErr, IsTrue, IsFalse, length};
+ghost use Rattle.std.specs.Prelude.{IsFalse};
 ghost use Rattle.event_journal_log.specs.Slot.{has_slot};
 ghost use Rattle.event_journal_log.specs.Journal.{journal_disk, is_broken, IsSettled};
 

@@ -1,7 +1,6 @@
 //! Runs by a script over a disk in memory, of which each fault ends a life; the next one begins or recovers.
-ghost use Rattle.std.specs.Prelude.{◌≡◌, [], IfOk};
+ghost use Rattle.std.specs.Prelude.{◌≡◌, IfOk};
 ghost use Rattle.node_machine.specs.OutcomeTable.{HasPossibleOutcomes};
-ghost use Rattle.job_starter_drive.specs.Calls.{running};
 ghost use Rattle.recovery_manager.specs.Managed.{plan_of, past_of};
 ghost use Rattle.recovery.specs.Recovery.{IsNewLife};
 

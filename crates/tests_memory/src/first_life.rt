@@ -1,5 +1,4 @@
 //! The first life of a run, over the file of a journal: four records, and no child.
-ghost use Rattle.std.specs.Prelude.{◌≡◌};
 
 use crate::disks::SLOTS;
 use crate::made::{DIAMOND, File, NO_LIMITS, fault_of, files_of, graph_of};

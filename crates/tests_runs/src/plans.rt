@@ -1,5 +1,5 @@
 // Plans of the tests, and what a run of one comes to.
-ghost use Rattle.std.specs.Prelude.{◌≡◌, [], IfOk, IsTrue};
+ghost use Rattle.std.specs.Prelude.{◌≡◌, []};
 ghost use Rattle.node_machine.specs.OutcomeTable.{HasPossibleOutcomes};
 ghost use Rattle.job_starter_drive.specs.Calls.{running};
 

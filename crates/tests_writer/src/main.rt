@@ -2,7 +2,7 @@
 //! after each that was acknowledged. A test kills it and opens the journal again.
 #![tactic(auto)]
 
-ghost use Rattle.std.specs.Prelude.{◌≡◌, IfOk, IsTrue, IsFalse};
+ghost use Rattle.std.specs.Prelude.{IfOk, IsTrue, IsFalse};
 ghost use Rattle.event_journal_log.specs.Slot.{has_slot};
 ghost use Rattle.event_journal_log.specs.Journal.{journal_disk, is_broken, IsSettled};
 

@@ -1,6 +1,6 @@
 //! Laws of the definitions alone. No program calls them.
 
-ghost use Rattle.std.specs.Prelude.{◌≡◌, ℕ, List, Option, IsTrue};
+ghost use Rattle.std.specs.Prelude.{ℕ, List, Option, IsTrue};
 ghost use Rattle.node_machine.specs.declared.Phase.{Phase};
 ghost use Rattle.throttles.specs.declared.Limits.{Limits};
 ghost use Rattle.throttles.specs.Throttled.{Throttled, IsWithin, IsPlace, may_start, none_running, with_one, without_one};

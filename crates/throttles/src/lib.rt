@@ -5,8 +5,8 @@
 //! `condor_submit_dag`, as docs/MANUAL.md states them.
 #![tactic(auto)]
 
-ghost use Rattle.std.specs.Prelude.{◌≡◌, ◌==◌, ◌<◌, ◌^◌, ◌+◌, ◌↔◌, length, IsTrue, IsOk, IfOk, IfErr, OnOk, OnErr, IfSome};
-ghost use Rattle.throttles.specs.Throttled.{Throttled, is_below, limit_of, of_kind, all_in, such_in, lets_category, lets_phase, may_start, none_running, with_one, without_one, IsPlace};
+ghost use Rattle.std.specs.Prelude.{◌≡◌, ◌==◌, ◌<◌, ◌^◌, ◌+◌, ◌↔◌, IsTrue, IsOk, IfOk, IfErr, OnOk, OnErr};
+ghost use Rattle.throttles.specs.Throttled.{Throttled, is_below, limit_of, of_kind, all_in, such_in, lets_phase, may_start, none_running, with_one, without_one, IsPlace};
 ghost use Rattle.throttles.specs.declared.ThrottleFault.TheVariants.{Full, NoneRunning, Memory};
 
 pub mod laws;

@@ -1,6 +1,6 @@
 //! The expansion of a text.
 
-ghost use Rattle.std.specs.Prelude.{◌≡◌, true, false};
+ghost use Rattle.std.specs.Prelude.{true, false};
 ghost use Rattle.std.specs.Str.{IsUtf8};
 ghost use Rattle.vars_macros.specs.Meaning.{scope_of};
 ghost use Rattle.vars_macros.specs.Scopes.{scope_seen, IsTextScope};

@@ -1,4 +1,4 @@
-use Rattle.std.proofs.Common.{◌≡◌, ◌≢◌, ◌⊎◌, List, ℕ, ◌∙◌, ap, sym, subst, map, length, string_bytes}
+use Rattle.std.proofs.Common.{List, ℕ, ◌∙◌, ap, sym, subst, map, string_bytes}
 use Rattle.splices_flat.specs.Dag.{Dag}
 use Rattle.dag_graph.specs.Graph.{Network}
 use Rattle.dag_main_check.specs.Warnings.{warning_lines}

@@ -1,5 +1,5 @@
 // The disks under a journal.
-ghost use Rattle.std.specs.Prelude.{◌≤◌, ◌<◌};
+ghost use Rattle.std.specs.Prelude.{◌<◌};
 
 use crate::journals::runs::{
     FAILS_ONCE, RECORDS, add, add_and_fail, add_many, begin, records_on, written,

@@ -1,4 +1,4 @@
-use Rattle.std.proofs.Common.{Some, ap, sym, ◌∙◌}
+use Rattle.std.proofs.Common.{ap, sym, ◌∙◌}
 use Rattle.std.specs.Option.{option_map}
 use Rattle.dag_main_files.proofs.Held.{held-added}
 use Rattle.dag_main_files.proofs.loading.read_file.Goals.{in-Some+in_ok-add_owned, in_default}

@@ -1,6 +1,5 @@
 use Rattle.std.proofs.Common.{subst, sym}
 use Rattle.dag_main_run.specs.Runs.{IsStopFault, leading_had_no_memory}
-use Rattle.dag_main_check.specs.declared.fault.RunFault.TheVariants.{Memory}
 use Rattle.dag_main_files.proofs.RunFaults.{by-fault}
 use Rattle.dag_main_run.proofs.runs.run_planned.Goals as goal
 

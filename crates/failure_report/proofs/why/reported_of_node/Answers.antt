@@ -1,4 +1,4 @@
-use Rattle.std.proofs.Common.{◌≡◌, ◌≤◌, ap, sym, refl, ◌∙◌, arith}
+use Rattle.std.proofs.Common.{◌≡◌, ◌≤◌, ap, refl, arith}
 use Rattle.run_plan.specs.Plan.{count_of}
 use Rattle.failure_report.specs.Named.{is_failed, is_standing}
 use Rattle.failure_report.proofs.why.reported_of_node.Goals as goal

@@ -1,5 +1,5 @@
 use Rattle.std.proofs.Common.{◌≡◌, ◌++◌, false, length}
-use Rattle.file_hints.specs.References.{references, references_from}
+use Rattle.file_hints.specs.References.{references_from}
 use Rattle.file_hints.proofs.macros.push_references.Given as goal
 
 abbrev pub invariant-loop-rest : goal.invariant-loop-rest

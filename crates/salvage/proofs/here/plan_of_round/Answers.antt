@@ -1,7 +1,7 @@
 use Rattle.std.proofs.Common.{◌∙◌, Bor, Some, List, ℕ, sym, subst, ap}
 use Rattle.std.specs.Option.{option_map}
 use Rattle.splices_flat.specs.FileSet.{bytes_of}
-use Rattle.dag_main_check.specs.declared.fault.RunFault.TheVariants.{Memory, InPlan}
+use Rattle.dag_main_check.specs.declared.fault.RunFault.TheVariants.{InPlan}
 use Rattle.dag_main_check.specs.Planned.{rescue_line, named_by}
 use Rattle.dag_main_files.proofs.RunFaults.{by-fault}
 use Rattle.salvage.specs.Refused.{IsBarePlanFault, has_no_graph, not_planned, not_marked, planning_had_no_memory}

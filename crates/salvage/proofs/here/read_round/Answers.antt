@@ -2,7 +2,6 @@ use Rattle.std.proofs.Common.{ℕ, List, Option, Some, ap, subst, string_bytes, 
 use Rattle.salvage.specs.Inputs.{inputs_text_of}
 use Rattle.std.specs.Option.{option_map}
 use Rattle.splices_flat.specs.FileSet.{bytes_of}
-use Rattle.dag_main_check.specs.declared.fault.RunFault.{RunFault}
 use Rattle.dag_main_files.proofs.RunFaults.{input-is-file}
 use Rattle.salvage.specs.Salvaged.{IsBarePlan, IsSalvaged}
 use Rattle.salvage.specs.declared.fault.SalvageFault.TheVariants.{Refused}

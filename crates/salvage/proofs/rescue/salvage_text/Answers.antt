@@ -1,8 +1,5 @@
-use Rattle.std.proofs.Common.{◌∙◌, List, sym, subst}
-use Rattle.event_journal_log.specs.Image.{replay_of}
-use Rattle.node_machine.specs.declared.Record.{Record}
+use Rattle.std.proofs.Common.{◌∙◌, sym}
 use Rattle.dag_main_files.proofs.RunFaults.{by-fault, memory-alone}
-use Rattle.salvage.specs.Salvaged.{IsReplayOf}
 use Rattle.salvage.specs.Refused.{IsUnsalvaged, salvaging_had_no_memory}
 use Rattle.salvage.proofs.Records.{salvaged-of}
 use Rattle.salvage.proofs.rescue.salvage_text.Goals as goal

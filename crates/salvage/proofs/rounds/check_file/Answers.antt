@@ -1,4 +1,4 @@
-use Rattle.std.proofs.Common.{◌≡◌, ◌∙◌, Some, None, List, ℕ, sym, subst}
+use Rattle.std.proofs.Common.{◌∙◌, List, ℕ, sym, subst}
 use Rattle.dag_main_check.specs.declared.fault.RunFault.TheVariants.{Memory}
 use Rattle.salvage.specs.declared.fault.SalvageFault.TheVariants.{Refused, NotListed, Changed}
 use Rattle.salvage.specs.Refused.{IsOtherFile, not_listed, changed, comparing_had_no_memory}

@@ -4,9 +4,7 @@ use Rattle.std.specs.Option.{option_map}
 use Rattle.salvage.specs.Round.{sum_in}
 use Rattle.salvage.specs.declared.fault.SalvageFault.TheVariants.{Refused, Changed}
 use Rattle.salvage.specs.Refused.{IsOtherRescue, IsOtherFile, rescue_missing, rescue_changed, rescue_refused}
-use Rattle.dag_main_check.specs.declared.fault.RunFault.TheVariants.{Memory}
 use Rattle.dag_main_files.specs.Beside.{IsFileFault, reading_had_no_memory}
-use Rattle.rescue_file.specs.Numbered.{rescue_name_of}
 use Rattle.dag_main_files.proofs.Held.{rescue-held}
 use Rattle.salvage.proofs.Refusals.{told-as}
 use Rattle.salvage.proofs.rounds.rescue_in.Goals as goal

@@ -1,4 +1,4 @@
-use Rattle.std.proofs.Common.{◌≡◌, ◌≤◌, ℕ, List, Option, Some, Ok, None, length, subst}
+use Rattle.std.proofs.Common.{◌≡◌, ◌≤◌, ℕ, List, Option, Some, None, length, subst}
 use Rattle.std.specs.Prelude.{slice_range}
 use Rattle.event_journal_log.specs.declared.journal.Peek.{Peek}
 use Rattle.event_journal_log.specs.Image.{replay_of}

@@ -1,7 +1,9 @@
 //! What is displayed at a terminal behind the line of a refusal, and behind a status.
 
+ghost use Rattle.answer_console.specs.Display.{OnlyWarnsAtTerminal};
+
+use answer_console::Console;
 use dag_main_files::{Place, read_input};
-use dag_main_run::Screen;
 use log_lines::{read_line, unquoted, whole_lines};
 use refusal_hints::{Evidence, Refusal, hint_text};
 use std::alloc::{AllocError, Global};
@@ -18,6 +20,16 @@ const STATES: [&str; 7] = [
     "READY",
     "NOT_READY",
 ];
+
+/// What is displayed at a terminal behind an answer.
+#[derive(Clone, Copy)]
+pub(crate) enum Postscript {
+    Nothing,
+    /// How many nodes stand in which state, and who works on them.
+    Totals,
+    /// Who works on the DAG.
+    Worker,
+}
 
 /// The bytes of the file of whose place a refusal tells.
 fn source_of<R: Files + AllocGlobal>(rt: &R, refusal: &Refusal<'_>) -> Option<Vec<u8>> {
@@ -89,14 +101,21 @@ fn hint_of<R: Files + AllocGlobal>(
     hint_text(rt.alloc(), &refusal, &evidence)
 }
 
-/// Tells what may help behind the line of a refusal, where standard error is a terminal.
-pub(crate) fn tell_more<R: Files + Screen + AllocGlobal>(rt: &R, dag: Option<&str>, line: &str) {
-    if !rt.is_terminal() {
+/// Displays what may help behind the line of a refusal, where standard error is a terminal.
+pub(crate) fn display_hint<R: Files + AllocGlobal, C: Console>(
+    rt: &R,
+    console: &mut C,
+    dag: Option<&str>,
+    line: &str,
+)
+    ensures warned { C.honest console.new → OnlyWarnsAtTerminal (C.shown console.old) (C.shown console.new) }
+    ensures back { C.honest console.new → C.honest console.old }
+{
+    if !console.is_terminal() {
         return;
     }
     if let Ok(text) = hint_of(rt, dag, line) {
-        let text = text.as_str();
-        let _ = eprint!(rt; "{text}");
+        console.warn(text.as_str());
     }
 }
 
@@ -152,27 +171,43 @@ fn worker_of<R: Files<File = File> + AllocGlobal>(rt: &R, dag: &str) -> Result<S
     }
 }
 
-/// Tells how many nodes stand in which state, and who works on them, behind the status of this DAG file, where
-/// standard error is a terminal.
-pub(crate) fn tell_totals<R: Files<File = File> + Screen + AllocGlobal>(
+/// What is displayed at a terminal behind the answer to a request for this DAG file, of which this was printed.
+fn postscript_of<R: Files<File = File> + AllocGlobal>(
     rt: &R,
     dag: &str,
-    status: &str,
-) {
-    if !rt.is_terminal() {
-        return;
-    }
-    if let (Ok(totals), Ok(worker)) = (totals_of(rt.alloc(), status), worker_of(rt, dag)) {
-        let _ = eprintln!(rt; "{totals}; {worker} works on them");
+    postscript: Postscript,
+    text: &str,
+) -> Result<String, AllocError> {
+    let alloc = rt.alloc();
+    match postscript {
+        Postscript::Nothing => Ok(String::new(alloc)),
+        Postscript::Totals => {
+            let totals = totals_of(alloc, text)?;
+            let worker = worker_of(rt, dag)?;
+            format!(in alloc; "{totals}; {worker} works on them\n")
+        }
+        Postscript::Worker => {
+            let worker = worker_of(rt, dag)?;
+            format!(in alloc; "{worker} works on {dag}\n")
+        }
     }
 }
 
-/// Prints who works on this DAG file, behind what was printed of its nodes, where standard error is a terminal.
-pub(crate) fn tell_worker<R: Files<File = File> + Screen + AllocGlobal>(rt: &R, dag: &str) {
-    if !rt.is_terminal() {
+/// Displays that, where standard error is a terminal.
+pub(crate) fn display_postscript<R: Files<File = File> + AllocGlobal, C: Console>(
+    rt: &R,
+    console: &mut C,
+    dag: &str,
+    postscript: Postscript,
+    text: &str,
+)
+    ensures warned { C.honest console.new → OnlyWarnsAtTerminal (C.shown console.old) (C.shown console.new) }
+    ensures back { C.honest console.new → C.honest console.old }
+{
+    if !console.is_terminal() {
         return;
     }
-    if let Ok(worker) = worker_of(rt, dag) {
-        let _ = eprintln!(rt; "{worker} works on {dag}");
+    if let Ok(line) = postscript_of(rt, dag, postscript, text) {
+        console.warn(line.as_str());
     }
 }
