@@ -1,6 +1,6 @@
-use Rattle.std.proofs.Common.{refl, ap, ◌∙◌}
-use Rattle.answer_console.specs.Display.{Streams, printed, not_printed, whole, output_refused}
-use Rattle.answer_console.proofs.Lines.{printed-behind, line-behind}
+use Rattle.std.proofs.Common.{refl}
+use Rattle.answer_console.specs.Display.{printed, not_printed, whole}
+use Rattle.answer_console.proofs.Lines.{printed-behind, refused-output}
 use Rattle.answer_console.proofs.display.display_answer.Goals as goal
 
 pub returns-in-Ok-clause-status : goal.returns-in-Ok-clause-status
@@ -14,18 +14,14 @@ pub returns-in-Ok-format-clause-status : goal.returns-in-Ok-format-clause-status
 returns-in-Ok-format-clause-status g c = not_printed
 
 pub returns-in-Ok-format-clause-shown : goal.returns-in-Ok-format-clause-shown
-returns-in-Ok-format-clause-shown g c = λ honest.
-    let after = c.warn-in-Ok-format.ensures.back honest in
-    output_refused (ap (λ (s : Streams). s.refuses) (c.warn-in-Ok-format.ensures.warned honest) ∙ c.in-Err.ensures.refused after) _
-    (line-behind _ _ _ _ _ _ _ (c.warn.ensures.warned (c.print.ensures.back after)) c.as_str.ensures.value (c.print.ensures.warned after) (c.warn-in-Ok-format.ensures.warned honest))
-    (ap (λ (s : Streams). s.at_terminal) (c.warn-in-Ok-format.ensures.warned honest) ∙ c.print.ensures.at_terminal after ∙ ap (λ (s : Streams). s.at_terminal) (c.warn.ensures.warned (c.print.ensures.back after)))
+returns-in-Ok-format-clause-shown g c = λ honest. let after = c.warn-in-Ok-format.ensures.back honest in
+    refused-output _ _ _ _ _ _ _ (c.warn.ensures.warned (c.print.ensures.back after)) c.as_str.ensures.value (c.in-Err.ensures.refused after)
+    (c.print.ensures.warned after) (c.print.ensures.at_terminal after) (c.warn-in-Ok-format.ensures.warned honest)
 
 pub returns-in-Err-format-clause-status : goal.returns-in-Err-format-clause-status
 returns-in-Err-format-clause-status g c = not_printed
 
 pub returns-in-Err-format-clause-shown : goal.returns-in-Err-format-clause-shown
-returns-in-Err-format-clause-shown g c = λ honest.
-    let after = c.warn-in-Err-format.ensures.back honest in
-    output_refused (ap (λ (s : Streams). s.refuses) (c.warn-in-Err-format.ensures.warned honest) ∙ c.in-Err.ensures.refused after) _
-    (line-behind _ _ _ _ _ _ _ (c.warn.ensures.warned (c.print.ensures.back after)) c.as_str.ensures.value (c.print.ensures.warned after) (c.warn-in-Err-format.ensures.warned honest))
-    (ap (λ (s : Streams). s.at_terminal) (c.warn-in-Err-format.ensures.warned honest) ∙ c.print.ensures.at_terminal after ∙ ap (λ (s : Streams). s.at_terminal) (c.warn.ensures.warned (c.print.ensures.back after)))
+returns-in-Err-format-clause-shown g c = λ honest. let after = c.warn-in-Err-format.ensures.back honest in
+    refused-output _ _ _ _ _ _ _ (c.warn.ensures.warned (c.print.ensures.back after)) c.as_str.ensures.value (c.in-Err.ensures.refused after)
+    (c.print.ensures.warned after) (c.print.ensures.at_terminal after) (c.warn-in-Err-format.ensures.warned honest)
