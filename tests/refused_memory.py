@@ -1,7 +1,8 @@
 #!/usr/bin/env python3
 """Refuses each allocation of a command in turn, the first, the second, .. until none is refused.
 
-    tests/refused_memory.sh PROGRAM WRITER CALLS [STEP]    STEP: every so manieth place alone (1)
+    tests/refused_memory.sh program PROGRAM [STEP]            STEP: every so manieth place alone (1)
+    tests/refused_memory.sh libraries WRITER CALLS [STEP]
 
 The commands run on tests/every, files with a line of each kind, and on the files of FOLDERS. Each time the command gives its
 answer, or prints nothing but one line that says that memory is out (X1, A1 for a child) and ends with 125; then the same command
@@ -363,21 +364,31 @@ def rows(library, work, program, step):
         each(f"run: {name}", step, tried)
 
 
+def of_program(library, work, step, program):
+    """The commands on tests/every, and on files of a row each."""
+    commands(library, work, program, step)
+    rows(library, work, program, step)
+
+
+def of_libraries(library, work, step, writer, calls):
+    """The writer of a journal, and calls of the libraries."""
+    each("writer", step, Writing(work, library, writer))
+    for row in FAULTS:
+        tried = Calling(work, library, calls, row)
+        each(f"calls: {row}", step, tried)
+        if step == 1:
+            tried.none_is_due()
+
+
 def main():
-    program, writer, calls = (os.path.realpath(path) for path in sys.argv[1:4])
-    step = int(sys.argv[4]) if len(sys.argv) > 4 else 1
+    kind, *words = sys.argv[1:]
+    step = int(words.pop()) if words[-1].isdigit() else 1
+    paths = [os.path.realpath(path) for path in words]
     memory = "/dev/shm" if os.access("/dev/shm", os.W_OK) else None
     with tempfile.TemporaryDirectory(dir=memory) as work:
         library = os.path.join(work, "refuse.so")
         subprocess.run(["cc", "-shared", "-fPIC", "-O1", "-o", library, os.path.join(HERE, "refuse_memory.c"), "-ldl"], check=True)
-        commands(library, work, program, step)
-        rows(library, work, program, step)
-        each("writer", step, Writing(work, library, writer))
-        for row in FAULTS:
-            tried = Calling(work, library, calls, row)
-            each(f"calls: {row}", step, tried)
-            if step == 1:
-                tried.none_is_due()
+        {"program": of_program, "libraries": of_libraries}[kind](library, work, step, *paths)
 
 
 if __name__ == "__main__":

@@ -144,10 +144,11 @@ def diamond(folder):
     folder.write("x.dag", DIAMOND)
     folder.echo(*"abcd")
     same(folder.call("run", "x.dag"), (ALL_DONE, "", 0))
-    # Life, four launches, those of B and C in one batch, which has a slot of its own, four endings, Finish, and the closed gate.
-    same(len(folder.read("x.dag.journal")), HEADER + SLOT * 11 + 1)
+    # Life, four launches, those of B and C in one batch, which has a slot of its own, four endings, Finish, and the closed gate. Where B
+    # and C are seen to have ended together, so are their endings.
     places, batches = slots_in(folder.read("x.dag.journal"))
-    same((len(places), batches), (10, 1))
+    same((len(places), batches in (1, 2)), (10, True))
+    same(len(folder.read("x.dag.journal")), HEADER + SLOT * (10 + batches) + 1)
     same(folder.there("x.dag.rescue001"), False)
     same(folder.read("d.out"), b"d\n")
     same(folder.call("status", "x.dag"), (ALL_DONE.replace("result 0\n", ""), "", 0))
@@ -203,6 +204,18 @@ def a_program_that_is_not_there(folder):
     same(folder.read("x.dag.rescue002").decode(), rescue)
 
 
+def a_diamond_with_a_noop_and_no_program(folder):
+    """Of the two in the middle of a diamond nothing is started for one, and the other's program is not there: both end, and D waits."""
+    folder.write("x.dag", DIAMOND.replace("JOB B b.sub", "JOB B b.sub NOOP"))
+    folder.echo("a", "d")
+    folder.write("c.sub", "executable = no_such_program\nqueue\n")
+    report = "A DONE attempts=1 value=0\nB DONE attempts=1 value=0\nC ERROR attempts=1 value=-1001\nD NOT_READY attempts=0 value=-\nresult 1\n"
+    same(folder.call("run", "x.dag"), (report, "", 1))
+    same([folder.there(name) for name in ("a.out", "d.out")], [True, False])
+    rescue = "# Rescue DAG file\n# Total number of Nodes: 4\n# Nodes premarked DONE: 2\n\nDONE A\nDONE B\n"
+    same(folder.read("x.dag.rescue001").decode(), rescue)
+
+
 def endings(folder):
     folder.write("x.dag", "JOB A a.sub\nJOB B b.sub\nJOB C c.sub\n")
     folder.shell("a", "exit 255\n")
@@ -239,14 +252,12 @@ GATE = ': > "$1"; i=0; while [ ! -e "$2" ]; do i=$((i+1)); if [ $i -gt %d ]; the
 
 
 def an_abort_kills(folder):
-    """A leaves once B's file is there; B would take it away after ten seconds."""
-    folder.shell("a", "i=0; while [ ! -e b ]; do i=$((i+1)); if [ $i -gt 200 ]; then exit 9; fi; sleep 0.05; done; exit 7\n")
-    folder.write("gate.sh", GATE % 200)
-    folder.write("b.sub", "executable = /bin/sh\narguments = gate.sh b x\nqueue\n")
+    """A leaves once B's file is there; B would never leave, and is a process that is no more when the run has ended."""
+    folder.shell("a", "while [ ! -e b ]; do sleep 0.05; done; exit 7\n")
+    folder.shell("b", "echo $$ > process\nmv process b\nwhile :; do sleep 0.05; done\n")
     folder.write("x.dag", "JOB A a.sub\nJOB B b.sub\nABORT-DAG-ON A 7\n")
     same(folder.call("run", "x.dag"), ("A ERROR attempts=1 value=7\nB READY attempts=0 value=-\nresult 7\n", "", 7))
-    time.sleep(12)
-    same(folder.there("b"), True)
+    same(runs_still(int(folder.read("b"))), False)
 
 
 def what_ignores_signals_is_killed(folder):
@@ -363,8 +374,10 @@ def a_first_life_of_four_records(folder):
     same(folder.call("status", "x.dag"), (report, "", 0))
     same(folder.call("run", "x.dag"), (ALL_DONE, "", 0))
     same([folder.there(f"{name}.out") for name in "abcd"], [False, True, True, True])
-    # The four records, Life, launches and ends of B, C and D, Finish; the launches of B and C are a batch, which has a slot of its own.
-    same(len(folder.read("x.dag.journal")), HEADER + SLOT * 13 + 1)
+    # The four records, Life, launches and ends of B, C and D, Finish; the launches of B and C are a batch, which has a slot of its own,
+    # and so may their ends be.
+    places, batches = slots_in(folder.read("x.dag.journal"))
+    same((len(places), batches in (1, 2)), (12, True))
 
 
 def a_life_of_one_launch(folder):
@@ -1144,6 +1157,21 @@ def runs_still(process):
     return os.path.exists(f"/proc/{process}/stat") and stat_of(process)[0] not in "ZX"
 
 
+def hundredths_up():
+    """For how many hundredths of a second the machine has been up."""
+    with open("/proc/uptime") as file:
+        return int(file.read().split()[0].replace(".", ""))
+
+
+def wait_for_pauses(process, count):
+    """Waits until a process has paused so many times from now on: whoever looks again and again, and pauses between, has looked so often."""
+    def pauses():
+        with open(f"/proc/{process}/status") as file:
+            return int(re.search(r"^voluntary_ctxt_switches:\s+(\d+)", file.read(), re.M)[1])
+    before = pauses()
+    wait_until(lambda: pauses() >= before + count, f"process {process} has not paused {count} times")
+
+
 ONE_DONE = "A DONE attempts=1 value=0\nresult 0\n"
 
 
@@ -1222,7 +1250,8 @@ def an_orphan_is_left(folder):
 def an_orphan_is_waited_for(folder):
     process = left_running(folder)
     second = folder.start("run", "--orphans=wait", "x.dag")
-    time.sleep(0.5)
+    folder.wait_for("x.dag.lock")
+    wait_for_pauses(second.pid, 10)
     same((second.poll(), runs_still(process), folder.read("x.dag.log").count(b"life")), (None, True, 1))
     os.kill(process, signal.SIGTERM)
     same(second.communicate(timeout=PATIENCE), (ONE_DONE.encode(), b""))
@@ -1235,7 +1264,7 @@ def another_process_of_that_number(folder):
     fields = folder.read("x.dag.children").decode().splitlines(keepends=True)[-1].split("\t")
     os.kill(process, signal.SIGKILL)
     # The system says when a process began in hundredths of a second, and both may begin within one.
-    time.sleep(0.05)
+    wait_until(lambda: hundredths_up() > int(fields[1]), "the next hundredth of a second has not come")
     other = subprocess.Popen(["sleep", "100"])
     try:
         began = stat_of(other.pid)[19]
@@ -2107,7 +2136,7 @@ def outputs_are_synced(folder):
     os.mkfifo(folder.at("pipe"))
     names = {"a.out": "a.out", "a.err": "a.err", "b.out": "b.out", "pipe": "pipe", "null": "null", os.path.basename(os.path.realpath(folder.path)): "folder"}
     for words, wanted in (
-        (("run", "x.dag"), ["a.out", "folder", "a.err", "folder", "end 0", "b.out", "b.out", "end 1", "end 2"]),
+        (("run", "x.dag"), ["a.out", "a.err", "folder", "end 0", "b.out", "end 1", "end 2"]),
         (("run", "--autorescue", "0", "--sync-output", "0", "x.dag"), ["end 0", "end 1", "end 2"]),
     ):
         reader = subprocess.Popen(["cat", folder.at("pipe")], stdout=subprocess.DEVNULL)
@@ -2123,6 +2152,46 @@ def outputs_are_synced(folder):
         # The folder is synced once more as the round begins.
         first = seen.index("a.out") if "a.out" in seen else seen.index("end 0")
         same([what for what in seen[first:] if what != "other"], wanted)
+
+
+def outputs_of_endings_together(folder):
+    """Endings that are seen together are recorded in one batch; before that each file of the outputs is synced once, and then each folder once."""
+    folder.write("x.dag", "JOB A a.sub\nJOB B a.sub\nJOB C c.sub\nVARS A name=\"a\"\nVARS B name=\"b\"\n")
+    # A and B wait until C has stopped the manager, which goes on once all three have ended.
+    folder.write("a.sh", "until [ -e stopped ]; do sleep 0.01; done\n")
+    folder.write("c.sh", "kill -STOP $PPID\n: > stopped\n(sleep 0.5; kill -CONT $PPID) > /dev/null 2>&1 &\n")
+    folder.write("a.sub", "executable = /bin/sh\narguments = a.sh\noutput = $(name).out\nerror = $(name).err\nqueue\n")
+    folder.write("c.sub", "executable = /bin/sh\narguments = c.sh\noutput = c.out\nerror = c.out\nqueue\n")
+    words = ["strace", "-qqq", "-y", "-o", "calls", "-e", "trace=pwrite64,fsync", "-e", "signal=none", folder.program, "run", "x.dag"]
+    same(subprocess.run(words, cwd=folder.path, capture_output=True, timeout=PATIENCE).returncode, 0)
+    last = os.path.basename(os.path.realpath(folder.path))
+    seen = []
+    for line in folder.read("calls").decode(errors="replace").splitlines():
+        if re.search(r'pwrite64\(\d+<[^>]*x\.dag\.journal>, "\\5\\0\\3', line):
+            seen.append("three")
+        elif match := re.search(r"fsync\(\d+<[^>]*/([^/>]+)>", line):
+            seen.append("folder" if match[1] == last else match[1])
+    # The folder is synced as the round begins, too, and the launches are a batch of three.
+    same(seen[seen.index("a.out"):], ["a.out", "a.err", "b.out", "b.err", "c.out", "folder", "three"])
+    # Life, three launches and three ends, each behind one gate, Finish.
+    places, batches = slots_in(folder.read("x.dag.journal"))
+    same((len(places), batches), (8, 2))
+
+
+def outputs_that_are_refused(folder):
+    """A file that can't be brought to the disk has one line in the log, and so has one whose folder can't; the run goes on."""
+    for name, wanted in (("a.out", ["a.out"]), (".", ["a.out", "a.err"])):
+        folder.write("x.dag", "JOB A a.sub\n")
+        folder.write("a.sub", "executable = /bin/true\noutput = out/a.out\nerror = out/a.err\nqueue\n")
+        shutil.rmtree(folder.at("out"), ignore_errors=True)
+        os.mkdir(folder.at("out"))
+        path = os.path.normpath(folder.at(os.path.join("out", name)))
+        words = ["strace", "-qqq", "-o", "calls", "-P", path, "-e", "trace=fsync", "-e", "signal=none", "-e", "inject=fsync:error=EIO", folder.program, "run", "x.dag"]
+        same(subprocess.run(words, cwd=folder.path, capture_output=True, timeout=PATIENCE).returncode, 0)
+        lines = [line for line in fields_of(folder, "x.dag.log") if line[0] in ("end", "unsynced")]
+        same([line[0] for line in lines], ["end"] + ["unsynced"] * len(wanted))
+        same([line[4]["path"] for line in lines[1:]], [folder.at("out/" + one) for one in wanted])
+        os.remove(folder.at("x.dag.journal"))
 
 
 def sums_of(folder, *names):
@@ -2760,8 +2829,8 @@ def when_the_steps_ran(folder):
     folder.write("x.dag", DIAMOND + "RETRY C 1\nSCRIPT POST D /bin/true\n")
     folder.shell("a", "sleep 0.05\n")
     folder.shell("b", "sleep 0.05\n")
-    # B ends before C, however busy the machine is.
-    folder.shell("c", f"{until('x.dag.log', 'end', 'B')}[ -e once ] && exit 0\n: >once\nexit 4\n")
+    # B ends before C, by more than the log's milliseconds, however busy the machine is.
+    folder.shell("c", f"{until('x.dag.log', 'end', 'B')}sleep 0.05\n[ -e once ] && exit 0\n: >once\nexit 4\n")
     folder.shell("d", "exit 0\n")
     begun = time.monotonic()
     same(folder.call("run", "x.dag")[2], 0)
@@ -2803,7 +2872,7 @@ def when_the_steps_ran(folder):
     second.wait(timeout=PATIENCE)
     # FINAL waits for all.
     folder.write("z.dag", "JOB A late.sub\nJOB D d.sub\nFINAL F d.sub\n")
-    folder.shell("late", until("z.dag.log", "end", "D"))
+    folder.shell("late", f"{until('z.dag.log', 'end', 'D')}sleep 0.05\n")
     folder.call("run", "z.dag")
     same({tuple(line.split("\t")[0::6]) for line in folder.call("times", "z.dag")[0].splitlines()[1:]}, {("A", "*"), ("D", "-"), ("F", "*")})
 
@@ -2990,6 +3059,7 @@ ROWS = [
     one_fails_and_passes,
     without_the_rescue_file,
     a_program_that_is_not_there,
+    a_diamond_with_a_noop_and_no_program,
     endings,
     told_endings,
     what_can_not_be_started,
@@ -3107,7 +3177,7 @@ def main():
     program = os.path.realpath(sys.argv[1])
     rows = list(ROWS)
     if shutil.which("strace"):
-        rows += [a_look_beside_a_manager, the_order_of_the_disk, names_are_synced, outputs_are_synced, cut_short_while_going_back, a_child_that_was_being_started, a_launched_child_that_was_being_started, what_the_system_said, the_end_of_a_journal, cut_short_while_salvaging]
+        rows += [a_look_beside_a_manager, the_order_of_the_disk, names_are_synced, outputs_are_synced, outputs_of_endings_together, outputs_that_are_refused, cut_short_while_going_back, a_child_that_was_being_started, a_launched_child_that_was_being_started, what_the_system_said, the_end_of_a_journal, cut_short_while_salvaging]
     else:
         print("strace is not installed: the order in which the disk is written is not looked at, and no call of going back is cut short, and no child while it is started")
     if os.getuid() == 0:

@@ -563,7 +563,7 @@ def a_status(folder):
     told = folder.on_terminal("status", "x.dag")
     same((told.status, told.screen.told()), (0, ["2 READY, 1 NOT_READY; no manager works on them"]))
     run = subprocess.Popen([folder.program, "run", "x.dag"], cwd=folder.path, stdout=subprocess.DEVNULL, stderr=subprocess.DEVNULL)
-    for _ in range(1000):
+    for _ in range(15000):
         # The job that fails has ended, and the other one has begun.
         if os.path.exists(folder.at("begun")) and folder.call("status", "x.dag")[0].startswith("A ERROR "):
             break

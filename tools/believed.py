@@ -8,8 +8,13 @@ for the calls of EXACT the clauses beside the exact one, which follow from it. T
 With --all laws and second tellings count too. With --list the definitions behind the calls are named.
 
 With --from CRATE::CALL .. it counts, over all crates, what stands behind the clauses of these calls or laws alone, in lines and words;
---headline is --from recovery::lives recovery::two_runs, the laws of the headline, --round is these and run_round::run_round, the
-contract of a run over any disks and starter, and --program is --from dag_main_run::run_dag.
+--headline is --from sched_core::every_run sched_core::every_two_runs, the laws of the headline (docs/PROOF.md quotes their definitions).
+--commands counts what more there is to the law of a plan's commands, --bytes what more than both to the laws of the journal's bytes, and
+--disk what more than all these to the law that records survive on a disk.
+--round is --from recovery::lives recovery::two_runs, the headline over bytes and commands, and run_round::run_round, the contract of a run
+over any disks and starter, and --program is --from dag_main_run::run_dag.
+
+A field of UNREAD brings in its type only where some definition or clause reads it: else what is said holds whatever stands in it.
 """
 import pathlib
 import re
@@ -17,7 +22,12 @@ import sys
 
 LOWEST = ['dag_reader', 'splices_flat', 'splices', 'dag_graph', 'submit_file', 'vars_macros', 'rescue_file']
 EXACT = {'read_dag': ['exact'], 'read_submit': ['exact', 'not_text'], 'read_rescue': ['exact']}
-HEADLINE = ['recovery::lives', 'recovery::two_runs']
+HEADLINE = ['sched_core::every_run', 'sched_core::every_two_runs']
+COMMANDS = ['sched_core::plan_commands']
+BYTES = ['recovery_manager::lives_on_bytes', 'recovery::journal_bytes']
+DISK = ['recovery::survival']
+INSTANCE = ['recovery::lives', 'recovery::two_runs']
+UNREAD = {'graph', 'launch_spec'}
 ALL = '--all' in sys.argv
 TOP = pathlib.Path(__file__).resolve().parent.parent
 
@@ -38,18 +48,29 @@ def imports_of(text):
     return found
 
 
+def reads(words, field):
+    """Whether one of these words reads a field."""
+    return any(re.search(rf'\.{field}\b', word) for word in words)
+
+
 class Definition:
     """A paragraph of a file of specs/: the words that it defines and those that it names."""
 
     def __init__(self, crate, module, lines):
         self.crate, self.module, self.lines = crate, module, len(lines)
         self.words = words_of('\n'.join(lines))
+        fields = [re.match(r'\s+(?:pub )?(\w+) [:=] ', line) for line in lines]
+        self.by_field = [(field.group(1) if field else '', words_of(line)) for field, line in zip(fields, lines)]
         self.length = len(' '.join(lines).split())
         indent = 2 if 'mutual' in lines[0] or lines[0][0] == ' ' else 0
         heads = [line[indent:] for line in lines if line[:indent].isspace() or not indent]
         heads = [re.match(r'(?:(?:abbrev|unfoldable|pub|data|record)\s+)*([^\s:({]+)', line) for line in heads
                  if not line.startswith((' ', 'infix'))]
         self.names = [head.group(1) for head in heads if head]
+
+    def words_without(self, unread):
+        """Its words, but for those of the lines of these fields."""
+        return set().union(*(words for field, words in self.by_field if field not in unread))
 
 
 def definitions(crate):
@@ -114,7 +135,7 @@ class Specs:
 
     def behind(self, crates):
         """The definitions that stand behind the public calls of these crates."""
-        open_ones = []
+        open_ones, named = [], set()
         for crate in crates:
             source = TOP / 'crates' / crate / 'src'
             library = (source / 'lib.rt').read_text()
@@ -122,20 +143,35 @@ class Specs:
             exported |= set(re.findall(r'^pub (?:struct|enum|trait|fn) (\w+)', library, re.M))
             for path in source.rglob('*.rt'):
                 text = path.read_text()
-                if path.stem != 'laws':
-                    open_ones += self.named(clauses(path, exported), imports_of(text))
-                elif ALL:
-                    open_ones += self.named(words_of(text), imports_of(text))
-        return self.closure(open_ones)
+                words = clauses(path, exported) if path.stem != 'laws' else words_of(text) if ALL else set()
+                open_ones += self.named(words, imports_of(text))
+                named |= words
+        return self.closure(open_ones, named)
 
-    def closure(self, open_ones):
-        """These definitions, and those that stand behind them."""
+    def of_calls(self, calls):
+        """The definitions that stand behind the clauses of these calls or laws."""
+        contracts = [contract(*call.split('::')) for call in calls]
+        return self.closure([one for words, imports in contracts for one in self.named(words, imports)],
+                            set().union(*(words for words, imports in contracts)))
+
+    def closure(self, open_ones, words):
+        """These definitions, which these words name, and those that stand behind them."""
+        unread = {field for field in UNREAD if not reads(words, field)}
+        while True:
+            found = self.followed(open_ones, unread)
+            read = {field for field in unread if any(reads(one.words, field) for one in found)}
+            if not read:
+                return found
+            unread -= read
+
+    def followed(self, open_ones, unread):
+        """The same, with the types of these fields left out."""
         found, open_ones = set(), list(open_ones)
         while open_ones:
             one = open_ones.pop()
             if one not in found:
                 found.add(one)
-                open_ones += self.named(one.words, self.imports[one.crate, one.module], (one.crate, one.module))
+                open_ones += self.named(one.words_without(unread), self.imports[one.crate, one.module], (one.crate, one.module))
         return found
 
 
@@ -148,13 +184,13 @@ def contract(crate, call):
     sys.exit(f'{crate} has no call {call}')
 
 
-def from_calls(calls):
-    """Prints what stands behind the clauses of these calls: its lines and its words, crate by crate."""
+def from_calls(calls, less=()):
+    """Prints what stands behind the clauses of these calls, and not behind those of others: its lines and its words, crate by crate."""
     crates = [line.split(':')[0].strip() for line in (TOP / 'crates.txt').read_text().split('\n') if ':' in line and line[0] != '#']
     crates = [crate for crate in crates if (TOP / 'crates' / crate / 'specs').is_dir()]
     specs = Specs(crates)
-    roots = [one for call in calls for one in specs.named(*contract(*call.split('::')))]
-    behind = specs.closure(roots)
+
+    behind = specs.of_calls(calls) - specs.of_calls(less)
     for one in specs.all:
         if one in behind and '--list' in sys.argv:
             print(f'{one.crate} {one.module} {one.names[0]} {one.lines}')
@@ -162,14 +198,21 @@ def from_calls(calls):
         own = [one for one in behind if one.crate == crate]
         if own:
             print(f'{crate}: {sum(one.lines for one in own)} lines, {sum(one.length for one in own)} words')
-    print(f'{sum(one.lines for one in behind)} lines, {sum(one.length for one in behind)} words behind {" ".join(calls)}')
+    beside = f' and not behind {" ".join(less)}' if less else ''
+    print(f'{sum(one.lines for one in behind)} lines, {sum(one.length for one in behind)} words behind {" ".join(calls)}{beside}')
 
 
 def main():
     if '--headline' in sys.argv:
         return from_calls(HEADLINE)
+    if '--commands' in sys.argv:
+        return from_calls(COMMANDS, HEADLINE)
+    if '--bytes' in sys.argv:
+        return from_calls(BYTES, [*HEADLINE, *COMMANDS])
+    if '--disk' in sys.argv:
+        return from_calls(DISK, [*HEADLINE, *COMMANDS, *BYTES])
     if '--round' in sys.argv:
-        return from_calls([*HEADLINE, 'run_round::run_round'])
+        return from_calls([*INSTANCE, 'run_round::run_round'])
     if '--program' in sys.argv:
         return from_calls(['dag_main_run::run_dag'])
     if '--from' in sys.argv:
@@ -187,4 +230,5 @@ def main():
     print(f'{sum(one.lines for one in behind)} of {sum(one.lines for one in specs.all)} lines')
 
 
-main()
+if __name__ == '__main__':
+    main()

@@ -42,6 +42,11 @@ pub data IsFileFault : RunFault → Type 0 where
   file_refused : (file : String Global) → IsFileFault (FileRefused file)
   reading_had_no_memory : IsFileFault Memory
 
+-- the system refuses the file of this path, or memory ran out
+pub data IsRefusalOf (path : List ℕ) : RunFault → Type 0 where
+  path_refused : (file : String Global) → string_bytes file ≡ path → IsRefusalOf path (FileRefused file)
+  refusing_had_no_memory : IsRefusalOf path Memory
+
 -- standard input, which is asked for by the path `-`, can't be read; or memory ran out
 pub data IsInputFault (path : List ℕ) : RunFault → Type 0 where
   input_refused : (file : String Global) → path ≡ codes "-" → string_bytes file ≡ codes "-" → IsInputFault path (FileRefused file)

@@ -4,7 +4,7 @@ ghost use Rattle.std.specs.Prelude.{◌≡◌, ◌≤◌, IfOk, IfErr};
 ghost use Rattle.rescue_file.specs.Numbered.{IsFileNumber, rescue_name_of};
 ghost use Rattle.splices_flat.specs.Paths.{join};
 ghost use Rattle.dag_main_check.specs.declared.fault.RunFault.TheVariants.{Memory};
-ghost use Rattle.dag_main_files.specs.Beside.{journal_name_of, IsFileFault, IsNameLength, HasRoomForNames, IsRoomFault};
+ghost use Rattle.dag_main_files.specs.Beside.{journal_name_of, IsFileFault, IsRefusalOf, IsNameLength, HasRoomForNames, IsRoomFault};
 
 use crate::locking::{Lock, is_locked, lock_in_time, lock_opened};
 use crate::owners::is_trusted;
@@ -39,7 +39,8 @@ pub struct Place<'a> {
 /// What is returned for the file of this path, which the system refuses: `Memory` for want of memory, or
 /// else `FileRefused` with the path.
 pub fn refused(alloc: Global, path: &str, error: &io::Error) -> RunFault
-    ensures { IsFileFault result }
+    ensures file { IsFileFault result }
+    ensures path { IsRefusalOf path.now result }
 {
     if error.kind() == ErrorKind::OutOfMemory {
         return RunFault::Memory;

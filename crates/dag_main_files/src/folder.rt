@@ -1,6 +1,6 @@
 //! Files by their paths, as the program finds them.
 
-ghost use Rattle.std.specs.Prelude.{◌≡◌, ◌≤◌, Bool, false, ℕ, List, None, IfOk, IfErr, is_some};
+ghost use Rattle.std.specs.Prelude.{◌≡◌, ◌≤◌, Bool, true, false, ℕ, List, None, IfOk, IfErr, is_some};
 ghost use Rattle.std.specs.Option.{option_map};
 ghost use Rattle.splices_flat.specs.Opening as opening;
 ghost use Rattle.splices_flat.specs.FileSet.{bytes_of};
@@ -97,43 +97,48 @@ pub trait Folder {
 /// The system's files, as they are seen from a folder. That it is honest is a premise, which nothing here
 /// proves: whoever calls for it must know that the system tells the bytes of files, and that nobody writes them
 /// meanwhile.
-#[derive(Clone, Copy)]
+#[derive(Drop)]
 pub struct SystemFolder<'a, R> {
     /// The system.
     pub rt: &'a R,
     /// The folder: absolute, or empty for that of the process.
-    pub seat: &'a str,
+    pub seat: String,
+    /// Whether `-` is standard input where the caller names it.
+    pub has_input: bool,
 }
 
-impl<'a, R: Files<File = File> + AllocGlobal + Copy + Drop> Folder for SystemFolder<'a, R> {
+impl<'a, R: Files<File = File> + Input + AllocGlobal + Copy + Drop> Folder for SystemFolder<'a, R> {
     ghost holds = { λ _ _. None };
 
     ghost has = { λ _ _. false };
 
-    ghost streams = { λ _. ⊥ };
+    ghost streams = { λ folder. folder.has_input ≡ true };
 
     ghost honest = { λ _. ⊥ };
 
     fn top(&self, alloc: Global, path: &str) -> Result<Option<Vec<u8>>, RunFault> {
-        read_named(alloc, self.rt, self.seat, path, true)
+        if self.has_input && path == "-" {
+            return Ok(Some(read_standard_input(alloc, self.rt)?));
+        }
+        read_named(alloc, self.rt, self.seat.as_str(), path, true)
     }
 
     fn input(&self, alloc: Global, path: &str) -> Result<Option<Vec<u8>>, RunFault> {
-        read_named(alloc, self.rt, self.seat, path, false)
+        read_named(alloc, self.rt, self.seat.as_str(), path, false)
     }
 
     fn beside(&self, alloc: Global, path: &str) -> Result<Option<Vec<u8>>, RunFault> {
-        read_beside(alloc, self.rt, self.seat, path)
+        read_beside(alloc, self.rt, self.seat.as_str(), path)
     }
 
     fn is_there(&self, alloc: Global, path: &str) -> Result<bool, RunFault> {
-        let place = path_in(alloc, self.seat, path)?;
+        let place = path_in(alloc, self.seat.as_str(), path)?;
         Ok(fs::exists(self.rt, place.as_str()).unwrap_or(true))
     }
 
     fn highest(&self, _alloc: Global, top: &str) -> Result<u16, RunFault> {
         let place = Place {
-            folder: self.seat,
+            folder: self.seat.as_str(),
             top,
         };
         place.highest(self.rt)
@@ -142,67 +147,11 @@ impl<'a, R: Files<File = File> + AllocGlobal + Copy + Drop> Folder for SystemFol
     fn journal(&self, alloc: Global, top: &str) -> Result<Option<Peek>, RunFault> {
         let path = journal_path(alloc, top)?;
         let place = Place {
-            folder: self.seat,
+            folder: self.seat.as_str(),
             top,
         };
         let mut disk = disk_at(*self.rt, &place, path.as_str())?;
         peek_on(alloc, &mut disk)
-    }
-}
-
-/// The system's files as they are seen from the folder of the process, with standard input where the caller names `-`.
-/// That it is honest is a premise, as of `SystemFolder`.
-#[derive(Clone, Copy)]
-pub struct StreamOrFolder<'a, R> {
-    /// The system.
-    pub rt: &'a R,
-}
-
-impl<'a, R> StreamOrFolder<'a, R> {
-    /// The folder of the process.
-    fn folder(&self) -> SystemFolder<'a, R> {
-        SystemFolder {
-            rt: self.rt,
-            seat: "",
-        }
-    }
-}
-
-impl<'a, R: Files<File = File> + Input + AllocGlobal + Copy + Drop> Folder
-    for StreamOrFolder<'a, R> {
-    ghost holds = { λ _ _. None };
-
-    ghost has = { λ _ _. false };
-
-    ghost streams = { λ _. Unit {0} };
-
-    ghost honest = { λ _. ⊥ };
-
-    fn top(&self, alloc: Global, path: &str) -> Result<Option<Vec<u8>>, RunFault> {
-        if path == "-" {
-            return Ok(Some(read_standard_input(alloc, self.rt)?));
-        }
-        self.folder().top(alloc, path)
-    }
-
-    fn input(&self, alloc: Global, path: &str) -> Result<Option<Vec<u8>>, RunFault> {
-        self.folder().input(alloc, path)
-    }
-
-    fn beside(&self, alloc: Global, path: &str) -> Result<Option<Vec<u8>>, RunFault> {
-        self.folder().beside(alloc, path)
-    }
-
-    fn is_there(&self, alloc: Global, path: &str) -> Result<bool, RunFault> {
-        self.folder().is_there(alloc, path)
-    }
-
-    fn highest(&self, alloc: Global, top: &str) -> Result<u16, RunFault> {
-        self.folder().highest(alloc, top)
-    }
-
-    fn journal(&self, alloc: Global, top: &str) -> Result<Option<Peek>, RunFault> {
-        self.folder().journal(alloc, top)
     }
 }
 

@@ -13,7 +13,7 @@ mod rescues;
 mod rounds;
 
 pub use beside::{LAST_NUMBER, Place, journal_path, refused, rescue_path};
-pub use folder::{Folder, StreamOrFolder, SystemFolder};
+pub use folder::{Folder, SystemFolder};
 pub use headers::{peek_in, read_fault};
 pub use inputs::{MOST_BYTES, read_input};
 pub use loading::{Reading, files_of};

@@ -2,10 +2,12 @@
 
 ghost use Rattle.std.specs.Prelude.{◌≡◌, ◌≤◌, Bool, true, false, None, Some, IfOk, IfErr, option_map, if◌then◌else◌};
 ghost use Rattle.event_journal_log.specs.Image.{IsRescueNumber};
-ghost use Rattle.rescue_file.specs.Numbered.{IsFileNumber};
+ghost use Rattle.event_journal.specs.Files.{file_path};
+ghost use Rattle.splices_flat.specs.Paths.{join};
+ghost use Rattle.rescue_file.specs.Numbered.{IsFileNumber, rescue_name_of};
 ghost use Rattle.dag_main_check.specs.Planned.{in_line, named_by};
 ghost use Rattle.dag_main_check.specs.declared.fault.RunFault.TheVariants.{Memory};
-ghost use Rattle.dag_main_files.specs.Beside.{IsRoundFault, IsRoundBy, GoesOnBy, IsRescueOf, IsRescueReadFault, number_behind};
+ghost use Rattle.dag_main_files.specs.Beside.{IsRoundFault, IsRoundBy, GoesOnBy, IsRescueOf, IsRescueReadFault, number_behind, journal_name_of};
 ghost use Rattle.dag_main_files.specs.Folder.{IsRoundFrom, rescue_in};
 
 use crate::beside::{LAST_NUMBER, Place, journal_path, rescue_path};
@@ -90,7 +92,8 @@ pub fn journal_disk<R: Files<File = File> + AllocGlobal + Copy + Drop>(
     rt: R,
     place: &Place<'_>,
 ) -> Result<FileDisk<R>, RunFault>
-    ensures { IfErr result (λ fault. fault ≡ Memory) }
+    ensures path { IfOk result (λ disk. file_path disk ≡ join place.now.folder.now (journal_name_of place.now.top.now)) }
+    ensures refused { IfErr result (λ fault. fault ≡ Memory) }
 {
     let alloc = rt.alloc();
     let path = journal_path(alloc, place.top)?;
@@ -109,7 +112,8 @@ pub fn rescue_disk<R: Files<File = File> + AllocGlobal + Copy + Drop>(
     number: u16,
 ) -> Result<FileDisk<R>, RunFault>
     requires { IsFileNumber number }
-    ensures { IfErr result (λ fault. fault ≡ Memory) }
+    ensures path { IfOk result (λ disk. file_path disk ≡ join place.now.folder.now (rescue_name_of place.now.top.now number)) }
+    ensures refused { IfErr result (λ fault. fault ≡ Memory) }
 {
     let alloc = rt.alloc();
     let path = rescue_path(alloc, place.top, number)?;

@@ -17,6 +17,7 @@ use Rattle.recovery_manager.specs.declared.fault.ManagerFault.TheVariants as fau
 use Rattle.recovery_manager.specs.Batched.{IsUnwritten, no_memory_for_all, broken_before, too_few_slots, disk_failed_meanwhile, disk_full_before}
 use Rattle.recovery_manager.specs.Managed.{Managed, plan_of, past_of}
 use Rattle.job_starter_drive.specs.declared.Call.{Call}
+use Rattle.job_starter_drive.specs.Calls.{Telling}
 use Rattle.job_starter_drive.specs.declared.driving.DriveFault.{DriveFault}
 use Rattle.job_starter_drive.specs.declared.driving.DriveFault.TheVariants as drives
 use Rattle.job_starter_drive.specs.Causes.{AreRefused, IsOfRun, IsDriveFault, no_memory_for_child, no_ending_logged, no_memory_for_command, no_memory_for_round, records_refused}
@@ -106,15 +107,15 @@ module _ {D : Type 0} (disks : Ghosts D) where
   drive-full before now old manager _ begun limit count (no_memory_for_round still) = tt
   drive-full before now old manager _ begun limit count (records_refused {fault = fault} still r) = refused-full IsOfRun old manager fault begun limit count r
 
-pub run_to_end-full : {D R : Type 0} (disks : Ghosts D) (rescues : Ghosts R) (before now : ℕ) (may : List Call → Key → Outcome → Type 0) (old manager : Managed D) (told heard : List Call) (disk : R) (left : Option R)
+pub run_to_end-full : {D R : Type 0} (disks : Ghosts D) (rescues : Ghosts R) (before now : ℕ) (may : Telling) (old manager : Managed D) (told heard : List Call) (disk : R) (left : Option R)
     (fault : DriveFault) → past_of old ≡ Life ∷ [] → journal_limit old.journal ≡ most_slots → journal_count old.journal ≡ 1
     → IsRunToEndFault disks rescues before now may old manager told heard disk left fault
     → StopMeans (IsTooLong (plan_of manager)) fault
 run_to_end-full disks rescues before now may old manager told heard disk left _ begun limit count (stopped {fault = fault} why steps same) =
     drive-full disks before now old manager fault begun limit count why
-run_to_end-full disks rescues before now may old manager told heard disk left _ begun limit count (not_sealed {fault = fault} rest is at needs why) =
+run_to_end-full disks rescues before now may old manager told heard disk left _ begun limit count (not_sealed {fault = fault} rest is at needs why kept) =
     seal-full (IsTooLong (plan_of manager)) rescues (plan_of manager) (past_of manager) disk rest fault why
-run_to_end-full disks rescues before now may old manager told heard disk left _ begun limit count (end_refused {fault = fault} at why rescued) =
+run_to_end-full disks rescues before now may old manager told heard disk left _ begun limit count (end_refused {fault = fault} at why one rescued) =
     refused-full disks (IsEndOf (plan_of manager) (past_of manager)) old manager fault begun limit count why
 run_to_end-full disks rescues before now may old manager told heard disk left _ begun limit count (no_memory_for_report ended rescued) = tt
 

@@ -1,1 +1,2 @@
 mod RunPlans
+pub mod Sites

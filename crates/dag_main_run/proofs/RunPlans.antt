@@ -1,5 +1,5 @@
 -- What a run prints, by its plan.
-use Rattle.std.proofs.Common.{◌≡◌, ℕ, Bool, List, Option, Result, Ok, Err, IfOk, string_bytes, subst}
+use Rattle.std.proofs.Common.{◌≡◌, ℕ, Bool, List, Option, Result, Ok, Err, IfOk, string_bytes}
 use Rattle.splices_flat.specs.Opening.{Files}
 use Rattle.splices_flat.specs.FileSet.{bytes_of, entries_of}
 use Rattle.splices_flat.specs.declared.file_set.FileSet.{FileSet}
@@ -9,17 +9,19 @@ use Rattle.dag_main_args.specs.declared.request.RunOptions.{RunOptions}
 use Rattle.dag_main_files.specs.declared.rounds.Round.{Round}
 use Rattle.dag_main_files.specs.Beside.{IsRoundBy}
 use Rattle.dag_main_files.specs.Folder.{IsReadFrom, IsRoundFrom, rescue_in}
-use Rattle.dag_main_run.specs.Runs.{start_by, IsPlannedRun, IsPlannedFor, IsLedRun, IsRunOf, IsRunFrom}
+use Rattle.dag_main_run.specs.Sites.{Rounds}
+use Rattle.dag_main_run.specs.Runs.{IsPlannedRun, IsPlannedFor, IsRunOf, IsRunFrom}
 use Rattle.dag_main_check.specs.Planned.{IsGraphOf, IsPlanBy}
 use Rattle.dag_main_check.specs.Warnings.{warning_lines}
 use Rattle.dag_main_check.specs.declared.fault.RunFault.{RunFault}
 use Rattle.dag_main_check.specs.declared.warnings.Answer.{Answer}
 
-pub run-of : (path : List ℕ) (options : RunOptions) (files : FileSet) (graph : Network) (round : Round) (plan : Plan) → IsGraphOf (bytes_of files) path graph
-    → IsRoundBy options.autorescue options.dorescuefrom options.always_post round → IsPlannedRun files graph round plan → (text warnings : List ℕ) (status : ℕ) → IsLedRun options.limits plan (start_by round) text status
-    → warnings ≡ warning_lines plan.graph.dag.warnings → IsRunOf path options text warnings status
-run-of path options files graph round plan is_graph is_round (rescue, rescue_is, made) text warnings status led notes = record {
+pub run-of : (rounds : Rounds) (path : List ℕ) (options : RunOptions) (files : FileSet) (graph : Network) (round : Round) (plan : Plan) → IsGraphOf (bytes_of files) path graph
+    → IsRoundBy options.autorescue options.dorescuefrom options.always_post round → IsPlannedRun files graph round plan → (text warnings : List ℕ) (status : ℕ)
+    → rounds.led path options.limits plan round text status → warnings ≡ warning_lines plan.graph.dag.warnings → IsRunOf rounds path options text warnings status
+run-of rounds path options files graph round plan is_graph is_round (rescue, rescue_is, made) text warnings status led notes = record {
   files = files;
+  read = tt;
   round = round;
   is_round = is_round;
   rescue = rescue;
@@ -33,16 +35,16 @@ run-of path options files graph round plan is_graph is_round (rescue, rescue_is,
 }
 
 -- the answer of a round that was led to its end
-pub answer-of : (path : List ℕ) (options : RunOptions) (files : FileSet) (graph : Network) (round : Round) (plan : Plan) → IsGraphOf (bytes_of files) path graph
+pub answer-of : (rounds : Rounds) (path : List ℕ) (options : RunOptions) (files : FileSet) (graph : Network) (round : Round) (plan : Plan) → IsGraphOf (bytes_of files) path graph
     → IsRoundBy options.autorescue options.dorescuefrom options.always_post round → IsPlannedRun files graph round plan → (r : Result Answer RunFault)
-    → IfOk r (λ answer. IsLedRun options.limits plan (start_by round) (string_bytes answer.text) answer.status)
+    → IfOk r (λ answer. rounds.led path options.limits plan round (string_bytes answer.text) answer.status)
     → IfOk r (λ answer. string_bytes answer.warnings ≡ warning_lines plan.graph.dag.warnings)
-    → IfOk r (λ answer. IsRunOf path options (string_bytes answer.text) (string_bytes answer.warnings) answer.status)
-answer-of path options files graph round plan is_graph is_round planned (Ok answer) led notes =
-    run-of path options files graph round plan is_graph is_round planned (string_bytes answer.text) (string_bytes answer.warnings) answer.status led notes
-answer-of path options files graph round plan is_graph is_round planned (Err fault) led notes = tt
+    → IfOk r (λ answer. IsRunOf rounds path options (string_bytes answer.text) (string_bytes answer.warnings) answer.status)
+answer-of rounds path options files graph round plan is_graph is_round planned (Ok answer) led notes =
+    run-of rounds path options files graph round plan is_graph is_round planned (string_bytes answer.text) (string_bytes answer.warnings) answer.status led notes
+answer-of rounds path options files graph round plan is_graph is_round planned (Err fault) led notes = tt
 
-pub planned-for : (path : List ℕ) (options : RunOptions) (files : FileSet) (graph : Network) (round : Round) (plan : Plan) → IsGraphOf (bytes_of files) path graph
+abbrev pub planned-for : (path : List ℕ) (options : RunOptions) (files : FileSet) (graph : Network) (round : Round) (plan : Plan) → IsGraphOf (bytes_of files) path graph
     → IsRoundBy options.autorescue options.dorescuefrom options.always_post round → IsPlannedRun files graph round plan → IsPlannedFor path options
 planned-for path options files graph round plan is_graph is_round planned = record {
   files = files;
@@ -55,27 +57,25 @@ planned-for path options files graph round plan is_graph is_round planned = reco
 }
 
 -- the same where files are held
-pub answer-from : (holds : Files) (has : List ℕ → Bool) (path : List ℕ) (options : RunOptions) (files : FileSet) (graph : Network) (round : Round) (plan : Plan)
+pub answer-from : (rounds : Rounds) (holds : Files) (has : List ℕ → Bool) (path : List ℕ) (options : RunOptions) (files : FileSet) (graph : Network) (round : Round) (plan : Plan)
     (rescue : Option (List ℕ)) → IsReadFrom holds path files → IsGraphOf (bytes_of files) path graph
     → IsRoundFrom holds has path options.autorescue options.dorescuefrom options.always_post round → rescue ≡ rescue_in holds path round.used
     → IsPlanBy round.always_post (bytes_of files) (entries_of files) rescue graph plan → (r : Result Answer RunFault)
-    → IfOk r (λ answer. IsLedRun options.limits plan (start_by round) (string_bytes answer.text) answer.status)
+    → IfOk r (λ answer. rounds.led path options.limits plan round (string_bytes answer.text) answer.status)
     → IfOk r (λ answer. string_bytes answer.warnings ≡ warning_lines plan.graph.dag.warnings)
-    → IfOk r (λ answer. IsRunFrom holds has path options (string_bytes answer.text) (string_bytes answer.warnings) answer.status)
-answer-from holds has path options files graph round plan rescue read is_graph is_round is_rescue made (Ok answer) led notes = record {
+    → IfOk r (λ answer. IsRunFrom holds has rounds path options (string_bytes answer.text) (string_bytes answer.warnings) answer.status)
+answer-from rounds holds has path options files graph round plan rescue read is_graph is_round is_rescue made (Ok answer) led notes = record {
   files = files;
   read = read;
   round = round;
   is_round = is_round;
+  rescue = rescue;
+  rescue_is = is_rescue;
   answered = record {
     plan = plan;
-    planned = record {
-      graph = graph;
-      is_graph = is_graph;
-      made = subst (λ (r : Option (List ℕ)). IsPlanBy round.always_post (bytes_of files) (entries_of files) r graph plan) is_rescue made;
-    };
+    planned = record { graph = graph; is_graph = is_graph; made = made };
     answered = led;
     warnings_are = notes;
   };
 }
-answer-from holds has path options files graph round plan rescue read is_graph is_round is_rescue made (Err fault) led notes = tt
+answer-from rounds holds has path options files graph round plan rescue read is_graph is_round is_rescue made (Err fault) led notes = tt

@@ -1,12 +1,11 @@
 //! How it is shown how far a run is.
 
+use child_watcher::{ChildWatcher, CommandPart, Killed};
 use dag_main_args::RunOptions;
 use dag_main_check::RunFault;
 use dag_main_files::{Journaled, LAST_NUMBER, Place, Round, journal_path, rescue_path};
 use dag_reader::Text;
 use event_journal_log::read_journal;
-use job_starter_drive::Killed;
-use job_starter_local::{ChildWatcher, CommandPart};
 use node_machine::{Key, Outcome, Record};
 use run_log::RunWatcher;
 use run_plan::Plan;
@@ -83,8 +82,14 @@ pub(crate) struct RoundWatcher<'a, R: Files<File = File> + Clock + AllocGlobal +
     pub(crate) progress: ProgressWatcher<'a, R>,
 }
 
-impl<R: Screen + Processes + Files<File = File> + Clock + AllocGlobal + Copy + Drop> ChildWatcher
-    for RoundWatcher<'_, R> {
+impl<
+    'a,
+    R: Screen + Processes + Files<File = File> + Clock + AllocGlobal + Copy + Drop,
+> ChildWatcher for RoundWatcher<'a, R> {
+    // Both are.
+    ghost prepared = { λ w. ⟦<RunWatcher<'a, R> as ChildWatcher>⟧.prepared w.log
+        × ⟦<ProgressWatcher<'a, R> as ChildWatcher>⟧.prepared w.progress };
+
     fn launching(&mut self, key: &Key, command: &ChildCommand) {
         self.log.launching(key, command);
         self.progress.launching(key, command);
@@ -114,6 +119,11 @@ impl<R: Screen + Processes + Files<File = File> + Clock + AllocGlobal + Copy + D
     fn ended(&mut self, key: &Key, outcome: Outcome) {
         self.log.ended(key, outcome);
         self.progress.ended(key, outcome);
+    }
+
+    fn will_record(&mut self) {
+        self.log.will_record();
+        self.progress.will_record();
     }
 
     fn killed(&mut self, key: &Key, answer: Killed) {

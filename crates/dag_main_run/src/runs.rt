@@ -1,38 +1,35 @@
 //! A run with children of the operating system.
 
-ghost use Rattle.std.specs.Prelude.{◌≡◌, ◌≤◌, IfOk, IfErr, option_map, string_bytes};
+ghost use Rattle.std.specs.Prelude.{◌≡◌, ◌≤◌, true, IfOk, IfErr, option_map, string_bytes};
 ghost use Rattle.splices_flat.specs.FileSet.{bytes_of, entries_of};
 ghost use Rattle.event_journal_log.specs.Image.{IsRescueNumber};
 ghost use Rattle.dag_main_check.specs.Planned.{IsPlanBy};
-ghost use Rattle.run_round.specs.Causes.{MayStop};
-ghost use Rattle.dag_main_files.specs.Beside.{IsFileFault, IsRoundBy, IsRescueOf};
-ghost use Rattle.dag_main_files.specs.Folder.{IsRoundFrom, rescue_in};
+ghost use Rattle.dag_main_files.specs.Beside.{IsRoundBy, IsRescueOf, HasJournal};
+ghost use Rattle.dag_main_files.specs.Folder.{IsRoundFrom, journal_in, rescue_in};
 ghost use Rattle.dag_main_check.specs.Warnings.{warning_lines};
-ghost use Rattle.dag_main_run.specs.Runs.{start_by, IsPlannedRun, IsLedRun, IsRunOf, IsRunFrom, IsFindingFault, IsLockedFault, IsFirstRunFault, IsRoundPlanFault, IsStopFault, IsHeldFault, IsRunFault};
+ghost use Rattle.dag_main_run.specs.Sites.{start_by, journal_found, stop_of, rounds_at, IsRoundLedAt, IsRoundStoppedAt};
+ghost use Rattle.dag_main_run.specs.Runs.{IsPlannedRun, IsRunOf, IsRunFrom, IsFindingFault, IsLockedFault, IsFirstRunFault, IsRoundPlanFault, IsStopFault, IsHeldFault, IsRunFault};
 
-use crate::beginning::{
-    forget_children, has_own_files, ignores_endings, keep_inputs, life_of, make_journal, settled,
-    watcher_of,
-};
+use crate::beginning::{forget_children, has_own_files, keep_inputs, life_of, settled, watcher_of};
 use crate::launching::launcher_of;
 use crate::progress::{RoundWatcher, progress_of};
+use crate::site::Site;
+use child_watcher::ChildWatcher;
 use dag_graph::Graph;
 use dag_main_args::RunOptions;
 use dag_main_check::{Answer, RunFault, graph_of, plan_by, warning_text};
 use dag_main_files::{
-    Folder, Journaled, Lock, Place, Reading, Round, files_of, journal_disk, named, rescue_disk,
-    rescue_of, rescue_path, round_of,
+    Folder, Journaled, Lock, Place, Reading, Round, files_of, named, rescue_of, rescue_path,
+    round_of,
 };
-use event_journal::FileDisk;
 use job_starter_drive::DriveFault;
-use job_starter_local::{ChildWatcher, Launcher, LocalSystem};
-use job_starter_poll::ProcessStarter;
+use job_starter_local::Launcher;
 use node_machine::Verdict;
 use recovery_manager::ManagerFault;
 use run_log::RunWatcher;
 use run_plan::Plan;
 use run_progress::Screen;
-use run_round::{Start, run_round};
+use run_round::Start;
 use splices_flat::FileSet;
 use std::alloc::Global;
 use std::fs::File;
@@ -57,8 +54,7 @@ struct Report {
 
 /// Why a command is refused whose run was stopped.
 fn in_run(fault: DriveFault) -> RunFault
-    requires stops { MayStop fault }
-    ensures { IsStopFault result }
+    ensures { result ≡ stop_of fault }
 {
     match fault {
         DriveFault::Memory | DriveFault::Manager(ManagerFault::Memory) => RunFault::Memory,
@@ -107,81 +103,42 @@ fn start_of(round: &Round) -> Start
     }
 }
 
-/// What the system refused of a call of the journal or of the rescue file, and why; none where it refused
-/// nothing.
-fn reason_of<R: Files<File = File> + Drop>(
-    alloc: Global,
-    journal: &FileDisk<R>,
-    rescue: &Option<FileDisk<R>>,
-) -> Option<String> {
-    if let Some(refusal) = journal.refusal() {
-        return format!(in alloc; "journal: {refusal}").ok();
-    }
-    match rescue {
-        Some(rescue) => match rescue.refusal() {
-            Some(refusal) => format!(in alloc; "rescue file: {refusal}").ok(),
-            None => None,
-        },
-        None => None,
-    }
-}
-
-/// Leads a round of a plan to its end on these disks, with children of this process of which the watcher
-/// is informed, and answers what it prints.
-fn led_by<
-    R: Processes + Files<File = File> + Clock + AllocGlobal + Copy + Drop,
-    W: ChildWatcher + Drop,
->(
-    rt: R,
-    folder: &str,
+/// Leads a round of a plan to its end on these disks, with children of the site of which the watcher is informed, and
+/// answers what it prints.
+fn led_by<H: Site, W: ChildWatcher + Drop>(
+    site: &H,
+    top: &str,
     plan: &Plan,
-    start: Start,
+    round: &Round,
     limits: Limits,
     launcher: &Launcher,
-    disks: (FileDisk<R>, FileDisk<R>),
+    disks: (H::Journal, H::Rescue),
     watcher: W,
 ) -> Result<Report, Stop>
-    ensures led { IfOk result (λ report. IsLedRun limits plan.now start
-        (string_bytes report.text) report.status) }
-    ensures refused { IfErr result (λ stop. IsStopFault stop.fault) }
+    // The disks are those of the site: that of the journal reads as the folder holds it.
+    requires journal { (H.own site.now).is_journal top.now disks.0 }
+    requires rescue { (H.own site.now).is_rescue top.now round.now.next disks.1 }
+    requires honest { H.honest site.now → H.Journal.honest disks.0 × H.Rescue.honest disks.1 }
+    requires found { H.honest site.now → H.Journal.seen disks.0 ≡ journal_found (H.holds site.now) top.now round.now }
+    requires back { H.Journal.honest disks.0 → H.honest site.now }
+    requires by_journal { H.honest site.now → HasJournal (journal_in (H.holds site.now) top.now) round.now }
+    ensures led { IfOk result (λ report. IsRoundLedAt H.Journal.Disk H.Rescue.Disk (H.own site.now) (H.honest site.now) (H.holds site.now)
+        top.now limits plan.now round.now (string_bytes report.text) report.status) }
+    ensures refused { IfErr result (λ stop. IsRoundStoppedAt H.Journal.Disk H.Rescue.Disk (H.own site.now) (H.honest site.now) (H.holds site.now)
+        top.now limits plan.now round.now stop.fault) }
 {
-    let alloc = rt.alloc();
     let (journal, rescue) = disks;
-    let Ok(system) = LocalSystem::new(alloc, rt, folder, launcher, watcher) else {
-        return Err(Stop {
-            fault: RunFault::Memory,
-            reason: None,
-        });
-    };
-    let mut starter = ProcessStarter::new(system);
-    match run_round(alloc, journal, plan, start, limits, &mut starter, rescue) {
+    let start = start_of(round);
+    match site.lead(plan, start, limits, launcher, journal, rescue, watcher) {
         Ok((_journal, led)) => Ok(Report {
             text: led.text,
             status: led.status,
         }),
         Err((journal, (rescue, fault))) => Err(Stop {
             fault: in_run(fault),
-            reason: reason_of(alloc, &journal, &rescue),
+            reason: site.reason(&journal, &rescue),
         }),
     }
-}
-
-/// Puts away what a new round is not to find: the rescue files of higher numbers than that to which it
-/// goes back, and the journal of the round before.
-fn put_away<R: Files<File = File> + AllocGlobal + Clone + Drop>(
-    rt: &R,
-    place: &Place<'_>,
-    round: &Round,
-) -> Result<(), RunFault>
-    ensures { IfErr result IsFileFault }
-{
-    if round.goes_back {
-        place.put_rescues_away(rt, round.used)?;
-    }
-    if round.journal == Journaled::Finished {
-        place.put_journal_away(rt)?;
-    }
-    Ok(())
 }
 
 /// The text, where there is one.
@@ -215,40 +172,44 @@ fn tell_end<R: Files<File = File> + Clock + AllocGlobal + Copy + Drop>(
 
 /// Leads a round of a plan to its end on these disks, once no process of an earlier manager is in its
 /// way, and answers what it prints.
-fn run_on<R: Processes + Files<File = File> + Clock + Screen + AllocGlobal + Copy + Drop>(
+fn run_on<R: Processes + Files<File = File> + Clock + Screen + AllocGlobal + Copy + Drop, H: Site>(
     rt: R,
+    site: &H,
     place: &Place<'_>,
     plan: &Plan,
     round: &Round,
     options: &RunOptions,
     launcher: &Launcher,
-    disks: (FileDisk<R>, FileDisk<R>),
+    disks: (H::Journal, H::Rescue),
     lock: &mut Lock,
 ) -> Result<Report, RunFault>
-    requires next { IsRescueNumber round.now.next }
-    ensures led { IfOk result (λ report. IsLedRun options.now.limits plan.now (start_by round.now)
-        (string_bytes report.text) report.status) }
-    ensures refused { IfErr result IsStopFault }
+    requires journal { (H.own site.now).is_journal place.now.top.now disks.0 }
+    requires rescue { (H.own site.now).is_rescue place.now.top.now round.now.next disks.1 }
+    requires honest { H.honest site.now → H.Rescue.honest disks.1 }
+    requires by_journal { H.honest site.now → HasJournal (journal_in (H.holds site.now) place.now.top.now) round.now }
+    ensures led { IfOk result (λ report. IsRoundLedAt H.Journal.Disk H.Rescue.Disk (H.own site.now) (H.honest site.now) (H.holds site.now)
+        place.now.top.now options.now.limits plan.now round.now (string_bytes report.text) report.status) }
+    ensures refused { IfErr result (IsStopFault (H.own site.now).is_deaf (IsRoundStoppedAt H.Journal.Disk H.Rescue.Disk (H.own site.now) (H.honest site.now)
+        (H.holds site.now) place.now.top.now options.now.limits plan.now round.now)) }
 {
-    if ignores_endings(&rt) {
+    if site.is_deaf() {
         return Err(RunFault::WaitFault);
     }
     let left = settled(&rt, place, options.orphans)?;
-    put_away(&rt, place, round)?;
-    make_journal(&rt, place, round, lock)?;
+    let (journal, rescue) = disks;
+    let journal = site.readied(place.top, journal, round, lock)?;
     let mut log = watcher_of(rt, place, plan, round, left.as_str(), options.sync_output)?;
     log.begins(&life_of(place, round, options));
-    let start = start_of(round);
     let progress = progress_of(rt, place, plan, round, options);
     let mut watcher = RoundWatcher { log, progress };
     let ended = led_by(
-        rt,
-        place.folder,
+        site,
+        place.top,
         plan,
-        start,
+        round,
         options.limits,
         launcher,
-        disks,
+        (journal, rescue),
         &mut watcher,
     );
     watcher.progress.ends();
@@ -259,9 +220,13 @@ fn run_on<R: Processes + Files<File = File> + Clock + Screen + AllocGlobal + Cop
     }
 }
 
-/// Runs a round of a plan on the disks beside the DAG file, and answers what it prints.
-fn run_planned<R: Processes + Files<File = File> + Clock + Screen + AllocGlobal + Copy + Drop>(
+/// Runs a round of a plan on the disks of the site beside the DAG file, and answers what it prints.
+fn run_planned<
+    R: Processes + Files<File = File> + Clock + Screen + AllocGlobal + Copy + Drop,
+    H: Site,
+>(
     rt: R,
+    site: &H,
     place: &Place<'_>,
     plan: &Plan,
     round: &Round,
@@ -270,14 +235,17 @@ fn run_planned<R: Processes + Files<File = File> + Clock + Screen + AllocGlobal 
     lock: &mut Lock,
 ) -> Result<Report, RunFault>
     requires next { IsRescueNumber round.now.next }
-    ensures led { IfOk result (λ report. IsLedRun options.now.limits plan.now (start_by round.now)
-        (string_bytes report.text) report.status) }
-    ensures refused { IfErr result IsStopFault }
+    requires by_journal { H.honest site.now → HasJournal (journal_in (H.holds site.now) place.now.top.now) round.now }
+    ensures led { IfOk result (λ report. IsRoundLedAt H.Journal.Disk H.Rescue.Disk (H.own site.now) (H.honest site.now) (H.holds site.now)
+        place.now.top.now options.now.limits plan.now round.now (string_bytes report.text) report.status) }
+    ensures refused { IfErr result (IsStopFault (H.own site.now).is_deaf (IsRoundStoppedAt H.Journal.Disk H.Rescue.Disk (H.own site.now) (H.honest site.now)
+        (H.holds site.now) place.now.top.now options.now.limits plan.now round.now)) }
 {
-    let rescue = rescue_disk(rt, place, round.next)?;
-    let journal = journal_disk(rt, place)?;
+    let rescue = site.rescue_disk(place.top, round.next)?;
+    let journal = site.journal_disk(place.top)?;
     run_on(
         rt,
+        site,
         place,
         plan,
         round,
@@ -377,7 +345,10 @@ fn look_locked<R: Files<File = File> + Clock + AllocGlobal + Copy + Drop, F: Fol
 
 /// Whether the round and its rescue file are still those that were found before the lock was taken:
 /// where they aren't, another manager was at work meanwhile.
-fn is_same(found: &(Round, Option<Vec<u8>>), again: &(Round, Option<Vec<u8>>)) -> bool {
+fn is_same(found: &(Round, Option<Vec<u8>>), again: &(Round, Option<Vec<u8>>)) -> bool
+    ensures round { result ≡ true → found.now.0 ≡ again.now.0 }
+    ensures rescue { result ≡ true → option_map (λ b. b.items) found.now.1 ≡ option_map (λ b. b.items) again.now.1 }
+{
     found.0 == again.0 && found.1.as_deref() == again.1.as_deref()
 }
 
@@ -385,10 +356,10 @@ fn is_same(found: &(Round, Option<Vec<u8>>), again: &(Round, Option<Vec<u8>>)) -
 /// still found, and answers what is printed. What a round begins with is kept first.
 fn run_locked<
     R: Processes + Files<File = File> + Clock + Screen + AllocGlobal + Copy + Drop,
-    F: Folder,
+    H: Site,
 >(
     rt: R,
-    folder: &F,
+    site: &H,
     place: &Place<'_>,
     files: &FileSet,
     plan: &Plan,
@@ -398,20 +369,21 @@ fn run_locked<
     lock: &mut Lock,
 ) -> Result<Answer, RunFault>
     requires next { IsRescueNumber found.now.0.next }
-    ensures led { IfOk result (λ answer. IsLedRun options.now.limits plan.now (start_by found.now.0)
-        (string_bytes answer.text) answer.status) }
+    ensures led { IfOk result (λ answer. IsRoundLedAt H.Journal.Disk H.Rescue.Disk (H.own site.now) (H.honest site.now) (H.holds site.now)
+        place.now.top.now options.now.limits plan.now found.now.0 (string_bytes answer.text) answer.status) }
     ensures warnings { IfOk result (λ answer. string_bytes answer.warnings ≡ warning_lines plan.now.graph.dag.warnings) }
-    ensures refused { IfErr result (IsHeldFault options.now) }
+    ensures refused { IfErr result (IsHeldFault options.now (H.own site.now).is_deaf (IsRoundStoppedAt H.Journal.Disk H.Rescue.Disk (H.own site.now)
+        (H.honest site.now) (H.holds site.now) place.now.top.now options.now.limits plan.now found.now.0)) }
 {
     let alloc = rt.alloc();
     let (round, rescue) = found;
-    let again = round_with_rescue(rt, folder, place, options)?;
+    let again = round_with_rescue(rt, site, place, options)?;
     if !is_same(found, &again) {
         return Err(place.taken(alloc));
     }
     let warnings = warning_text(alloc, plan.graph().flat().warnings())?;
     keep_inputs(rt, place, plan, round, files, rescue.as_deref())?;
-    let report = run_planned(rt, place, plan, round, options, launcher, lock)?;
+    let report = run_planned(rt, site, place, plan, round, options, launcher, lock)?;
     Ok(Answer {
         text: report.text,
         warnings,
@@ -419,8 +391,8 @@ fn run_locked<
     })
 }
 
-/// Runs the DAG file of this path with children of this process, with the inputs that stand in a folder: its files, the
-/// journal and the rescue files. What it writes, it writes at the place, which is in that folder: relative paths are
+/// Runs the DAG file of this path at a site, with children of the site and with the inputs that stand in its folder: its files, the
+/// journal and the rescue files. What it writes beside these, it writes at the place, which is in that folder: relative paths are
 /// taken from its path, which is absolute.
 ///
 /// The journal stands beside the DAG file, under its name and `.journal`, and so do the rescue
@@ -450,29 +422,32 @@ fn run_locked<
 /// memory may stand before any.
 pub fn run_dag<
     R: Processes + Files<File = File> + Clock + Screen + AllocGlobal + Copy + Drop,
-    F: Folder,
->(rt: R, folder: &F, place: &Place<'_>, options: &RunOptions) -> Result<Answer, RunFault>
-    // The report is that of a round of the plan of some files, led to its end under the limits of
+    H: Site,
+>(rt: R, site: &H, place: &Place<'_>, options: &RunOptions) -> Result<Answer, RunFault>
+    // The report is that of a round of the plan of some files, led to its end at the site under the limits of
     // the options, with the rescue file that they ask for.
-    ensures run { IfOk result (λ answer.
-        IsRunOf place.now.top.now options.now (string_bytes answer.text) (string_bytes answer.warnings) answer.status) }
+    ensures run { IfOk result (λ answer. IsRunOf
+        (rounds_at H.Journal.Disk H.Rescue.Disk (H.own site.now) (H.honest site.now) (H.holds site.now))
+        place.now.top.now options.now (string_bytes answer.text) (string_bytes answer.warnings) answer.status) }
     // These are the files, the journal and the rescue file that the folder holds.
-    ensures held { F.honest folder.now → IfOk result (λ answer.
-        IsRunFrom (F.holds folder.now) (F.has folder.now) place.now.top.now options.now
-        (string_bytes answer.text) (string_bytes answer.warnings) answer.status) }
+    ensures held { H.honest site.now → IfOk result (λ answer. IsRunFrom (H.holds site.now) (H.has site.now)
+        (rounds_at H.Journal.Disk H.Rescue.Disk (H.own site.now) (H.honest site.now) (H.holds site.now))
+        place.now.top.now options.now (string_bytes answer.text) (string_bytes answer.warnings) answer.status) }
     // It is refused for the first cause of the stated order, or for want of memory.
-    ensures refused { ¬ (F.streams folder.now) → IfErr result (IsRunFault place.now.top.now options.now) }
+    ensures refused { ¬ (H.streams site.now) → IfErr result (IsRunFault
+        (rounds_at H.Journal.Disk H.Rescue.Disk (H.own site.now) (H.honest site.now) (H.holds site.now))
+        place.now.top.now options.now) }
 {
     let alloc = rt.alloc();
-    let files = files_of(alloc, folder, place.top, Reading::SubmitFilesToo)?;
+    let files = files_of(alloc, site, place.top, Reading::SubmitFilesToo)?;
     let graph = graph_of(alloc, &files, place.top)?;
-    let found = first_look(rt, folder, place, options)?;
+    let found = first_look(rt, site, place, options)?;
     let plan = plan_of_round(alloc, place, &files, graph, &found.0, found.1.as_deref())?;
     let launcher = launcher_of(&rt, place.folder, &plan, options)?;
     place.has_room_for_names(alloc)?;
     let mut lock = place.lock(&rt)?;
     let answer = run_locked(
-        rt, folder, place, &files, &plan, &found, options, &launcher, &mut lock,
+        rt, site, place, &files, &plan, &found, options, &launcher, &mut lock,
     );
     place.unlock(&rt, lock);
     answer

@@ -1,12 +1,8 @@
 -- What `check` answers, with hints and without.
 use Rattle.std.proofs.Common.{◌≡◌, ◌⊎◌, ◌++◌, ℕ, Bool, true, List, Result, Ok, Err, IfOk, inl, inr, refl, string_bytes, sym, subst}
-use Rattle.std.specs.Prelude.{IfErr}
-use Rattle.dag_main_args.specs.Requests.{checks}
-use Rattle.folder_answers.specs.Answered.{IsCheckRefusal}
 use Rattle.dag_main_check.specs.declared.fault.RunFault.{RunFault}
 use Rattle.dag_main_check.specs.declared.warnings.Answer.{Answer}
-use Rattle.dag_main_check.proofs.Refusals.{weaker}
-use Rattle.dagrun.specs.Answered.{Said, IsCheckWith, without_hints, with_hints, IsRefusedRequest, not_checked}
+use Rattle.dagrun.specs.Answered.{Said, IsCheckWith, without_hints, with_hints}
 
 -- what is said of an answer
 abbrev pub IsAnswer : Said → Bool → Answer → Type 0
@@ -19,10 +15,6 @@ IsPlain Checked answer = Checked (string_bytes answer.text) (string_bytes answer
 pub plain_check : (Checked : Said) (hinted : Bool) (r : Result Answer RunFault) → IfOk r (IsPlain Checked) → IfOk r (IsAnswer Checked hinted)
 plain_check Checked hinted (Ok answer) is = without_hints _ _ is
 plain_check Checked hinted (Err fault) is = tt
-
--- the same of a refusal
-pub refused_check : (path : List ℕ) (hinted : Bool) (r : Result Answer RunFault) → IfErr r (IsCheckRefusal path) → IfErr r (IsRefusedRequest (checks path hinted))
-refused_check path hinted r why = weaker (IsRefusedRequest (checks path hinted)) r why (λ fault is. not_checked path hinted fault is)
 
 -- an answer with hints behind its warnings
 behind : (Checked : Said) (text warnings hints all : List ℕ) (status : ℕ) → Checked text warnings status → (all ≡ warnings ++ hints) ⊎ (all ≡ warnings) → IsCheckWith Checked true text all status

@@ -1,3 +1,4 @@
 mod Requests
 mod Salvages
+mod Worlds
 pub mod Checks

@@ -12,7 +12,7 @@ use Rattle.dag_main_check.specs.declared.fault.RunFault.TheVariants.{Memory as N
 use Rattle.dag_main_check.specs.declared.warnings.Answer.{Answer}
 use Rattle.answer_console.specs.Display.{Streams, IsExitStatusOf, printed, not_printed}
 use Rattle.answer_console.proofs.Lines.{no-warning}
-use Rattle.dagrun.specs.Answered.{AskFor, IsAnswerTo, IsRefusedRequest, IsReplyTo, IsExit, of_no_memory, AreHints}
+use Rattle.dagrun.specs.Answered.{AskFor, IsExit, of_no_memory, AreHints}
 
 -- the words as they are lent
 abbrev pub lent_words : List (Bor (List ℕ)) → List (List ℕ)
@@ -29,39 +29,28 @@ asks-for words request none said limited = record {
   limited = limited;
 }
 
--- what comes of a request, by what is said of its answer and of its refusal
-pub reply-to : (asked : Asked) (reply : Result Answer RunFault)
-    → IfOk reply (λ answer. IsAnswerTo asked (string_bytes answer.text) (string_bytes answer.warnings) answer.status)
-    → IfErr reply (IsRefusedRequest asked) → IsReplyTo asked reply
-reply-to asked (Ok answer) is why = is
-reply-to asked (Err fault) is why = why
-
--- so comes a refusal that is handed on
-pub refused-reply : (asked : Asked) (given : RunFault) → IsRefusedRequest asked given → (reply : Result Answer RunFault) → IsErrAnd reply (λ fault. fault ≡ given)
-    → IsReplyTo asked reply
-refused-reply asked given why (Ok answer) same = absurd same
-refused-reply asked given why (Err fault) same = subst (IsRefusedRequest asked) (sym same) why
-
 -- clap's text is no want of memory
 pub no-request : (words : List (List ℕ)) (text : String Global) (fault : WordsFault) → fault ≡ Refused text → (fault ≡ Memory) ⊎ IsRefused words → IsRefused words
 no-request words text fault is (inl same) = absurd cc
 no-request words text fault is (inr refused) = refused
 
 -- where memory is refused, the status is 125
-pub exits-without-memory : (words : List (List ℕ)) (status : ℕ) → IsExitStatusOf (Err NoMemory) status → IsExit words status
-exits-without-memory words status (printed answer same) = absurd cc
-exits-without-memory words status not_printed = of_no_memory
+pub exits-without-memory : (Replies : Asked → Result Answer RunFault → Type 0) (words : List (List ℕ)) (status : ℕ) → IsExitStatusOf (Err NoMemory) status
+    → IsExit Replies words status
+exits-without-memory Replies words status (printed answer same) = absurd cc
+exits-without-memory Replies words status not_printed = of_no_memory
 
 -- nothing is displayed of no hints
-pub no-hints : (asked : Asked) (streams : Streams) → AreHints asked streams streams
-no-hints (checks path true) streams = no-warning streams
-no-hints (checks path false) streams = refl
-no-hints (runs path options) streams = refl
-no-hints (tells_status path) streams = refl
-no-hints (audits path) streams = refl
-no-hints (rehearses path outcomes limits always_post) streams = refl
-no-hints (draws path) streams = refl
-no-hints (asks_why path nodes) streams = refl
-no-hints (times path svg) streams = refl
-no-hints (salvages path) streams = refl
-no-hints (shows page) streams = refl
+pub no-hints : (asked : Asked) (reply : Result Answer RunFault) (streams : Streams) → AreHints asked reply streams streams
+no-hints (checks path true) (Err fault) streams = no-warning streams
+no-hints (checks path true) (Ok answer) streams = refl
+no-hints (checks path false) reply streams = refl
+no-hints (runs path options) reply streams = refl
+no-hints (tells_status path) reply streams = refl
+no-hints (audits path) reply streams = refl
+no-hints (rehearses path outcomes limits always_post) reply streams = refl
+no-hints (draws path) reply streams = refl
+no-hints (asks_why path nodes) reply streams = refl
+no-hints (times path svg) reply streams = refl
+no-hints (salvages path) reply streams = refl
+no-hints (shows page) reply streams = refl

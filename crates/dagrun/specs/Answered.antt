@@ -1,22 +1,24 @@
 -- What the program answers to a request, and its exit status (docs/MANUAL.md, "The command line").
-use Rattle.std.specs.Prelude.{◌≡◌, ◌<◌, ◌≤◌, ℕ, Bool, true, false, List, [], ◌++◌, Option, Some, None, Result, Ok, Err, codes, length, is_some, string_bytes, IfSome}
+use Rattle.std.specs.Global.{Global}
+use Rattle.std.specs.Prelude.{◌≡◌, String, ◌<◌, ◌≤◌, ℕ, Bool, true, false, List, [], ◌++◌, Option, Some, None, Result, Ok, Err, codes, length, is_some, string_bytes, IfSome}
 use Rattle.splices_flat.specs.Opening.{Files}
 use Rattle.throttles.specs.declared.Limits.{Limits}
 use Rattle.dag_main_args.specs.declared.request.Request.{Request}
 use Rattle.dag_main_args.specs.Answered.{IsAskedFor, IsRefused}
 use Rattle.dag_main_args.specs.Requests.{Asked, asked_by, checks, runs, tells_status, audits, rehearses, draws, asks_why, times, salvages, shows, no_limits, limits_in, AreLimits}
 use Rattle.dag_main_args.specs.declared.request.RunOptions.{RunOptions}
-use Rattle.dag_main_files.specs.Beside.{IsFileFault}
+use Rattle.dag_main_files.specs.Beside.{IsRefusalOf}
 use Rattle.dag_main_check.specs.Checked.{IsCheckOf}
 use Rattle.dag_main_rehearse.specs.Rehearsed.{IsRehearsalOf}
 use Rattle.folder_answers.specs.Answered.{IsCheckOfSome, IsCheckRefusal, IsRehearsalOfSome, IsRehearsalRefusal}
 use Rattle.dag_main_check.specs.declared.fault.RunFault.{RunFault}
-use Rattle.dag_main_check.specs.declared.fault.RunFault.TheVariants.{Memory}
+use Rattle.dag_main_check.specs.declared.fault.RunFault.TheVariants.{FileRefused, Memory}
 use Rattle.dag_main_check.specs.declared.warnings.Answer.{Answer}
 use Rattle.answer_console.specs.Display.{Streams, OnlyWarns, OnlyWarnsAtTerminal, IsDisplayedAs, IsExitStatusOf}
+use Rattle.dag_main_run.specs.Sites.{Rounds}
 use Rattle.dag_main_run.specs.Runs.{IsRunOf, IsRunFrom, IsRunFault}
 use Rattle.dag_main_inspect.specs.Asked.{IsAnswerOfRun, IsAnswerHeld, IsAnswerFault}
-use Rattle.dag_main_inspect.specs.Reported.{IsReportHere, IsReportFrom}
+use Rattle.dag_main_inspect.specs.Reported.{IsReportHere, IsReportFrom, IsNoReportFrom}
 use Rattle.run_times.specs.Answered.{IsTimesOf, IsTimesFrom, IsTimesFault}
 use Rattle.dag_main_inspect.specs.declared.by_journal.Question.TheVariants.{Status, Audit, Graph}
 use Rattle.salvage.specs.Salvaged.{IsSalvageOf, IsSalvageFrom}
@@ -30,11 +32,11 @@ use Rattle.failure_answers.specs.Answered.{IsWhyOf, IsWhyHeld}
 abbrev pub Said : Type 1
 Said = List ℕ → List ℕ → ℕ → Type 0
 
--- What `run` answers: what is printed of a round that was led to its end; or, where that is asked for, what was printed of the last round, which
--- has ended.
-pub data IsRunWith (RunToEnd Again : Said) (options : RunOptions) (text warnings : List ℕ) (status : ℕ) : Type 0 where
-  led : RunToEnd text warnings status → IsRunWith RunToEnd Again options text warnings status
-  told_again : options.resume ≡ true → Again text warnings status → IsRunWith RunToEnd Again options text warnings status
+-- What `run` answers: what is printed of a round that was led to its end, where no report of an ended round was asked for, or there is none; or, where
+-- that is asked for, what was printed of the last round, which has ended.
+pub data IsRunWith (RunToEnd Again : Said) (NoReport : Type 0) (options : RunOptions) (text warnings : List ℕ) (status : ℕ) : Type 0 where
+  led : (options.resume ≡ true → NoReport) → RunToEnd text warnings status → IsRunWith RunToEnd Again NoReport options text warnings status
+  reported_again : options.resume ≡ true → Again text warnings status → IsRunWith RunToEnd Again NoReport options text warnings status
 
 -- What `rehearse` answers, by the text of a table where one is named.
 pub record IsRehearsalWith (Rehearsed : Option (List ℕ) → Said) (outcomes : Option (List ℕ)) (text warnings : List ℕ) (status : ℕ) : Type 0 where
@@ -57,54 +59,106 @@ pub data IsCheckWith (Checked : Said) (hinted : Bool) (text : List ℕ) : (warni
   without_hints : (warnings : List ℕ) (status : ℕ) → Checked text warnings status → IsCheckWith Checked hinted text warnings status
   with_hints : (warnings hints : List ℕ) (status : ℕ) → hinted ≡ true → Checked text warnings status → IsCheckWith Checked hinted text (warnings ++ hints) status
 
--- The answer to a request, of some files of its path: the text that is printed, the warnings, and the exit status.
-abbrev pub IsAnswerTo : Asked → (text warnings : List ℕ) → (status : ℕ) → Type 0
-IsAnswerTo (checks path hinted) text warnings status = IsCheckWith (IsCheckOfSome path) hinted text warnings status
-IsAnswerTo (runs path options) text warnings status = IsRunWith (IsRunOf path options) (IsReportHere path) options text warnings status
-IsAnswerTo (tells_status path) text warnings status = IsAnswerOfRun Status path text warnings status
-IsAnswerTo (audits path) text warnings status = IsAnswerOfRun Audit path text warnings status
-IsAnswerTo (rehearses path outcomes limits always_post) text warnings status =
-    IsRehearsalWith (λ table. IsRehearsalOfSome always_post path table limits) outcomes text warnings status
-IsAnswerTo (draws path) text warnings status = IsAnswerOfRun Graph path text warnings status
-IsAnswerTo (asks_why path nodes) text warnings status = IsWhyOf path nodes text warnings status
-IsAnswerTo (times path svg) text warnings status = IsTimesOf path svg text warnings status
-IsAnswerTo (salvages path) text warnings status = IsSalvageWith (IsSalvageOf path) path text warnings status
-IsAnswerTo (shows page) text warnings status = (text ≡ page) × (warnings ≡ []) × (status ≡ 0)
-
--- The same where these files are held and these paths are there: it is that of the files that are held.
-abbrev pub IsAnswerFrom : Files → (List ℕ → Bool) → Asked → (text warnings : List ℕ) → (status : ℕ) → Type 0
-IsAnswerFrom holds has (checks path hinted) text warnings status = IsCheckWith (IsCheckOf holds path) hinted text warnings status
-IsAnswerFrom holds has (runs path options) text warnings status =
-    IsRunWith (IsRunFrom holds has path options) (IsReportFrom holds path) options text warnings status
-IsAnswerFrom holds has (tells_status path) text warnings status = IsAnswerHeld holds Status path text warnings status
-IsAnswerFrom holds has (audits path) text warnings status = IsAnswerHeld holds Audit path text warnings status
-IsAnswerFrom holds has (rehearses path outcomes limits always_post) text warnings status =
-    IsRehearsalWith (λ table. IsRehearsalOf always_post holds path table limits) outcomes text warnings status
-IsAnswerFrom holds has (draws path) text warnings status = IsAnswerHeld holds Graph path text warnings status
-IsAnswerFrom holds has (asks_why path nodes) text warnings status = IsWhyHeld holds path nodes text warnings status
-IsAnswerFrom holds has (times path svg) text warnings status = IsTimesFrom holds path svg text warnings status
-IsAnswerFrom holds has (salvages path) text warnings status = IsSalvageWith (IsSalvageFrom holds path) path text warnings status
-IsAnswerFrom holds has (shows page) text warnings status = (text ≡ page) × (warnings ≡ []) × (status ≡ 0)
+-- What the program is called on: the bytes of each file that can be read in the folder in which it was called, by its path; which paths are there; and the
+-- same files as `check` and `rehearse` read them, with standard input as `-`.
+pub record World : Type 0 where
+  pub holds : Files
+  pub has : List ℕ → Bool
+  pub inputs : Files
 
 -- a round is asked for
 abbrev pub is_run : Asked → Bool
 is_run (runs path options) = true
 is_run _ = false
 
--- Why a request is refused: the system refuses the folder or a file, or memory ran out; or for a cause of the call that it is for.
-pub data IsRefusedRequest : Asked → RunFault → Type 0 where
-  not_read : (asked : Asked) (fault : RunFault) → IsFileFault fault → IsRefusedRequest asked fault
-  not_checked : (path : List ℕ) (hinted : Bool) (fault : RunFault) → IsCheckRefusal path fault → IsRefusedRequest (checks path hinted) fault
-  not_run : (path : List ℕ) (options : RunOptions) (fault : RunFault) → IsRunFault path options fault → IsRefusedRequest (runs path options) fault
-  not_told_again : (path : List ℕ) (options : RunOptions) (fault : RunFault) → options.resume ≡ true → IsAnswerFault Status path fault → IsRefusedRequest (runs path options) fault
-  no_status : (path : List ℕ) (fault : RunFault) → IsAnswerFault Status path fault → IsRefusedRequest (tells_status path) fault
-  not_audited : (path : List ℕ) (fault : RunFault) → IsAnswerFault Audit path fault → IsRefusedRequest (audits path) fault
-  not_timed : (path : List ℕ) (svg : Bool) (fault : RunFault) → IsTimesFault path fault → IsRefusedRequest (times path svg) fault
-  not_drawn : (path : List ℕ) (fault : RunFault) → IsAnswerFault Graph path fault → IsRefusedRequest (draws path) fault
-  not_salvaged_as_run : (path : List ℕ) (fault : RunFault) → IsSalvageFault path (Refused fault) → IsRefusedRequest (salvages path) fault
-  not_why : (path : List ℕ) (nodes : List (List ℕ)) (fault : RunFault) → IsAnswerFault Status path fault → IsRefusedRequest (asks_why path nodes) fault
-  not_rehearsed : (path : List ℕ) (outcomes table : Option (List ℕ)) (limits : Limits) (always_post : Bool) (fault : RunFault) →
-      is_some table ≡ is_some outcomes → IsRehearsalRefusal path table fault → IsRefusedRequest (rehearses path outcomes limits always_post) fault
+-- it is asked for what stands beside a DAG file: `-` is a path like others
+abbrev pub is_beside : Asked → Bool
+is_beside (checks path hinted) = false
+is_beside (rehearses path outcomes limits always_post) = false
+is_beside (shows page) = false
+is_beside _ = true
+
+-- the files that a request is answered by
+abbrev pub files_for : Bool → World → Files
+files_for true world = world.holds
+files_for false world = world.inputs
+
+-- Why `run` is refused: the round is, where no report of an ended round was asked for, or there is none; or it is asked for, and not told.
+pub data IsRunRefusal (NotRun NotTold : RunFault → Type 0) (NoReport : Type 0) (options : RunOptions) : RunFault → Type 0 where
+  not_run : (fault : RunFault) → (options.resume ≡ true → NoReport) → NotRun fault → IsRunRefusal NotRun NotTold NoReport options fault
+  not_reported : (fault : RunFault) → options.resume ≡ true → NotTold fault → IsRunRefusal NotRun NotTold NoReport options fault
+
+-- Why `rehearse` is refused: the system refuses the table that is named, or memory ran out; or the rehearsal is, by that table.
+pub data IsRehearsalRefusalWith (Refused : Option (List ℕ) → RunFault → Type 0) (outcomes : Option (List ℕ)) : RunFault → Type 0 where
+  table_refused : (path : List ℕ) (fault : RunFault) → outcomes ≡ Some path → IsRefusalOf path fault → IsRehearsalRefusalWith Refused outcomes fault
+  not_rehearsed : (table : Option (List ℕ)) (fault : RunFault) → is_some table ≡ is_some outcomes → Refused table fault → IsRehearsalRefusalWith Refused outcomes fault
+
+-- What is said of a command: of the text that it prints, its warnings and its exit status; and of why it is refused.
+pub record CommandContract : Type 1 where
+  pub answers : Said
+  pub refused : RunFault → Type 0
+
+abbrev pub IsPage : (page text warnings : List ℕ) → (status : ℕ) → Type 0
+IsPage page text warnings status = (text ≡ page) × (warnings ≡ []) × (status ≡ 0)
+
+-- The command that a request is for, of some files of its path, where this is said of the rounds of a run.
+abbrev pub command_of_some : Rounds → Asked → CommandContract
+command_of_some rounds (checks path hinted) = record { answers = IsCheckWith (IsCheckOfSome path) hinted; refused = IsCheckRefusal path }
+command_of_some rounds (runs path options) = record {
+  answers = IsRunWith (IsRunOf rounds path options) (IsReportHere path) (Unit {0}) options;
+  refused = IsRunRefusal (IsRunFault rounds path options) (IsAnswerFault Status path) (Unit {0}) options;
+}
+command_of_some rounds (tells_status path) = record { answers = IsAnswerOfRun Status path; refused = IsAnswerFault Status path }
+command_of_some rounds (audits path) = record { answers = IsAnswerOfRun Audit path; refused = IsAnswerFault Audit path }
+command_of_some rounds (rehearses path outcomes limits always_post) = record {
+  answers = IsRehearsalWith (λ table. IsRehearsalOfSome always_post path table limits) outcomes;
+  refused = IsRehearsalRefusalWith (IsRehearsalRefusal path) outcomes;
+}
+command_of_some rounds (draws path) = record { answers = IsAnswerOfRun Graph path; refused = IsAnswerFault Graph path }
+command_of_some rounds (asks_why path nodes) = record { answers = IsWhyOf path nodes; refused = IsAnswerFault Status path }
+command_of_some rounds (times path svg) = record { answers = IsTimesOf path svg; refused = IsTimesFault path }
+command_of_some rounds (salvages path) = record { answers = IsSalvageWith (IsSalvageOf path) path; refused = λ fault. IsSalvageFault path (Refused fault) }
+command_of_some rounds (shows page) = record { answers = IsPage page; refused = λ fault. ⊥ }
+
+-- The same where these files are held and these paths are there: of the files that are held.
+abbrev pub command_from : Files → (List ℕ → Bool) → Rounds → Asked → CommandContract
+command_from holds has rounds (checks path hinted) = record { answers = IsCheckWith (IsCheckOf holds path) hinted; refused = IsCheckRefusal path }
+command_from holds has rounds (runs path options) = record {
+  answers = IsRunWith (IsRunFrom holds has rounds path options) (IsReportFrom holds path) (IsNoReportFrom holds path) options;
+  refused = IsRunRefusal (IsRunFault rounds path options) (IsAnswerFault Status path) (IsNoReportFrom holds path) options;
+}
+command_from holds has rounds (tells_status path) = record { answers = IsAnswerHeld holds Status path; refused = IsAnswerFault Status path }
+command_from holds has rounds (audits path) = record { answers = IsAnswerHeld holds Audit path; refused = IsAnswerFault Audit path }
+command_from holds has rounds (rehearses path outcomes limits always_post) = record {
+  answers = IsRehearsalWith (λ table. IsRehearsalOf always_post holds path table limits) outcomes;
+  refused = IsRehearsalRefusalWith (IsRehearsalRefusal path) outcomes;
+}
+command_from holds has rounds (draws path) = record { answers = IsAnswerHeld holds Graph path; refused = IsAnswerFault Graph path }
+command_from holds has rounds (asks_why path nodes) = record { answers = IsWhyHeld holds path nodes; refused = IsAnswerFault Status path }
+command_from holds has rounds (times path svg) = record { answers = IsTimesFrom holds path svg; refused = IsTimesFault path }
+command_from holds has rounds (salvages path) = record { answers = IsSalvageWith (IsSalvageFrom holds path) path; refused = λ fault. IsSalvageFault path (Refused fault) }
+command_from holds has rounds (shows page) = record { answers = IsPage page; refused = λ fault. ⊥ }
+
+-- what is said of the answer of a command
+abbrev pub IsAnswerUnder : CommandContract → Answer → Type 0
+IsAnswerUnder command answer = command.answers (string_bytes answer.text) (string_bytes answer.warnings) answer.status
+
+-- a command comes to this
+abbrev pub ComesTo : CommandContract → Result Answer RunFault → Type 0
+ComesTo command (Ok answer) = IsAnswerUnder command answer
+ComesTo command (Err fault) = command.refused fault
+
+-- Why it isn't known in which folder the program was called: the host doesn't say it; or memory ran out.
+pub data IsFolderFault (IsLost : Type 0) : RunFault → Type 0 where
+  folder_refused : IsLost → (file : String Global) → string_bytes file ≡ codes "." → IsFolderFault IsLost (FileRefused file)
+  folder_had_no_memory : IsFolderFault IsLost Memory
+
+-- What comes of a request: what the command comes to that it is for, of some files, and, where the host is honest, of the files of this world; or it is
+-- for what stands beside a DAG file, and it isn't known in which folder the program was called.
+pub data IsReply (Honest IsLost : Type 0) (world : World) (rounds : Rounds) (asked : Asked) : Result Answer RunFault → Type 0 where
+  of_command : (reply : Result Answer RunFault) → ComesTo (command_of_some rounds asked) reply →
+      (Honest → ComesTo (command_from (files_for (is_beside asked) world) world.has rounds asked) reply) → IsReply Honest IsLost world rounds asked reply
+  of_no_folder : (fault : RunFault) → is_beside asked ≡ true → IsFolderFault IsLost fault → IsReply Honest IsLost world rounds asked (Err fault)
 
 -- What the words of a command line ask for, the program's name among them: without others it is `rehearse -`; others ask for what the manual says of
 -- the command to which clap matches them; and there is always a limit on all children.
@@ -113,23 +167,19 @@ pub record AskFor (words : List (List ℕ)) (request : Request) : Type 0 where
   pub said : 1 < length words → IsAskedFor words request
   pub limited : IfSome (limits_in (asked_by request)) AreLimits
 
--- What comes of a request: its answer, or why it is refused.
-abbrev pub IsReplyTo : Asked → Result Answer RunFault → Type 0
-IsReplyTo asked (Ok answer) = IsAnswerTo asked (string_bytes answer.text) (string_bytes answer.warnings) answer.status
-IsReplyTo asked (Err fault) = IsRefusedRequest asked fault
-
 -- The exit status of the program on a command line of these words: that with which the reply to what they ask for is displayed; or 125, where they ask for
 -- nothing, and where there is no memory to read them.
-pub data IsExit (words : List (List ℕ)) : ℕ → Type 0 where
-  of_reply : (request : Request) (reply : Result Answer RunFault) (status : ℕ) → AskFor words request → IsReplyTo (asked_by request) reply →
-      IsExitStatusOf reply status → IsExit words status
-  of_refused_words : IsRefused words → IsExit words 125
-  of_no_memory : IsExit words 125
+pub data IsExit (Replies : Asked → Result Answer RunFault → Type 0) (words : List (List ℕ)) : ℕ → Type 0 where
+  of_reply : (request : Request) (reply : Result Answer RunFault) (status : ℕ) → AskFor words request → Replies (asked_by request) reply →
+      IsExitStatusOf reply status → IsExit Replies words status
+  of_refused_words : IsRefused words → IsExit Replies words 125
+  of_no_memory : IsExit Replies words 125
 
--- the hints of a check, where they are asked for; else nothing is displayed
-abbrev pub AreHints : Asked → Streams → Streams → Type 0
-AreHints (checks path true) before after = OnlyWarns before after
-AreHints _ before after = after ≡ before
+-- What is displayed before the reply to a request: the hints of a check that is refused, where they are asked for; else nothing, since an answer has
+-- its hints behind its warnings.
+abbrev pub AreHints : Asked → Result Answer RunFault → Streams → Streams → Type 0
+AreHints (checks path true) (Err fault) before after = OnlyWarns before after
+AreHints _ _ before after = after ≡ before
 
 -- a reply is displayed, and at a terminal more behind it on standard error
 pub record IsDisplayedThen (before after : Streams) (reply : Result Answer RunFault) (status : ℕ) : Type 0 where
@@ -137,11 +187,11 @@ pub record IsDisplayedThen (before after : Streams) (reply : Result Answer RunFa
   pub displayed : IsDisplayedAs before shown reply status
   pub more : OnlyWarnsAtTerminal shown after
 
--- What the program displays for a command line of these words, and its exit status: the reply to what they ask for, behind hints where these are asked for,
--- and at a terminal what may help behind it; or, where they ask for nothing, one text on standard error, which says why; or that there is no memory to
+-- What the program displays for a command line of these words, and its exit status: the reply to what they ask for, behind the hints of a check that is
+-- refused where these are asked for, and at a terminal what may help behind it; or, where they ask for nothing, one text on standard error, which says why; or that there is no memory to
 -- read them.
-pub data IsCall (words : List (List ℕ)) (before after : Streams) : ℕ → Type 0 where
-  replied : (request : Request) (reply : Result Answer RunFault) (hinted : Streams) (status : ℕ) → AskFor words request → IsReplyTo (asked_by request) reply →
-      AreHints (asked_by request) before hinted → IsDisplayedThen hinted after reply status → IsCall words before after status
-  words_refused : IsRefused words → OnlyWarns before after → IsCall words before after 125
-  no_memory : (status : ℕ) → IsDisplayedThen before after (Err Memory) status → IsCall words before after status
+pub data IsCall (Replies : Asked → Result Answer RunFault → Type 0) (words : List (List ℕ)) (before after : Streams) : ℕ → Type 0 where
+  replied : (request : Request) (reply : Result Answer RunFault) (hinted : Streams) (status : ℕ) → AskFor words request → Replies (asked_by request) reply →
+      AreHints (asked_by request) reply before hinted → IsDisplayedThen hinted after reply status → IsCall Replies words before after status
+  words_refused : IsRefused words → OnlyWarns before after → IsCall Replies words before after 125
+  no_memory : (status : ℕ) → IsDisplayedThen before after (Err Memory) status → IsCall Replies words before after status

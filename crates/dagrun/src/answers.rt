@@ -1,22 +1,26 @@
 //! What is answered to a request by the files of a folder.
 
-ghost use Rattle.std.specs.Prelude.{◌≡◌, ◌⊎◌, ◌||◌, true, [], ◌++◌, IfOk, IfErr, IfSome, is_some, string_bytes, codes};
+ghost use Rattle.std.specs.Prelude.{◌≡◌, ◌⊎◌, ◌||◌, ℕ, List, true, [], ◌++◌, Some, IfOk, IfErr, IfSome, is_some, string_bytes, codes};
 ghost use Rattle.std.specs.Option.{option_map};
-ghost use Rattle.dag_main_args.specs.Requests.{asked_by, checks, runs, rehearses, salvages, shows};
-ghost use Rattle.dag_main_files.specs.Beside.{IsFileFault};
+ghost use Rattle.dag_main_args.specs.Requests.{asked_by, checks, runs};
+ghost use Rattle.dag_main_files.specs.Beside.{IsRefusalOf};
 ghost use Rattle.dag_main_check.specs.Checked.{IsCheckOf};
-ghost use Rattle.folder_answers.specs.Answered.{IsCheckOfSome, IsCheckRefusal};
+ghost use Rattle.dag_main_rehearse.specs.Rehearsed.{IsRehearsalOf};
+ghost use Rattle.folder_answers.specs.Answered.{IsCheckOfSome, IsCheckRefusal, IsRehearsalOfSome, IsRehearsalRefusal};
 ghost use Rattle.dag_main_check.specs.declared.fault.RunFault.TheVariants.{Memory};
 ghost use Rattle.salvage.specs.Faults.{fault_text};
-ghost use Rattle.answer_console.specs.Display.{OnlyWarns};
-ghost use Rattle.dagrun.specs.Answered.{is_run, IsAnswerTo, IsAnswerFrom, IsCheckWith, IsRefusedRequest, AreHints};
+ghost use Rattle.salvage.specs.Salvaged.{IsSalvageOf, IsSalvageFrom};
+ghost use Rattle.salvage.specs.Refused.{IsSalvageFault};
+ghost use Rattle.salvage.specs.declared.fault.SalvageFault.TheVariants.{Refused};
+ghost use Rattle.dag_main_run.specs.Sites.{rounds_at};
+ghost use Rattle.dagrun.specs.Answered.{is_run, command_of_some, command_from, ComesTo, IsPage, IsCheckWith, IsRehearsalWith, IsRehearsalRefusalWith, IsSalvageWith, AreHints};
 
 use answer_console::Console;
 use dag_main_args::{Request, RunOptions};
 use dag_main_check::{Answer, RunFault};
 use dag_main_files::{Folder, Place, Reading, files_of, read_input, refused};
 use dag_main_inspect::{Question, answer_here, report_here};
-use dag_main_run::{Screen, run_dag};
+use dag_main_run::{Screen, Site, run_dag};
 use failure_answers::why_here;
 use folder_answers::{check_here, rehearse_here};
 use hint_answers::{Wanted, hints_of};
@@ -41,23 +45,23 @@ pub(crate) const REFUSED: u8 = 125;
 pub(crate) fn answer_in<
     R: Files<File = File> + Processes + Clock + Screen + AllocGlobal + Copy + Drop,
     C: Console,
-    F: Folder,
->(rt: &R, console: &mut C, folder: &F, seat: &str, request: Request<'_>) -> Result<Answer, RunFault>
-    ensures answered { IfOk result (λ answer. IsAnswerTo (asked_by request.entry)
-        (string_bytes answer.text) (string_bytes answer.warnings) answer.status) }
-    // It is that of the files that the folder holds.
-    ensures held { F.honest folder.now → IfOk result (λ answer.
-        IsAnswerFrom (F.holds folder.now) (F.has folder.now) (asked_by request.entry)
-        (string_bytes answer.text) (string_bytes answer.warnings) answer.status) }
-    // It is refused for a cause of the call; `run` does not read standard input.
-    ensures refused { (is_run (asked_by request.entry) ≡ true → ¬ (F.streams folder.now))
-        → IfErr result (IsRefusedRequest (asked_by request.entry)) }
-    ensures hinted { C.honest console.new → AreHints (asked_by request.entry) (C.shown console.old) (C.shown console.new) }
+    F: Site,
+>(rt: &R, console: &mut C, folder: &F, request: Request<'_>) -> Result<Answer, RunFault>
+    ensures some { (is_run (asked_by request.entry) ≡ true → ¬ (F.streams folder.now)) → ComesTo (command_of_some
+        (rounds_at F.Journal.Disk F.Rescue.Disk (F.own folder.now) (F.honest folder.now) (F.holds folder.now))
+        (asked_by request.entry)) result }
+    // It is that of the files that the folder holds; `run` does not read standard input.
+    ensures held { F.honest folder.now → (is_run (asked_by request.entry) ≡ true → ¬ (F.streams folder.now)) → ComesTo (command_from
+        (F.holds folder.now) (F.has folder.now)
+        (rounds_at F.Journal.Disk F.Rescue.Disk (F.own folder.now) (F.honest folder.now) (F.holds folder.now))
+        (asked_by request.entry)) result }
+    ensures hinted { C.honest console.new → AreHints (asked_by request.entry) result (C.shown console.old) (C.shown console.new) }
     ensures back { C.honest console.new → C.honest console.old }
 {
     let alloc = rt.alloc();
+    let seat = folder.seat();
     match request {
-        Request::Run { dag, options } => run_in(rt, folder, seat, dag, &options),
+        Request::Run { dag, options } => run_in(rt, folder, dag, &options),
         Request::Status { dag } => answer_here(alloc, folder, dag, Question::Status),
         Request::Audit { dag } => answer_here(alloc, folder, dag, Question::Audit),
         Request::Graph { dag } => answer_here(alloc, folder, dag, Question::Graph),
@@ -91,7 +95,7 @@ pub(crate) fn answer_in<
 
 /// The answer that is this page.
 fn page(alloc: Global, text: String) -> Answer
-    ensures { IsAnswerTo (shows (string_bytes text)) (string_bytes result.text) (string_bytes result.warnings) result.status }
+    ensures { IsPage (string_bytes text) (string_bytes result.text) (string_bytes result.warnings) result.status }
 {
     Answer {
         text,
@@ -102,27 +106,31 @@ fn page(alloc: Global, text: String) -> Answer
 
 /// Runs a DAG file; or, where the options ask for it and its last round has ended, answers
 /// what that printed.
-fn run_in<
-    R: Files<File = File> + Processes + Clock + Screen + AllocGlobal + Copy + Drop,
-    F: Folder,
->(rt: &R, folder: &F, seat: &str, dag: &str, options: &RunOptions) -> Result<Answer, RunFault>
-    ensures answered { IfOk result (λ answer. IsAnswerTo (runs dag.now options.now)
-        (string_bytes answer.text) (string_bytes answer.warnings) answer.status) }
-    ensures held { F.honest folder.now → IfOk result (λ answer.
-        IsAnswerFrom (F.holds folder.now) (F.has folder.now) (runs dag.now options.now)
-        (string_bytes answer.text) (string_bytes answer.warnings) answer.status) }
-    ensures refused { ¬ (F.streams folder.now) → IfErr result (IsRefusedRequest (runs dag.now options.now)) }
+fn run_in<R: Files<File = File> + Processes + Clock + Screen + AllocGlobal + Copy + Drop, F: Site>(
+    rt: &R,
+    folder: &F,
+    dag: &str,
+    options: &RunOptions,
+) -> Result<Answer, RunFault>
+    ensures some { ¬ (F.streams folder.now) → ComesTo (command_of_some
+        (rounds_at F.Journal.Disk F.Rescue.Disk (F.own folder.now) (F.honest folder.now) (F.holds folder.now))
+        (runs dag.now options.now)) result }
+    ensures held { F.honest folder.now → ¬ (F.streams folder.now) → ComesTo (command_from (F.holds folder.now) (F.has folder.now)
+        (rounds_at F.Journal.Disk F.Rescue.Disk (F.own folder.now) (F.honest folder.now) (F.holds folder.now))
+        (runs dag.now options.now)) result }
 {
-    if options.resume {
-        if let Some(answer) = report_here(rt.alloc(), folder, dag)? {
-            return Ok(answer);
-        }
-    }
     let place = Place {
-        folder: seat,
+        folder: folder.seat(),
         top: dag,
     };
-    run_dag(*rt, folder, &place, options)
+    if !options.resume {
+        return run_dag(*rt, folder, &place, options);
+    }
+    let told = report_here(rt.alloc(), folder, dag)?;
+    match told {
+        Some(answer) => Ok(answer),
+        None => run_dag(*rt, folder, &place, options),
+    }
 }
 
 /// The answer that nothing was salvaged, for a fault that no other command has: its line as a warning, and status 125.
@@ -150,12 +158,11 @@ fn salvage_in<R: Files<File = File> + Clock + AllocGlobal + Copy + Drop, F: Fold
     folder: &F,
     place: &Place<'_>,
 ) -> Result<Answer, RunFault>
-    ensures answered { IfOk result (λ answer. IsAnswerTo (salvages place.now.top.now)
+    ensures answered { IfOk result (λ answer. IsSalvageWith (IsSalvageOf place.now.top.now) place.now.top.now
         (string_bytes answer.text) (string_bytes answer.warnings) answer.status) }
-    ensures held { F.honest folder.now → IfOk result (λ answer.
-        IsAnswerFrom (F.holds folder.now) (F.has folder.now) (salvages place.now.top.now)
+    ensures held { F.honest folder.now → IfOk result (λ answer. IsSalvageWith (IsSalvageFrom (F.holds folder.now) place.now.top.now) place.now.top.now
         (string_bytes answer.text) (string_bytes answer.warnings) answer.status) }
-    ensures refused { IfErr result (IsRefusedRequest (salvages place.now.top.now)) }
+    ensures refused { IfErr result (λ fault. IsSalvageFault place.now.top.now (Refused fault)) }
 {
     match salvage_here(*rt, folder, place) {
         Ok(answer) => Ok(answer),
@@ -174,13 +181,12 @@ fn check<R: Files<File = File> + Screen + AllocGlobal, C: Console, F: Folder>(
     dag: &str,
     wanted: Wanted,
 ) -> Result<Answer, RunFault>
-    ensures answered { IfOk result (λ answer. IsAnswerTo (checks dag.now (wanted.hints || wanted.condor))
+    ensures answered { IfOk result (λ answer. IsCheckWith (IsCheckOfSome dag.now) (wanted.hints || wanted.condor)
         (string_bytes answer.text) (string_bytes answer.warnings) answer.status) }
-    ensures held { F.honest folder.now → IfOk result (λ answer.
-        IsAnswerFrom (F.holds folder.now) (F.has folder.now) (checks dag.now (wanted.hints || wanted.condor))
+    ensures held { F.honest folder.now → IfOk result (λ answer. IsCheckWith (IsCheckOf (F.holds folder.now) dag.now) (wanted.hints || wanted.condor)
         (string_bytes answer.text) (string_bytes answer.warnings) answer.status) }
-    ensures refused { IfErr result (IsRefusedRequest (checks dag.now (wanted.hints || wanted.condor))) }
-    ensures hinted { C.honest console.new → AreHints (checks dag.now (wanted.hints || wanted.condor)) (C.shown console.old) (C.shown console.new) }
+    ensures refused { IfErr result (IsCheckRefusal dag.now) }
+    ensures hinted { C.honest console.new → AreHints (checks dag.now (wanted.hints || wanted.condor)) result (C.shown console.old) (C.shown console.new) }
     ensures back { C.honest console.new → C.honest console.old }
 {
     if wanted.any() {
@@ -204,7 +210,7 @@ fn check_with_hints<R: Files<File = File> + Screen + AllocGlobal, C: Console, F:
     ensures held { F.honest folder.now → IfOk result (λ answer. IsCheckWith (IsCheckOf (F.holds folder.now) dag.now) true
         (string_bytes answer.text) (string_bytes answer.warnings) answer.status) }
     ensures refused { IfErr result (IsCheckRefusal dag.now) }
-    ensures hinted { C.honest console.new → OnlyWarns (C.shown console.old) (C.shown console.new) }
+    ensures hinted { C.honest console.new → AreHints (checks dag.now true) result (C.shown console.old) (C.shown console.new) }
     ensures back { C.honest console.new → C.honest console.old }
 {
     let alloc = rt.alloc();
@@ -243,14 +249,11 @@ fn rehearse<R: Files + AllocGlobal, F: Folder>(
     limits: Limits,
     always_post: bool,
 ) -> Result<Answer, RunFault>
-    ensures answered { IfOk result (λ answer.
-        IsAnswerTo (rehearses dag.now (option_map (λ t. t.now) outcomes.entry) limits always_post)
-        (string_bytes answer.text) (string_bytes answer.warnings) answer.status) }
-    ensures held { F.honest folder.now → IfOk result (λ answer. IsAnswerFrom (F.holds folder.now) (F.has folder.now)
-        (rehearses dag.now (option_map (λ t. t.now) outcomes.entry) limits always_post)
-        (string_bytes answer.text) (string_bytes answer.warnings) answer.status) }
-    ensures refused { IfErr result
-        (IsRefusedRequest (rehearses dag.now (option_map (λ t. t.now) outcomes.entry) limits always_post)) }
+    ensures answered { IfOk result (λ answer. IsRehearsalWith (λ table. IsRehearsalOfSome always_post dag.now table limits)
+        (option_map (λ t. t.now) outcomes.entry) (string_bytes answer.text) (string_bytes answer.warnings) answer.status) }
+    ensures held { F.honest folder.now → IfOk result (λ answer. IsRehearsalWith (λ table. IsRehearsalOf always_post (F.holds folder.now) dag.now table limits)
+        (option_map (λ t. t.now) outcomes.entry) (string_bytes answer.text) (string_bytes answer.warnings) answer.status) }
+    ensures refused { IfErr result (IsRehearsalRefusalWith (IsRehearsalRefusal dag.now) (option_map (λ t. t.now) outcomes.entry)) }
 {
     let table = outcomes_of(rt, outcomes)?;
     rehearse_here(
@@ -269,7 +272,7 @@ fn outcomes_of<R: Files + AllocGlobal>(
     path: Option<&str>,
 ) -> Result<Option<Vec<u8>>, RunFault>
     ensures named { IfOk result (λ bytes. is_some (option_map (λ b. b.items) bytes) ≡ is_some (option_map (λ p. p.now) path.entry)) }
-    ensures refused { IfErr result IsFileFault }
+    ensures refused { IfErr result (λ fault. (named : List ℕ) × (option_map (λ p. p.now) path.entry ≡ Some named) × IsRefusalOf named fault) }
 {
     match path {
         Some(path) => Ok(Some(read_outcomes(rt, path)?)),
@@ -283,7 +286,7 @@ fn outcomes_of<R: Files + AllocGlobal>(
 /// `FileRefused` with the path of another sort of file, or of one that the system refuses to read;
 /// `Memory`, also for more than 256 MiB.
 fn read_outcomes<R: Files + AllocGlobal>(rt: &R, path: &str) -> Result<Vec<u8>, RunFault>
-    ensures { IfErr result IsFileFault }
+    ensures { IfErr result (IsRefusalOf path.now) }
 {
     match read_input(rt, path, true) {
         Ok(bytes) => Ok(bytes),

@@ -1,22 +1,21 @@
 //! The program's commands over the system's files and streams.
 
-ghost use Rattle.std.specs.Prelude.{◌≡◌, true, IfErr, map};
+ghost use Rattle.std.specs.Prelude.{◌≡◌, map};
 ghost use Rattle.dag_main_args.specs.Requests.{asked_by};
-ghost use Rattle.dag_main_files.specs.Beside.{IsFileFault};
 ghost use Rattle.answer_console.specs.Display.{IsExitStatusOf};
-ghost use Rattle.dagrun.specs.Answered.{is_run, IsReplyTo, IsExit, AreHints, IsDisplayedThen, IsCall};
+ghost use Rattle.dag_main_run.specs.Sites.{rounds_at};
+ghost use Rattle.dagrun.specs.Answered.{is_beside, IsReply, IsExit, AreHints, IsDisplayedThen, IsCall};
 
 use crate::answers::{REFUSED, answer_in};
+use crate::host::Host;
 use crate::terminal::{Postscript, display_hint, display_postscript};
 use answer_console::{Console, display_reply};
 use dag_main_args::{Request, WordsFault, read_words};
 use dag_main_check::{Answer, RunFault};
-use dag_main_files::{StreamOrFolder, SystemFolder, refused};
 use dag_main_run::Screen;
-use std::env;
 use std::fs::File;
 use std::process::Processes;
-use std::rt::{Env, Files};
+use std::rt::Files;
 use std::time::Clock;
 
 /// Runs the command of these words, of which the first is the program's name, and answers the
@@ -27,20 +26,26 @@ use std::time::Clock;
 /// `dagrun: CODE Name detail`, both with status 125 and nothing on standard output. At a terminal, what may help
 /// stands behind it on standard error, and so does what is displayed while a run goes on, which isn't written to this console.
 pub fn run<
-    R: Files<File = File> + Processes + Clock + Input + Screen + AllocGlobal + Copy + Drop,
+    R: Files<File = File> + Processes + Clock + Screen + AllocGlobal + Copy + Drop,
+    H: Host,
     C: Console,
->(rt: &R, console: &mut C, words: &[&str]) -> u8
-    // It is that of the reply to what the words ask for, or 125 where they ask for nothing.
-    ensures exit { IsExit (map (λ w. w.now) words.now) result }
+>(rt: &R, host: &H, console: &mut C, words: &[&str]) -> u8
+    // It is that of the reply to what the words ask for, or 125 where they ask for nothing. Where the host is honest, the reply
+    // is that of the files that it holds, and a round is led by its disks and children.
+    ensures exit { IsExit (IsReply (H.honest host.now) (H.is_lost host.now) (H.world host.now)
+        (rounds_at H.Here.Journal.Disk H.Here.Rescue.Disk (H.own host.now) (H.honest host.now) (H.world host.now).holds))
+        (map (λ w. w.now) words.now) result }
     // On an honest console that reply is displayed: all that is printed is the text of the answer.
-    ensures shown { C.honest console.new → IsCall (map (λ w. w.now) words.now) (C.shown console.old) (C.shown console.new) result }
+    ensures shown { C.honest console.new → IsCall (IsReply (H.honest host.now) (H.is_lost host.now) (H.world host.now)
+        (rounds_at H.Here.Journal.Disk H.Here.Rescue.Disk (H.own host.now) (H.honest host.now) (H.world host.now).holds))
+        (map (λ w. w.now) words.now) (C.shown console.old) (C.shown console.new) result }
     ensures back { C.honest console.new → C.honest console.old }
 {
     match read_words(rt.alloc(), words) {
         Ok(request) => {
             let dag = dag_in(&request);
             let postscript = postscript_to(&request);
-            let reply = answer(rt, console, request);
+            let reply = answer(rt, host, console, request);
             finish(rt, console, dag, postscript, &reply)
         }
         Err(WordsFault::Refused(text)) => {
@@ -66,27 +71,26 @@ pub fn run<
 /// The system refuses the folder in which the program was called or a file, or memory; else those of
 /// the call that the request is for.
 fn answer<
-    R: Files<File = File> + Processes + Clock + Screen + Input + AllocGlobal + Copy + Drop,
+    R: Files<File = File> + Processes + Clock + Screen + AllocGlobal + Copy + Drop,
+    H: Host,
     C: Console,
->(rt: &R, console: &mut C, request: Request<'_>) -> Result<Answer, RunFault>
-    ensures reply { IsReplyTo (asked_by request.entry) result }
-    ensures hinted { C.honest console.new → AreHints (asked_by request.entry) (C.shown console.old) (C.shown console.new) }
+>(rt: &R, host: &H, console: &mut C, request: Request<'_>) -> Result<Answer, RunFault>
+    ensures reply { IsReply (H.honest host.now) (H.is_lost host.now) (H.world host.now)
+        (rounds_at H.Here.Journal.Disk H.Here.Rescue.Disk (H.own host.now) (H.honest host.now) (H.world host.now).holds)
+        (asked_by request.entry) result }
+    ensures hinted { C.honest console.new → AreHints (asked_by request.entry) result (C.shown console.old) (C.shown console.new) }
     ensures back { C.honest console.new → C.honest console.old }
 {
     if !is_beside(&request) {
-        return answer_in(rt, console, &StreamOrFolder { rt }, "", request);
+        return answer_in(rt, console, &host.inputs(), request);
     }
-    let folder = folder_now(rt)?;
-    let here = SystemFolder {
-        rt,
-        seat: folder.as_str(),
-    };
-    answer_in(rt, console, &here, folder.as_str(), request)
+    let here = host.here()?;
+    answer_in(rt, console, &here, request)
 }
 
 /// Whether a request is for a run, and so for the files that stand beside a DAG file.
 fn is_beside(request: &Request<'_>) -> bool
-    ensures { is_run (asked_by request.now) ≡ true → result ≡ true }
+    ensures { result ≡ is_beside (asked_by request.now) }
 {
     match request {
         Request::Check { .. } | Request::Rehearse { .. } | Request::Page { .. } => false,
@@ -145,14 +149,4 @@ fn finish<R: Files<File = File> + AllocGlobal, C: Console>(
         }
     }
     status
-}
-
-/// The folder in which the program was called.
-fn folder_now<R: Env + AllocGlobal>(rt: &R) -> Result<String, RunFault>
-    ensures { IfErr result IsFileFault }
-{
-    match env::current_dir(rt) {
-        Ok(folder) => Ok(String::from_str(rt.alloc(), folder.as_str())?),
-        Err(error) => Err(refused(rt.alloc(), ".", &error)),
-    }
 }

@@ -3,11 +3,13 @@
 
 mod answers;
 mod commands;
+mod host;
 mod terminal;
 
 use answer_console::SystemConsole;
 use commands::run;
 use dag_main_run::Screen;
+use host::SystemHost;
 use std::alloc::Global;
 use std::fs::OpenOptions;
 use std::io::ErrorKind;
@@ -99,5 +101,5 @@ fn run_words(rt: &HostRuntime) -> io::Result<u8> {
         rt,
         at_terminal: rt.is_terminal(),
     };
-    Ok(run(rt, &mut console, &words))
+    Ok(run(rt, &SystemHost { rt }, &mut console, &words))
 }

@@ -5,17 +5,13 @@ use Rattle.dag_graph.specs.Graph.{children_of}
 use Rattle.node_machine.specs.declared.Record.{Record}
 use Rattle.run_plan.specs.Plan.{Plan, count_of}
 use Rattle.sched_core.specs.Run.{is_done}
-use Rattle.failure_report.specs.Reaching.{Reaches, IsReachCount}
+use Rattle.failure_report.specs.Reaching.{IsReachCount}
 
 -- the children of a node that are not done
 abbrev pub held_by : Plan → List Record → ℕ → List ℕ
 held_by plan past node = filter (λ child. not (is_done plan past child)) (children_of plan.graph.dag node)
 
--- A node waits for another one: it is not done, and it is a child of that one, or of a node that waits for it.
-abbrev pub WaitsFor : Plan → List Record → (blocker : ℕ) → ℕ → Type 0
-WaitsFor plan past blocker node = Reaches (held_by plan past) blocker node
-
--- so many nodes wait for one
+-- So many nodes wait for one: those that are not done and are children of it, or of one that waits for it.
 abbrev pub IsWaitingCount : Plan → List Record → (blocker : ℕ) → (count : ℕ) → Type 0
 IsWaitingCount plan past blocker count = IsReachCount (held_by plan past) blocker count
 

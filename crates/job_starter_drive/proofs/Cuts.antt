@@ -8,8 +8,8 @@ use Rattle.sched_core.specs.Ahead.{up_to_abort, ends_of}
 use Rattle.job_starter_drive.specs.declared.Call.{Call}
 use Rattle.job_starter_drive.specs.declared.Call.TheVariants as calls
 use Rattle.job_starter_drive.specs.declared.Started.TheVariants.{Running, NotStarted}
-use Rattle.job_starter_drive.specs.Calls.{snapshot_of}
-use Rattle.job_starter_drive.specs.Drives.{Standing, drive_records, calls_of, IsStep, launch_round, skip_noop, spawn_child, spawn_failed, child_exits, ends_recorded, kill_child, Goes, no_step, one_more, Kills, nobody, one_killed}
+use Rattle.job_starter_drive.specs.Calls.{snapshot_of, Telling}
+use Rattle.job_starter_drive.specs.Drives.{Standing, drive_records, calls_of, IsStep, launch_round, skip_noop, spawn_child, spawn_failed, child_exits, child_gathered, ends_recorded, kill_child, Goes, no_step, one_more, Kills, nobody, one_killed}
 use Rattle.job_starter_drive.specs.Moments.{IsOlderPart}
 use Rattle.job_starter_drive.proofs.Turns.{launched-older, added-older}
 
@@ -25,7 +25,7 @@ older-then first second third p q = (q.0 ++ p.0, q.1 ∙ ap (λ l. q.0 ++ l) p.1
 pub older-is : {A : Type 0} (held kept : List A) → kept ≡ held → IsOlderPart held kept
 older-is held kept same = ([], same)
 
-module _ (limits : Limits) (plan : Plan) (may : List Call → Key → Outcome → Type 0) where
+module _ (limits : Limits) (plan : Plan) (may : Telling) where
   -- the records that stood there are kept
   pub step-records : (from to : Standing) → IsStep limits plan may from to → IsOlderPart (drive_records from) (drive_records to)
   step-records _ _ (launch_round {past = past} {keys = keys} lawful going step round) = launched-older past keys
@@ -33,6 +33,7 @@ module _ (limits : Limits) (plan : Plan) (may : List Call → Key → Outcome �
   step-records _ _ (spawn_child {past = past} child is may_run) = older-self past
   step-records _ _ (spawn_failed {past = past} child is may_be) = older-self past
   step-records _ _ (child_exits {past = past} step held ran may_be) = older-self past
+  step-records _ _ (child_gathered {past = past} gathers way held on few ran may_be) = older-self past
   step-records _ _ (ends_recorded {past = past} {end = end} {owed = owed}) = added-older past (up_to_abort plan past (ends_of (end ∷ owed)))
   step-records _ _ (kill_child {past = past} ran free) = older-self past
 
@@ -43,6 +44,7 @@ module _ (limits : Limits) (plan : Plan) (may : List Call → Key → Outcome �
   step-calls _ _ (spawn_child {call_log = call_log} {key = key} {command = command} child is may_run) = older-one (calls.Started key (snapshot_of command) Running) call_log
   step-calls _ _ (spawn_failed {call_log = call_log} {key = key} {command = command} child is may_be) = older-one (calls.Started key (snapshot_of command) NotStarted) call_log
   step-calls _ _ (child_exits {call_log = call_log} {key = key} {outcome = outcome} step held ran may_be) = older-one (calls.Ended key outcome) call_log
+  step-calls _ _ (child_gathered {call_log = call_log} {key = key} {outcome = outcome} gathers way held on few ran may_be) = older-one (calls.Ended key outcome) call_log
   step-calls _ _ (ends_recorded {call_log = call_log}) = older-self call_log
   step-calls _ _ (kill_child {call_log = call_log} {key = key} ran free) = older-one (calls.Killed key) call_log
 

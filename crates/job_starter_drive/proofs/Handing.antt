@@ -23,8 +23,8 @@ use Rattle.job_starter_drive.specs.declared.Started.TheVariants.{Running, NotSta
 use Rattle.job_starter_drive.specs.declared.driving.DriveFault.{DriveFault}
 use Rattle.job_starter_drive.proofs.Phases.{noop-quiet}
 use Rattle.job_starter_drive.proofs.Turns.{launched-onto, launch-all}
-use Rattle.job_starter_drive.specs.Calls.{snapshot_of}
-use Rattle.job_starter_drive.specs.Drives.{most_at_once, Standing, At, at_rest, drive_records, calls_of, IsCommandIn, IsStep, launch_round, skip_noop, spawn_child, spawn_failed, child_exits, ends_recorded, kill_child, Goes, no_step, one_more, Drives, Kills, nobody, one_killed, IsHalted, IsHaltedBy, IsStopped}
+use Rattle.job_starter_drive.specs.Calls.{snapshot_of, Telling}
+use Rattle.job_starter_drive.specs.Drives.{most_at_once, Standing, At, at_rest, drive_records, calls_of, IsCommandIn, IsStep, launch_round, skip_noop, spawn_child, spawn_failed, child_exits, child_gathered, ends_recorded, kill_child, Goes, no_step, one_more, Drives, Kills, nobody, one_killed, IsHalted, IsHaltedBy, IsStopped}
 use Rattle.job_starter_drive.specs.Spawned.{spawned, SpawnsAll, SpawnsAllButSome}
 
 -- a phase and its command, by what the records say
@@ -85,7 +85,7 @@ record Hands (plan : Plan) (past : List Record) (call_log : List Call) (to : Sta
   commands : commands_in plan (drive_records to) ≡ commands_in plan past ++ (own ++ commands_for plan (drive_records to) (keys_of to))
   few : length (keys_of to) ≤ most_at_once
 
-module _ (limits : Limits) (plan : Plan) (may : List Call → Key → Outcome → Type 0) (past : List Record) (call_log : List Call) where
+module _ (limits : Limits) (plan : Plan) (may : Telling) (past : List Record) (call_log : List Call) where
   -- the first of a round was handed over
   spawned-first : (before : List Call) (records : List Record) (key : Key) (keys : List Key) (owed then_owed : List (Key × Outcome)) (command : ChildCommand) (answer : Started)
       → starts_child (node_at plan key.node) key.phase ≡ true → IsCommandIn plan records key command
@@ -124,6 +124,7 @@ module _ (limits : Limits) (plan : Plan) (may : List Call → Key → Outcome �
   step-hands _ _ (spawn_failed {past = now} {call_log = later_log} {key = key} {keys = keys} {owed = owed} {command = command} child is may_be) h =
       spawned-first later_log now key keys owed (owed ++ (key, NoStart) ∷ []) command NotStarted child is h
   step-hands _ _ (child_exits step held ran may_be) h = record { own = h.own; are = h.are; commands = h.commands; few = h.few }
+  step-hands _ _ (child_gathered gathers way held on few ran may_be) h = record { own = h.own; are = h.are; commands = h.commands; few = h.few }
   step-hands _ _ (ends_recorded {past = now} {end = end} {owed = owed}) h =
       record { own = h.own; are = h.are; commands = ended-commands plan now (end ∷ owed) ∙ h.commands; few = h.few }
   step-hands _ _ (kill_child ran free) h = record { own = h.own; are = h.are; commands = h.commands; few = h.few }
@@ -167,7 +168,7 @@ kills-same call_log _ nobody = refl
 kills-same call_log _ (one_killed {later_log = later_log} {key = key} before ran) = kills-same call_log later_log before
 
 -- so do those that were stopped
-pub stopped : (limits : Limits) (plan : Plan) (may : List Call → Key → Outcome → Type 0) (past : List Record) (call_log : List Call) (fault : DriveFault) (after : List Record) (last : List Call)
+pub stopped : (limits : Limits) (plan : Plan) (may : Telling) (past : List Record) (call_log : List Call) (fault : DriveFault) (after : List Record) (last : List Call)
     → IsStopped limits plan may past call_log fault after last → SpawnsAllButSome plan past after call_log last
 stopped limits plan may past call_log fault after last s =
     let h = by-fault-hands limits plan may past call_log fault after s.rest s.halted in

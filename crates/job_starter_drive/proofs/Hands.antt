@@ -13,11 +13,11 @@ use Rattle.job_starter_drive.specs.declared.Started.{Started}
 use Rattle.job_starter_drive.specs.declared.Started.TheVariants.{Running, NotStarted}
 use Rattle.job_starter_drive.specs.declared.driving.DriveFault.{DriveFault}
 use Rattle.job_starter_drive.specs.declared.driving.DriveFault.TheVariants as drives
-use Rattle.job_starter_drive.specs.Calls.{MayRun}
+use Rattle.job_starter_drive.specs.Calls.{MayRun, Telling}
 use Rattle.job_starter_drive.specs.Causes.{IsUnspawned}
 use Rattle.job_starter_drive.specs.Drives.{Standing, At, IsSpawned, skip_noop, spawn_child, spawn_failed, Goes, no_step, one_more, IsStoppedAt, child_refused, command_refused}
 
-module _ (limits : Limits) (plan : Plan) (may : List Call → Key → Outcome → Type 0) (past : List Record) (call_log : List Call) (key : Key) (all keys : List Key) (first : all ≡ key ∷ keys) (owed : List (Key × Outcome)) where
+module _ (limits : Limits) (plan : Plan) (may : Telling) (past : List Record) (call_log : List Call) (key : Key) (all keys : List Key) (first : all ≡ key ∷ keys) (owed : List (Key × Outcome)) where
   begun : (to : Standing) → Goes limits plan may (At past call_log (key ∷ keys) owed) to → Goes limits plan may (At past call_log all owed) to
   begun to goes = subst (λ (l : List Key). Goes limits plan may (At past call_log l owed) to) (sym first) goes
 
@@ -34,7 +34,7 @@ module _ (limits : Limits) (plan : Plan) (may : List Call → Key → Outcome �
       subst (λ (l : List Call). Goes limits plan may (At past call_log all owed) (At past l keys owed)) (sym h.entry)
       (begun _ (one_more no_step (spawn_child child h.is may_run)))
 
-  pub fail-goes : (later_log : List Call) (answer : Started) → answer ≡ NotStarted → starts_child (node_at plan key.node) key.phase ≡ true → may call_log key NoStart
+  pub fail-goes : (later_log : List Call) (answer : Started) → answer ≡ NotStarted → starts_child (node_at plan key.node) key.phase ≡ true → may.may_be call_log key NoStart
       → IsSpawned plan past key answer call_log later_log → (now : List (Key × Outcome)) → now ≡ owed ++ (key, NoStart) ∷ []
       → Goes limits plan may (At past call_log all owed) (At past later_log keys now)
   fail-goes later_log answer fails_ child may_be spawned now is =

@@ -6,6 +6,8 @@ pub mod Disks
 pub mod Walks
 pub mod Ways
 pub mod Hands
+pub mod Gathers
+pub mod Endings
 pub mod Turns
 pub mod RoundTurns
 pub mod Handing

@@ -19,7 +19,7 @@ use Rattle.sched_core.proofs.Best.{choice-one}
 use Rattle.job_starter_drive.specs.declared.Call.{Call}
 use Rattle.job_starter_drive.specs.Calls.{oldest}
 use Rattle.job_starter_drive.specs.Scripts.{scripted_outcome, IsScripted}
-use Rattle.job_starter_drive.specs.Drives.{most_at_once, Standing, At, at_rest, IsRoundOf, IsStep, launch_round, skip_noop, spawn_child, spawn_failed, child_exits, ends_recorded, kill_child, Goes, no_step, one_more, Drives}
+use Rattle.job_starter_drive.specs.Drives.{most_at_once, Standing, At, at_rest, IsRoundOf, IsStep, launch_round, skip_noop, spawn_child, spawn_failed, child_exits, child_gathered, ends_recorded, kill_child, Goes, no_step, one_more, Drives}
 use Rattle.job_starter_drive.proofs.Phases.{noop-quiet}
 use Rattle.job_starter_drive.proofs.Walks.{no_child}
 
@@ -121,6 +121,7 @@ module _ (limits : Limits) (plan : Plan) (table : List Entry) where
   step-chain start _ _ c (child_exits {past = past} {key = key} {outcome = outcome} s held ran may_be) =
       subst (λ (o : Outcome). Chain start (Here past [] ((key, o) ∷ []))) (sym may_be.by_table)
       (more c (next_ends held (ap oldest (sym s.same) ∙ may_be.oldest_first refl ran)))
+  step-chain start _ _ c (child_gathered gathers way held on few ran may_be) = absurd gathers
   step-chain start _ _ c ends_recorded = more c next_settles
   step-chain start _ _ c (kill_child ran free) = c
 

@@ -21,7 +21,7 @@ use Rattle.recovery_manager.specs.Managed.{Managed, plan_of, past_of, disk_of, R
 use Rattle.job_starter_drive.specs.declared.Call.{Call}
 use Rattle.job_starter_drive.specs.declared.driving.DriveFault.{DriveFault}
 use Rattle.job_starter_drive.specs.declared.driving.DriveFault.TheVariants as drives
-use Rattle.job_starter_drive.specs.Calls.{AllowsNoMore}
+use Rattle.job_starter_drive.specs.Calls.{AllowsNoMore, Telling}
 use Rattle.job_starter_drive.specs.Causes.{IsOfRun, IsDriveFault, records_refused}
 use Rattle.job_starter_drive.specs.Drives.{most_at_once, Standing, At, drive_records, calls_of, limits_of, IsStep, ends_recorded, Goes, no_step, one_more, IsStoppedAt, end_refused}
 use Rattle.job_starter_drive.specs.Moments.{IsOlderPart, IsMore, MayHold, MayStand, ReadsBy, IsMomentFrom, IsLastFrom, AtAnyMoment, StaysAcknowledged, CountsOn}
@@ -34,26 +34,26 @@ use Rattle.job_starter_drive.proofs.Walks.{goes-then}
 
 -- a disk, and what holds of every disk
 module _ {D : Type 0} (disks : Ghosts D) where
-  abbrev pub Stretch : Limits → Plan → (List Call → Key → Outcome → Type 0) → (List Call → Key → Outcome → Type 0) → ℕ → ℕ → Managed D → Managed D → Standing → Standing → Type 0
+  abbrev pub Stretch : Limits → Plan → Telling → Telling → ℕ → ℕ → Managed D → Managed D → Standing → Standing → Type 0
   Stretch limits plan may may' before now old new from to = IsStretch disks limits plan may may' before now old new from to
 
-  abbrev pub Cut : Limits → Plan → (List Call → Key → Outcome → Type 0) → (List Call → Key → Outcome → Type 0) → ℕ → ℕ → Managed D → Managed D → Standing → List Call → DriveFault → Type 0
+  abbrev pub Cut : Limits → Plan → Telling → Telling → ℕ → ℕ → Managed D → Managed D → Standing → List Call → DriveFault → Type 0
   Cut limits plan may may' before now old new from last fault = IsCutShort disks limits plan may may' before now old new from last fault
 
   -- of the same limits and plan, stated otherwise
-  pub stretch-at : (limits limits' : Limits) → limits' ≡ limits → (plan plan' : Plan) → plan' ≡ plan → (may may' : List Call → Key → Outcome → Type 0) (before now : ℕ) (old new : Managed D) (from to : Standing)
+  pub stretch-at : (limits limits' : Limits) → limits' ≡ limits → (plan plan' : Plan) → plan' ≡ plan → (may may' : Telling) (before now : ℕ) (old new : Managed D) (from to : Standing)
       → Stretch limits' plan' may may' before now old new from to → Stretch limits plan may may' before now old new from to
   stretch-at limits limits' same_limits plan plan' same_plan may may' before now old new from to s =
       subst (λ (l : Limits). Stretch l plan may may' before now old new from to) same_limits
       (subst (λ (p : Plan). Stretch limits' p may may' before now old new from to) same_plan s)
 
-  pub cut-at : (limits limits' : Limits) → limits' ≡ limits → (plan plan' : Plan) → plan' ≡ plan → (may may' : List Call → Key → Outcome → Type 0) (before now : ℕ) (old new : Managed D) (from : Standing) (last : List Call) (fault : DriveFault)
+  pub cut-at : (limits limits' : Limits) → limits' ≡ limits → (plan plan' : Plan) → plan' ≡ plan → (may may' : Telling) (before now : ℕ) (old new : Managed D) (from : Standing) (last : List Call) (fault : DriveFault)
       → Cut limits' plan' may may' before now old new from last fault → Cut limits plan may may' before now old new from last fault
   cut-at limits limits' same_limits plan plan' same_plan may may' before now old new from last fault s =
       subst (λ (l : Limits). Cut l plan may may' before now old new from last fault) same_limits
       (subst (λ (p : Plan). Cut limits' p may may' before now old new from last fault) same_plan s)
 
-  module _ (limits : Limits) (plan : Plan) (may may' may'' : List Call → Key → Outcome → Type 0) (before between now : ℕ) (old mid new : Managed D) (from via : Standing)
+  module _ (limits : Limits) (plan : Plan) (may may' may'' : Telling) (before between now : ℕ) (old mid new : Managed D) (from via : Standing)
       (first : Stretch limits plan may may' before between old mid from via) where
     -- one stretch behind another
     pub stretch-then : (to : Standing) → Stretch limits plan may' may'' between now mid new via to → Stretch limits plan may may'' before now old new from to
@@ -74,7 +74,7 @@ module _ {D : Type 0} (disks : Ghosts D) where
       disk = keeps_on disks old mid new first.disk second.disk;
       counts = counts_on old mid new first.counts second.counts;
       unrefused = second.unrefused ∙ first.unrefused;
-      allows_no_more = λ call_log key outcome is. first.allows_no_more call_log key outcome (second.allows_no_more call_log key outcome is);
+      allows_no_more = ((λ call_log key outcome is. first.allows_no_more.0 call_log key outcome (second.allows_no_more.0 call_log key outcome is)), (λ is. first.allows_no_more.1 (second.allows_no_more.1 is)));
     }
 
     -- and one that was cut short
@@ -103,11 +103,11 @@ module _ {D : Type 0} (disks : Ghosts D) where
       disk = keeps_on disks old mid new first.disk second.disk;
       later = (let later = second.later in let same = first.unrefused in omega (arith, later, same));
       refused = fault-before disks before between now old mid new fault first.unrefused first.disk first.counts second.refused;
-      allows_no_more = λ call_log key outcome is. first.allows_no_more call_log key outcome (second.allows_no_more call_log key outcome is);
+      allows_no_more = ((λ call_log key outcome is. first.allows_no_more.0 call_log key outcome (second.allows_no_more.0 call_log key outcome is)), (λ is. first.allows_no_more.1 (second.allows_no_more.1 is)));
     }
 
   -- by the limits and the plan that the manager has then
-  module _ (limits : Limits) (plan : Plan) (may may' may'' : List Call → Key → Outcome → Type 0) (before between now : ℕ) (old mid new : Managed D) (from via : Standing)
+  module _ (limits : Limits) (plan : Plan) (may may' may'' : Telling) (before between now : ℕ) (old mid new : Managed D) (from via : Standing)
       (first : Stretch limits plan may may' before between old mid from via) where
     pub stretch-on : (to : Standing) → Stretch (limits_of mid) (plan_of mid) may' may'' between now mid new via to → Stretch limits plan may may'' before now old new from to
     stretch-on to second =
@@ -120,13 +120,13 @@ module _ {D : Type 0} (disks : Ghosts D) where
         (cut-at limits (limits_of mid) first.limits_are plan (plan_of mid) first.plan_is may' may'' between now mid new via last fault second)
 
   -- a stretch to the records that the manager has
-  pub stretch-here : (limits : Limits) (plan : Plan) (may may' : List Call → Key → Outcome → Type 0) (before now : ℕ) (old new : Managed D) (from : Standing) (past : List Record) (call_log : List Call) (keys : List Key) (owed : List (Key × Outcome))
+  pub stretch-here : (limits : Limits) (plan : Plan) (may may' : Telling) (before now : ℕ) (old new : Managed D) (from : Standing) (past : List Record) (call_log : List Call) (keys : List Key) (owed : List (Key × Outcome))
       → Stretch limits plan may may' before now old new from (At past call_log keys owed) → Stretch limits plan may may' before now old new from (At (past_of new) call_log keys owed)
   stretch-here limits plan may may' before now old new from past call_log keys owed s =
       subst (λ (l : List Record). Stretch limits plan may may' before now old new from (At l call_log keys owed)) (sym s.here) s
 
   module _ (only_now : (disk : D) (c : List ℕ) → disks.honest disk → disks.left_since disk (disks.moment disk) c → disks.may_leave disk c)
-      (limits : Limits) (plan : Plan) (may may' : List Call → Key → Outcome → Type 0) (before now : ℕ) (manager : Managed D) (from : Standing)
+      (limits : Limits) (plan : Plan) (may may' : Telling) (before now : ℕ) (manager : Managed D) (from : Standing)
       (plan_is : plan_of manager ≡ plan) (limits_are : limits_of manager ≡ limits) (lawful : is_lawful plan (past_of manager) ≡ true)
       (allows_no_more : AllowsNoMore may may') where
     -- steps by which nothing is written
@@ -176,7 +176,7 @@ module _ {D : Type 0} (disks : Ghosts D) where
 
   -- a call of the manager that records
   module _ (only_now : (disk : D) (c : List ℕ) → disks.honest disk → disks.left_since disk (disks.moment disk) c → disks.may_leave disk c)
-      (limits : Limits) (plan : Plan) (may : List Call → Key → Outcome → Type 0) (count : ℕ) (old new : Managed D) (call_log : List Call) (keys : List Key) (owed : List (Key × Outcome)) (to : Standing)
+      (limits : Limits) (plan : Plan) (may : Telling) (count : ℕ) (old new : Managed D) (call_log : List Call) (keys : List Key) (owed : List (Key × Outcome)) (to : Standing)
       (plan_is : plan_of new ≡ plan) (limits_are : limits_of new ≡ limits) (calls_are : calls_of to ≡ call_log)
       (lawful : is_lawful plan (past_of old) ≡ true) (lawful_then : is_lawful plan (drive_records to) ≡ true)
       (step : IsStep limits plan may (At (past_of old) call_log keys owed) to)
@@ -213,7 +213,7 @@ module _ {D : Type 0} (disks : Ghosts D) where
       disk = disk;
       counts = counts;
       unrefused = refl;
-      allows_no_more = λ call_log key outcome is. is;
+      allows_no_more = ((λ call_log key outcome is. is), (λ is. is));
     }
 
     -- it was refused
@@ -250,7 +250,7 @@ module _ {D : Type 0} (disks : Ghosts D) where
         lawful = (λ j. may_follow_all (plan_is j) (kept j) entries) ∙ follows;
         cause = why;
       });
-      allows_no_more = λ call_log key outcome is_told. is_told;
+      allows_no_more = ((λ call_log key outcome is_told. is_told), (λ is_told. is_told));
     }
       where
         more : IsMore (past_of new) (drive_records to)
@@ -276,7 +276,7 @@ unwritten disks past fits entries old new _ going follows (may_not_follow_all on
 unwritten disks past fits entries old new _ going follows (not_written on fit why) = why
 
 -- what is owed is recorded
-pub settle-step : (limits : Limits) (plan : Plan) (may : List Call → Key → Outcome → Type 0) (past : List Record) (call_log : List Call) (owed : List (Key × Outcome)) → 0 < length owed
+pub settle-step : (limits : Limits) (plan : Plan) (may : Telling) (past : List Record) (call_log : List Call) (owed : List (Key × Outcome)) → 0 < length owed
     → IsStep limits plan may (At past call_log [] owed) (At (added past (up_to_abort plan past (ends_of owed))) call_log [] [])
 settle-step limits plan may past call_log [] some = absurd (omega (arith, some))
 settle-step limits plan may past call_log (end ∷ owed) some = ends_recorded

@@ -97,7 +97,7 @@ ends-own plan past (end ∷ ends) = go (stops plan past (End end.0 end.1)) (ends
     go false rest = All-cons IsOfRun (End end.0 end.1) (up_to_abort plan (End end.0 end.1 ∷ past) (ends_of ends)) tt rest
 
 -- an ending that did not abort the run takes its phase away, one that did takes all
-end-kept : (plan : Plan) (past : List Record) (key : Key) (outcome : Outcome) → stops plan past (End key outcome) ≡ false
+pub end-kept : (plan : Plan) (past : List Record) (key : Key) (outcome : Outcome) → stops plan past (End key outcome) ≡ false
     → outstanding plan (End key outcome ∷ past) ≡ without key (outstanding plan past)
 end-kept plan past key outcome on = λ j. if on j then [] else without key (outstanding plan past)
 

@@ -14,24 +14,25 @@ use Rattle.sched_core.specs.Choices.{IsChoice}
 use Rattle.job_starter_drive.specs.declared.Call.{Call}
 use Rattle.job_starter_drive.specs.declared.Call.TheVariants as calls
 use Rattle.job_starter_drive.specs.declared.Started.{Started}
-use Rattle.job_starter_drive.specs.Calls.{snapshot_of, AllowsNoMore}
+use Rattle.job_starter_drive.specs.Calls.{snapshot_of, AllowsNoMore, Telling}
 use Rattle.job_starter_drive.specs.Moments.{IsOlderPart}
-use Rattle.job_starter_drive.specs.Drives.{Standing, at_rest, IsSpawned, IsStep, launch_round, skip_noop, spawn_child, spawn_failed, child_exits, ends_recorded, kill_child, final_verdict, Goes, no_step, one_more, Starts, none_started, one_start, Kills, nobody, one_killed}
+use Rattle.job_starter_drive.specs.Drives.{Standing, at_rest, IsSpawned, IsStep, launch_round, skip_noop, spawn_child, spawn_failed, child_exits, child_gathered, ends_recorded, kill_child, final_verdict, Goes, no_step, one_more, Starts, none_started, one_start, Kills, nobody, one_killed}
 
 -- kills are steps where nothing is outstanding
-pub goes-kills : (limits : Limits) (plan : Plan) (may : List Call → Key → Outcome → Type 0) (past : List Record) (call_log last : List Call)
+pub goes-kills : (limits : Limits) (plan : Plan) (may : Telling) (past : List Record) (call_log last : List Call)
     → outstanding plan past ≡ [] → Kills call_log last → Goes limits plan may (at_rest past call_log) (at_rest past last)
 goes-kills limits plan may past call_log _ empty nobody = no_step
 goes-kills limits plan may past call_log _ empty (one_killed {key = key} k ran) =
     one_more (goes-kills limits plan may past call_log _ empty k) (kill_child ran (ap (is_among key) empty))
 
-module _ (limits : Limits) (plan : Plan) (may may' : List Call → Key → Outcome → Type 0) (t : AllowsNoMore may may') where
+module _ (limits : Limits) (plan : Plan) (may may' : Telling) (t : AllowsNoMore may may') where
   step-fewer : (from to : Standing) → IsStep limits plan may' from to → IsStep limits plan may from to
   step-fewer _ _ (launch_round lawful going step round) = launch_round lawful going step round
   step-fewer _ _ (skip_noop quiet) = skip_noop quiet
-  step-fewer _ _ (spawn_child {key = key} child command may_run) = spawn_child child command (may_run.0, may_run.1, t _ key may_run.0 may_run.2)
-  step-fewer _ _ (spawn_failed {key = key} child command may_be) = spawn_failed child command (t _ key NoStart may_be)
-  step-fewer _ _ (child_exits {key = key} {outcome = outcome} step held ran may_be) = child_exits step held ran (t _ key outcome may_be)
+  step-fewer _ _ (spawn_child {key = key} child command may_run) = spawn_child child command (may_run.0, may_run.1, t.0 _ key may_run.0 may_run.2)
+  step-fewer _ _ (spawn_failed {key = key} child command may_be) = spawn_failed child command (t.0 _ key NoStart may_be)
+  step-fewer _ _ (child_exits {key = key} {outcome = outcome} step held ran may_be) = child_exits step held ran (t.0 _ key outcome may_be)
+  step-fewer _ _ (child_gathered {key = key} {outcome = outcome} gathers way held on few ran may_be) = child_gathered (t.1 gathers) way held on few ran (t.0 _ key outcome may_be)
   step-fewer _ _ ends_recorded = ends_recorded
   step-fewer _ _ (kill_child ran free) = kill_child ran free
 

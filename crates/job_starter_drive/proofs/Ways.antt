@@ -1,5 +1,5 @@
 -- Within a round: what is outstanding, what runs and what is owed.
-use Rattle.std.proofs.Common.{arith, ◌≡◌, ◌==◌, ◌≤◌, ◌++◌, ℕ, Bool, true, false, ◌||◌, List, [], ◌∷◌, length, refl, sym, ap, ◌∙◌, subst, length-append, if◌then◌else◌}
+use Rattle.std.proofs.Common.{arith, ◌≡◌, ◌==◌, ◌<◌, ◌≤◌, ◌++◌, ℕ, Bool, true, false, ◌||◌, List, [], ◌∷◌, length, refl, sym, ap, ◌∙◌, subst, length-append, if◌then◌else◌}
 use Rattle.std.specs.List.{list_all}
 use Rattle.std.proofs.lemmas.Bool.{and_parts, and_from, false≢true}
 use Rattle.node_machine.specs.declared.Key.{Key}
@@ -10,7 +10,8 @@ use Rattle.std.specs.declared.snapshot.Snapshot.{Snapshot}
 use Rattle.run_plan.specs.Plan.{Plan, node_at}
 use Rattle.run_plan_node.specs.Commands.{starts_child}
 use Rattle.node_machine.specs.declared.Record.{Record}
-use Rattle.sched_core.specs.Run.{is_lawful, is_among, is_same, outstanding, without}
+use Rattle.node_machine.specs.declared.Record.TheVariants.{End}
+use Rattle.sched_core.specs.Run.{is_lawful, is_open, may_follow, is_among, is_same, outstanding, without}
 use Rattle.sched_core.specs.Core.{has_key_of}
 use Rattle.sched_core.specs.Ahead.{launch_of, launched, ended_in}
 use Rattle.sched_core.proofs.Keys.{same-self, same-eq}
@@ -21,7 +22,7 @@ use Rattle.job_starter_drive.specs.declared.Call.TheVariants as calls
 use Rattle.job_starter_drive.specs.declared.Started.TheVariants.{Running}
 use Rattle.job_starter_drive.specs.Calls.{running}
 use Rattle.job_starter_drive.specs.Drives.{most_at_once, with_launched, without_all, MayEndAll, AreInStep, AreUnderWay}
-use Rattle.job_starter_drive.proofs.Steps.{among-node, child-ends, children-start}
+use Rattle.job_starter_drive.proofs.Steps.{among-node, child-ends, children-start, end-may-follow}
 
 -- what starts a child
 abbrev pub starting : Plan → Key → Bool
@@ -172,6 +173,29 @@ module _ (plan : Plan) (past : List Record) where
         ends = (among, possible, child-ends (node_at plan key.node) key.phase outcome (children-start plan (running call_log) key all ran), tt);
         few = omega arith;
       }
+
+  module _ (call_log : List Call) (owed : List (Key × Outcome)) (way : AreUnderWay plan past call_log [] owed) (key : Key) (outcome : Outcome)
+      (ran : is_among key (running call_log) ≡ true) (possible : is_possible outcome ≡ true) where
+    still : is_among key (without_all (ended_in owed) (outstanding plan past)) ≡ true
+    still = ap (is_among key) way.same ∙ ran
+
+    fits : may_end_with (node_at plan key.node).course key.phase outcome ≡ true
+    fits = child-ends (node_at plan key.node) key.phase outcome (children-start plan (running call_log) key way.children ran)
+
+    -- behind endings that are owed one more child was reported to have ended
+    pub way-gathered : length owed < most_at_once → AreUnderWay plan past (calls.Ended key outcome ∷ call_log) [] (owed ++ (key, outcome) ∷ [])
+    way-gathered few = record {
+      same = ap (λ (l : List Key). without_all l (outstanding plan past)) (ended-more owed (key, outcome))
+          ∙ without-all-more (ended_in owed) key (outstanding plan past)
+          ∙ ap (without key) way.same;
+      children = all-without (starting plan) key (running call_log) way.children;
+      ends = ends-more plan (outstanding plan past) owed key outcome way.ends still possible fits;
+      few = (let more = length-append owed ((key, outcome) ∷ []) in omega (arith, few, more));
+    }
+
+    -- by the records before all of them it may be recorded
+    pub way-follows : is_open past ≡ true → may_follow plan past (End key outcome) ≡ true
+    way-follows going = end-may-follow plan past key outcome going (among-left key (ended_in owed) (outstanding plan past) still) possible fits
 
   module _ (lawful : is_lawful plan past ≡ true) (call_log : List Call) (key : Key) (keys : List Key) (owed : List (Key × Outcome)) (way : AreUnderWay plan past call_log (key ∷ keys) owed) where
     -- the first of what is not yet handed over

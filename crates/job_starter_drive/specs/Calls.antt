@@ -1,10 +1,11 @@
 -- The calls of a starter that were answered, the newest first, and the children that run.
-use Rattle.std.specs.Prelude.{◌≢◌, List, [], ◌∷◌, Option, Some, None}
+use Rattle.std.specs.Prelude.{◌≡◌, ◌≢◌, List, [], ◌∷◌, Option, Some, None, IsTrue}
 use Rattle.std.specs.declared.snapshot.Snapshot.{Snapshot}
 use Rattle.node_machine.specs.declared.Key.{Key}
 use Rattle.node_machine.specs.declared.Outcome.{Outcome}
 use Rattle.node_machine.specs.declared.Outcome.TheVariants.{NoStart}
-use Rattle.sched_core.specs.Run.{without}
+use Rattle.node_machine.specs.Story.{is_possible}
+use Rattle.sched_core.specs.Run.{is_among, without}
 use Rattle.job_starter_drive.specs.declared.Call.{Call}
 use Rattle.job_starter_drive.specs.declared.Call.TheVariants as calls
 use Rattle.job_starter_drive.specs.declared.Started.{Started}
@@ -26,13 +27,33 @@ running (calls.Started key command answer ∷ call_log) = with_started key answe
 running (calls.Ended key outcome ∷ call_log) = without key (running call_log)
 running (calls.Killed key ∷ call_log) = without key (running call_log)
 
--- What may be returned now might have been returned before.
-abbrev pub AllowsNoMore : (List Call → Key → Outcome → Type 0) → (List Call → Key → Outcome → Type 0) → Type 0
-AllowsNoMore old new = (call_log : List Call) (key : Key) (outcome : Outcome) → new call_log key outcome → old call_log key outcome
+-- What a starter may report: which endings of the child of a key, after these calls; and whether it hands out endings that are at hand,
+-- one after another, before any is recorded.
+pub record Telling : Type 1 where
+  pub may_be : List Call → Key → Outcome → Type 0
+  pub gathers : Type 0
+
+-- children may come to any ending, and those at hand may be gathered
+abbrev pub any_ending : Telling
+any_ending = record { may_be = λ call_log key outcome. Unit {0}; gathers = Unit {0} }
+
+-- What may be told now might have been told before.
+abbrev pub AllowsNoMore : Telling → Telling → Type 0
+AllowsNoMore old new =
+    ((call_log : List Call) (key : Key) (outcome : Outcome) → new.may_be call_log key outcome → old.may_be call_log key outcome)
+    × (new.gathers → old.gathers)
+
+-- An answer that the child of a key came to this end, be it waited for or at hand: the child ran, it may have come to this end, and of
+-- all calls this one is the newest.
+pub record IsReportedEnding (may : Telling) (call_log later_log : List Call) (ended : Key × Outcome) : Type 0 where
+  pub entry : later_log ≡ calls.Ended ended.0 ended.1 ∷ call_log
+  pub ran : IsTrue (is_among ended.0 (running call_log))
+  pub may_be : may.may_be call_log ended.0 ended.1
+  pub possible : IsTrue (is_possible ended.1)
 
 -- A child that runs may come to another ending than that it did not start.
-abbrev pub MayRun : (List Call → Key → Outcome → Type 0) → List Call → Key → Type 0
-MayRun may call_log key = (outcome : Outcome) × (outcome ≢ NoStart) × may call_log key outcome
+abbrev pub MayRun : Telling → List Call → Key → Type 0
+MayRun may call_log key = (outcome : Outcome) × (outcome ≢ NoStart) × may.may_be call_log key outcome
 
 -- the key that stands last: of the children that run, the one that was started first
 abbrev pub oldest : List Key → Option Key

@@ -1,6 +1,6 @@
 -- What a run hands over to a starter, and what it records of the answers. Records and calls stand the newest first, what is launched
 -- or ended together the oldest first.
-use Rattle.std.specs.Prelude.{◌≡◌, ◌<◌, ◌≤◌, ◌+◌, ◌⊎◌, ℕ, Bool, not, ◌&&◌, List, [], ◌∷◌, ◌++◌, length, Option, Some, None, Ok, IsTrue, IsFalse}
+use Rattle.std.specs.Prelude.{◌≡◌, ◌<◌, ◌≤◌, ◌+◌, ◌⊎◌, ℕ, Bool, true, not, ◌&&◌, List, [], ◌∷◌, ◌++◌, length, Option, Some, None, Ok, IsTrue, IsFalse}
 use Rattle.std.specs.List.{list_all}
 use Rattle.std.specs.declared.snapshot.Snapshot.{Snapshot}
 use Rattle.node_machine.specs.declared.Key.{Key}
@@ -14,10 +14,12 @@ use Rattle.run_plan_node.specs.Commands.{phase_command, starts_child}
 use Rattle.sched_core.specs.declared.Choice.{Choice}
 use Rattle.sched_core.specs.declared.Choice.TheVariants as choices
 use Rattle.node_machine.specs.declared.Record.{Record}
+use Rattle.node_machine.specs.declared.Record.TheVariants.{End}
 use Rattle.sched_core.specs.Run.{outstanding, is_among, is_nothing, is_aborted, is_open, is_lawful, without}
 use Rattle.sched_core.specs.Bound.{records_left}
 use Rattle.sched_core.specs.Ahead.{launched, AreChosen, NothingToStart, added, up_to_abort, ends_of, ended_in}
 use Rattle.sched_core.specs.Commands.{facts_in}
+use Rattle.sched_core.specs.Looks.{stops}
 use Rattle.recovery_manager.specs.Managed.{Managed}
 use Rattle.recovery_manager.specs.declared.fault.ManagerFault.{ManagerFault}
 use Rattle.recovery_manager.specs.declared.fault.ManagerFault.TheVariants as faults
@@ -27,7 +29,7 @@ use Rattle.job_starter_drive.specs.declared.Started.{Started}
 use Rattle.job_starter_drive.specs.declared.Started.TheVariants.{Running, NotStarted}
 use Rattle.job_starter_drive.specs.declared.driving.DriveFault.{DriveFault}
 use Rattle.job_starter_drive.specs.declared.driving.DriveFault.TheVariants as drives
-use Rattle.job_starter_drive.specs.Calls.{running, snapshot_of, MayRun}
+use Rattle.job_starter_drive.specs.Calls.{running, snapshot_of, MayRun, Telling}
 
 -- the limits that a manager keeps to
 abbrev pub limits_of : {D : Type 0} → Managed D → Limits
@@ -105,12 +107,18 @@ drive_records (At past call_log keys owed) = past
 abbrev pub calls_of : Standing → List Call
 calls_of (At past call_log keys owed) = call_log
 
+-- recorded one after another, none of these endings aborts the run
+abbrev pub none_aborts : Plan → List Record → List (Key × Outcome) → Bool
+none_aborts plan past [] = true
+none_aborts plan past (end ∷ owed) = not (stops plan past (End end.0 end.1)) && none_aborts plan (End end.0 end.1 ∷ past) owed
+
 -- One step of a run. A round is launched, while the run goes on and the children that run are the outstanding phases. Of its phases the
 -- first is handed over with its command, and its child starts, or doesn't: then its end with NoStart is owed; the job of a NOOP is not
 -- handed over, and its end with Exit 0 is owed. Once all are handed over, what is owed is recorded together, up to the first that aborts
--- the run. Where nothing may be launched, a child is reported to have ended, which is owed then. Or a child is killed whose phase is not
--- outstanding.
-pub data IsStep (limits : Limits) (plan : Plan) (may : List Call → Key → Outcome → Type 0) : Standing → Standing → Type 0 where
+-- the run. Where nothing may be launched, a child is reported to have ended, which is owed then. Further endings that are at hand are
+-- gathered after it, 64 in all, where none before them aborts the run and by the records before all of them nothing may be launched.
+-- Or a child is killed whose phase is not outstanding.
+pub data IsStep (limits : Limits) (plan : Plan) (may : Telling) : Standing → Standing → Type 0 where
   launch_round : {past : List Record} {call_log : List Call} {keys : List Key} → IsTrue (is_lawful plan past) → IsTrue (is_open past)
       → AreInStep plan past call_log → IsRoundOf limits plan past keys
       → IsStep limits plan may (At past call_log [] []) (At (launched past keys) call_log keys [])
@@ -121,24 +129,29 @@ pub data IsStep (limits : Limits) (plan : Plan) (may : List Call → Key → Out
       → IsTrue (starts_child (node_at plan key.node) key.phase) → IsCommandIn plan past key command → MayRun may call_log key
       → IsStep limits plan may (At past call_log (key ∷ keys) owed) (At past (calls.Started key (snapshot_of command) Running ∷ call_log) keys owed)
   spawn_failed : {past : List Record} {call_log : List Call} {key : Key} {keys : List Key} {owed : List (Key × Outcome)} {command : ChildCommand}
-      → IsTrue (starts_child (node_at plan key.node) key.phase) → IsCommandIn plan past key command → may call_log key NoStart
+      → IsTrue (starts_child (node_at plan key.node) key.phase) → IsCommandIn plan past key command → may.may_be call_log key NoStart
       → IsStep limits plan may (At past call_log (key ∷ keys) owed)
       (At past (calls.Started key (snapshot_of command) NotStarted ∷ call_log) keys (owed ++ (key, NoStart) ∷ []))
   child_exits : {past : List Record} {call_log : List Call} {key : Key} {outcome : Outcome} → AreInStep plan past call_log → NothingToStart limits plan past
-      → IsTrue (is_among key (running call_log)) → may call_log key outcome
+      → IsTrue (is_among key (running call_log)) → may.may_be call_log key outcome
       → IsStep limits plan may (At past call_log [] []) (At past (calls.Ended key outcome ∷ call_log) [] ((key, outcome) ∷ []))
+  child_gathered : {past : List Record} {call_log : List Call} {end : Key × Outcome} {owed : List (Key × Outcome)} {key : Key} {outcome : Outcome}
+      → may.gathers → AreUnderWay plan past call_log [] (end ∷ owed) → NothingToStart limits plan past
+      → IsTrue (none_aborts plan past (end ∷ owed)) → length (end ∷ owed) < most_at_once
+      → IsTrue (is_among key (running call_log)) → may.may_be call_log key outcome
+      → IsStep limits plan may (At past call_log [] (end ∷ owed)) (At past (calls.Ended key outcome ∷ call_log) [] ((end ∷ owed) ++ (key, outcome) ∷ []))
   ends_recorded : {past : List Record} {call_log : List Call} {end : Key × Outcome} {owed : List (Key × Outcome)}
       → IsStep limits plan may (At past call_log [] (end ∷ owed)) (At (added past (up_to_abort plan past (ends_of (end ∷ owed)))) call_log [] [])
   kill_child : {past : List Record} {call_log : List Call} {key : Key} → IsTrue (is_among key (running call_log)) → IsFalse (is_among key (outstanding plan past))
       → IsStep limits plan may (At past call_log [] []) (At past (calls.Killed key ∷ call_log) [] [])
 
 -- any number of steps
-pub data Goes (limits : Limits) (plan : Plan) (may : List Call → Key → Outcome → Type 0) (from : Standing) : Standing → Type 0 where
+pub data Goes (limits : Limits) (plan : Plan) (may : Telling) (from : Standing) : Standing → Type 0 where
   no_step : Goes limits plan may from from
   one_more : {between to : Standing} → Goes limits plan may from between → IsStep limits plan may between to → Goes limits plan may from to
 
 -- any number of steps from rest to rest
-abbrev pub Drives : Limits → Plan → (List Call → Key → Outcome → Type 0) → List Record → List Call → List Record → List Call → Type 0
+abbrev pub Drives : Limits → Plan → Telling → List Record → List Call → List Record → List Call → Type 0
 Drives limits plan may past call_log after last = Goes limits plan may (at_rest past call_log) (at_rest after last)
 
 -- the verdict of a choice to finish
@@ -147,9 +160,9 @@ final_verdict (choices.Finish verdict) = Some verdict
 final_verdict _ = None
 
 -- Where each fault stops a run. Memory was refused for a child, or for its command: it and those behind it in its round are launched
--- and not handed over. Memory was refused for the list of a round, or for that of the endings that it may owe: nothing of it is launched.
--- Where no ending was reported, nothing more may be launched and some phase is outstanding. The manager refused to record a round, or what
--- is owed.
+-- and not handed over. Memory was refused for the list of a round, or, as the call began, for that of the endings that will be owed:
+-- nothing is launched or waited for. Where no ending was reported, nothing more may be launched and some phase is outstanding. The manager
+-- refused to record a round, or what is owed.
 pub data IsStoppedAt (limits : Limits) (plan : Plan) : DriveFault → Standing → Type 0 where
   child_refused : {past : List Record} {call_log : List Call} {key : Key} {keys : List Key} {owed : List (Key × Outcome)}
       → IsTrue (starts_child (node_at plan key.node) key.phase) → IsStoppedAt limits plan drives.StartMemory (At past call_log (key ∷ keys) owed)
@@ -185,12 +198,12 @@ abbrev pub IsLaunched : Limits → Plan → List Record → List Record → Type
 IsLaunched limits plan before past = NothingToStart limits plan past ⊎ (IsFalse (is_aborted plan before) × AbortsAtLast plan past)
 
 -- Behind a crash: any number of steps. Of a round phases may be launched and not handed over, and endings known and not recorded.
-pub record IsHaltedFrom (limits : Limits) (plan : Plan) (may : List Call → Key → Outcome → Type 0) (from : Standing) (after : List Record) (last : List Call) : Type 0 where
+pub record IsHaltedFrom (limits : Limits) (plan : Plan) (may : Telling) (from : Standing) (after : List Record) (last : List Call) : Type 0 where
   pub keys : List Key
   pub owed : List (Key × Outcome)
   pub steps : Goes limits plan may from (At after last keys owed)
 
-abbrev pub IsHalted : Limits → Plan → (List Call → Key → Outcome → Type 0) → List Record → List Call → List Record → List Call → Type 0
+abbrev pub IsHalted : Limits → Plan → Telling → List Record → List Call → List Record → List Call → Type 0
 IsHalted limits plan may past call_log after last = IsHaltedFrom limits plan may (at_rest past call_log) after last
 
 -- the run was aborted between these records and those
@@ -207,14 +220,14 @@ pub record IsTurn (plan : Plan) (past after : List Record) (last : List Call) : 
   pub stays : IsTrue (is_aborted plan past) → IsTrue (is_aborted plan after)
 
 -- behind a fault: any number of steps, to where that fault stops a run
-pub record IsHaltedBy (limits : Limits) (plan : Plan) (may : List Call → Key → Outcome → Type 0) (past : List Record) (call_log : List Call) (fault : DriveFault) (after : List Record) (last : List Call) : Type 0 where
+pub record IsHaltedBy (limits : Limits) (plan : Plan) (may : Telling) (past : List Record) (call_log : List Call) (fault : DriveFault) (after : List Record) (last : List Call) : Type 0 where
   pub keys : List Key
   pub owed : List (Key × Outcome)
   pub steps : Goes limits plan may (at_rest past call_log) (At after last keys owed)
   pub stop : IsStoppedAt limits plan fault (At after last keys owed)
 
 -- behind a fault: the same, and all children that still ran are killed
-pub record IsStopped (limits : Limits) (plan : Plan) (may : List Call → Key → Outcome → Type 0) (past : List Record) (call_log : List Call) (fault : DriveFault) (after : List Record) (last : List Call) : Type 0 where
+pub record IsStopped (limits : Limits) (plan : Plan) (may : Telling) (past : List Record) (call_log : List Call) (fault : DriveFault) (after : List Record) (last : List Call) : Type 0 where
   pub rest : List Call
   pub halted : IsHaltedBy limits plan may past call_log fault after rest
   pub kills : Kills rest last

@@ -11,15 +11,15 @@ use Rattle.sched_core.specs.Example.{key}
 use Rattle.job_starter_drive.specs.declared.Call.{Call}
 use Rattle.job_starter_drive.specs.declared.Call.TheVariants as calls
 use Rattle.job_starter_drive.specs.declared.Started.TheVariants.{Running}
-use Rattle.job_starter_drive.specs.Calls.{snapshot_of}
+use Rattle.job_starter_drive.specs.Calls.{snapshot_of, Telling}
 
 -- limits that let in any number
 abbrev pub unlimited : Limits
 unlimited = record { jobs = 0; pre = 0; post = 0; children = 0 }
 
 -- a starter whose children exit with 0
-abbrev pub exits_well : List Call → Key → Outcome → Type 0
-exits_well call_log key outcome = outcome ≡ Exit 0
+abbrev pub exits_well : Telling
+exits_well = record { may_be = λ call_log key outcome. outcome ≡ Exit 0; gathers = ⊥ }
 
 abbrev pub child_of_a : ChildCommand
 child_of_a = bare_command [] (codes "a") []

@@ -5,5 +5,6 @@ pub mod Drives
 pub mod Moments
 pub mod Causes
 pub mod Spawned
+pub mod Reported
 pub mod Stretches
 pub mod CallLogView

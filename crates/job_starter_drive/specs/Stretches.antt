@@ -8,14 +8,14 @@ use Rattle.run_plan.specs.Plan.{Plan}
 use Rattle.recovery_manager.specs.Managed.{Managed, plan_of, past_of, KeepsDisk}
 use Rattle.job_starter_drive.specs.declared.Call.{Call}
 use Rattle.job_starter_drive.specs.declared.driving.DriveFault.{DriveFault}
-use Rattle.job_starter_drive.specs.Calls.{AllowsNoMore}
+use Rattle.job_starter_drive.specs.Calls.{AllowsNoMore, Telling}
 use Rattle.job_starter_drive.specs.Drives.{Standing, At, drive_records, calls_of, limits_of, Goes, IsStoppedAt}
 use Rattle.job_starter_drive.specs.Moments.{IsMomentFrom, IsLastFrom, AtAnyMoment, AtTheEnd, StaysAcknowledged, UnlessDiskFault, CountsOn}
 use Rattle.job_starter_drive.specs.Causes.{IsDriveFault}
 
 -- A run went on from one standing to another, one step behind another: its manager has the records. A crash at any moment leaves what
 -- was recorded until some moment of it, and what it recorded is in every later image. The starter refused nothing.
-pub record IsStretch {D : Type 0} (disks : Ghosts D) (limits : Limits) (plan : Plan) (may may_now : List Call → Key → Outcome → Type 0) (before now : ℕ) (old new : Managed D) (from to : Standing) : Type 0 where
+pub record IsStretch {D : Type 0} (disks : Ghosts D) (limits : Limits) (plan : Plan) (may may_now : Telling) (before now : ℕ) (old new : Managed D) (from to : Standing) : Type 0 where
   pub plan_is : plan_of new ≡ plan
   pub limits_are : limits_of new ≡ limits
   pub here : past_of new ≡ drive_records to
@@ -29,7 +29,7 @@ pub record IsStretch {D : Type 0} (disks : Ghosts D) (limits : Limits) (plan : P
 
 -- A stretch that a fault cut short: steps, to where that fault stops a run. A crash at any moment leaves what was recorded until some
 -- moment of it, or, where the disk refused records, perhaps those too; behind the call none of its records is missing.
-pub record IsCutShort {D : Type 0} (disks : Ghosts D) (limits : Limits) (plan : Plan) (may may_now : List Call → Key → Outcome → Type 0) (before now : ℕ) (old new : Managed D) (from : Standing) (last : List Call)
+pub record IsCutShort {D : Type 0} (disks : Ghosts D) (limits : Limits) (plan : Plan) (may may_now : Telling) (before now : ℕ) (old new : Managed D) (from : Standing) (last : List Call)
     (fault : DriveFault) : Type 0 where
   pub plan_is : plan_of new ≡ plan
   pub limits_are : limits_of new ≡ limits

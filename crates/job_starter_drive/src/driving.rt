@@ -1,22 +1,25 @@
 //! A run: each launch is handed over to a starter, and each ending recorded as it was reported.
-ghost use Rattle.std.specs.Prelude.{◌≡◌, [], ◌≤◌, None, IsTrue, IsFalse, IfOk, IfErr, IfSome, IfNone, OnOk, OnErr};
+ghost use Rattle.std.specs.Prelude.{◌≡◌, [], ◌∷◌, ◌≤◌, ◌<◌, length, None, IsTrue, IsFalse, IfOk, IfErr, IfSome, IfNone, OnOk, OnErr};
+ghost use Rattle.std.specs.Vec.{vec_capacity};
 ghost use Rattle.sched_core.specs.Run.{is_aborted, is_over, is_open, is_nothing, outstanding, may_follow, table_of};
 ghost use Rattle.sched_core.specs.Fate.{AreFates, shown};
 ghost use Rattle.sched_core.specs.Choices.{IsChoice};
 ghost use Rattle.sched_core.specs.Ahead.{NothingToStart};
 ghost use Rattle.recovery_manager.specs.Managed.{plan_of, past_of, KeepsDisk};
 ghost use Rattle.job_starter_drive.specs.Calls.{running, AllowsNoMore};
-ghost use Rattle.job_starter_drive.specs.Drives.{limits_of, at_rest, AreInStep, IsNearerEnd, IsTurn, final_verdict, Drives, Kills, IsStopped};
+ghost use Rattle.job_starter_drive.specs.Drives.{limits_of, most_at_once, At, at_rest, Goes, AreInStep, AreUnderWay, IsNearerEnd, IsTurn, final_verdict, Drives, Kills, IsStopped};
 ghost use Rattle.job_starter_drive.specs.Causes.{IsDriveFault};
 ghost use Rattle.job_starter_drive.specs.Moments.{fault_in, IsMomentOfRun, IsLastMoment, AtAnyMoment, AtTheEnd, UnlessDiskFault, StaysAcknowledged, CountsOn};
 ghost use Rattle.job_starter_drive.specs.Stretches.{IsStretch, IsCutShort};
 
 use crate::Starter;
 use crate::keys::key_at;
-use crate::records::{chosen, goes_on, is_aborted, keeps_the_law, record_ends};
+use crate::records::{
+    MOST_AT_ONCE, aborts_with, chosen, goes_on, is_aborted, keeps_the_law, record_reported,
+};
 use crate::rounds::{is_new, launch_round};
 use event_journal_log::Disk;
-use node_machine::{Record, Verdict};
+use node_machine::{Key, Outcome, Record, Verdict};
 use recovery_manager::{Manager, ManagerFault};
 use run_plan::Plan;
 use sched_core::Choice;
@@ -63,16 +66,54 @@ fn kill_all<S: Starter>(starter: &mut S)
     }
 }
 
-/// Waits until a child ends, and records it.
-fn end_one<D: Disk + Drop, S: Starter>(
+/// Adds to the ending that is owed those that are at hand, up to the first that aborts the run, as many as are recorded together.
+fn gather<D: Disk + Drop, S: Starter>(
+    manager: &Manager<'_, D>,
+    starter: &mut S,
+    end: (Key, Outcome),
+    owed: &mut Vec<(Key, Outcome)>,
+)
+    requires one { owed.old.items ≡ end ∷ [] }
+    requires room { most_at_once ≤ vec_capacity owed.old }
+    requires going { IsTrue (is_open (past_of manager.now)) }
+    requires held { NothingToStart (limits_of manager.now) (plan_of manager.now) (past_of manager.now) }
+    requires under_way { AreUnderWay (plan_of manager.now) (past_of manager.now) (S.call_log starter.old) [] owed.old.items }
+    ensures room { vec_capacity owed.old ≤ vec_capacity owed.new }
+    ensures some { 0 < length owed.new.items }
+    ensures under_way { AreUnderWay (plan_of manager.now) (past_of manager.now) (S.call_log starter.new) [] owed.new.items }
+    ensures steps { Goes (limits_of manager.now) (plan_of manager.now) (S.may_return starter.old)
+        (At (past_of manager.now) (S.call_log starter.old) [] owed.old.items)
+        (At (past_of manager.now) (S.call_log starter.new) [] owed.new.items) }
+    ensures counts { S.faults starter.new ≡ S.faults starter.old }
+    ensures may { AllowsNoMore (S.may_return starter.old) (S.may_return starter.new) }
+{
+    keeps_the_law(manager);
+    let (first, how) = end;
+    let mut aborts = aborts_with(manager, &first, how);
+    while !aborts && owed.len() < MOST_AT_ONCE {
+        match starter.take_ended() {
+            Some((key, outcome)) => {
+                aborts = aborts_with(manager, &key, outcome);
+                owed.push((key, outcome)).unwrap();
+            }
+            None => return,
+        }
+    }
+}
+
+/// Waits until a child ends, and records that together with the endings that are at hand then. The list has room for them.
+fn end_some<D: Disk + Drop, S: Starter>(
     alloc: Global,
     manager: &mut Manager<'_, D>,
     starter: &mut S,
+    owed: &mut Vec<(Key, Outcome)>,
 ) -> Result<(), DriveFault>
     requires in_step { AreInStep (plan_of manager.old) (past_of manager.old) (S.call_log starter.old) }
     requires held { NothingToStart (limits_of manager.old) (plan_of manager.old) (past_of manager.old) }
     requires some { IsFalse (is_nothing (outstanding (plan_of manager.old) (past_of manager.old))) }
     requires going { IsTrue (is_open (past_of manager.old)) }
+    requires room { most_at_once ≤ vec_capacity owed.old }
+    ensures room { vec_capacity owed.old ≤ vec_capacity owed.new }
     ensures nearer { OnOk result (IsNearerEnd (plan_of manager.old) (past_of manager.old) (past_of manager.new)) }
     ensures turn { OnOk result (IsTurn (plan_of manager.old) (past_of manager.old) (past_of manager.new) (S.call_log starter.new)) }
     ensures went { OnOk result (IsStretch D.Disk
@@ -85,10 +126,15 @@ fn end_one<D: Disk + Drop, S: Starter>(
         (at_rest (past_of manager.old) (S.call_log starter.old)) (S.call_log starter.new)) }
 {
     keeps_the_law(manager);
-    match starter.wait_any() {
-        Ok(end) => record_ends(alloc, manager, starter, &[end]),
-        Err(_) => Err(DriveFault::WaitFault),
-    }
+    let end = match starter.wait_any() {
+        Ok(end) => end,
+        Err(_) => return Err(DriveFault::WaitFault),
+    };
+    owed.clear();
+    owed.push(end).unwrap();
+    gather(manager, starter, end, owed);
+    starter.will_record();
+    record_reported(alloc, manager, starter, owed)
 }
 
 /// The verdict of a choice to finish.
@@ -107,6 +153,7 @@ fn act<D: Disk + Drop, S: Starter>(
     manager: &mut Manager<'_, D>,
     plan: &Plan,
     starter: &mut S,
+    owed: &mut Vec<(Key, Outcome)>,
     choice: Choice,
 ) -> Result<(), DriveFault>
     requires own { plan.now ≡ plan_of manager.old }
@@ -114,6 +161,8 @@ fn act<D: Disk + Drop, S: Starter>(
     requires chosen { IsChoice (limits_of manager.old) (plan_of manager.old) (past_of manager.old) choice }
     requires unending { final_verdict choice ≡ None }
     requires going { IsTrue (is_open (past_of manager.old)) }
+    requires room { most_at_once ≤ vec_capacity owed.old }
+    ensures room { vec_capacity owed.old ≤ vec_capacity owed.new }
     ensures nearer { OnOk result (IsNearerEnd (plan_of manager.old) (past_of manager.old) (past_of manager.new)) }
     ensures turn { OnOk result (IsTurn (plan_of manager.old) (past_of manager.old) (past_of manager.new) (S.call_log starter.new)) }
     ensures went { OnOk result (IsStretch D.Disk
@@ -127,7 +176,7 @@ fn act<D: Disk + Drop, S: Starter>(
 {
     match choice {
         Choice::Start(_) => launch_round(alloc, manager, plan, starter),
-        Choice::Wait => end_one(alloc, manager, starter),
+        Choice::Wait => end_some(alloc, manager, starter, owed),
         Choice::Finish(_) => unreachable!(),
     }
 }
@@ -139,10 +188,13 @@ fn turn<D: Disk + Drop, S: Starter>(
     manager: &mut Manager<'_, D>,
     plan: &Plan,
     starter: &mut S,
+    owed: &mut Vec<(Key, Outcome)>,
 ) -> Result<Option<Verdict>, DriveFault>
     requires own { plan.now ≡ plan_of manager.old }
     requires in_step { AreInStep (plan_of manager.old) (past_of manager.old) (S.call_log starter.old) }
     requires going { IsTrue (is_open (past_of manager.old)) }
+    requires room { most_at_once ≤ vec_capacity owed.old }
+    ensures room { vec_capacity owed.old ≤ vec_capacity owed.new }
     ensures in_step { OnOk result
         (AreInStep (plan_of manager.old) (past_of manager.new) (S.call_log starter.new)) }
     ensures over { IfOk result (λ end. IfSome end (λ verdict.
@@ -165,7 +217,7 @@ fn turn<D: Disk + Drop, S: Starter>(
     if let Some(verdict) = verdict_of(choice) {
         return Ok(Some(verdict));
     }
-    if let Err(fault) = act(alloc, manager, plan, starter, choice) {
+    if let Err(fault) = act(alloc, manager, plan, starter, owed, choice) {
         return Err(fault);
     }
     if is_new(before, is_aborted(manager)) {
@@ -175,7 +227,7 @@ fn turn<D: Disk + Drop, S: Starter>(
     Ok(None)
 }
 
-/// Takes steps until the run ends.
+/// Takes steps until the run ends. Room for the endings that are recorded together is taken here, so that no wait takes any.
 fn run<D: Disk + Drop, S: Starter>(
     alloc: Global,
     manager: &mut Manager<'_, D>,
@@ -199,8 +251,11 @@ fn run<D: Disk + Drop, S: Starter>(
         (at_rest (past_of manager.old) (S.call_log starter.old)) (S.call_log starter.new)) }
 {
     keeps_the_law(manager);
+    let Ok(mut owed) = Vec::with_capacity(alloc, MOST_AT_ONCE) else {
+        return Err(DriveFault::Memory);
+    };
     loop {
-        match turn(alloc, manager, plan, starter) {
+        match turn(alloc, manager, plan, starter, &mut owed) {
             Ok(Some(verdict)) => return Ok(verdict),
             Ok(None) => {}
             Err(fault) => return Err(fault),

@@ -20,6 +20,7 @@ ghost use Rattle.job_starter_drive.specs.declared.driving.DriveFault.{DriveFault
 ghost use Rattle.job_starter_drive.specs.Calls.{running};
 ghost use Rattle.job_starter_drive.specs.Drives.{AreInStep, Drives, IsHalted, IsHaltedBy, IsStopped};
 ghost use Rattle.job_starter_drive.specs.Spawned.{SpawnsAll, SpawnsAllButSome};
+ghost use Rattle.job_starter_drive.specs.Reported.{RecordsEach, RecordsEachButNewest};
 ghost use Rattle.job_starter_drive.specs.Moments.{IsMomentOfRun, IsLastMoment, IsLifeAt};
 ghost use Rattle.job_starter_drive.specs.Scripts.{IsScripted};
 
@@ -41,6 +42,24 @@ pub fn hand_over<S: Starter>()
     ensures stopped { (limits : Limits) (plan : Plan) (starter : S) (past : List Record)
         (call_log : List Call) (fault : DriveFault) (after : List Record) (last : List Call) →
         IsStopped limits plan (S.may_return starter) past call_log fault after last → SpawnsAllButSome plan past after call_log last }
+{}
+
+/// What `drive` and `launch_round` ensure of their steps makes them record each ending that a child was reported to have, in the
+/// order of the reports: all of them, or after a fault or a crash all but perhaps the newest, 64 at most, which were to be
+/// recorded together.
+pub fn record_endings<S: Starter>()
+    ensures driven { (limits : Limits) (plan : Plan) (starter : S) (past : List Record)
+        (call_log : List Call) (after : List Record) (last : List Call) →
+        Drives limits plan (S.may_return starter) past call_log after last → RecordsEach past after call_log last }
+    ensures halted { (limits : Limits) (plan : Plan) (starter : S) (past : List Record)
+        (call_log : List Call) (after : List Record) (last : List Call) →
+        IsHalted limits plan (S.may_return starter) past call_log after last → RecordsEachButNewest past after call_log last }
+    ensures halted_by { (limits : Limits) (plan : Plan) (starter : S) (past : List Record)
+        (call_log : List Call) (fault : DriveFault) (after : List Record) (last : List Call) →
+        IsHaltedBy limits plan (S.may_return starter) past call_log fault after last → RecordsEachButNewest past after call_log last }
+    ensures stopped { (limits : Limits) (plan : Plan) (starter : S) (past : List Record)
+        (call_log : List Call) (fault : DriveFault) (after : List Record) (last : List Call) →
+        IsStopped limits plan (S.may_return starter) past call_log fault after last → RecordsEachButNewest past after call_log last }
 {}
 
 /// A run that a manager began or went on with stopped at some moment of `launch_round` or `drive`,
@@ -73,7 +92,7 @@ pub fn outcomes<S: Starter>()
     ensures { (limits : Limits) (plan : Plan) (starter : S) (table : Table)
         (past : List Record) (call_log : List Call) (after : List Record) (last : List Call) →
         ((calls : List Call) (key : Key) (outcome : Outcome) →
-        S.may_return starter calls key outcome → table key.node key.attempt key.phase ≡ outcome) →
+        (S.may_return starter).may_be calls key outcome → table key.node key.attempt key.phase ≡ outcome) →
         Drives limits plan (S.may_return starter) past call_log after last →
         HasOutcomesOf plan table past → HasOutcomesOf plan table after }
 {}

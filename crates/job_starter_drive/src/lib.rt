@@ -14,6 +14,7 @@ mod refusals;
 mod rounds;
 mod starter;
 
+pub use child_watcher::Killed;
 pub use driving::{DriveFault, RunEnd, drive};
 pub use keys::{are_same, key_at};
 pub use log::CallLog;
@@ -32,15 +33,6 @@ pub enum Started {
     Running,
     /// It could not be started.
     NotStarted,
-}
-
-/// What came of a kill.
-#[derive(Clone, Copy, Debug, PartialEq, Eq)]
-pub enum Killed {
-    /// The child ended, and was waited for.
-    Ended,
-    /// The system refused the kill or the wait: the child is let go.
-    LetGo,
 }
 
 /// A call that was answered. Of a command nothing is kept but for contracts to read.

@@ -2,7 +2,8 @@
 ghost use Rattle.std.specs.Prelude.{◌≡◌, [], length, ◌<◌, ◌≤◌, IsTrue, IsFalse, IfOk, IfErr, OnOk};
 ghost use Rattle.run_plan.specs.Plan.{node_at, count_of};
 ghost use Rattle.run_plan_node.specs.Commands.{starts_child};
-ghost use Rattle.sched_core.specs.Run.{is_aborted, is_lawful, is_nothing, is_over, is_open, outstanding};
+ghost use Rattle.sched_core.specs.Run.{is_aborted, is_lawful, is_nothing, is_over, is_open, outstanding, may_follow};
+ghost use Rattle.sched_core.specs.Looks.{stops};
 ghost use Rattle.sched_core.specs.Ahead.{NothingToStart, launched, added, up_to_abort, ends_of};
 ghost use Rattle.sched_core.specs.Choices.{IsChoice};
 ghost use Rattle.recovery_manager.specs.Managed.{plan_of, past_of};
@@ -12,13 +13,13 @@ ghost use Rattle.job_starter_drive.specs.Stretches.{IsStretch, IsCutShort};
 
 use crate::{DriveFault, Starter};
 use event_journal_log::Disk;
-use node_machine::{Key, Outcome, Phase};
+use node_machine::{Key, Outcome, Phase, Record};
 use recovery_manager::{Manager, ManagerFault};
 use sched_core::Choice;
 use std::alloc::Global;
 
 /// A round launches no more phases than this.
-const MOST_AT_ONCE: usize = 64;
+pub const MOST_AT_ONCE: usize = 64;
 
 /// The records of a manager are lawful at every moment.
 pub fn keeps_the_law<D: Disk + Drop>(manager: &Manager<'_, D>)
@@ -39,6 +40,14 @@ pub fn is_aborted<D: Disk + Drop>(manager: &Manager<'_, D>) -> bool
     ensures { result ≡ is_aborted (plan_of manager.now) (past_of manager.now) }
 {
     manager.core().aborted()
+}
+
+/// Whether this ending, which may be recorded, aborts the run.
+pub fn aborts_with<D: Disk + Drop>(manager: &Manager<'_, D>, key: &Key, outcome: Outcome) -> bool
+    requires { IsTrue (may_follow (plan_of manager.now) (past_of manager.now) (Record.End key.now outcome)) }
+    ensures { result ≡ stops (plan_of manager.now) (past_of manager.now) (Record.End key.now outcome) }
+{
+    manager.core().aborts_with(key, outcome)
 }
 
 /// Whether a phase starts a child: the job of a NOOP does not.
@@ -141,4 +150,33 @@ pub fn record_ends<D: Disk + Drop, S: Starter>(
         Ok(_) => Ok(()),
         Err(fault) => Err(DriveFault::Manager(fault)),
     }
+}
+
+/// Records the endings that children were reported to have, in this order, up to the first that aborts the run. The starter was
+/// told that they would be recorded.
+pub fn record_reported<D: Disk + Drop, S: Starter>(
+    alloc: Global,
+    manager: &mut Manager<'_, D>,
+    starter: &S,
+    ends: &[(Key, Outcome)],
+) -> Result<(), DriveFault>
+    requires prepared { S.prepared starter.now }
+    requires some { 0 < length ends.now }
+    requires few { length ends.now ≤ most_at_once }
+    requires ends { MayEndAll (plan_of manager.old) (outstanding (plan_of manager.old) (past_of manager.old)) ends.now }
+    requires going { IsTrue (is_open (past_of manager.old)) }
+    ensures nearer { OnOk result (IsNearerEnd (plan_of manager.old) (past_of manager.old) (past_of manager.new)) }
+    ensures past { OnOk result (past_of manager.new ≡ added (past_of manager.old)
+        (up_to_abort (plan_of manager.old) (past_of manager.old) (ends_of ends.now))) }
+    ensures went { OnOk result (IsStretch D.Disk
+        (limits_of manager.old) (plan_of manager.old) (S.may_return starter.now) (S.may_return starter.now)
+        (S.faults starter.now) (S.faults starter.now) manager.old manager.new
+        (At (past_of manager.old) (S.call_log starter.now) [] ends.now)
+        (at_rest (past_of manager.new) (S.call_log starter.now))) }
+    ensures cut { IfErr result (IsCutShort D.Disk
+        (limits_of manager.old) (plan_of manager.old) (S.may_return starter.now) (S.may_return starter.now)
+        (S.faults starter.now) (S.faults starter.now) manager.old manager.new
+        (At (past_of manager.old) (S.call_log starter.now) [] ends.now) (S.call_log starter.now)) }
+{
+    record_ends(alloc, manager, starter, ends)
 }

@@ -40,7 +40,7 @@ fn hand_over<D: Disk + Drop, S: Starter>(
         key answer (S.call_log starter.old) (S.call_log starter.new)) }
     ensures silent { OnErr result (S.call_log starter.new ≡ S.call_log starter.old) }
     ensures may_be { IfOk result (λ answer.
-        answer ≡ Started.NotStarted → S.may_return starter.old (S.call_log starter.old) key NoStart) }
+        answer ≡ Started.NotStarted → (S.may_return starter.old).may_be (S.call_log starter.old) key NoStart) }
     ensures may_run { IfOk result (λ answer.
         answer ≡ Started.Running → MayRun (S.may_return starter.old) (S.call_log starter.old) key) }
     ensures unrefused { OnOk result (S.faults starter.new ≡ S.faults starter.old) }

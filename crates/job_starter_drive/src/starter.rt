@@ -1,11 +1,10 @@
 //! What a starter of children is: what it is asked, and what its answers mean.
 ghost use Rattle.std.specs.Prelude.{◌≡◌, ◌∷◌, [], ◌≤◌, ℕ, List, None, IsTrue, IsFalse, IfOk, IfErr, IfSome, OnOk, OnErr, IsErrOf, reverse};
-ghost use Rattle.node_machine.specs.Story.{is_possible};
 ghost use Rattle.node_machine.specs.declared.Key.{Key};
 ghost use Rattle.node_machine.specs.declared.Outcome.{Outcome};
 ghost use Rattle.sched_core.specs.Run.{is_among};
 ghost use Rattle.job_starter_drive.specs.declared.Call.{Call};
-ghost use Rattle.job_starter_drive.specs.Calls.{running, snapshot_of, MayRun, AllowsNoMore};
+ghost use Rattle.job_starter_drive.specs.Calls.{running, snapshot_of, IsReportedEnding, MayRun, AllowsNoMore, Telling};
 ghost use Rattle.job_starter_drive.specs.Causes.{IsStartFault, IsAskFault, IsWaitFault};
 
 use crate::{Call, Killed, StartFault, Started};
@@ -20,12 +19,15 @@ pub trait Starter {
     /// The calls that were answered, the newest first.
     ghost call_log: { Self → List Call };
 
-    /// Which endings may be reported of the child of a key, behind these calls.
-    ghost may_return: { Self → List Call → Key → Outcome → Type 0 };
+    /// Which endings may be reported of the child of a key, after these calls; and whether those at hand may be gathered.
+    ghost may_return: { Self → Telling };
 
     /// The count of the system's refusals, which stays at 2 ^ 64 - 1: each adds one. That no child runs
     /// counts as none, and so does a kill.
     ghost faults: { Self → ℕ };
+
+    /// Nothing is left to do before the endings that were reported may be recorded, as to bring what the children wrote to the disk.
+    ghost prepared: { Self → Type 0 };
 
     /// Starts a child. Room for its ending is taken here.
     ///
@@ -37,7 +39,7 @@ pub trait Starter {
         ensures ok { IfOk result
             (λ answer. call_log self.new ≡ Call.Started key (snapshot_of command.now) answer ∷ call_log self.old) }
         ensures not_started { IfOk result (λ answer.
-            answer ≡ Started.NotStarted → may_return self.old (call_log self.old) key Outcome.NoStart) }
+            answer ≡ Started.NotStarted → (may_return self.old).may_be (call_log self.old) key Outcome.NoStart) }
         ensures runs { IfOk result (λ answer.
             answer ≡ Started.Running → MayRun (may_return self.old) (call_log self.old) key) }
         ensures refused { OnErr result (call_log self.new ≡ call_log self.old) }
@@ -52,17 +54,29 @@ pub trait Starter {
     /// `NoChild` exactly where none runs, and `WaitFault` where the system refuses the question or the
     /// wait: the children stay as they were.
     fn wait_any(&mut self) -> Result<(Key, Outcome), StartFault>
-        ensures call_log { IfOk result
-            (λ ended. call_log self.new ≡ Call.Ended ended.0 ended.1 ∷ call_log self.old) }
-        ensures ran { IfOk result (λ ended. IsTrue (is_among ended.0 (running (call_log self.old)))) }
-        ensures may_be { IfOk result (λ ended. may_return self.old (call_log self.old) ended.0 ended.1) }
-        ensures possible { IfOk result (λ ended. IsTrue (is_possible ended.1)) }
+        ensures ended { IfOk result (IsReportedEnding (may_return self.old) (call_log self.old) (call_log self.new)) }
         ensures refused { OnErr result (call_log self.new ≡ call_log self.old) }
         ensures err { IfErr result
             (IsWaitFault (faults self.old) (faults self.new) (call_log self.old)) }
         ensures idle { running (call_log self.old) ≡ [] → IsErrOf result StartFault.NoChild }
         ensures counts { OnOk result (faults self.new ≡ faults self.old) }
         ensures later { faults self.old ≤ faults self.new }
+        ensures may { AllowsNoMore (may_return self.old) (may_return self.new) };
+
+    /// An ending that is at hand: of a child that was seen to have ended and whose ending was not reported. What it answers means what an
+    /// answer of `wait_any` means; but it waits for nothing, asks nothing of the system, and can't be refused. It takes no memory.
+    fn take_ended(&mut self) -> Option<(Key, Outcome)>
+        ensures ended { IfSome result (IsReportedEnding (may_return self.old) (call_log self.old) (call_log self.new)) }
+        ensures gathers { IfSome result (λ ended. (may_return self.old).gathers) }
+        ensures none { result ≡ None → call_log self.new ≡ call_log self.old }
+        ensures counts { faults self.new ≡ faults self.old }
+        ensures may { AllowsNoMore (may_return self.old) (may_return self.new) };
+
+    /// The endings that were reported are about to be recorded.
+    fn will_record(&mut self)
+        ensures prepared { prepared self.new }
+        ensures call_log { call_log self.new ≡ call_log self.old }
+        ensures counts { faults self.new ≡ faults self.old }
         ensures may { AllowsNoMore (may_return self.old) (may_return self.new) };
 
     /// Kills a child, waits for it where the system lets it, and forgets it either way.
@@ -91,11 +105,14 @@ pub trait System {
     /// The calls that were answered, the newest first.
     ghost call_log: { Self → List Call };
 
-    /// Which endings may be reported of the child of a key, behind these calls.
-    ghost may_return: { Self → List Call → Key → Outcome → Type 0 };
+    /// Which endings may be reported of the child of a key, after these calls; and whether those at hand may be gathered.
+    ghost may_return: { Self → Telling };
 
     /// The count of refusals, which stays at 2 ^ 64 - 1: each adds one. A kill counts as none.
     ghost faults: { Self → ℕ };
+
+    /// Nothing is left to do before the endings that were reported may be recorded, as to bring what the children wrote to the disk.
+    ghost prepared: { Self → Type 0 };
 
     /// Starts a child. Room for its ending is taken here.
     ///
@@ -106,7 +123,7 @@ pub trait System {
         ensures ok { IfOk result
             (λ answer. call_log self.new ≡ Call.Started key (snapshot_of command.now) answer ∷ call_log self.old) }
         ensures not_started { IfOk result (λ answer.
-            answer ≡ Started.NotStarted → may_return self.old (call_log self.old) key Outcome.NoStart) }
+            answer ≡ Started.NotStarted → (may_return self.old).may_be (call_log self.old) key Outcome.NoStart) }
         ensures runs { IfOk result (λ answer.
             answer ≡ Started.Running → MayRun (may_return self.old) (call_log self.old) key) }
         ensures refused { OnErr result (call_log self.new ≡ call_log self.old) }
@@ -121,11 +138,8 @@ pub trait System {
     /// `WaitFault` where the question is refused.
     fn ask(&mut self, key: Key) -> Result<Option<Outcome>, StartFault>
         requires { IsTrue (is_among key (running (call_log self.old))) }
-        ensures call_log { IfOk result (λ answer. IfSome answer
-            (λ outcome. call_log self.new ≡ Call.Ended key outcome ∷ call_log self.old)) }
-        ensures may_be { IfOk result (λ answer. IfSome answer (may_return self.old (call_log self.old) key)) }
-        ensures possible { IfOk result
-            (λ answer. IfSome answer (λ outcome. IsTrue (is_possible outcome))) }
+        ensures ended { IfOk result (λ answer. IfSome answer
+            (λ outcome. IsReportedEnding (may_return self.old) (call_log self.old) (call_log self.new) (key, outcome))) }
         ensures runs { IfOk result (λ answer. answer ≡ None → call_log self.new ≡ call_log self.old) }
         ensures refused { OnErr result (call_log self.new ≡ call_log self.old) }
         ensures err { IfErr result (IsAskFault (faults self.old) (faults self.new)) }
@@ -139,14 +153,28 @@ pub trait System {
     /// `WaitFault` where the wait is refused.
     fn wait(&mut self, key: Key) -> Result<Outcome, StartFault>
         requires { IsTrue (is_among key (running (call_log self.old))) }
-        ensures call_log { IfOk result
-            (λ outcome. call_log self.new ≡ Call.Ended key outcome ∷ call_log self.old) }
-        ensures may_be { IfOk result (may_return self.old (call_log self.old) key) }
-        ensures possible { IfOk result (λ outcome. IsTrue (is_possible outcome)) }
+        ensures ended { IfOk result
+            (λ outcome. IsReportedEnding (may_return self.old) (call_log self.old) (call_log self.new) (key, outcome)) }
         ensures refused { OnErr result (call_log self.new ≡ call_log self.old) }
         ensures err { IfErr result (IsAskFault (faults self.old) (faults self.new)) }
         ensures counts { OnOk result (faults self.new ≡ faults self.old) }
         ensures later { faults self.old ≤ faults self.new }
+        ensures may { AllowsNoMore (may_return self.old) (may_return self.new) };
+
+    /// An ending that is at hand: of a child that was seen to have ended and whose ending was not reported. What it answers means what an
+    /// answer of `ask` or `wait` means; but it waits for nothing, asks nothing of the system, and can't be refused. It takes no memory.
+    fn take_ended(&mut self) -> Option<(Key, Outcome)>
+        ensures ended { IfSome result (IsReportedEnding (may_return self.old) (call_log self.old) (call_log self.new)) }
+        ensures gathers { IfSome result (λ ended. (may_return self.old).gathers) }
+        ensures none { result ≡ None → call_log self.new ≡ call_log self.old }
+        ensures counts { faults self.new ≡ faults self.old }
+        ensures may { AllowsNoMore (may_return self.old) (may_return self.new) };
+
+    /// The endings that were reported are about to be recorded.
+    fn will_record(&mut self)
+        ensures prepared { prepared self.new }
+        ensures call_log { call_log self.new ≡ call_log self.old }
+        ensures counts { faults self.new ≡ faults self.old }
         ensures may { AllowsNoMore (may_return self.old) (may_return self.new) };
 
     /// Kills a child, waits for it where that succeeded, and forgets it either way.

@@ -26,7 +26,7 @@ pub record IsCommandOf {A : Type 0} (folder : List ℕ) (child : ChildCommand) (
   pub variables : (name : List ℕ) → command_var command name ≡ fold (variable_after name) None child.environment
   pub inherits : clears_env command ≡ false
 
--- the longest pause between two looks at so many children, in microseconds: a look takes longer the more there are
+-- the pause between two looks at so many children up to which each is twice as long, in microseconds: a look takes longer the more there are
 abbrev pub longest_pause : ℕ → ℕ
 longest_pause children =
     if nat_le children 16 then 2000 else if nat_le children 64 then 4000 else if nat_le children 256 then 10000 else 50000

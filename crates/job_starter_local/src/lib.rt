@@ -3,21 +3,20 @@
 //! The rules are those of the HTCondor manual, DAGMan workflows, as docs/MANUAL.md states them.
 #![tactic(auto)]
 
-ghost use Rattle.std.specs.Prelude.{◌≡◌, ◌∷◌, [], ◌≤◌, ◌<◌, None, Some, pos, ℕ, length, map, reverse, vec_len, vec_capacity, IsTrue, IfOk};
+ghost use Rattle.std.specs.Prelude.{◌≡◌, ◌∷◌, [], ◌≤◌, ◌<◌, None, Some, pos, ℕ, length, map, reverse, vec_len, vec_capacity, IsTrue, IfOk, IfSome};
 ghost use Rattle.std.specs.Process.{exit_code, exit_signal};
 ghost use Rattle.node_machine.specs.Story.{is_possible};
 ghost use Rattle.sched_core.specs.Run.{is_among, without};
-ghost use Rattle.job_starter_drive.specs.Calls.{running};
+ghost use Rattle.job_starter_drive.specs.Calls.{running, any_ending};
 ghost use Rattle.job_starter_local.specs.Commands.{longest_pause};
 
 mod launching;
 mod starting;
-mod telling;
-mod watching;
 
+use child_watcher::ChildWatcher;
 use dag_reader::Text;
 use job_starter_drive::{
-    Call, CallLog, Killed, StartFault, Started, System, are_same, no_answer, no_memory,
+    Call, CallLog, Killed, StartFault, Started, System, are_same, key_at, no_answer, no_memory,
 };
 pub use launching::Launcher;
 use node_machine::{Key, Outcome};
@@ -31,8 +30,6 @@ use std::process::{Child, ExitStatus, Processes};
 use std::rt::Files;
 use std::time::{Clock, Duration};
 use std::{io, thread};
-pub use telling::refused_part;
-pub use watching::{ChildWatcher, CommandPart, Unwatched};
 
 /// How a child did when it was looked at last.
 #[derive(Clone, Copy)]
@@ -67,8 +64,11 @@ impl<R: Processes> RunningChild<R> {
 }
 
 /// The first pause between two rounds of questions, in microseconds. Each further one is twice as
-/// long, up to the longest.
+/// long, up to the longest of so many children; from there on they grow by a thousandth.
 const FIRST_PAUSE: u64 = 20;
+
+/// What no pause is longer than, in microseconds.
+const LONGEST_PAUSE: u64 = 50_000;
 
 /// The pause before a start is tried again that the system refused for the moment, in microseconds.
 const START_PAUSE: u64 = 10_000;
@@ -76,10 +76,11 @@ const START_PAUSE: u64 = 10_000;
 /// How often it is tried again: for ten seconds.
 const START_TRIES: u32 = 1_000;
 
-/// The longest pause between two rounds of questions to so many children, in microseconds: a round
+/// The pause between two rounds of questions to so many children up to which it is doubled, in microseconds: a round
 /// takes longer the more there are.
 fn longest_pause(children: usize) -> u64
-    ensures { result ≡ longest_pause children }
+    ensures is { result ≡ longest_pause children }
+    ensures bound { result ≤ 50000 }
 {
     match children {
         0..=16 => 2_000,
@@ -87,6 +88,18 @@ fn longest_pause(children: usize) -> u64
         65..=256 => 10_000,
         _ => 50_000,
     }
+}
+
+/// The pause behind one of so many microseconds: twice as long up to this one, and longer by a thousandth from there on. So nothing
+/// that ends behind a long silence waits for more than a thousandth of it.
+fn next_pause(pause: u64, longest: u64) -> u64
+    requires { longest ≤ 50000 }
+    ensures { result ≤ 50000 }
+{
+    if pause < longest {
+        return pause.saturating_mul(2).min(longest);
+    }
+    pause.saturating_add(pause / 1024).min(LONGEST_PAUSE)
 }
 
 /// Children of this process. Paths that don't begin with a slash are taken from one folder.
@@ -216,6 +229,18 @@ fn some_run<R: Processes>(children: &[RunningChild<R>]) -> bool {
         .any(|child| matches!(child.seen, Seen::Runs))
 }
 
+/// The place of the first child that was seen to have ended, and how it did.
+fn ended_place<R: Processes>(children: &[RunningChild<R>]) -> Option<(usize, ExitStatus)>
+    ensures { IfSome result (λ found. found.0 < length children.now) }
+{
+    for place in 0..children.len() {
+        if let Seen::Ended(status) = children[place].seen {
+            return Some((place, status));
+        }
+    }
+    None
+}
+
 /// Waits for the child at a place.
 fn wait_at<R: Processes>(
     children: &mut Vec<RunningChild<R>>,
@@ -325,7 +350,8 @@ impl<'a, R: Processes + Files<File = File> + Clock + Drop, W: ChildWatcher + Dro
         launcher: &'a Launcher,
         watcher: W,
     ) -> Result<Self, AllocError>
-        ensures { IfOk result (λ system. system.log.calls ≡ []) }
+        ensures log { IfOk result (λ system. system.log.calls ≡ []) }
+        ensures faults { IfOk result (λ system. system.faults ≡ 0) }
     {
         Ok(LocalSystem {
             alloc,
@@ -362,10 +388,12 @@ impl<R: Processes + Files<File = File> + Clock + Drop, W: ChildWatcher + Drop> S
     for LocalSystem<'_, R, W> {
     ghost call_log = { λ s. s.log.calls };
 
-    // A child of the operating system may end in any way.
-    ghost may_return = { λ _ _ _ _. Unit {0} };
+    // A child of the operating system may end in any way; those that were seen to have ended are at hand.
+    ghost may_return = { λ _. any_ending };
 
     ghost faults = { λ s. s.faults };
+
+    ghost prepared = { λ s. W.prepared s.watcher };
 
     fn spawn(&mut self, key: Key, command: &ChildCommand) -> Result<Started, StartFault> {
         if self.log.make_room().is_err() || self.children.reserve(1).is_err() {
@@ -419,6 +447,20 @@ impl<R: Processes + Files<File = File> + Clock + Drop, W: ChildWatcher + Drop> S
         }
     }
 
+    fn take_ended(&mut self) -> Option<(Key, Outcome)> {
+        match ended_place(&self.children) {
+            Some((place, status)) => {
+                let key = key_at(self.log.running(), place);
+                Some((key, self.end(&key, status)))
+            }
+            None => None,
+        }
+    }
+
+    fn will_record(&mut self) {
+        self.watcher.will_record();
+    }
+
     fn kill(&mut self, key: Key) -> Killed {
         let place = place_of(self.log.running(), &key, 0);
         let answer = kill_at(&mut self.children, place);
@@ -432,8 +474,7 @@ impl<R: Processes + Files<File = File> + Clock + Drop, W: ChildWatcher + Drop> S
         self.watcher.waits();
         thread::sleep(&self.rt, Duration::from_micros(self.pause));
         self.looked = false;
-        let longest = longest_pause(self.children.len());
-        self.pause = self.pause.saturating_mul(2).min(longest);
+        self.pause = next_pause(self.pause, longest_pause(self.children.len()));
     }
 
     fn running(&self) -> &[Key] {

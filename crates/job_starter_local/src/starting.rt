@@ -4,7 +4,7 @@ ghost use Rattle.std.specs.Prelude.{◌≡◌, ℕ, List, ◌++◌, fold, IfOk, 
 ghost use Rattle.std.specs.Process.{command_program, command_args, command_var, clears_env, SameProgramAndArgs, SameEnv};
 ghost use Rattle.job_starter_local.specs.Commands.{variable_after, IsCommandOf};
 
-use crate::watching::CommandPart;
+use child_watcher::CommandPart;
 use dag_reader::Text;
 use run_plan_node::ChildCommand;
 use splices_flat::path_in;

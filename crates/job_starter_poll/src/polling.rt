@@ -2,15 +2,15 @@
 ghost use Rattle.std.specs.Prelude.{◌≡◌, ◌∷◌, ◌≤◌, None, IsTrue, IfOk, IfSome, OnOk, OnErr, IfErr};
 ghost use Rattle.node_machine.specs.Story.{is_possible};
 ghost use Rattle.sched_core.specs.Run.{is_among};
-ghost use Rattle.job_starter_drive.specs.Calls.{running, AllowsNoMore};
+ghost use Rattle.job_starter_drive.specs.Calls.{running, AllowsNoMore, IsReportedEnding};
 ghost use Rattle.job_starter_drive.specs.Causes.{IsAskFault};
 
 use job_starter_drive::{Call, Killed, StartFault, Started, Starter, System, key_at};
 use node_machine::{Key, Outcome};
 use run_plan_node::ChildCommand;
 
-/// Rounds of questions before a blocking wait for the oldest child.
-const ROUNDS: u64 = 1 << 40;
+/// Rounds of questions without an ending, before a blocking wait for the oldest child.
+const ROUNDS: u32 = 1 << 20;
 
 /// A starter over a system: each running child is asked in turn, in the order of the starts, with
 /// a pause between two rounds.
@@ -29,14 +29,8 @@ impl<S: System + Drop> ProcessStarter<S> {
 
     /// The first running child that the system tells to have ended, in the order of the starts.
     fn ask_each(&mut self) -> Result<Option<(Key, Outcome)>, StartFault>
-        ensures call_log { IfOk result (λ answer. IfSome answer (λ ended.
-            S.call_log self.new.system ≡ Call.Ended ended.0 ended.1 ∷ S.call_log self.old.system)) }
-        ensures ran { IfOk result (λ answer. IfSome answer (λ ended.
-            IsTrue (is_among ended.0 (running (S.call_log self.old.system))))) }
-        ensures may_be { IfOk result (λ answer. IfSome answer (λ ended.
-            S.may_return self.old.system (S.call_log self.old.system) ended.0 ended.1)) }
-        ensures possible { IfOk result (λ answer. IfSome answer (λ ended.
-            IsTrue (is_possible ended.1))) }
+        ensures ended { IfOk result (λ answer. IfSome answer
+            (IsReportedEnding (S.may_return self.old.system) (S.call_log self.old.system) (S.call_log self.new.system))) }
         ensures runs { IfOk result (λ answer. answer ≡ None
             → S.call_log self.new.system ≡ S.call_log self.old.system) }
         ensures refused { OnErr result (S.call_log self.new.system ≡ S.call_log self.old.system) }
@@ -65,6 +59,8 @@ impl<S: System + Drop> Starter for ProcessStarter<S> {
 
     ghost faults = { λ p. S.faults p.system };
 
+    ghost prepared = { λ p. S.prepared p.system };
+
     fn start(&mut self, key: Key, command: &ChildCommand) -> Result<Started, StartFault> {
         self.system.spawn(key, command)
     }
@@ -85,6 +81,14 @@ impl<S: System + Drop> Starter for ProcessStarter<S> {
             Ok(outcome) => Ok((oldest, outcome)),
             Err(fault) => Err(fault),
         }
+    }
+
+    fn take_ended(&mut self) -> Option<(Key, Outcome)> {
+        self.system.take_ended()
+    }
+
+    fn will_record(&mut self) {
+        self.system.will_record();
     }
 
     fn kill(&mut self, key: Key) -> Killed {

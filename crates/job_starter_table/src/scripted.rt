@@ -122,6 +122,8 @@ impl<'a> Starter for ScriptedStarter<'a> {
 
     ghost faults = { λ s. s.faults };
 
+    ghost prepared = { λ _. Unit {0} };
+
     fn start(&mut self, key: Key, command: &ChildCommand) -> Result<Started, StartFault> {
         let number = self.starts;
         raise(&mut self.starts);
@@ -152,6 +154,12 @@ impl<'a> Starter for ScriptedStarter<'a> {
         self.log.ended(key, outcome);
         Ok((key, outcome))
     }
+
+    fn take_ended(&mut self) -> Option<(Key, Outcome)> {
+        None
+    }
+
+    fn will_record(&mut self) {}
 
     fn kill(&mut self, key: Key) -> Killed {
         self.log.killed(key);

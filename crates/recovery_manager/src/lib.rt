@@ -8,6 +8,7 @@ mod batches;
 mod calls;
 pub mod examples;
 mod fault;
+pub mod laws;
 mod manager;
 mod seal;
 

@@ -13,15 +13,19 @@ use std::process::{Command, Processes, Stdio};
 use std::rt::Files;
 use std::thread;
 use std::time::{Clock, Duration};
+use thiserror::Error;
 
 /// Why they could not be dealt with.
-#[derive(Clone, Copy, Debug, PartialEq, Eq)]
+#[derive(Clone, Copy, Debug, PartialEq, Eq, Error)]
 pub enum OrphanFault {
     /// The system refuses to read the file that names them, or it is no regular file.
+    #[error("the file of the processes can't be read")]
     NotRead,
     /// One of them can't be ended.
+    #[error("a process still runs")]
     StillRuns,
     /// Memory was refused.
+    #[error("no memory is left")]
     Memory,
 }
 

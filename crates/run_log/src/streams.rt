@@ -1,6 +1,7 @@
-//! The files of a child's streams, which are brought to the disk before its ending is reported.
+//! The files of the streams of children, which are brought to the disk before the endings of these are recorded.
 
 use dag_reader::Text;
+use node_machine::Key;
 use run_plan_node::ChildCommand;
 use splices_flat::path_in;
 use std::alloc::{AllocError, Global};
@@ -10,84 +11,102 @@ use std::rt::Files;
 
 /// A file that takes a stream of a child.
 #[derive(Drop)]
-struct StreamFile {
-    /// its path
+pub(crate) struct StreamFile {
+    /// whose stream
+    pub(crate) key: Key,
     path: Text,
-    /// whether it was made for the child
-    made: bool,
+    /// whether its name is to be brought to the disk, too: the file was made for the child
+    new_name: bool,
 }
 
-/// The files that take the output and the errors of a child.
-#[derive(Drop)]
-pub(crate) struct StreamFiles {
-    files: Vec<StreamFile>,
+/// Brings a file to the disk, where it is a regular file, and answers whether it is; what is none, as a pipe, stays as it is.
+fn sync_file<R: Files<File = File>>(rt: &R, path: &str) -> io::Result<bool> {
+    let is_file = fs::metadata(rt, path)?.is_file();
+    if is_file {
+        File::open(rt, path)?.sync_all()?;
+    }
+    Ok(is_file)
 }
 
-/// The folder of the file of an absolute path.
-fn folder_of(path: &str) -> &str {
-    match path.rsplit_once('/') {
-        Some(("", _)) | None => "/",
-        Some((folder, _)) => folder,
+impl StreamFile {
+    /// Its absolute path.
+    pub(crate) fn path(&self) -> &str {
+        self.path.as_str()
+    }
+
+    /// The folder that its name is in.
+    pub(crate) fn folder(&self) -> &str {
+        match self.path().rsplit_once('/') {
+            Some(("", _)) | None => "/",
+            Some((folder, _)) => folder,
+        }
+    }
+
+    /// Whether its name is to be brought to the disk.
+    pub(crate) fn has_new_name(&self) -> bool {
+        self.new_name
+    }
+
+    /// Whether all that is to be brought to the disk of the other is to be brought there of this one.
+    fn covers(&self, other: &StreamFile) -> bool {
+        self.path() == other.path() && (self.new_name || !other.new_name)
+    }
+
+    /// Brings it to the disk, but not its name, which then stays as it is where the file is no regular one, or is refused.
+    pub(crate) fn sync<R: Files<File = File>>(&mut self, rt: &R) -> io::Result<()> {
+        let synced = sync_file(rt, self.path());
+        self.new_name &= matches!(synced, Ok(true));
+        synced?;
+        Ok(())
+    }
+
+    /// Brings the names in its folder to the disk.
+    pub(crate) fn sync_folder<R: Files<File = File>>(&self, rt: &R) -> io::Result<()> {
+        File::open(rt, self.folder())?.sync_all()
     }
 }
 
-/// Brings a file to the disk, and its name where it was made; what is no file, as a pipe, stays as it is.
-fn sync_file<R: Files<File = File>>(rt: &R, file: &StreamFile) -> io::Result<()> {
-    let path = file.path.as_str();
-    if !fs::metadata(rt, path)?.is_file() {
-        return Ok(());
-    }
-    File::open(rt, path)?.sync_all()?;
-    if file.made {
-        File::open(rt, folder_of(path))?.sync_all()?;
+/// Drops those files of which all that is to be brought to the disk is to be brought there of these.
+pub(crate) fn leave_out(files: &mut Vec<StreamFile>, these: &[StreamFile]) {
+    files.retain(|file| !these.iter().any(|other| other.covers(file)));
+}
+
+/// Adds the file of this path, where there is one, as seen from the folder.
+fn add_file<R: Files>(
+    alloc: Global,
+    rt: &R,
+    folder: &str,
+    key: &Key,
+    path: &Option<Text>,
+    files: &mut Vec<StreamFile>,
+) -> Result<(), AllocError> {
+    if let Some(path) = path {
+        let path = path_in(alloc, folder, path.as_str())?;
+        let new_name = !fs::exists(rt, path.as_str()).unwrap_or(false);
+        let key = *key;
+        let file = StreamFile {
+            key,
+            path,
+            new_name,
+        };
+        if !files.iter().any(|other| other.covers(&file)) {
+            files.push(file)?;
+        }
     }
     Ok(())
 }
 
-impl StreamFiles {
-    /// No files.
-    pub(crate) fn none(alloc: Global) -> StreamFiles {
-        StreamFiles {
-            files: Vec::new(alloc),
-        }
-    }
-
-    /// Adds the file of this path, where there is one, as seen from the folder.
-    fn add<R: Files>(
-        &mut self,
-        alloc: Global,
-        rt: &R,
-        folder: &str,
-        path: &Option<Text>,
-    ) -> Result<(), AllocError> {
-        if let Some(path) = path {
-            let path = path_in(alloc, folder, path.as_str())?;
-            let made = !fs::exists(rt, path.as_str()).unwrap_or(false);
-            self.files.push(StreamFile { path, made })?;
-        }
-        Ok(())
-    }
-
-    /// The files of a child that is about to be started with this command, as seen from the folder.
-    pub(crate) fn of<R: Files>(
-        alloc: Global,
-        rt: &R,
-        folder: &str,
-        command: &ChildCommand,
-    ) -> Result<StreamFiles, AllocError> {
-        let mut files = StreamFiles::none(alloc);
-        files.add(alloc, rt, folder, &command.output)?;
-        files.add(alloc, rt, folder, &command.error)?;
-        Ok(files)
-    }
-
-    /// Brings them to the disk. Answers the path of the first that the system refuses, and why.
-    pub(crate) fn sync<R: Files<File = File>>(&self, rt: &R) -> Result<(), (&str, io::Error)> {
-        for file in &self.files {
-            if let Err(error) = sync_file(rt, file) {
-                return Err((file.path.as_str(), error));
-            }
-        }
-        Ok(())
-    }
+/// The files of a child that is about to be started with this command, as seen from the folder; one that takes both of its streams is
+/// there once.
+pub(crate) fn stream_files<R: Files>(
+    alloc: Global,
+    rt: &R,
+    folder: &str,
+    key: &Key,
+    command: &ChildCommand,
+) -> Result<Vec<StreamFile>, AllocError> {
+    let mut files = Vec::new(alloc);
+    add_file(alloc, rt, folder, key, &command.output, &mut files)?;
+    add_file(alloc, rt, folder, key, &command.error, &mut files)?;
+    Ok(files)
 }

@@ -6,8 +6,7 @@ use crate::processors::processor_count;
 use crate::shown::{columns_of, push_shown, shown};
 use crate::tally::{Ending, Tally};
 use crate::terminal::{Screen, Way, Width};
-use job_starter_drive::Killed;
-use job_starter_local::{ChildWatcher, CommandPart, refused_part};
+use child_watcher::{ChildWatcher, CommandPart, Killed, refused_part};
 use node_machine::{Key, Outcome, Record, value_of};
 use run_plan::Plan;
 use run_plan_node::ChildCommand;
@@ -486,6 +485,8 @@ impl<
 
 impl<R: Screen + Processes + Files<File = File> + Clock + AllocGlobal + Copy + Drop> ChildWatcher
     for ProgressWatcher<'_, R> {
+    ghost prepared = { λ _. Unit {0} };
+
     fn launching(&mut self, _key: &Key, _command: &ChildCommand) {}
 
     fn launched(&mut self, key: &Key, _process: u32, command: &ChildCommand) {
@@ -517,6 +518,8 @@ impl<R: Screen + Processes + Files<File = File> + Clock + AllocGlobal + Copy + D
             let _ = progress.ended(key, outcome);
         }
     }
+
+    fn will_record(&mut self) {}
 
     fn killed(&mut self, key: &Key, _answer: Killed) {
         if let Some(progress) = &mut self.progress {

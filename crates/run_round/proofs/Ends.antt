@@ -16,16 +16,18 @@ use Rattle.sched_core.specs.Fate.{AreFates, shown}
 use Rattle.sched_core.specs.Choices.{IsChoice}
 use Rattle.status_report.specs.Text.{run_text}
 use Rattle.job_starter_drive.specs.declared.Call.{Call}
+use Rattle.job_starter_drive.specs.Calls.{Telling}
 use Rattle.job_starter_drive.specs.Drives.{Drives, At, at_rest, IsHalted, IsStopped}
 use Rattle.job_starter_drive.specs.Spawned.{SpawnsAll, SpawnsAllButSome}
 use Rattle.job_starter_drive.specs.declared.driving.DriveFault.{DriveFault}
-use Rattle.job_starter_drive.specs.Moments.{IsOlderPart, IsMore, MayHold, MayStand, ReadsBy, IsMomentOfRun}
+use Rattle.job_starter_drive.specs.Moments.{IsOlderPart, IsMore, MayHold, MayStand, ReadsBy, IsMomentOfRun, IsLastMoment}
 use Rattle.job_starter_drive.proofs.Cuts.{older-self, older-is, goes-records}
 use Rattle.job_starter_drive.proofs.Images.{may-older, moment_grows, last_at}
 use Rattle.event_journal_log.specs.Crashes.{CrashesLeave}
 use Rattle.event_journal_log.specs.Image.{Header}
 use Rattle.event_journal_log.proofs.Moments as moments
 use Rattle.recovery_manager.specs.Managed.{ReadsJournal}
+use Rattle.recovery_manager.specs.Seal.{IsRescued}
 use Rattle.job_starter_drive.proofs.Handing.{driven}
 use Rattle.run_round.specs.RunToEnd.{IsSuffix, IsRunToEnd, DrivesToEnd}
 use Rattle.run_round.specs.Moments.{IsMomentOfLead, IsLastOfLead}
@@ -54,7 +56,7 @@ is-led plan begun between records own text status more is lawful may fates print
 
 -- the same in the plans of the manager at each call
 pub led-by : (limits : Limits) (plan plan0 plan1 plan2 : Plan) → plan ≡ plan0 → plan1 ≡ plan0 → plan2 ≡ plan1
-    → (begun between records : List Record) (text : List ℕ) (status : ℕ) (tells : List Call → Key → Outcome → Type 0) (call_log later_log : List Call)
+    → (begun between records : List Record) (text : List ℕ) (status : ℕ) (tells : Telling) (call_log later_log : List Call)
     → Drives limits plan0 tells begun call_log between later_log → IsChoice limits plan0 between (choices.Finish status)
     → is_lawful plan1 between ≡ true → may_follow plan1 between (Finish (exit_status plan1 between)) ≡ true
     → records ≡ Finish (exit_status plan1 between) ∷ between
@@ -72,7 +74,7 @@ led-by limits plan plan0 plan1 plan2 own same last begun between records text st
     (subst (λ (p : Plan). status ≡ exit_status p between) (sym own) chosen.2)
 
 -- the steps of a run and its end, in the plans of the manager at each call
-pub to-end : (limits : Limits) (plan plan' : Plan) → plan' ≡ plan → (may : List Call → Key → Outcome → Type 0)
+abbrev pub to-end : (limits : Limits) (plan plan' : Plan) → plan' ≡ plan → (may : Telling)
     (past between records : List Record) (call_log later_log : List Call) (status : ℕ)
     → Drives limits plan may past call_log between later_log → IsChoice limits plan between (choices.Finish status)
     → records ≡ Finish (exit_status plan' between) ∷ between → DrivesToEnd limits plan may past call_log records later_log
@@ -84,7 +86,7 @@ to-end limits plan plan' same may past between records call_log later_log status
   ended = is ∙ ap (λ (p : Plan). Finish (exit_status p between) ∷ between) same ∙ ap (λ (n : ℕ). Finish n ∷ between) (sym chosen.2);
 }
 
-pub stopped-adds : (limits : Limits) (plan : Plan) (may : List Call → Key → Outcome → Type 0) (past : List Record) (call_log : List Call) (fault : DriveFault) (after : List Record) (last : List Call)
+pub stopped-adds : (limits : Limits) (plan : Plan) (may : Telling) (past : List Record) (call_log : List Call) (fault : DriveFault) (after : List Record) (last : List Call)
     → IsStopped limits plan may past call_log fault after last → IsSuffix past after
 stopped-adds limits plan may past call_log fault after last s =
     goes-records limits plan may (at_rest past call_log) (At after s.rest s.halted.keys s.halted.owed) s.halted.steps
@@ -115,22 +117,29 @@ pub one-more : (entry : Record) (held kept : List Record) → kept ≡ held → 
 one-more entry held kept same = record { added = entry ∷ []; few = omega arith; is = ap (λ (l : List Record). entry ∷ l) (sym same) }
 
 -- behind all steps it may be halted
-pub at-steps : (limits : Limits) (plan : Plan) (may : List Call → Key → Outcome → Type 0) (past : List Record) (call_log : List Call) (after : List Record) (last : List Call)
+pub at-steps : (limits : Limits) (plan : Plan) (may : Telling) (past : List Record) (call_log : List Call) (after : List Record) (last : List Call)
     → Drives limits plan may past call_log after last → IsHalted limits plan may past call_log after last
 at-steps limits plan may past call_log after last steps = record { keys = []; owed = []; steps = steps }
 
-module _ (limits : Limits) (plan : Plan) (may : List Call → Key → Outcome → Type 0) (past : List Record) (call_log : List Call) (header : Header) where
+-- behind all steps, where nothing was refused of the journal
+pub steps_last : (limits : Limits) (plan : Plan) (may : Telling) (past : List Record) (call_log : List Call) (header : Header) (kept : List Record) (last : List Call) (image : List ℕ)
+    → is_lawful plan kept ≡ true → Drives limits plan may past call_log kept last → ReadsJournal header kept image → IsLastMoment limits plan may past call_log None kept last header image
+steps_last limits plan may past call_log header kept last image lawful steps reads =
+    last_at limits plan may (at_rest past call_log) header (at_rest kept last) None kept last image steps lawful (older-self kept) (older-self last) (older-self kept) reads
+
+module _ {R : Type 0} (rescues : Ghosts R) (rescue : Option R) (limits : Limits) (plan : Plan) (may : Telling) (past : List Record) (call_log : List Call) (header : Header) where
   -- The record of the end, behind the steps of the run: what they came to, without it and with it.
   pub record IsEndCall (by fault : Option DriveFault) (kept : List Record) (last : List Call) (between : List Record) (entry : Record) : Type 0 where
     pub lawful : is_lawful plan between ≡ true
     pub follows : may_follow plan between entry ≡ true
     pub steps : Drives limits plan may past call_log between last
     pub ended : DrivesToEnd limits plan may past call_log (entry ∷ between) last
+    pub rescued : IsRescued rescues plan ended.between rescue
     pub part : MayHold fault kept between
     pub more : MayStand by → MayHold fault kept (entry ∷ between)
 
   pub end_moment : (by fault : Option DriveFault) (kept : List Record) (last : List Call) (between : List Record) (entry : Record) (image : List ℕ)
-      → IsEndCall by fault kept last between entry → ReadsBy by header between (entry ∷ between) image → IsMomentOfLead limits plan may past call_log fault kept last header image
+      → IsEndCall by fault kept last between entry → ReadsBy by header between (entry ∷ between) image → IsMomentOfLead rescues rescue limits plan may past call_log fault kept last header image
   end_moment by fault kept last between entry image call (inl reads) = inl (record {
     held = between;
     later_log = last;
@@ -144,12 +153,13 @@ module _ (limits : Limits) (plan : Plan) (may : List Call → Key → Outcome �
     held = entry ∷ between;
     lawful = and_from _ _ call.lawful call.follows;
     ended = call.ended;
+    rescued = call.rescued;
     part = call.more reads.0;
     reads = reads.1;
   })
 
   pub end_last : (by fault : Option DriveFault) (kept : List Record) (last : List Call) (between : List Record) (entry : Record) (image : List ℕ)
-      → IsEndCall by fault kept last between entry → kept ≡ between → ReadsBy by header between (entry ∷ between) image → IsLastOfLead limits plan may past call_log fault kept last header image
+      → IsEndCall by fault kept last between entry → kept ≡ between → ReadsBy by header between (entry ∷ between) image → IsLastOfLead rescues rescue limits plan may past call_log fault kept last header image
   end_last by fault kept last between entry image call same (inl reads) = inl (record {
     moment = record {
       held = between;
@@ -167,6 +177,7 @@ module _ (limits : Limits) (plan : Plan) (may : List Call → Key → Outcome �
       held = entry ∷ between;
       lawful = and_from _ _ call.lawful call.follows;
       ended = call.ended;
+      rescued = call.rescued;
       part = call.more reads.0;
       reads = reads.1;
     },
@@ -175,46 +186,46 @@ module _ (limits : Limits) (plan : Plan) (may : List Call → Key → Outcome �
 
   -- the end is recorded
   pub end_rest : (fault : Option DriveFault) (kept : List Record) (last : List Call) (image : List ℕ) → is_lawful plan kept ≡ true
-      → DrivesToEnd limits plan may past call_log kept last → ReadsJournal header kept image → IsLastOfLead limits plan may past call_log fault kept last header image
-  end_rest fault kept last image lawful ended reads =
-      inr (record { held = kept; lawful = lawful; ended = ended; part = may-older fault kept kept (older-self kept); reads = reads }, older-self kept)
+      → (ended : DrivesToEnd limits plan may past call_log kept last) → IsRescued rescues plan ended.between rescue → ReadsJournal header kept image → IsLastOfLead rescues rescue limits plan may past call_log fault kept last header image
+  end_rest fault kept last image lawful ended rescued reads =
+      inr (record { held = kept; lawful = lawful; ended = ended; rescued = rescued; part = may-older fault kept kept (older-self kept); reads = reads }, older-self kept)
 
   -- the end is not recorded yet
   pub steps_rest : (fault : Option DriveFault) (kept : List Record) (last : List Call) (image : List ℕ) → is_lawful plan kept ≡ true
-      → Drives limits plan may past call_log kept last → ReadsJournal header kept image → IsLastOfLead limits plan may past call_log fault kept last header image
+      → Drives limits plan may past call_log kept last → ReadsJournal header kept image → IsLastOfLead rescues rescue limits plan may past call_log fault kept last header image
   steps_rest fault kept last image lawful steps reads =
       inl (last_at limits plan may (at_rest past call_log) header (at_rest kept last) fault kept last image steps lawful (may-older fault kept kept (older-self kept)) (older-self last) (older-self kept) reads)
 
   module _ {D : Type 0} (disks : Ghosts D) (fault : Option DriveFault) (kept : List Record) (last : List Call) where
     pub lead_run : (old new : D) → CrashesLeave disks old new (IsMomentOfRun limits plan may past call_log fault kept last header)
-        → CrashesLeave disks old new (IsMomentOfLead limits plan may past call_log fault kept last header)
+        → CrashesLeave disks old new (IsMomentOfLead rescues rescue limits plan may past call_log fault kept last header)
     lead_run old new leaves =
-        moments.weaker disks old new (IsMomentOfRun limits plan may past call_log fault kept last header) (IsMomentOfLead limits plan may past call_log fault kept last header)
+        moments.weaker disks old new (IsMomentOfRun limits plan may past call_log fault kept last header) (IsMomentOfLead rescues rescue limits plan may past call_log fault kept last header)
         (λ image run. inl run) leaves
 
     -- a run that was driven, as its end may be recorded behind it
     pub lead_grown : (old new : D) (between : List Record) → IsOlderPart between kept → CrashesLeave disks old new (IsMomentOfRun limits plan may past call_log None between last header)
-        → CrashesLeave disks old new (IsMomentOfLead limits plan may past call_log fault kept last header)
+        → CrashesLeave disks old new (IsMomentOfLead rescues rescue limits plan may past call_log fault kept last header)
     lead_grown old new between grown leaves =
-        moments.weaker disks old new (IsMomentOfRun limits plan may past call_log None between last header) (IsMomentOfLead limits plan may past call_log fault kept last header)
+        moments.weaker disks old new (IsMomentOfRun limits plan may past call_log None between last header) (IsMomentOfLead rescues rescue limits plan may past call_log fault kept last header)
         (λ image run. inl (moment_grows limits plan may (at_rest past call_log) header fault between last kept last grown (older-self last) image run)) leaves
 
     -- a crash while the end is recorded, behind the steps of the run
     pub then_end : (old mid new : D) (by : Option DriveFault) (between : List Record) (entry : Record) → IsEndCall by fault kept last between entry → IsOlderPart between kept
         → CrashesLeave disks old mid (IsMomentOfRun limits plan may past call_log None between last header) → CrashesLeave disks mid new (ReadsBy by header between (entry ∷ between))
-        → CrashesLeave disks old new (IsMomentOfLead limits plan may past call_log fault kept last header)
+        → CrashesLeave disks old new (IsMomentOfLead rescues rescue limits plan may past call_log fault kept last header)
     then_end old mid new by between entry call grown first second =
-        moments.joined disks old mid new (IsMomentOfLead limits plan may past call_log fault kept last header) (lead_grown old mid between grown first)
-        (moments.weaker disks mid new (ReadsBy by header between (entry ∷ between)) (IsMomentOfLead limits plan may past call_log fault kept last header)
+        moments.joined disks old mid new (IsMomentOfLead rescues rescue limits plan may past call_log fault kept last header) (lead_grown old mid between grown first)
+        (moments.weaker disks mid new (ReadsBy by header between (entry ∷ between)) (IsMomentOfLead rescues rescue limits plan may past call_log fault kept last header)
         (λ image. end_moment by fault kept last between entry image call) second)
 
 -- a moment of the end hands over what its steps did
-pub end-hands : (limits : Limits) (plan : Plan) (may : List Call → Key → Outcome → Type 0) (past : List Record) (call_log : List Call) (records : List Record) (later_log : List Call)
+pub end-hands : (limits : Limits) (plan : Plan) (may : Telling) (past : List Record) (call_log : List Call) (records : List Record) (later_log : List Call)
     → DrivesToEnd limits plan may past call_log records later_log → SpawnsAll plan past records call_log later_log
 end-hands limits plan may past call_log records later_log d =
     finished-hands plan past d.between records d.status call_log later_log (driven limits plan may past call_log d.between later_log d.steps) d.ended
 
-pub end-adds : (limits : Limits) (plan : Plan) (may : List Call → Key → Outcome → Type 0) (past : List Record) (call_log : List Call) (records : List Record) (later_log : List Call)
+pub end-adds : (limits : Limits) (plan : Plan) (may : Telling) (past : List Record) (call_log : List Call) (records : List Record) (later_log : List Call)
     → DrivesToEnd limits plan may past call_log records later_log → IsSuffix past records
 end-adds limits plan may past call_log records later_log d =
     finished-adds past d.between records d.status (goes-records limits plan may (at_rest past call_log) (at_rest d.between later_log) d.steps) d.ended

@@ -17,11 +17,12 @@ use Rattle.recovery_manager.specs.Chain.{ReadsForInputs}
 use Rattle.recovery_manager.specs.Seal.{IsRescued}
 use Rattle.recovery.specs.Recovery.{IsNewLife}
 use Rattle.job_starter_drive.specs.declared.Call.{Call}
+use Rattle.job_starter_drive.specs.Calls.{Telling}
 use Rattle.job_starter_drive.specs.declared.driving.DriveFault.{DriveFault}
 use Rattle.job_starter_drive.specs.Drives.{limits_of}
 use Rattle.run_round.specs.declared.rounds.Start.{Start}
 use Rattle.run_round.specs.declared.rounds.Start.TheVariants.{Begin, GoOn}
-use Rattle.run_round.specs.RunToEnd.{IsRunToEnd, DrivesToEnd}
+use Rattle.run_round.specs.RunToEnd.{IsRunToEnd, DrivesToEnd, StaysHonest}
 use Rattle.run_round.specs.Moments.{IsMomentOfLead, IsLastOfLead}
 use Rattle.run_round.specs.Rounds.{HasBegun, IsBegunBy, BeginsOn, IsJournaled, IsMomentOfOpening, IsRoundRun, IsRoundOnDisk}
 use Rattle.run_round.proofs.Ends.{end-hands}
@@ -38,21 +39,21 @@ abbrev behind : List Record → List Record
 behind [] = []
 behind (entry ∷ past) = past
 
-module _ {D : Type 0} (disks : Ghosts D)
-    (start : Start) (limits : Limits) (plan : Plan) (may : List Call → Key → Outcome → Type 0) (call_log : List Call) (fault : Option DriveFault) (kept : List Record) (last : List Call)
+module _ {D R : Type 0} (disks : Ghosts D) (rescues : Ghosts R) (rescue : Option R)
+    (start : Start) (limits : Limits) (plan : Plan) (may : Telling) (call_log : List Call) (fault : Option DriveFault) (kept : List Record) (last : List Call)
     (disk left : D) (opened manager : Managed D) where
   -- what is made of the disk by opening a round and leading it
   pub on-disk : limits_of opened ≡ limits → plan_of opened ≡ plan → left ≡ disk_of manager → IsJournaled disks plan opened
       → CrashesLeave disks disk (disk_of opened) (IsMomentOfOpening start plan (disks.may_leave disk) (disks.seen disk))
       → ((header : Header) → IsAcknowledged disks header opened
-      → CrashesLeave disks (disk_of opened) (disk_of manager) (IsMomentOfLead (limits_of opened) (plan_of opened) may (past_of opened) call_log fault kept last header))
+      → CrashesLeave disks (disk_of opened) (disk_of manager) (IsMomentOfLead rescues rescue (limits_of opened) (plan_of opened) may (past_of opened) call_log fault kept last header))
       → ((header : Header) → IsAcknowledged disks header opened
-      → (image : List ℕ) → disks.may_leave (disk_of manager) image → IsLastOfLead (limits_of opened) (plan_of opened) may (past_of opened) call_log fault kept last header image)
-      → IsRoundOnDisk disks start limits plan may (past_of opened) call_log fault kept last disk left
+      → (image : List ℕ) → disks.may_leave (disk_of manager) image → IsLastOfLead rescues rescue (limits_of opened) (plan_of opened) may (past_of opened) call_log fault kept last header image)
+      → IsRoundOnDisk disks rescues rescue start limits plan may (past_of opened) call_log fault kept last disk left
   on-disk limits_are plan_is left_is journaled opening leading ending =
       let header = journaled.header in
-      let Lead : Limits → Plan → List ℕ → Type 0 = λ l p. IsMomentOfLead l p may (past_of opened) call_log fault kept last header in
-      let Last : Limits → Plan → List ℕ → Type 0 = λ l p. IsLastOfLead l p may (past_of opened) call_log fault kept last header in
+      let Lead : Limits → Plan → List ℕ → Type 0 = λ l p. IsMomentOfLead rescues rescue l p may (past_of opened) call_log fault kept last header in
+      let Last : Limits → Plan → List ℕ → Type 0 = λ l p. IsLastOfLead rescues rescue l p may (past_of opened) call_log fault kept last header in
       let All : List ℕ → Type 0 = λ image. IsMomentOfOpening start plan (disks.may_leave disk) (disks.seen disk) image ⊎ Lead limits plan image in
       let led = subst (λ (l : Limits). CrashesLeave disks (disk_of opened) (disk_of manager) (Lead l plan)) limits_are
       (subst (λ (p : Plan). CrashesLeave disks (disk_of opened) (disk_of manager) (Lead (limits_of opened) p)) plan_is (leading header journaled.acknowledged)) in
@@ -79,15 +80,15 @@ life-of (Begin used next) past alone = record { before = []; is = alone }
 life-of GoOn past life = life
 
 pub round-of : {D R : Type 0} (disks : Ghosts D)
-    (rescues : Ghosts R) (plan : Plan) (start : Start) (limits : Limits) (may : List Call → Key → Outcome → Type 0) (call_log later_log : List Call)
-    (disk left : D) (opened : Managed D) (records : List Record) (text : List ℕ) (status : ℕ) (rescue : Option R)
+    (rescues : Ghosts R) (plan : Plan) (start : Start) (limits : Limits) (may : Telling) (call_log later_log : List Call)
+    (disk left : D) (handed : R) (opened : Managed D) (records : List Record) (text : List ℕ) (status : ℕ) (rescue : Option R)
     → limits_of opened ≡ limits → plan_of opened ≡ plan → HasBegun start (past_of opened) → (disks.honest disk → BeginsOn plan (disks.seen disk) opened)
     → IsRunToEnd plan (past_of opened) records text status → DrivesToEnd (limits_of opened) (plan_of opened) may (past_of opened) call_log records later_log
-    → IsRescued rescues plan records rescue
-    → (disks.honest disk → IsRoundOnDisk disks start limits plan may (past_of opened) call_log None records later_log disk left)
-    → IsRoundRun disks rescues plan start limits may call_log later_log disk left text status rescue
-round-of disks rescues plan start limits may call_log later_log disk left opened records text status rescue
-    limits_are plan_is anew begins led drives rescued leaves =
+    → IsRescued rescues plan records rescue → (rescues.honest handed → StaysHonest rescues rescue)
+    → (disks.honest disk → IsRoundOnDisk disks rescues rescue start limits plan may (past_of opened) call_log None records later_log disk left)
+    → IsRoundRun disks rescues plan start limits may call_log later_log disk left handed text status rescue
+round-of disks rescues plan start limits may call_log later_log disk left handed opened records text status rescue
+    limits_are plan_is anew begins led drives rescued keeps leaves =
     let life = life-of start (past_of opened) anew in
     let steps : DrivesToEnd limits plan may (Life ∷ life.before) call_log records later_log =
     subst (λ (r : List Record). DrivesToEnd limits plan may r call_log records later_log) life.is
@@ -102,5 +103,6 @@ round-of disks rescues plan start limits may call_log later_log disk left opened
       steps = steps;
       spawns = end-hands limits plan may (Life ∷ life.before) call_log records later_log steps;
       rescued = rescued;
-      on_disk = λ h. subst (λ (l : List Record). IsRoundOnDisk disks start limits plan may l call_log None records later_log disk left) life.is (leaves h);
+      keeps = keeps;
+      on_disk = λ h. subst (λ (l : List Record). IsRoundOnDisk disks rescues rescue start limits plan may l call_log None records later_log disk left) life.is (leaves h);
     }

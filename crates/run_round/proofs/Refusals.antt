@@ -1,6 +1,6 @@
 -- Why a run isn't led to its end.
 use Rattle.std.proofs.Common.{arith, ◌≡◌, ℕ, true, false, inl, inr, List, [], ◌∷◌, length, refl, sym, ◌∙◌, subst}
-use Rattle.std.specs.Prelude.{IsTrue, IfErr, Result, Ok, Err}
+use Rattle.std.specs.Prelude.{IsTrue, IfErr, Result, Ok, Err, Option, Some, None}
 use Rattle.std.proofs.lemmas.List.Elements.{All-nil, All-cons}
 use Rattle.std.proofs.lemmas.Bool.{and_parts, and_from, false≢true, not-true}
 use Rattle.event_journal_log.specs.declared.disk.Disk.{Ghosts}
@@ -15,10 +15,11 @@ use Rattle.event_journal_log.specs.declared.journal.Journal.{Journal}
 use Rattle.recovery_manager.specs.Batched.{IsUnwritten, no_memory_for_all, broken_before, too_few_slots, disk_failed_meanwhile, disk_full_before}
 use Rattle.recovery_manager.specs.Managed as refusals
 use Rattle.recovery_manager.specs.Managed.{Managed, plan_of, past_of, IsRefusal, KeepsDisk}
-use Rattle.recovery_manager.specs.Seal.{IsFinishFault, IsRescueFault, run_over, not_now, no_memory, disk_failed, disk_full, may_end, needs_rescue_now}
+use Rattle.recovery_manager.specs.Seal.{OnDisk, IsFinishFault, IsRescueFault, run_over, not_now, no_memory, disk_failed, disk_full, may_end, needs_rescue_now}
 use Rattle.recovery_manager.specs.declared.fault.ManagerFault.{ManagerFault}
 use Rattle.job_starter_drive.specs.Causes.{AreRefused}
 use Rattle.job_starter_drive.specs.Moments.{CountsOn}
+use Rattle.run_round.specs.RunToEnd.{StaysHonest}
 use Rattle.run_round.specs.Causes.{IsEndOf, IsSealFault, text_had_no_memory, rescue_failed, rescue_had_no_room}
 
 open-going : (past : List Record) → is_open past ≡ true → is_over past ≡ false
@@ -68,19 +69,27 @@ pub end-refused : {D : Type 0} (disks : Ghosts D) (old mid new : Managed D) (fau
     → KeepsDisk disks old.journal mid.journal → CountsOn old mid
     → plan_of new ≡ plan_of mid → past_of new ≡ past_of mid → may_end (plan_of mid) (past_of mid) ≡ true
     → IsUnwritten disks (Finish (exit_status (plan_of mid) (past_of mid)) ∷ []) mid.journal new.journal fault
-    → AreRefused disks (IsEndOf (plan_of new) (past_of new)) old new fault
-end-refused disks old mid new fault keeps counts same kept ends why = record {
-  entries = Finish (exit_status (plan_of mid) (past_of mid)) ∷ [];
-  own = All-cons (IsEndOf (plan_of new) (past_of new)) (Finish (exit_status (plan_of mid) (past_of mid))) [] (λ j. Finish (exit_status (sym same j) (sym kept j))) (All-nil (IsEndOf (plan_of new) (past_of new)));
-  then_was = mid;
-  same = sym kept;
-  disk = keeps;
-  counts = counts;
-  lawful = and_from _ _ ((λ j. may_follow (same j) (kept j) (Finish (exit_status (plan_of mid) (past_of mid)))) ∙ ends) refl;
-  cause = why;
-}
+    → (refused : AreRefused disks (IsEndOf (plan_of new) (past_of new)) old new fault) × (refused.entries ≡ Finish (exit_status (plan_of new) (past_of new)) ∷ [])
+end-refused disks old mid new fault keeps counts same kept ends why = (
+  record {
+    entries = Finish (exit_status (plan_of mid) (past_of mid)) ∷ [];
+    own = All-cons (IsEndOf (plan_of new) (past_of new)) (Finish (exit_status (plan_of mid) (past_of mid))) [] (λ j. Finish (exit_status (sym same j) (sym kept j))) (All-nil (IsEndOf (plan_of new) (past_of new)));
+    then_was = mid;
+    same = sym kept;
+    disk = keeps;
+    counts = counts;
+    lawful = and_from _ _ ((λ j. may_follow (same j) (kept j) (Finish (exit_status (plan_of mid) (past_of mid)))) ∙ ends) refl;
+    cause = why;
+  },
+  λ j. Finish (exit_status (sym same j) (sym kept j)) ∷ [],
+)
 
 -- what is known of one fault makes another thing known of it
 pub of-fault : {X E : Type 0} (P Q : E → Type 0) (result : Result X E) → ((fault : E) → P fault → Q fault) → IfErr result P → IfErr result Q
 of-fault P Q (Ok x) more is = tt
 of-fault P Q (Err fault) more is = more fault is
+
+-- a rescue file's disk that was written is honest as it was
+pub honest-disk : {R : Type 0} (rescues : Ghosts R) (P : R → Type 0) (disk : Option R) → OnDisk (λ d. rescues.honest d × P d) disk → StaysHonest rescues disk
+honest-disk rescues P (Some disk) is = is.0
+honest-disk rescues P None is = tt

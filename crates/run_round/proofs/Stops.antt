@@ -14,6 +14,7 @@ use Rattle.recovery_manager.specs.Batched.{IsUnwritten, no_memory_for_all, broke
 use Rattle.recovery_manager.specs.Managed.{Managed, plan_of, past_of}
 use Rattle.recovery.specs.Recovery.{IsBeginFault, begin_failed, begin_had_no_room, begin_had_no_slot, begin_had_no_memory, begun_before, recovery_failed, no_journal, foreign_record, run_finished, recovery_had_no_memory, no_slot_for_life, no_room_for_life}
 use Rattle.job_starter_drive.specs.declared.Call.{Call}
+use Rattle.job_starter_drive.specs.Calls.{Telling}
 use Rattle.job_starter_drive.specs.declared.driving.DriveFault.{DriveFault}
 use Rattle.job_starter_drive.specs.Causes.{AreRefused, IsOfRun, IsDriveFault, no_memory_for_child, no_ending_logged, no_memory_for_command, no_memory_for_round, records_refused}
 use Rattle.run_round.specs.declared.rounds.Start.{Start}
@@ -54,7 +55,7 @@ begin-stops disks slots old new _ begin_had_no_memory = stopped_by_memory
 begin-stops disks slots old new _ (begun_before fault is dishonest) = stopped_by_image fault is
 
 module _ {D R : Type 0} (disks : Ghosts D) (rescues : Ghosts R) (before now : ℕ) (plan : Plan) (slots : ℕ) (limits : Limits)
-    (may : List Call → Key → Outcome → Type 0) (call_log later_log : List Call) (disk left : D) (rescue : R) (rest : Option R) where
+    (may : Telling) (call_log later_log : List Call) (disk left : D) (rescue : R) (rest : Option R) where
   recovery-stops : (fault : ManagerFault) → IsOpeningFault disks plan slots GoOn disk left fault → IsManagerStop fault
   recovery-stops _ (recovery_failed rises) = stopped_by_disk
   recovery-stops _ (no_journal fault is reads) = stopped_by_image fault is
@@ -71,8 +72,8 @@ module _ {D R : Type 0} (disks : Ghosts D) (rescues : Ghosts R) (before now : �
   run_to_end-stops : (old manager : Managed D) (fault : DriveFault) → is_broken old.journal ≡ false
       → IsRunToEndFault disks rescues before now may old manager call_log later_log rescue rest fault → MayStop fault
   run_to_end-stops old manager _ whole (stopped {fault = fault} why steps same) = drive-stops disks before now old manager fault whole why
-  run_to_end-stops old manager _ whole (not_sealed {fault = fault} left is at needs why) = seal-stops rescues (plan_of manager) (past_of manager) rescue left fault why
-  run_to_end-stops old manager _ whole (end_refused {fault = fault} at why rescued) = refused-stops disks (IsEndOf (plan_of manager) (past_of manager)) old manager fault whole why
+  run_to_end-stops old manager _ whole (not_sealed {fault = fault} left is at needs why kept) = seal-stops rescues (plan_of manager) (past_of manager) rescue left fault why
+  run_to_end-stops old manager _ whole (end_refused {fault = fault} at why one rescued) = refused-stops disks (IsEndOf (plan_of manager) (past_of manager)) old manager fault whole why
   run_to_end-stops old manager _ whole (no_memory_for_report ended rescued) = tt
 
   pub round-stops : (start : Start) (fault : DriveFault)

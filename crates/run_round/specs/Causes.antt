@@ -1,5 +1,5 @@
 -- Why a run is not led to its end.
-use Rattle.std.specs.Prelude.{◌≡◌, ◌⊎◌, ℕ, ◌<◌, List, length, Option, Some, IsTrue}
+use Rattle.std.specs.Prelude.{◌≡◌, ◌⊎◌, ℕ, ◌<◌, List, [], ◌∷◌, length, Option, Some, None, IsTrue}
 use Rattle.event_journal_log.specs.declared.disk.Disk.{Ghosts}
 use Rattle.node_machine.specs.declared.Key.{Key}
 use Rattle.node_machine.specs.declared.Outcome.{Outcome}
@@ -20,8 +20,10 @@ use Rattle.recovery_manager.specs.declared.fault.ManagerFault.{ManagerFault}
 use Rattle.recovery_manager.specs.declared.fault.ManagerFault.TheVariants as faults
 use Rattle.recovery.specs.Recovery.{IsUntouched}
 use Rattle.job_starter_drive.specs.declared.Call.{Call}
+use Rattle.job_starter_drive.specs.Calls.{Telling}
 use Rattle.job_starter_drive.specs.Drives.{limits_of, IsStopped}
 use Rattle.job_starter_drive.specs.Causes.{IsDriveFault, AreRefused}
+use Rattle.job_starter_drive.specs.Moments.{IsMomentOfRun, IsLastMoment, AtAnyMoment, AtTheEnd, StaysAcknowledged}
 use Rattle.job_starter_drive.specs.declared.driving.DriveFault.{DriveFault}
 use Rattle.job_starter_drive.specs.declared.driving.DriveFault.TheVariants as drives
 use Rattle.run_round.specs.declared.rounds.Start.{Start}
@@ -41,21 +43,30 @@ pub data IsSealFault {R : Type 0} (disks : Ghosts R) (plan : Plan) (past : List 
 abbrev pub IsEndOf : Plan → List Record → Record → Type 0
 IsEndOf plan past entry = entry ≡ Finish (exit_status plan past)
 
+-- The rescue file's disk has nothing to do with the journal: where that one fails, a crash leaves of the journal, at any moment and behind the call,
+-- what it leaves of a run without a fault, and all that was recorded stays.
+pub record IsJournalKept {D : Type 0} (disks : Ghosts D) (may : Telling) (old manager : Managed D) (call_log later_log : List Call) : Type 0 where
+  pub any_moment : AtAnyMoment disks old manager (IsMomentOfRun (limits_of old) (plan_of old) may (past_of old) call_log None (past_of manager) later_log)
+  pub at_the_end : AtTheEnd disks old manager (IsLastMoment (limits_of old) (plan_of old) may (past_of old) call_log None (past_of manager) later_log)
+  pub acknowledged : StaysAcknowledged disks old manager
+
 -- Why a run isn't led to its end, by the starter's counts of refusals, and by the manager and the disk for the rescue file that were
 -- there and that are left; and what was recorded and answered so far. It was stopped on the way, and no rescue file was begun; or, behind
--- all its steps, the rescue file that it needs isn't written; or that is written, and the run's end was refused as a record; or it ended, and
+-- all its steps, the rescue file that it needs isn't written, and the journal is as it was; or that file is written, and the run's end was refused, one record; or it ended, and
 -- memory was refused for its report. A run that needs no rescue file leaves none behind its steps.
 pub data IsRunToEndFault {D R : Type 0} (disks : Ghosts D) (rescues : Ghosts R) (before now : ℕ)
-    (may : List Call → Key → Outcome → Type 0) (old manager : Managed D) (call_log later_log : List Call) (disk : R) (left : Option R) : DriveFault → Type 0 where
+    (may : Telling) (old manager : Managed D) (call_log later_log : List Call) (disk : R) (left : Option R) : DriveFault → Type 0 where
   stopped : {fault : DriveFault} → IsDriveFault disks before now old manager fault →
       IsStopped (limits_of old) (plan_of old) may (past_of old) call_log fault (past_of manager) later_log → left ≡ Some disk →
       IsRunToEndFault disks rescues before now may old manager call_log later_log disk left fault
   not_sealed : {fault : ManagerFault} (rest : R) → left ≡ Some rest → IsAtEnd (limits_of old) (plan_of old) may (past_of old) call_log (past_of manager) later_log →
       IsTrue (needs_rescue_now (plan_of manager) (past_of manager)) →
       IsSealFault rescues (plan_of manager) (past_of manager) disk rest fault →
+      IsJournalKept disks may old manager call_log later_log →
       IsRunToEndFault disks rescues before now may old manager call_log later_log disk left (drives.Manager fault)
   end_refused : {fault : ManagerFault} → IsAtEnd (limits_of old) (plan_of old) may (past_of old) call_log (past_of manager) later_log →
-      AreRefused disks (IsEndOf (plan_of manager) (past_of manager)) old manager fault →
+      (why : AreRefused disks (IsEndOf (plan_of manager) (past_of manager)) old manager fault) →
+      why.entries ≡ Finish (exit_status (plan_of manager) (past_of manager)) ∷ [] →
       IsRescued rescues (plan_of manager) (past_of manager) left →
       IsRunToEndFault disks rescues before now may old manager call_log later_log disk left (drives.Manager fault)
   no_memory_for_report : DrivesToEnd (limits_of old) (plan_of old) may (past_of old) call_log (past_of manager) later_log →
@@ -80,12 +91,12 @@ MayStop _ = Unit {0}
 -- Why a round isn't run to its end, and what is left of the journal's disk and of the rescue file's: its manager refuses to begin, or to
 -- go on, and nothing was handed over; or, begun on what stood there, it isn't led to its end.
 pub data IsRoundRefusal {D R : Type 0} (disks : Ghosts D) (rescues : Ghosts R) (before now : ℕ) (plan : Plan) (slots : ℕ) (start : Start) (limits : Limits)
-    (may : List Call → Key → Outcome → Type 0) (call_log later_log : List Call) (disk left : D) (rescue : R) (rest : Option R) : DriveFault → Type 0 where
+    (may : Telling) (call_log later_log : List Call) (disk left : D) (rescue : R) (rest : Option R) : DriveFault → Type 0 where
   not_opened : {fault : ManagerFault} → later_log ≡ call_log → rest ≡ Some rescue → IsOpeningFault disks plan slots start disk left fault →
       (disks.honest disk → IsFaultOfDisk fault ⊎ IsUntouched disks disk left) →
       (disks.honest disk → CrashesLeave disks disk left (IsMomentOfOpening start plan (disks.may_leave disk) (disks.seen disk))) →
       IsRoundRefusal disks rescues before now plan slots start limits may call_log later_log disk left rescue rest (drives.Manager fault)
   not_led : {fault : DriveFault} → (opened manager : Managed D) → IsRoundOpened disks plan slots start limits disk opened → disk_of manager ≡ left →
       IsRunToEndFault disks rescues before now may opened manager call_log later_log rescue rest fault →
-      (disks.honest disk → IsRoundOnDisk disks start limits plan may (past_of opened) call_log (Some fault) (past_of manager) later_log disk left) →
+      (disks.honest disk → IsRoundOnDisk disks rescues rest start limits plan may (past_of opened) call_log (Some fault) (past_of manager) later_log disk left) →
       IsRoundRefusal disks rescues before now plan slots start limits may call_log later_log disk left rescue rest fault

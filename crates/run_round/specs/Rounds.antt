@@ -19,10 +19,11 @@ use Rattle.recovery_manager.specs.Chain.{ReadsForInputs}
 use Rattle.recovery_manager.specs.Seal.{IsRescued}
 use Rattle.recovery_manager.specs.Inputs.{IsHeaderOf, header_for, replay_by}
 use Rattle.job_starter_drive.specs.declared.Call.{Call}
+use Rattle.job_starter_drive.specs.Calls.{Telling}
 use Rattle.job_starter_drive.specs.declared.driving.DriveFault.{DriveFault}
 use Rattle.job_starter_drive.specs.Drives.{limits_of}
 use Rattle.job_starter_drive.specs.Spawned.{SpawnsAll}
-use Rattle.run_round.specs.RunToEnd.{IsRunToEnd, DrivesToEnd}
+use Rattle.run_round.specs.RunToEnd.{IsRunToEnd, DrivesToEnd, StaysHonest}
 use Rattle.run_round.specs.Moments.{IsMomentOfLead, IsLastOfLead}
 use Rattle.run_round.specs.declared.rounds.Start.{Start}
 use Rattle.run_round.specs.declared.rounds.Start.TheVariants.{Begin, GoOn}
@@ -48,21 +49,22 @@ IsMomentOfOpening (Begin used next) plan before found = IsMomentOfBegin before (
 IsMomentOfOpening GoOn plan before found = IsMomentOfRecovery plan before (replay_of found)
 
 -- What a round makes of the journal's disk: a crash at any moment leaves one from before it, a moment of its opening, or one of the
--- run that it leads, of these inputs; and a crash behind it none that lacks a record that is kept.
-pub record IsRoundOnDisk {D : Type 0} (disks : Ghosts D) (start : Start) (limits : Limits) (plan : Plan)
-    (may : List Call → Key → Outcome → Type 0) (past : List Record) (call_log : List Call) (fault : Option DriveFault) (kept : List Record) (last : List Call) (disk left : D) : Type 0 where
+-- run that it leads, of these inputs, and the run's end only where the rescue file that is owed is on its disk, which is handed back; and a crash
+-- behind it none that lacks a record that is kept.
+pub record IsRoundOnDisk {D R : Type 0} (disks : Ghosts D) (rescues : Ghosts R) (rescue : Option R) (start : Start) (limits : Limits) (plan : Plan)
+    (may : Telling) (past : List Record) (call_log : List Call) (fault : Option DriveFault) (kept : List Record) (last : List Call) (disk left : D) : Type 0 where
   pub header : Header
   pub inputs : IsHeaderOf plan header
   pub any_moment : CrashesLeave disks disk left
-      (λ image. IsMomentOfOpening start plan (disks.may_leave disk) (disks.seen disk) image ⊎ IsMomentOfLead limits plan may past call_log fault kept last header image)
-  pub at_the_end : (image : List ℕ) → disks.may_leave left image → IsLastOfLead limits plan may past call_log fault kept last header image
+      (λ image. IsMomentOfOpening start plan (disks.may_leave disk) (disks.seen disk) image ⊎ IsMomentOfLead rescues rescue limits plan may past call_log fault kept last header image)
+  pub at_the_end : (image : List ℕ) → disks.may_leave left image → IsLastOfLead rescues rescue limits plan may past call_log fault kept last header image
 
 -- A round over any disks and starter: its life began on the records of the bytes that stood there, and Life; it was led to
 -- its end, one step behind another, and printed this; the commands of its launches were handed over; and the rescue file that it
--- owes is on its disk.
+-- owes is on its disk, which is honest as the one was that it was handed.
 pub record IsRoundRun {D R : Type 0} (disks : Ghosts D)
-    (rescues : Ghosts R) (plan : Plan) (start : Start) (limits : Limits) (may : List Call → Key → Outcome → Type 0) (call_log later_log : List Call)
-    (disk left : D) (text : List ℕ) (status : ℕ) (rescue : Option R) : Type 0 where
+    (rescues : Ghosts R) (plan : Plan) (start : Start) (limits : Limits) (may : Telling) (call_log later_log : List Call)
+    (disk left : D) (handed : R) (text : List ℕ) (status : ℕ) (rescue : Option R) : Type 0 where
   pub begun : List Record
   pub records : List Record
   pub anew : IsBegunBy start begun
@@ -71,7 +73,8 @@ pub record IsRoundRun {D R : Type 0} (disks : Ghosts D)
   pub steps : DrivesToEnd limits plan may (Life ∷ begun) call_log records later_log
   pub spawns : SpawnsAll plan (Life ∷ begun) records call_log later_log
   pub rescued : IsRescued rescues plan records rescue
-  pub on_disk : disks.honest disk → IsRoundOnDisk disks start limits plan may (Life ∷ begun) call_log None records later_log disk left
+  pub keeps : rescues.honest handed → StaysHonest rescues rescue
+  pub on_disk : disks.honest disk → IsRoundOnDisk disks rescues rescue start limits plan may (Life ∷ begun) call_log None records later_log disk left
 
 -- why a round is not opened, and what is left of the disk
 abbrev pub IsOpeningFault : {D : Type 0} → Ghosts D → Plan → ℕ → Start → D → D → ManagerFault → Type 0

@@ -1,5 +1,6 @@
 -- A run that is led to its end.
-use Rattle.std.specs.Prelude.{◌≡◌, ℕ, List, ◌∷◌, ◌++◌, IsTrue, IsFalse}
+use Rattle.std.specs.Prelude.{◌≡◌, ℕ, List, ◌∷◌, ◌++◌, Option, Some, None, IsTrue, IsFalse}
+use Rattle.event_journal_log.specs.declared.disk.Disk.{Ghosts}
 use Rattle.run_plan.specs.Plan.{Plan}
 use Rattle.node_machine.specs.declared.Record.{Record}
 use Rattle.sched_core.specs.Run.{is_finished, is_aborted, exit_status, table_of}
@@ -12,7 +13,13 @@ use Rattle.node_machine.specs.declared.Record.TheVariants.{Finish}
 use Rattle.sched_core.specs.declared.Choice.TheVariants as choices
 use Rattle.sched_core.specs.Choices.{IsChoice}
 use Rattle.job_starter_drive.specs.declared.Call.{Call}
+use Rattle.job_starter_drive.specs.Calls.{Telling}
 use Rattle.job_starter_drive.specs.Drives.{Drives}
+
+-- the disk is honest, where there is one
+abbrev pub StaysHonest : {R : Type 0} → Ghosts R → Option R → Type 0
+StaysHonest disks None = Unit {0}
+StaysHonest disks (Some disk) = disks.honest disk
 
 -- the records went on from these
 abbrev pub IsSuffix : List Record → List Record → Type 0
@@ -29,7 +36,7 @@ pub record IsRunToEnd (plan : Plan) (begun records : List Record) (text : List �
   pub status_is : status ≡ exit_status plan records
 
 -- One step of a run behind another, until what is to be done next is to finish; and then its end, with that verdict.
-pub record DrivesToEnd (limits : Limits) (plan : Plan) (may : List Call → Key → Outcome → Type 0) (past : List Record) (call_log : List Call) (records : List Record) (later_log : List Call) : Type 0 where
+pub record DrivesToEnd (limits : Limits) (plan : Plan) (may : Telling) (past : List Record) (call_log : List Call) (records : List Record) (later_log : List Call) : Type 0 where
   pub between : List Record
   pub status : ℕ
   pub steps : Drives limits plan may past call_log between later_log
@@ -37,7 +44,7 @@ pub record DrivesToEnd (limits : Limits) (plan : Plan) (may : List Call → Key 
   pub ended : records ≡ Finish status ∷ between
 
 -- One step of a run behind another, until what is to be done next is to finish.
-pub record IsAtEnd (limits : Limits) (plan : Plan) (may : List Call → Key → Outcome → Type 0) (past : List Record) (call_log : List Call) (records : List Record) (later_log : List Call) : Type 0 where
+pub record IsAtEnd (limits : Limits) (plan : Plan) (may : Telling) (past : List Record) (call_log : List Call) (records : List Record) (later_log : List Call) : Type 0 where
   pub status : ℕ
   pub steps : Drives limits plan may past call_log records later_log
   pub chosen : IsChoice limits plan records (choices.Finish status)

@@ -12,22 +12,23 @@ ghost use Rattle.job_starter_drive.specs.declared.Call.{Call};
 ghost use Rattle.job_starter_drive.specs.declared.driving.DriveFault.{DriveFault};
 ghost use Rattle.run_round.specs.Moments.{IsMomentOfEnd, IsLastOfLead, IsLifeAtEnd};
 
+use event_journal_log::Disk;
 use job_starter_drive::Starter;
 
 /// A run that a manager began or went on with stopped while its end was recorded, by a crash or behind
 /// a fault: it is a life of the run, of the bytes that the manager found, as at each other moment
 /// (job_starter's law `stops`).
-pub fn stops_at_end<S: Starter>()
-    ensures life { (limits : Limits) (plan : Plan) (starter : S) (past : List Record)
+pub fn stops_at_end<S: Starter, R: Disk + Drop>()
+    ensures life { (rescue : Option R) (limits : Limits) (plan : Plan) (starter : S) (past : List Record)
         (call_log : List Call) (fault : Option DriveFault) (kept : List Record) (last : List Call)
         (header : Header) (found image : List ℕ) →
         IsHeaderOf plan header → ReadsForInputs plan past found →
-        (stop : IsMomentOfEnd limits plan (S.may_return starter) (Life ∷ past) call_log fault kept last header image) →
+        (stop : IsMomentOfEnd R.Disk rescue limits plan (S.may_return starter) (Life ∷ past) call_log fault kept last header image) →
         IsLifeAtEnd past call_log found image stop }
     // Behind the call: by the records that it kept, an image is one that their life leaves.
-    ensures leaves { (limits : Limits) (plan : Plan) (starter : S) (past : List Record)
+    ensures leaves { (rescue : Option R) (limits : Limits) (plan : Plan) (starter : S) (past : List Record)
         (call_log : List Call) (fault : Option DriveFault) (kept : List Record) (last : List Call)
         (header : Header) (image : List ℕ) → IsHeaderOf plan header →
-        IsLastOfLead limits plan (S.may_return starter) (Life ∷ past) call_log fault kept last header image →
+        IsLastOfLead R.Disk rescue limits plan (S.may_return starter) (Life ∷ past) call_log fault kept last header image →
         LeavesRecords plan (life_records past kept) image }
 {}

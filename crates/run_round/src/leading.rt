@@ -2,15 +2,15 @@
 
 ghost use Rattle.std.specs.Prelude.{◌≡◌, [], IsTrue, IsFalse, IfOk, IfErr, OnOk, OnErr, string_bytes};
 ghost use Rattle.recovery_manager.specs.Managed.{plan_of, past_of, KeepsDisk};
-ghost use Rattle.recovery_manager.specs.Seal.{IsSealOf, IsRescued, may_end, needs_rescue_now};
+ghost use Rattle.recovery_manager.specs.Seal.{IsSealOf, IsRescued, may_end, needs_rescue_now, sealed_disk};
 ghost use Rattle.sched_core.specs.Run.{is_over};
 ghost use Rattle.job_starter_drive.specs.Drives.{AreInStep, limits_of};
 ghost use Rattle.job_starter_drive.specs.Calls.{running};
 ghost use Rattle.job_starter_drive.specs.Spawned.{SpawnsAll, SpawnsAllButSome};
 ghost use Rattle.job_starter_drive.specs.Moments.{AtAnyMoment, AtTheEnd, UnlessDiskFault, StaysAcknowledged};
 ghost use Rattle.run_round.specs.Causes.{IsSealFault, IsRunToEndFault};
-ghost use Rattle.run_round.specs.RunToEnd.{IsSuffix, IsRunToEnd, DrivesToEnd};
-ghost use Rattle.run_round.specs.Moments.{fault_behind, IsMomentOfLead, IsLastOfLead};
+ghost use Rattle.run_round.specs.RunToEnd.{IsSuffix, IsRunToEnd, DrivesToEnd, StaysHonest};
+ghost use Rattle.run_round.specs.Moments.{fault_behind, rescue_behind, IsMomentOfLead, IsLastOfLead};
 
 use event_journal_log::Disk;
 use job_starter_drive::{DriveFault, Starter, drive};
@@ -38,6 +38,7 @@ fn sealed<D: Disk + Drop, R: Disk + Drop>(
     requires ends { IsTrue (may_end (plan_of manager.now) (past_of manager.now)) }
     ensures sealed { IfOk result (λ seal.
         IsSealOf R.Disk (plan_of manager.now) (past_of manager.now) seal) }
+    ensures keeps { R.honest rescue → IfOk result (λ seal. StaysHonest R.Disk (sealed_disk seal)) }
     ensures refused { IfErr result (λ e.
         IsTrue (needs_rescue_now (plan_of manager.now) (past_of manager.now))
         × IsSealFault R.Disk (plan_of manager.now) (past_of manager.now) rescue e.0 e.1) }
@@ -87,11 +88,11 @@ pub fn run_to_end<D: Disk + Drop, R: Disk + Drop, S: Starter>(
     // A crash at any moment of the call leaves what makes it a life of the run (job_starter's law
     // `stops`, and `stops_at_end`), and behind it none of the records that are kept is missing.
     ensures any_moment { AtAnyMoment D.Disk
-        manager.old manager.new (IsMomentOfLead (limits_of manager.old) (plan_of manager.old)
+        manager.old manager.new (IsMomentOfLead R.Disk (rescue_behind result) (limits_of manager.old) (plan_of manager.old)
         (S.may_return starter.old) (past_of manager.old) (S.call_log starter.old) (fault_behind result)
         (past_of manager.new) (S.call_log starter.new)) }
     ensures left { AtTheEnd D.Disk manager.old manager.new
-        (IsLastOfLead (limits_of manager.old) (plan_of manager.old)
+        (IsLastOfLead R.Disk (rescue_behind result) (limits_of manager.old) (plan_of manager.old)
         (S.may_return starter.old) (past_of manager.old) (S.call_log starter.old) (fault_behind result)
         (past_of manager.new) (S.call_log starter.new)) }
     ensures acknowledged { UnlessDiskFault (fault_behind result)
@@ -102,6 +103,7 @@ pub fn run_to_end<D: Disk + Drop, R: Disk + Drop, S: Starter>(
     // The rescue file that the run owes is on its disk.
     ensures rescued { IfOk result (λ led.
         IsRescued R.Disk plan.now (past_of manager.new) led.rescue) }
+    ensures keeps { R.honest rescue → IfOk result (λ led. StaysHonest R.Disk led.rescue) }
 {
     let end = match drive(alloc, manager, plan, starter) {
         Ok(end) => end,

@@ -2,7 +2,7 @@
 use Rattle.std.proofs.Common.{◌≡◌, ◌∙◌, ◌<◌, ◌+◌, ℕ, List, [], ◌∷◌, ◌++◌, Option, length, take, get_or, sym, ap, subst}
 use Rattle.std.proofs.lemmas.List.{take_more}
 use Rattle.salvage.specs.Salvaged.{change_line, AreChanges, one_more}
-use Rattle.salvage.specs.declared.inputs.Listed.{Listed}
+use Rattle.round_inputs.specs.declared.inputs.Listed.{Listed}
 use Rattle.salvage.specs.declared.here.Change.{Change}
 
 pub more-changes : (IsOf : Listed → Option Change → Type 0) (files lent : List Listed) → lent ≡ files → (i : ℕ) (text new path : List ℕ) (file : Listed) (change : Option Change)

@@ -1,4 +1,3 @@
-pub mod Listings
 pub mod Records
 pub mod CutShort
 pub mod Changes

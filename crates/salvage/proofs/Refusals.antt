@@ -30,10 +30,10 @@ use Rattle.salvage.specs.Round.{IsSame}
 use Rattle.salvage.specs.Salvaged.{IsReplayOf}
 use Rattle.dag_main_files.specs.Journals.{read_fault}
 use Rattle.salvage.specs.Refused.{IsNoNumber, IsNotCutShort, has_ended, no_such_number, IsOtherFile, IsFirstOther, IsUnsalvaged, no_records, of_other_flag, foreign_record, salvaging_had_no_memory}
-use Rattle.salvage.specs.declared.inputs.Listed.{Listed}
+use Rattle.round_inputs.specs.declared.inputs.Listed.{Listed}
 use Rattle.salvage.specs.declared.fault.SalvageFault.{SalvageFault}
 use Rattle.salvage.specs.declared.fault.SalvageFault.TheVariants.{Refused, Ended}
-use Rattle.salvage.proofs.Listings.{lent_file, maps}
+use Rattle.round_inputs.proofs.Listings.{lent_file, maps}
 
 -- a name and a file, as a set's iterator lends them
 abbrev pub Lent : Type 0

@@ -1,4 +1,3 @@
-pub mod Inputs
 pub mod Round
 pub mod Salvaged
 pub mod Faults

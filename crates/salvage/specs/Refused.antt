@@ -22,10 +22,10 @@ use Rattle.dag_main_check.specs.declared.fault.RunFault.TheVariants.{InPlan, Not
 use Rattle.dag_main_check.specs.Planned.{IsGraphOf, IsGraphFault, rescue_line, named_by}
 use Rattle.dag_main_files.specs.Beside.{journal_name_of, IsFileFault}
 use Rattle.dag_main_files.specs.Journals.{IsUnread}
-use Rattle.salvage.specs.Inputs.{inputs_name_of, inputs_text_of}
+use Rattle.round_inputs.specs.Inputs.{inputs_name_of, inputs_text_of}
 use Rattle.salvage.specs.Round.{IsUnfinishedRound, sum_in, IsSame, IsSameRescue}
 use Rattle.salvage.specs.Salvaged.{IsBarePlan}
-use Rattle.salvage.specs.declared.inputs.Listed.{Listed}
+use Rattle.round_inputs.specs.declared.inputs.Listed.{Listed}
 use Rattle.salvage.specs.declared.fault.SalvageFault.{SalvageFault}
 use Rattle.salvage.specs.declared.fault.SalvageFault.TheVariants.{Refused, NoJournal, Ended, NoInputs, BadInputs, OtherRound, Changed, NotListed}
 

@@ -6,7 +6,7 @@ use Rattle.sha2.specs.Sha256.{sha256}
 use Rattle.rescue_file.specs.Numbered.{rescue_name_of}
 use Rattle.event_journal_log.specs.Image.{Found, replay_of, IsRescueNumber}
 use Rattle.event_journal_log.specs.Peeks.{ends_with_finish}
-use Rattle.salvage.specs.declared.inputs.Listed.{Listed}
+use Rattle.round_inputs.specs.declared.inputs.Listed.{Listed}
 
 -- A journal of these bytes is that of a round which has not ended, and its header has the digest of the round's plan, the number of the
 -- rescue file that the round read, 0 for none, that of the one which it would write, and whether POST runs behind a failed PRE.

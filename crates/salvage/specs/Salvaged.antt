@@ -19,10 +19,10 @@ use Rattle.recovery_manager.specs.Rescue.{marks_of, rescue_text_for}
 use Rattle.dag_main_check.specs.Planned.{IsGraphOf}
 use Rattle.dag_main_files.specs.Beside.{journal_name_of}
 use Rattle.dag_main_files.specs.Folder.{IsReadFrom, rescue_in}
-use Rattle.salvage.specs.Inputs.{inputs_name_of, inputs_text_of}
+use Rattle.round_inputs.specs.Inputs.{inputs_name_of, inputs_text_of}
 use Rattle.dag_main_check.specs.Warnings.{warning_lines}
 use Rattle.salvage.specs.Round.{IsUnfinishedRound, IsSame, IsSameRescue}
-use Rattle.salvage.specs.declared.inputs.Listed.{Listed}
+use Rattle.round_inputs.specs.declared.inputs.Listed.{Listed}
 use Rattle.salvage.specs.declared.here.Change.{Change}
 use Rattle.salvage.specs.declared.here.Change.TheVariants.{Other, Missing}
 

@@ -8,12 +8,12 @@ ghost use Rattle.salvage.specs.declared.fault.SalvageFault.TheVariants.{Refused}
 use dag_main_check::RunFault;
 use dag_reader::Text;
 use std::alloc::{AllocError, AllocFailed};
-use std::error::Error;
 use std::fmt;
+use thiserror::Error;
 
 /// Why a round is not salvaged. It is displayed as `CODE Name PATH`, the line that the user reads behind
 /// `dagrun: `.
-#[derive(Drop)]
+#[derive(Drop, Error)]
 pub enum SalvageFault {
     /// As `run` would tell it.
     Refused(RunFault),
@@ -81,8 +81,6 @@ impl fmt::Debug for SalvageFault {
         fmt::Display::fmt(self, f)
     }
 }
-
-impl Error for SalvageFault {}
 
 impl From<RunFault> for SalvageFault {
     ghost from_gives = { λ fault told. told ≡ Refused fault };

@@ -14,7 +14,6 @@ ghost use Rattle.salvage.specs.Salvaged.{IsBarePlan, IsReadRound, IsHeldRound, c
 ghost use Rattle.salvage.specs.Refused.{IsBarePlanFault, IsSalvageFault};
 
 use crate::fault::SalvageFault;
-use crate::inputs::{Inputs, Listed};
 use crate::rescue::{Salvaged, salvage_text};
 use crate::rounds::{CutShort, check_files, cut_short, inputs_with, rescue_in};
 use dag_main_check::{Answer, RunFault, graph_of, warning_text};
@@ -22,6 +21,7 @@ use dag_main_files::{
     Folder, Place, Reading, files_of, journal_path, named, rescue_disk, rescue_path,
 };
 use event_journal_log::put_bytes;
+use round_inputs::{Inputs, Listed};
 use run_plan::Plan;
 use sha2::{Digest, Sha256};
 use splices_flat::FileSet;

@@ -14,6 +14,7 @@ pub mod Moves
 pub mod Bounds
 pub mod Turns
 pub mod RunCommands
+pub mod EveryRuns
 pub mod Throttling
 pub mod Best
 pub mod Aborts

@@ -1,5 +1,5 @@
 -- The commands of a run are those that are read from the table.
-use Rattle.std.proofs.Common.{◌≡◌, ℕ, zero, suc, ◌+◌, ◌<◌, ◌≤◌, pos, negsuc, Bool, true, false, not, ◌&&◌, List, [], ◌∷◌, ◌++◌, refl, sym, ap, ◌∙◌, subst, arith, if◌then◌else◌}
+use Rattle.std.proofs.Common.{◌≡◌, ℕ, zero, suc, ◌+◌, ◌≤◌, pos, negsuc, Bool, true, false, not, ◌&&◌, List, [], ◌∷◌, ◌++◌, refl, ap, ◌∙◌, arith, if◌then◌else◌}
 use Rattle.std.specs.List.{list_all}
 use Rattle.std.proofs.lemmas.Bool.{and_parts}
 use Rattle.node_machine.specs.declared.Phase.{Phase}
@@ -14,21 +14,26 @@ use Rattle.node_machine.proofs.Trees.{Told}
 use Rattle.node_machine.proofs.Beginnings.{masked, next-some}
 use Rattle.run_plan_node.specs.declared.command.PhaseFacts.{PhaseFacts}
 use Rattle.run_plan_node.specs.Node.{NodeSpec}
-use Rattle.run_plan.specs.Plan.{Plan, node_at, count_of, IsRankedBy, at}
+use Rattle.run_plan.specs.Plan.{Plan, node_at}
 use Rattle.run_plan_node.specs.Commands.{phase_command, starts_child, is_expandable, uses_whole_run, HaveSameEnds}
 use Rattle.run_plan_node.proofs.PlainCommands.{plain_command_same}
 use Rattle.node_machine.specs.declared.Record.{Record}
 use Rattle.node_machine.specs.declared.Record.TheVariants.{Launch}
 use Rattle.sched_core.specs.Run.{history, is_lawful, may_follow}
-use Rattle.sched_core.specs.Fate.{Fate, is_done_state, without_attempts, fate_by_story, fate_by, AreFates}
-use Rattle.sched_core.specs.Agree.{IsAlike, HaveSameCommands, Agree}
+use Rattle.sched_core.specs.Fate.{Fate, is_done_state, without_attempts, fate_by_story, fate_by}
 use Rattle.sched_core.specs.Lives.{HasOutcomesOf}
-use Rattle.sched_core.specs.Commands.{plain_facts, is_without_job, job_value_of, pre_value_of, facts_by, command_by, with_commands, facts_in}
+use Rattle.sched_core.specs.AttemptValues.{is_without_job, job_value_of, pre_value_of}
+use Rattle.sched_core.specs.Commands.{plain_facts, command_by, facts_in}
 use Rattle.sched_core.proofs.Held.{histories-are}
 use Rattle.sched_core.proofs.LivesLemmas.{told-by, lawful-tail}
-use Rattle.sched_core.proofs.Matching.{fates-agree}
 use Rattle.sched_core.proofs.Sound.{sound, launch-held, next-parts}
 use Rattle.sched_core.proofs.Turns.{HasBefore, turn-order, told-outcome, pre-kept, turn-allowed}
+
+-- what a node's outcomes say of an attempt; the job of a NOOP has the value 0
+abbrev pub facts_by : Course → (ℕ → Phase → Outcome) → ℕ → PhaseFacts
+facts_by course column attempt =
+    plain_facts (job_value_of course (column attempt Pre) (ends_with course Job (column attempt Job)))
+    (pre_value_of course (column attempt Pre))
 
 -- the values of the job and of PRE behind these phases, and those by the outcomes of a column
 module _ (course : Course) (es : List Ended) (column : ℕ → Phase → Outcome) (told : Told (masked course column) es) (i : ℕ) where
@@ -69,13 +74,11 @@ module _ (course : Course) (es : List Ended) (column : ℕ → Phase → Outcome
   same-ends Job before facts job pre = tt
   same-ends Post before facts job pre = (job ∙ job-value-is before, pre ∙ pre-value before.1)
 
--- a launch is started by the command of the table
-pub launch-command : (plan : Plan) (table : Table) (newer past : List Record) (key : Key) (number : ℕ)
+-- At a launch the phases before it in its attempt have ended as the table says.
+pub launch-ends : (plan : Plan) (table : Table) (newer past : List Record) (key : Key) (number : ℕ)
     → is_lawful plan (newer ++ Launch key number ∷ past) ≡ true → HasOutcomesOf plan table past
-    → is_expandable (node_at plan key.node) ≡ true → uses_whole_run (node_at plan key.node) ≡ false
-    → phase_command (node_at plan key.node) key.attempt key.phase (facts_in plan (Launch key number ∷ past) key)
-    ≡ command_by plan table key.node key.attempt key.phase
-launch-command plan table newer past key number h o sound_texts plain =
+    → HaveSameEnds key.phase (facts_in plan (Launch key number ∷ past) key) (facts_by (node_at plan key.node).course (table key.node) key.attempt)
+launch-ends plan table newer past key number h o =
     let lawful = lawful-tail plan newer (Launch key number ∷ past) h in
     let p = and_parts (is_lawful plan past) (may_follow plan past (Launch key number)) lawful in
     let fits = (sound plan past p.0).fits key.node in
@@ -84,11 +87,8 @@ launch-command plan table newer past key number h o sound_texts plain =
     let n = (next-parts plan past key.node key (launch-held plan past key number p.1).is_next).1 in
     let a = next-some course es fits (key.attempt, key.phase) n in
     let before = turn-order course es key.attempt key.phase a.0 fits.plays a.1 in
-    plain_command_same (node_at plan key.node) key.attempt key.phase
-    (facts_in plan (Launch key number ∷ past) key) (facts_by course (table key.node) key.attempt) sound_texts plain
-    (turn-allowed course es (histories-are plan past p.0 key.node) (key.attempt, key.phase) n)
-    (same-ends course es (table key.node) (told-by plan table past p.0 o key.node) key.attempt key.phase before
-    (facts_in plan (Launch key number ∷ past) key) refl refl)
+    same-ends course es (table key.node) (told-by plan table past p.0 o key.node) key.attempt key.phase before
+    (facts_in plan (Launch key number ∷ past) key) refl refl
 
 -- and in an attempt that is allowed
 pub launch-allowed : (plan : Plan) (newer past : List Record) (key : Key) (number : ℕ) → is_lawful plan (newer ++ Launch key number ∷ past) ≡ true
@@ -98,23 +98,24 @@ launch-allowed plan newer past key number h =
     turn-allowed (node_at plan key.node).course (history past key.node) (histories-are plan past p.0 key.node) (key.attempt, key.phase)
     (next-parts plan past key.node key (launch-held plan past key number p.1).is_next).1
 
--- nodes that are alike have the same commands
-pub same-command : (plan : Plan) (table : Table) (plan' : Plan) (table' : Table) (node node' : ℕ) → IsAlike plan table plan' table' node node' → HaveSameCommands plan plan' node node'
-    → (attempt : ℕ) → attempt ≤ (node_at plan node).course.retries → (phase : Phase) → starts_child (node_at plan node) phase ≡ true
-    → command_by plan table node attempt phase ≡ command_by plan' table' node' attempt phase
-same-command plan table plan' table' node node' alike commands attempt allowed phase starts =
-    (λ j. phase_command (node_at plan node) attempt phase (plain_facts
-    (job_value_of (alike.course j) (alike.outcomes attempt Pre j) (ends_with (alike.course j) Job (alike.outcomes attempt Job j)))
-    (pre_value_of (alike.course j) (alike.outcomes attempt Pre j))))
-    ∙ commands.same attempt allowed phase starts _ _
+-- so it is started by the command of the table
+pub launch-command : (plan : Plan) (table : Table) (newer past : List Record) (key : Key) (number : ℕ)
+    → is_lawful plan (newer ++ Launch key number ∷ past) ≡ true → HasOutcomesOf plan table past
+    → is_expandable (node_at plan key.node) ≡ true → uses_whole_run (node_at plan key.node) ≡ false
+    → phase_command (node_at plan key.node) key.attempt key.phase (facts_in plan (Launch key number ∷ past) key)
+    ≡ command_by plan table key.node key.attempt key.phase
+launch-command plan table newer past key number h o sound_texts plain =
+    plain_command_same (node_at plan key.node) key.attempt key.phase
+    (facts_in plan (Launch key number ∷ past) key) (facts_by (node_at plan key.node).course (table key.node) key.attempt) sound_texts plain
+    (launch-allowed plan newer past key number h) (launch-ends plan table newer past key number h o)
 
-same-starts : (one other : NodeSpec) → one.course ≡ other.course → (phase : Phase) → starts_child one phase ≡ starts_child other phase
+pub same-starts : (one other : NodeSpec) → one.course ≡ other.course → (phase : Phase) → starts_child one phase ≡ starts_child other phase
 same-starts one other same Pre = ap (λ (c : Course). c.pre) same
 same-starts one other same Job = ap (λ (c : Course). not c.noop) same
 same-starts one other same Post = ap (λ (c : Course). c.post) same
 
 -- a fact of each of these phases
-abbrev EachOf : (Ended → Type 0) → List Ended → Type 0
+abbrev pub EachOf : (Ended → Type 0) → List Ended → Type 0
 EachOf P [] = Unit {0}
 EachOf P (e ∷ es) = P e × EachOf P es
 
@@ -166,7 +167,7 @@ story-allowed : (course : Course) (outcomes : ℕ → Phase → Outcome) → Eac
 unfolding story
 story-allowed course outcomes = from-allowed course (λ i phase. ends_with course phase (outcomes i phase)) course.retries 0 course.retries (omega arith)
 
-fate-allowed : (plan : Plan) (table : Table) (fates : ℕ → Fate) (node : ℕ) → EachOf (λ e. e.attempt ≤ (node_at plan node).course.retries) (fate_by plan table fates node).history
+pub fate-allowed : (plan : Plan) (table : Table) (fates : ℕ → Fate) (node : ℕ) → EachOf (λ e. e.attempt ≤ (node_at plan node).course.retries) (fate_by plan table fates node).history
 fate-allowed plan table fates node = go (node_at plan node).done (list_all (λ parent. is_done_state (fates parent).state) (node_at plan node).parents)
   where
     go : (a b : Bool) → EachOf (λ e. e.attempt ≤ (node_at plan node).course.retries)
@@ -174,33 +175,3 @@ fate-allowed plan table fates node = go (node_at plan node).done (list_all (λ p
     go true b = tt
     go false true = story-allowed (node_at plan node).course (table node)
     go false false = tt
-
--- phases in attempts that are allowed have the same commands
-same-listed : (plan : Plan) (table : Table) (plan' : Plan) (table' : Table) (node node' : ℕ) → IsAlike plan table plan' table' node node' → HaveSameCommands plan plan' node node'
-    → (es : List Ended) → EachOf (λ e. e.attempt ≤ (node_at plan node).course.retries) es → with_commands plan table node es ≡ with_commands plan' table' node' es
-same-listed plan table plan' table' node node' alike commands [] allowed = refl
-same-listed plan table plan' table' node node' alike commands (e ∷ es) allowed =
-    go (starts_child (node_at plan node) e.phase) refl (same-listed plan table plan' table' node node' alike commands es allowed.1)
-  where
-    other : starts_child (node_at plan node) e.phase ≡ starts_child (node_at plan' node') e.phase
-    other = same-starts (node_at plan node) (node_at plan' node') alike.course e.phase
-
-    go : (b : Bool) → starts_child (node_at plan node) e.phase ≡ b → with_commands plan table node es ≡ with_commands plan' table' node' es
-        → with_commands plan table node (e ∷ es) ≡ with_commands plan' table' node' (e ∷ es)
-    go true t rest =
-        (λ j. if t j then (e, command_by plan table node e.attempt e.phase) ∷ with_commands plan table node es else with_commands plan table node es)
-        ∙ (λ j. (e, same-command plan table plan' table' node node' alike commands e.attempt allowed.0 e.phase t j) ∷ rest j)
-        ∙ (λ j. if (sym t ∙ other) j then (e, command_by plan' table' node' e.attempt e.phase) ∷ with_commands plan' table' node' es else with_commands plan' table' node' es)
-    go false t rest =
-        (λ j. if t j then (e, command_by plan table node e.attempt e.phase) ∷ with_commands plan table node es else with_commands plan table node es)
-        ∙ rest
-        ∙ (λ j. if (sym t ∙ other) j then (e, command_by plan' table' node' e.attempt e.phase) ∷ with_commands plan' table' node' es else with_commands plan' table' node' es)
-
-pub same-commands : (plan : Plan) (table : Table) (plan' : Plan) (table' : Table) (rank rank' : ℕ → ℕ)
-    → IsRankedBy rank plan → IsRankedBy rank' plan' → (fates fates' : ℕ → Fate) → AreFates plan table fates → AreFates plan' table' fates'
-    → (node node' : ℕ) → node < count_of plan → node' < count_of plan' → Agree plan table plan' table' node node'
-    → with_commands plan table node (fates node).history ≡ with_commands plan' table' node' (fates' node').history
-same-commands plan table plan' table' rank rank' ranked ranked' fates fates' are are' node node' lt lt' agree =
-    same-listed plan table plan' table' node node' (agree.0.0.upward node node' at at agree.0.0.name) agree.1 (fates node).history
-    (subst (λ (f : Fate). EachOf (λ e. e.attempt ≤ (node_at plan node).course.retries) f.history) (sym (are node lt)) (fate-allowed plan table fates node))
-    ∙ ap (λ (f : Fate). with_commands plan' table' node' f.history) (fates-agree plan table plan' table' rank rank' ranked ranked' fates fates' are are' node node' lt lt' agree.0)

@@ -9,7 +9,7 @@ use Rattle.node_machine.specs.declared.Ended.{Ended}
 use Rattle.node_machine.specs.declared.Course.{Course}
 use Rattle.node_machine.specs.Story.{Attempt, skips, is_exit_0, always_posts, is_final_attempt, phase_number, is_phase, outcome_in, has_ended, next_after, is_history}
 use Rattle.node_machine.specs.MachineState.{next_of, machine_after}
-use Rattle.sched_core.specs.Commands.{is_without_job}
+use Rattle.sched_core.specs.AttemptValues.{is_without_job}
 use Rattle.node_machine.proofs.Trees.{Tree, Over, Ask, got, job_tree, failed_tree, attempt_tree, tree_from, after, Plays, Told, one_of}
 use Rattle.node_machine.proofs.Beginnings.{phase-eq, tree_of, masked}
 use Rattle.node_machine.proofs.Paces.{machine-attempt}

@@ -1,19 +1,19 @@
 -- The command of each phase of a run: by the outcomes of a table, and by the records.
-use Rattle.std.specs.Prelude.{ℕ, ℤ, negsuc, Bool, true, false, not, ◌&&◌, ◌==◌, List, [], ◌∷◌, if◌then◌else◌}
+use Rattle.std.specs.Prelude.{ℕ, ℤ, Bool, true, false, ◌==◌, List, [], ◌∷◌, if◌then◌else◌}
 use Rattle.node_machine.specs.declared.Phase.{Phase}
 use Rattle.node_machine.specs.declared.Phase.TheVariants.{Pre, Job}
-use Rattle.node_machine.specs.declared.Outcome.{Outcome}
 use Rattle.node_machine.specs.declared.Key.{Key}
 use Rattle.node_machine.specs.declared.Ended.{Ended}
-use Rattle.node_machine.specs.declared.Course.{Course}
-use Rattle.node_machine.specs.Story.{Table, value_of, ends_with, is_exit_0}
+use Rattle.node_machine.specs.Story.{Table}
 use Rattle.run_plan_node.specs.declared.command.PhaseFacts.{PhaseFacts}
 use Rattle.run_plan.specs.Plan.{Plan, node_at, count_of}
-use Rattle.run_plan_node.specs.Commands.{CommandOrFault, phase_command, starts_child}
+use Rattle.run_plan_node.specs.Commands.{CommandOrFault, phase_command}
 use Rattle.node_machine.specs.declared.Record.{Record}
 use Rattle.node_machine.specs.declared.Record.TheVariants.{Launch}
 use Rattle.sched_core.specs.Run.{table_of, is_in_error, is_aborted, is_same}
+use Rattle.sched_core.specs.AttemptValues.{job_value_of, pre_value_of}
 use Rattle.sched_core.specs.Bound.{sum_below}
+use Rattle.sched_core.specs.EveryRun.{key_of, plain_by, with_plain}
 
 -- what is known of an attempt whose job and PRE have these values, and nothing of the whole run
 abbrev pub plain_facts : ℤ → ℤ → PhaseFacts
@@ -25,37 +25,6 @@ plain_facts job_value pre_value = record {
   dag_status = 0;
   failed = 0;
 }
-
--- the value of PRE, where it has this outcome; -1 where the course has no PRE
-abbrev pub pre_value_of : Course → Outcome → ℤ
-pre_value_of course outcome = if course.pre then value_of outcome else negsuc 0
-
--- PRE is there and failed, so that no job runs
-abbrev pub is_without_job : Course → Outcome → Bool
-is_without_job course pre = course.pre && not (is_exit_0 pre)
-
--- the value of the job, where PRE and it have these outcomes; -1004 where no job runs behind a failed PRE
-abbrev pub job_value_of : Course → Outcome → Outcome → ℤ
-job_value_of course pre job = if is_without_job course pre then negsuc 1003 else value_of job
-
--- what a node's outcomes say of an attempt; the job of a NOOP has the value 0
-abbrev pub facts_by : Course → (ℕ → Phase → Outcome) → ℕ → PhaseFacts
-facts_by course column attempt =
-    plain_facts (job_value_of course (column attempt Pre) (ends_with course Job (column attempt Job)))
-    (pre_value_of course (column attempt Pre))
-
--- the command of a phase in an attempt, read from the table
-abbrev pub command_by : Plan → Table → ℕ → ℕ → Phase → CommandOrFault
-command_by plan table node attempt phase =
-    phase_command (node_at plan node) attempt phase (facts_by (node_at plan node).course (table node) attempt)
-
--- of phases of a node those that start a child, each with its command
-abbrev pub with_commands : Plan → Table → ℕ → List Ended → List (Ended × CommandOrFault)
-with_commands plan table node [] = []
-with_commands plan table node (e ∷ phases) =
-    if starts_child (node_at plan node) e.phase
-    then (e, command_by plan table node e.attempt e.phase) ∷ with_commands plan table node phases
-    else with_commands plan table node phases
 
 -- how many ordinary nodes are in error
 abbrev pub failed_in : Plan → List Record → ℕ
@@ -87,3 +56,19 @@ facts_in plan records key = record {
 abbrev pub is_launch : Record → Bool
 is_launch (Launch key number) = true
 is_launch _ = false
+
+-- what is handed over at a launch, by the records, the launch among them
+abbrev pub command_of_launch : Plan → List Record → Key → CommandOrFault
+command_of_launch plan records key = phase_command (node_at plan key.node) key.attempt key.phase (facts_in plan records key)
+
+-- the command of a key by the values of the job and of PRE alone
+abbrev pub plain_command : Plan → Key → ℤ × ℤ → CommandOrFault
+plain_command plan key values = phase_command (node_at plan key.node) key.attempt key.phase (plain_facts values.0 values.1)
+
+-- the command of a phase in an attempt, read from the table
+abbrev pub command_by : Plan → Table → ℕ → ℕ → Phase → CommandOrFault
+command_by plan table node attempt phase = plain_by plan table (plain_command plan) (key_of node attempt phase)
+
+-- of phases of a node those that start a child, each with its command
+abbrev pub with_commands : Plan → Table → ℕ → List Ended → List (Ended × CommandOrFault)
+with_commands plan table node phases = with_plain plan table (plain_command plan) node phases

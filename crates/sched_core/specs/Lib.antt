@@ -1,3 +1,4 @@
+pub mod AttemptValues
 pub mod Run
 pub mod Fate
 pub mod Agree
@@ -17,4 +18,5 @@ pub mod Bound
 pub mod Looks
 pub mod Tally
 pub mod Commands
+pub mod EveryRun
 pub mod Kept

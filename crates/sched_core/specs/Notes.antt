@@ -13,7 +13,8 @@ use Rattle.node_machine.specs.declared.Record.{Record}
 use Rattle.node_machine.specs.declared.Record.TheVariants.{Life, Launch, End, Finish}
 use Rattle.sched_core.specs.declared.notes.AttemptNotes.{AttemptNotes}
 use Rattle.sched_core.specs.Run.{is_same}
-use Rattle.sched_core.specs.Commands.{newest_launch, job_value_of, pre_value_of, failed_in}
+use Rattle.sched_core.specs.Commands.{newest_launch, failed_in}
+use Rattle.sched_core.specs.AttemptValues.{job_value_of, pre_value_of}
 
 -- the outcome that a record says of a phase, and the one that the oldest record that says one does
 abbrev pub ended_by : Record → Key → Option Outcome

@@ -2,7 +2,7 @@
 
 ghost use Rattle.std.specs.Prelude.{◌≡◌, ◌==◌, unwrap_or, if◌then◌else◌};
 ghost use Rattle.node_machine.specs.declared.Outcome.TheVariants.{Exit};
-ghost use Rattle.sched_core.specs.Commands.{is_without_job, job_value_of, pre_value_of};
+ghost use Rattle.sched_core.specs.AttemptValues.{is_without_job, job_value_of, pre_value_of};
 ghost use Rattle.sched_core.specs.Notes.{noted_facts};
 
 use crate::notes::AttemptNotes;

@@ -8,6 +8,7 @@ ghost use Rattle.std.specs.Prelude.{◌≡◌};
 ghost use Rattle.sched_core.specs.declared.CoreFault.TheVariants.{Memory};
 
 mod advancing;
+pub mod every_run;
 pub mod examples;
 mod facts;
 pub mod laws;

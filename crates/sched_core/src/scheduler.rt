@@ -882,7 +882,7 @@ impl<'a> Core<'a> {
     }
 
     /// Whether this end of a phase, which may be recorded, aborts the run.
-    fn aborts_with(&self, key: &Key, outcome: Outcome) -> bool
+    pub fn aborts_with(&self, key: &Key, outcome: Outcome) -> bool
         requires { IsTrue (may_follow self.now.plan self.now.past (Record.End key.now outcome)) }
         ensures { result ≡ stops self.now.plan self.now.past (Record.End key.now outcome) }
     {

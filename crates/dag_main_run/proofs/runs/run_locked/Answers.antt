@@ -3,13 +3,21 @@ use Rattle.splices_flat.specs.Dag.{Dag}
 use Rattle.dag_graph.specs.Graph.{Network}
 use Rattle.dag_main_check.specs.Warnings.{warning_lines}
 use Rattle.dag_main_check.specs.declared.fault.RunFault.TheVariants.{Memory}
+use Rattle.dag_main_files.specs.declared.rounds.Round.{Round}
+use Rattle.dag_main_files.specs.Beside.{HasJournal}
+use Rattle.dag_main_files.specs.Folder.{journal_in}
 use Rattle.dag_main_run.specs.Runs.{IsHeldFault, not_found_again, another_was_at_work, not_led, IsStopFault, leading_had_no_memory}
 use Rattle.dag_main_files.proofs.RunFaults.{by-fault}
 use Rattle.dag_main_run.proofs.runs.run_locked.Goals as goal
 
+pub run_planned-requires-clause-by_journal : goal.run_planned-requires-clause-by_journal
+run_planned-requires-clause-by_journal g c = λ honest.
+    subst (λ (r : Round). HasJournal (journal_in (g.H.Folder.holds c.args.site.now) c.args.place.now.top.now) r) (sym (c.is_same.ensures.round c.if-not-is_same.false))
+    (c.in_ok-again.ensures.held honest).0.by_journal
+
 pub returns-in_err-again-clause-refused : goal.returns-in_err-again-clause-refused
 returns-in_err-again-clause-refused g c =
-    by-fault (IsHeldFault c.args.options.now) c.in_err-again.field-0.0 (not_found_again _ c.in_err-again.ensures.refused)
+    by-fault (IsHeldFault c.args.options.now _ _) c.in_err-again.field-0.0 (not_found_again _ c.in_err-again.ensures.refused)
     c.from_residual.result c.from_residual.ensures.1
 
 pub returns-then-not-is_same-clause-refused : goal.returns-then-not-is_same-clause-refused
@@ -17,16 +25,16 @@ returns-then-not-is_same-clause-refused g c = another_was_at_work c.taken.result
 
 pub returns-in_err-warnings-clause-refused : goal.returns-in_err-warnings-clause-refused
 returns-in_err-warnings-clause-refused g c =
-    by-fault (IsHeldFault c.args.options.now) Memory (not_led _ leading_had_no_memory) c.from_residual-in_err-warnings.result c.from_residual-in_err-warnings.ensures.1
+    by-fault (IsHeldFault c.args.options.now _ _) Memory (not_led _ leading_had_no_memory) c.from_residual-in_err-warnings.result c.from_residual-in_err-warnings.ensures.1
 
 pub returns-in_err-keep_inputs-clause-refused : goal.returns-in_err-keep_inputs-clause-refused
 returns-in_err-keep_inputs-clause-refused g c =
-    by-fault (IsHeldFault c.args.options.now) c.in_err-keep_inputs.field-0.0 (not_led _ (subst IsStopFault (sym c.in_err-keep_inputs.ensures) leading_had_no_memory))
+    by-fault (IsHeldFault c.args.options.now _ _) c.in_err-keep_inputs.field-0.0 (not_led _ (subst (IsStopFault _ _) (sym c.in_err-keep_inputs.ensures) leading_had_no_memory))
     c.from_residual-in_err-keep_inputs.result c.from_residual-in_err-keep_inputs.ensures.1
 
 pub returns-in_err-report-clause-refused : goal.returns-in_err-report-clause-refused
 returns-in_err-report-clause-refused g c =
-    by-fault (IsHeldFault c.args.options.now) c.in_err-report.field-0.0 (not_led _ c.in_err-report.ensures.refused)
+    by-fault (IsHeldFault c.args.options.now _ _) c.in_err-report.field-0.0 (not_led _ c.in_err-report.ensures.refused)
     c.from_residual-in_err-report.result c.from_residual-in_err-report.ensures.1
 
 pub returns-clause-warnings : goal.returns-clause-warnings

@@ -1,31 +1,90 @@
-use Rattle.std.proofs.Common.{map, sym, subst}
-use Rattle.std.specs.Prelude.{IfErr}
-use Rattle.dag_main_args.specs.Requests.{asked_by, tells_status, audits, draws, asks_why, times}
-use Rattle.dag_main_check.proofs.Refusals.{weaker}
-use Rattle.dagrun.specs.Answered.{IsRefusedRequest, no_status, not_audited, not_drawn, not_why, not_timed}
+use Rattle.std.proofs.Common.{rules, ◌≡◌, ℕ, List, Bor, IfOk, map, string_bytes, sym, subst}
+use Rattle.failure_answers.specs.Answered.{IsWhyOf, IsWhyHeld}
+use Rattle.dag_main_run.specs.Sites.{rounds_at}
+use Rattle.dag_main_args.specs.declared.request.Request.{Request}
+use Rattle.dag_main_args.specs.Requests.{asked_by}
+use Rattle.dagrun.specs.Answered.{is_run, command_of_some, command_from, ComesTo}
+use Rattle.dagrun.proofs.Worlds.{some-to, held-to}
 use Rattle.dagrun.proofs.answers.answer_in.Goals as goal
 
-pub returns-in-Status-clause-refused : goal.returns-in-Status-clause-refused
-returns-in-Status-clause-refused g c = λ run.
-    subst (λ r. IfErr c.answer_here.result (IsRefusedRequest (asked_by r))) (sym c.in-Status.is)
-    (weaker (IsRefusedRequest (tells_status c.in-Status.dag.now)) c.answer_here.result c.answer_here.ensures.refused (λ fault why. no_status _ fault why))
+pub returns-in-Status-clause-some : goal.returns-in-Status-clause-some
+returns-in-Status-clause-some g c = λ run.
+    some-to (rounds_at g.F.Journal.Disk g.F.Rescue.Disk (g.F.Site.own c.args.folder.now) (g.F.Folder.honest c.args.folder.now) (g.F.Folder.holds c.args.folder.now))
+    c.args.request _ c.in-Status.is c.answer_here.result c.answer_here.ensures.answered c.answer_here.ensures.refused
 
-pub returns-in-Audit-clause-refused : goal.returns-in-Audit-clause-refused
-returns-in-Audit-clause-refused g c = λ run.
-    subst (λ r. IfErr c.answer_here-in-Audit.result (IsRefusedRequest (asked_by r))) (sym c.in-Audit.is)
-    (weaker (IsRefusedRequest (audits c.in-Audit.dag.now)) c.answer_here-in-Audit.result c.answer_here-in-Audit.ensures.refused (λ fault why. not_audited _ fault why))
+pub returns-in-Status-clause-held : goal.returns-in-Status-clause-held
+returns-in-Status-clause-held g c = λ honest run.
+    held-to (g.F.Folder.holds c.args.folder.now) (g.F.Folder.has c.args.folder.now) (rounds_at g.F.Journal.Disk g.F.Rescue.Disk (g.F.Site.own c.args.folder.now) (g.F.Folder.honest c.args.folder.now) (g.F.Folder.holds c.args.folder.now))
+    c.args.request _ c.in-Status.is c.answer_here.result (c.answer_here.ensures.held honest) c.answer_here.ensures.refused
 
-pub returns-in-Graph-clause-refused : goal.returns-in-Graph-clause-refused
-returns-in-Graph-clause-refused g c = λ run.
-    subst (λ r. IfErr c.answer_here-in-Graph.result (IsRefusedRequest (asked_by r))) (sym c.in-Graph.is)
-    (weaker (IsRefusedRequest (draws c.in-Graph.dag.now)) c.answer_here-in-Graph.result c.answer_here-in-Graph.ensures.refused (λ fault why. not_drawn _ fault why))
+pub returns-in-Audit-clause-some : goal.returns-in-Audit-clause-some
+returns-in-Audit-clause-some g c = λ run.
+    some-to (rounds_at g.F.Journal.Disk g.F.Rescue.Disk (g.F.Site.own c.args.folder.now) (g.F.Folder.honest c.args.folder.now) (g.F.Folder.holds c.args.folder.now))
+    c.args.request _ c.in-Audit.is c.answer_here-in-Audit.result c.answer_here-in-Audit.ensures.answered c.answer_here-in-Audit.ensures.refused
 
-pub returns-in-Why-clause-refused : goal.returns-in-Why-clause-refused
-returns-in-Why-clause-refused g c = λ run.
-    subst (λ r. IfErr c.why_here.result (IsRefusedRequest (asked_by r))) (sym c.in-Why.is)
-    (weaker (IsRefusedRequest (asks_why c.in-Why.dag.now (map (λ n. n.now) c.in-Why.nodes.items))) c.why_here.result c.why_here.ensures.refused (λ fault why. not_why _ _ fault why))
+pub returns-in-Audit-clause-held : goal.returns-in-Audit-clause-held
+returns-in-Audit-clause-held g c = λ honest run.
+    held-to (g.F.Folder.holds c.args.folder.now) (g.F.Folder.has c.args.folder.now) (rounds_at g.F.Journal.Disk g.F.Rescue.Disk (g.F.Site.own c.args.folder.now) (g.F.Folder.honest c.args.folder.now) (g.F.Folder.holds c.args.folder.now))
+    c.args.request _ c.in-Audit.is c.answer_here-in-Audit.result (c.answer_here-in-Audit.ensures.held honest) c.answer_here-in-Audit.ensures.refused
 
-pub returns-in-Times-clause-refused : goal.returns-in-Times-clause-refused
-returns-in-Times-clause-refused g c = λ run.
-    subst (λ r. IfErr c.times_here.result (IsRefusedRequest (asked_by r))) (sym c.in-Times.is)
-    (weaker (IsRefusedRequest (times c.in-Times.dag.now c.in-Times.svg)) c.times_here.result c.times_here.ensures.refused (λ fault why. not_timed _ _ fault why))
+pub returns-in-Graph-clause-some : goal.returns-in-Graph-clause-some
+returns-in-Graph-clause-some g c = λ run.
+    some-to (rounds_at g.F.Journal.Disk g.F.Rescue.Disk (g.F.Site.own c.args.folder.now) (g.F.Folder.honest c.args.folder.now) (g.F.Folder.holds c.args.folder.now))
+    c.args.request _ c.in-Graph.is c.answer_here-in-Graph.result c.answer_here-in-Graph.ensures.answered c.answer_here-in-Graph.ensures.refused
+
+pub returns-in-Graph-clause-held : goal.returns-in-Graph-clause-held
+returns-in-Graph-clause-held g c = λ honest run.
+    held-to (g.F.Folder.holds c.args.folder.now) (g.F.Folder.has c.args.folder.now) (rounds_at g.F.Journal.Disk g.F.Rescue.Disk (g.F.Site.own c.args.folder.now) (g.F.Folder.honest c.args.folder.now) (g.F.Folder.holds c.args.folder.now))
+    c.args.request _ c.in-Graph.is c.answer_here-in-Graph.result (c.answer_here-in-Graph.ensures.held honest) c.answer_here-in-Graph.ensures.refused
+
+pub returns-in-Why-clause-some : goal.returns-in-Why-clause-some
+returns-in-Why-clause-some g c = λ run.
+    let same : c.deref.result.now ≡ c.in-Why.nodes.items = search rules in
+    some-to (rounds_at g.F.Journal.Disk g.F.Rescue.Disk (g.F.Site.own c.args.folder.now) (g.F.Folder.honest c.args.folder.now) (g.F.Folder.holds c.args.folder.now))
+    c.args.request _ c.in-Why.is c.why_here.result (subst (λ (ns : List (Bor (List ℕ))). IfOk c.why_here.result (λ answer. IsWhyOf c.in-Why.dag.now (map (λ (n : Bor (List ℕ)). n.now) ns) (string_bytes answer.text) (string_bytes answer.warnings) answer.status)) same c.why_here.ensures.answered) c.why_here.ensures.refused
+
+pub returns-in-Why-clause-held : goal.returns-in-Why-clause-held
+returns-in-Why-clause-held g c = λ honest run.
+    let same : c.deref.result.now ≡ c.in-Why.nodes.items = search rules in
+    held-to (g.F.Folder.holds c.args.folder.now) (g.F.Folder.has c.args.folder.now) (rounds_at g.F.Journal.Disk g.F.Rescue.Disk (g.F.Site.own c.args.folder.now) (g.F.Folder.honest c.args.folder.now) (g.F.Folder.holds c.args.folder.now))
+    c.args.request _ c.in-Why.is c.why_here.result (subst (λ (ns : List (Bor (List ℕ))). IfOk c.why_here.result (λ answer. IsWhyHeld (g.F.Folder.holds c.args.folder.now) c.in-Why.dag.now (map (λ (n : Bor (List ℕ)). n.now) ns) (string_bytes answer.text) (string_bytes answer.warnings) answer.status)) same (c.why_here.ensures.held honest)) c.why_here.ensures.refused
+
+pub returns-in-Times-clause-some : goal.returns-in-Times-clause-some
+returns-in-Times-clause-some g c = λ run.
+    some-to (rounds_at g.F.Journal.Disk g.F.Rescue.Disk (g.F.Site.own c.args.folder.now) (g.F.Folder.honest c.args.folder.now) (g.F.Folder.holds c.args.folder.now))
+    c.args.request _ c.in-Times.is c.times_here.result c.times_here.ensures.told c.times_here.ensures.refused
+
+pub returns-in-Times-clause-held : goal.returns-in-Times-clause-held
+returns-in-Times-clause-held g c = λ honest run.
+    held-to (g.F.Folder.holds c.args.folder.now) (g.F.Folder.has c.args.folder.now) (rounds_at g.F.Journal.Disk g.F.Rescue.Disk (g.F.Site.own c.args.folder.now) (g.F.Folder.honest c.args.folder.now) (g.F.Folder.holds c.args.folder.now))
+    c.args.request _ c.in-Times.is c.times_here.result (c.times_here.ensures.held honest) c.times_here.ensures.refused
+
+pub returns-in-Salvage-clause-some : goal.returns-in-Salvage-clause-some
+returns-in-Salvage-clause-some g c = λ run.
+    some-to (rounds_at g.F.Journal.Disk g.F.Rescue.Disk (g.F.Site.own c.args.folder.now) (g.F.Folder.honest c.args.folder.now) (g.F.Folder.holds c.args.folder.now))
+    c.args.request _ c.in-Salvage.is c.salvage_in.result c.salvage_in.ensures.answered c.salvage_in.ensures.refused
+
+pub returns-in-Salvage-clause-held : goal.returns-in-Salvage-clause-held
+returns-in-Salvage-clause-held g c = λ honest run.
+    held-to (g.F.Folder.holds c.args.folder.now) (g.F.Folder.has c.args.folder.now) (rounds_at g.F.Journal.Disk g.F.Rescue.Disk (g.F.Site.own c.args.folder.now) (g.F.Folder.honest c.args.folder.now) (g.F.Folder.holds c.args.folder.now))
+    c.args.request _ c.in-Salvage.is c.salvage_in.result (c.salvage_in.ensures.held honest) c.salvage_in.ensures.refused
+
+pub returns-in-Check-clause-some : goal.returns-in-Check-clause-some
+returns-in-Check-clause-some g c = λ run.
+    some-to (rounds_at g.F.Journal.Disk g.F.Rescue.Disk (g.F.Site.own c.args.folder.now) (g.F.Folder.honest c.args.folder.now) (g.F.Folder.holds c.args.folder.now))
+    c.args.request _ c.in-Check.is c.check.result c.check.ensures.answered c.check.ensures.refused
+
+pub returns-in-Check-clause-held : goal.returns-in-Check-clause-held
+returns-in-Check-clause-held g c = λ honest run.
+    held-to (g.F.Folder.holds c.args.folder.now) (g.F.Folder.has c.args.folder.now) (rounds_at g.F.Journal.Disk g.F.Rescue.Disk (g.F.Site.own c.args.folder.now) (g.F.Folder.honest c.args.folder.now) (g.F.Folder.holds c.args.folder.now))
+    c.args.request _ c.in-Check.is c.check.result (c.check.ensures.held honest) c.check.ensures.refused
+
+pub returns-in-Rehearse-clause-some : goal.returns-in-Rehearse-clause-some
+returns-in-Rehearse-clause-some g c = λ run.
+    some-to (rounds_at g.F.Journal.Disk g.F.Rescue.Disk (g.F.Site.own c.args.folder.now) (g.F.Folder.honest c.args.folder.now) (g.F.Folder.holds c.args.folder.now))
+    c.args.request _ c.in-Rehearse.is c.rehearse.result c.rehearse.ensures.answered c.rehearse.ensures.refused
+
+pub returns-in-Rehearse-clause-held : goal.returns-in-Rehearse-clause-held
+returns-in-Rehearse-clause-held g c = λ honest run.
+    held-to (g.F.Folder.holds c.args.folder.now) (g.F.Folder.has c.args.folder.now) (rounds_at g.F.Journal.Disk g.F.Rescue.Disk (g.F.Site.own c.args.folder.now) (g.F.Folder.honest c.args.folder.now) (g.F.Folder.holds c.args.folder.now))
+    c.args.request _ c.in-Rehearse.is c.rehearse.result (c.rehearse.ensures.held honest) c.rehearse.ensures.refused

@@ -1,14 +1,8 @@
-use Rattle.dagrun.proofs.Checks.{plain_check, refused_check}
+use Rattle.dagrun.proofs.Checks.{plain_check}
 use Rattle.dagrun.proofs.answers.check.Goals as goal
-
-pub returns-then-any-clause-refused : goal.returns-then-any-clause-refused
-returns-then-any-clause-refused g c = refused_check c.args.dag.now _ c.check_with_hints.result c.check_with_hints.ensures.refused
 
 pub returns-else-any-clause-answered : goal.returns-else-any-clause-answered
 returns-else-any-clause-answered g c = plain_check _ _ c.check_here.result c.check_here.ensures.checked
 
 pub returns-else-any-clause-held : goal.returns-else-any-clause-held
 returns-else-any-clause-held g c = λ honest. plain_check _ _ c.check_here.result (c.check_here.ensures.held honest)
-
-pub returns-else-any-clause-refused : goal.returns-else-any-clause-refused
-returns-else-any-clause-refused g c = refused_check c.args.dag.now _ c.check_here.result c.check_here.ensures.refused

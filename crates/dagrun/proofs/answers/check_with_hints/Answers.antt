@@ -1,7 +1,10 @@
+use Rattle.std.proofs.Common.{true}
 use Rattle.splices_flat.specs.FileSet.{bytes_of}
 use Rattle.dag_main_files.proofs.RunFaults.{by-fault}
 use Rattle.folder_answers.specs.Answered.{IsCheckRefusal, check_not_read}
 use Rattle.folder_answers.proofs.Held.{checked}
+use Rattle.dag_main_args.specs.Requests.{checks}
+use Rattle.dagrun.proofs.Requests.{no-hints}
 use Rattle.dagrun.proofs.Checks.{hints_behind}
 use Rattle.dagrun.proofs.answers.check_with_hints.Goals as goal
 
@@ -18,3 +21,6 @@ returns-in-Ok-reply-clause-held g c = λ honest.
     hints_behind _ c.in-Ok-reply.answer c.with_hints.result _
     (checked (bytes_of c.in_ok-files.files) (g.F.Folder.holds c.args.folder.now) (c.in_ok-files.ensures.read honest).held c.args.dag.now _ _ _ (c.in-Ok-reply.ensures.held tt))
     c.with_hints.ensures.text c.with_hints.ensures.status c.with_hints.ensures.warnings
+
+pub returns-in_err-files-clause-hinted : goal.returns-in_err-files-clause-hinted
+returns-in_err-files-clause-hinted g c = λ honest. no-hints (checks c.args.dag.now true) c.from_residual.result (g.C.Console.shown c.args.console.now)

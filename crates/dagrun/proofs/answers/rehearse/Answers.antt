@@ -2,12 +2,12 @@ use Rattle.std.proofs.Common.{ap, ◌∙◌, is_some}
 use Rattle.std.proofs.lemmas.Result.{IfOk-weaker}
 use Rattle.dag_main_check.proofs.Refusals.{weaker}
 use Rattle.dag_main_files.proofs.RunFaults.{by-fault}
-use Rattle.dagrun.specs.Answered.{IsRefusedRequest, not_read, not_rehearsed}
+use Rattle.dagrun.specs.Answered.{IsRehearsalRefusalWith, table_refused, not_rehearsed}
 use Rattle.dagrun.proofs.answers.rehearse.Goals as goal
 
 pub returns-in_err-table-clause-refused : goal.returns-in_err-table-clause-refused
-returns-in_err-table-clause-refused g c = by-fault (IsRefusedRequest _) c.in_err-table.field-0.0
-    (not_read _ _ c.in_err-table.ensures.refused) c.from_residual.result c.from_residual.ensures.1
+returns-in_err-table-clause-refused g c = by-fault (IsRehearsalRefusalWith _ _) c.in_err-table.field-0.0
+    (table_refused c.in_err-table.ensures.refused.0 _ c.in_err-table.ensures.refused.1 c.in_err-table.ensures.refused.2) c.from_residual.result c.from_residual.ensures.1
 
 pub returns-clause-answered : goal.returns-clause-answered
 returns-clause-answered g c = IfOk-weaker c.rehearse_here.result _ _
@@ -28,5 +28,5 @@ returns-clause-held g c = λ honest. IfOk-weaker c.rehearse_here.result _ _
     (c.rehearse_here.ensures.held honest)
 
 pub returns-clause-refused : goal.returns-clause-refused
-returns-clause-refused g c = weaker (IsRefusedRequest _) c.rehearse_here.result c.rehearse_here.ensures.refused
-    (λ fault why. not_rehearsed _ _ _ _ _ fault (ap is_some c.as_deref.ensures.value ∙ c.in_ok-table.ensures.named) why)
+returns-clause-refused g c = weaker (IsRehearsalRefusalWith _ _) c.rehearse_here.result c.rehearse_here.ensures.refused
+    (λ fault why. not_rehearsed _ fault (ap is_some c.as_deref.ensures.value ∙ c.in_ok-table.ensures.named) why)

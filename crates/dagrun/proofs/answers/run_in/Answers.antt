@@ -1,31 +1,59 @@
-use Rattle.std.proofs.Common.{◌≡◌, Option, Some, subst}
-use Rattle.std.specs.Prelude.{IfSome}
-use Rattle.dag_main_check.proofs.Refusals.{weaker}
-use Rattle.std.proofs.lemmas.Result.{IfOk-weaker}
-use Rattle.dag_main_files.proofs.RunFaults.{by-fault}
+use Rattle.std.proofs.Common.{◌≡◌, Bool, Option, Some, None, Result, Ok, Err, IfOk, true, false, sym, ◌∙◌, subst}
+use Rattle.std.specs.Prelude.{IfSome, IfNone, IfErr}
+use Rattle.std.proofs.lemmas.Bool.{false≢true}
+use Rattle.std.proofs.lemmas.Result.{IfOk-weaker, IfErr-weaker}
+use Rattle.dag_main_run.specs.Sites.{rounds_at}
 use Rattle.dag_main_args.specs.Requests.{runs}
-use Rattle.dagrun.specs.Answered.{IsRefusedRequest, not_run, not_told_again, led, told_again}
+use Rattle.dagrun.specs.Answered.{command_of_some, command_from, not_run, not_reported, led, reported_again}
+use Rattle.dagrun.proofs.Worlds.{comes-to, refused-to}
 use Rattle.dagrun.proofs.answers.run_in.Goals as goal
 
 at-some : {A : Type 0} (P : A → Type 0) (o : Option A) (x : A) → o ≡ Some x → IfSome o P → P x
 at-some P o x is holds = subst (λ o. IfSome o P) is holds
 
-pub returns-in-Some-clause-answered : goal.returns-in-Some-clause-answered
-returns-in-Some-clause-answered g c = told_again c.if-options.true (at-some _ _ _ c.in-Some.is c.in_ok-answer.ensures.report)
+at-none : {A : Type 0} (P : Type 0) (o : Option A) → o ≡ None → IfNone o P → P
+at-none P o is holds = subst (λ o. IfNone o P) is holds
+
+not-both : (b : Bool) (P : Type 0) → b ≡ false → b ≡ true → P
+not-both b P isnt is = absurd (false≢true (sym isnt ∙ is))
+
+pub returns-then-not-options-clause-some : goal.returns-then-not-options-clause-some
+returns-then-not-options-clause-some g c = λ unstreamed.
+    comes-to (command_of_some (rounds_at g.F.Journal.Disk g.F.Rescue.Disk (g.F.Site.own c.args.folder.now) (g.F.Folder.honest c.args.folder.now) (g.F.Folder.holds c.args.folder.now)) (runs c.args.dag.now c.args.options.now)) c.run_dag.result
+    (IfOk-weaker c.run_dag.result _ _ (λ answer is. led (λ asked. tt) is) c.run_dag.ensures.run)
+    (IfErr-weaker c.run_dag.result _ _ (λ fault why. not_run fault (λ asked. tt) why) (c.run_dag.ensures.refused unstreamed))
+
+pub returns-then-not-options-clause-held : goal.returns-then-not-options-clause-held
+returns-then-not-options-clause-held g c = λ honest unstreamed.
+    comes-to (command_from (g.F.Folder.holds c.args.folder.now) (g.F.Folder.has c.args.folder.now) (rounds_at g.F.Journal.Disk g.F.Rescue.Disk (g.F.Site.own c.args.folder.now) (g.F.Folder.honest c.args.folder.now) (g.F.Folder.holds c.args.folder.now)) (runs c.args.dag.now c.args.options.now)) c.run_dag.result
+    (IfOk-weaker c.run_dag.result _ _ (λ answer is. led (not-both _ _ c.if-not-options.true) is) (c.run_dag.ensures.held honest))
+    (IfErr-weaker c.run_dag.result _ _ (λ fault why. not_run fault (not-both _ _ c.if-not-options.true) why) (c.run_dag.ensures.refused unstreamed))
+
+pub returns-in_err-told-clause-some : goal.returns-in_err-told-clause-some
+returns-in_err-told-clause-some g c = λ unstreamed.
+    refused-to (command_of_some (rounds_at g.F.Journal.Disk g.F.Rescue.Disk (g.F.Site.own c.args.folder.now) (g.F.Folder.honest c.args.folder.now) (g.F.Folder.holds c.args.folder.now)) (runs c.args.dag.now c.args.options.now))
+    c.in_err-told.field-0.0 (not_reported _ c.if-not-options.false c.in_err-told.ensures.refused) c.from_residual.result c.from_residual.ensures.1
+
+pub returns-in_err-told-clause-held : goal.returns-in_err-told-clause-held
+returns-in_err-told-clause-held g c = λ honest unstreamed.
+    refused-to (command_from (g.F.Folder.holds c.args.folder.now) (g.F.Folder.has c.args.folder.now) (rounds_at g.F.Journal.Disk g.F.Rescue.Disk (g.F.Site.own c.args.folder.now) (g.F.Folder.honest c.args.folder.now) (g.F.Folder.holds c.args.folder.now)) (runs c.args.dag.now c.args.options.now))
+    c.in_err-told.field-0.0 (not_reported _ c.if-not-options.false c.in_err-told.ensures.refused) c.from_residual.result c.from_residual.ensures.1
+
+pub returns-in-Some-clause-some : goal.returns-in-Some-clause-some
+returns-in-Some-clause-some g c = λ unstreamed. reported_again c.if-not-options.false (at-some _ _ _ c.in-Some.is c.in_ok-told.ensures.report)
 
 pub returns-in-Some-clause-held : goal.returns-in-Some-clause-held
-returns-in-Some-clause-held g c = λ honest. told_again c.if-options.true (at-some _ _ _ c.in-Some.is (c.in_ok-answer.ensures.held honest))
+returns-in-Some-clause-held g c = λ honest unstreamed. reported_again c.if-not-options.false (at-some _ _ _ c.in-Some.is (c.in_ok-told.ensures.held honest))
 
-pub returns-in_err-answer-clause-refused : goal.returns-in_err-answer-clause-refused
-returns-in_err-answer-clause-refused g c = λ unstreamed. by-fault (IsRefusedRequest (runs c.args.dag.now c.args.options.now)) c.in_err-answer.field-0.0
-    (not_told_again _ _ _ c.if-options.true c.in_err-answer.ensures.refused) c.from_residual.result c.from_residual.ensures.1
+pub returns-in-None-clause-some : goal.returns-in-None-clause-some
+returns-in-None-clause-some g c = λ unstreamed.
+    comes-to (command_of_some (rounds_at g.F.Journal.Disk g.F.Rescue.Disk (g.F.Site.own c.args.folder.now) (g.F.Folder.honest c.args.folder.now) (g.F.Folder.holds c.args.folder.now)) (runs c.args.dag.now c.args.options.now)) c.run_dag-in-None.result
+    (IfOk-weaker c.run_dag-in-None.result _ _ (λ answer is. led (λ asked. tt) is) c.run_dag-in-None.ensures.run)
+    (IfErr-weaker c.run_dag-in-None.result _ _ (λ fault why. not_run fault (λ asked. tt) why) (c.run_dag-in-None.ensures.refused unstreamed))
 
-pub returns-clause-answered : goal.returns-clause-answered
-returns-clause-answered g c = IfOk-weaker c.run_dag.result _ _ (λ answer is. led is) c.run_dag.ensures.run
-
-pub returns-clause-held : goal.returns-clause-held
-returns-clause-held g c = λ honest. IfOk-weaker c.run_dag.result _ _ (λ answer is. led is) (c.run_dag.ensures.held honest)
-
-pub returns-clause-refused : goal.returns-clause-refused
-returns-clause-refused g c = λ unstreamed. weaker (IsRefusedRequest (runs c.args.dag.now c.args.options.now)) c.run_dag.result (c.run_dag.ensures.refused unstreamed)
-    (λ fault why. not_run _ _ fault why)
+pub returns-in-None-clause-held : goal.returns-in-None-clause-held
+returns-in-None-clause-held g c = λ honest unstreamed.
+    comes-to (command_from (g.F.Folder.holds c.args.folder.now) (g.F.Folder.has c.args.folder.now) (rounds_at g.F.Journal.Disk g.F.Rescue.Disk (g.F.Site.own c.args.folder.now) (g.F.Folder.honest c.args.folder.now) (g.F.Folder.holds c.args.folder.now)) (runs c.args.dag.now c.args.options.now)) c.run_dag-in-None.result
+    (IfOk-weaker c.run_dag-in-None.result _ _ (λ answer is. led (λ asked. at-none _ _ c.in-None.is (c.in_ok-told.ensures.none honest)) is) (c.run_dag-in-None.ensures.held honest))
+    (IfErr-weaker c.run_dag-in-None.result _ _ (λ fault why. not_run fault (λ asked. at-none _ _ c.in-None.is (c.in_ok-told.ensures.none honest)) why)
+    (c.run_dag-in-None.ensures.refused unstreamed))

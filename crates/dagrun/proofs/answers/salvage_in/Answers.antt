@@ -1,9 +1,11 @@
 use Rattle.std.proofs.Common.{sym, subst}
-use Rattle.dag_main_files.specs.Beside.{IsFileFault, reading_had_no_memory}
+use Rattle.dag_main_check.specs.declared.fault.RunFault.{RunFault}
+use Rattle.dag_main_check.specs.declared.fault.RunFault.TheVariants.{Memory}
+use Rattle.dag_main_files.specs.Beside.{reading_had_no_memory}
+use Rattle.salvage.specs.declared.fault.SalvageFault.TheVariants.{Refused}
 use Rattle.dag_main_check.proofs.Refusals.{handed-on, weaker}
-use Rattle.dag_main_args.specs.Requests.{salvages}
-use Rattle.dagrun.specs.Answered.{IsRefusedRequest, not_read, salvaged, not_salvaged_as_run}
-use Rattle.salvage.specs.Refused.{IsSalvageFault}
+use Rattle.dagrun.specs.Answered.{salvaged}
+use Rattle.salvage.specs.Refused.{IsSalvageFault, system_refuses}
 use Rattle.dagrun.proofs.Salvages.{line-warned}
 use Rattle.dagrun.proofs.answers.salvage_in.Goals as goal
 
@@ -16,9 +18,9 @@ returns-in-Ok-clause-held g c = λ honest. salvaged _ _ _ (c.in-Ok.ensures.held 
 pub returns-in_err-own-in-Err-clause-refused : goal.returns-in_err-own-in-Err-clause-refused
 returns-in_err-own-in-Err-clause-refused g c =
     let path = c.args.place.now.top.now in
-    handed-on (IsRefusedRequest (salvages path)) c.from_residual.result c.from_residual.ensures.1
-    (λ fault same. subst (IsRefusedRequest (salvages path)) (sym same)
-    (not_salvaged_as_run _ c.in_err-own-in-Err.field-0.0 (subst (IsSalvageFault path) c.in_err-own-in-Err.ensures.other c.in-Err.ensures.refused)))
+    handed-on (λ fault. IsSalvageFault path (Refused fault)) c.from_residual.result c.from_residual.ensures.1
+    (λ fault same. subst (λ (f : RunFault). IsSalvageFault path (Refused f)) (sym same)
+    (subst (IsSalvageFault path) c.in_err-own-in-Err.ensures.other c.in-Err.ensures.refused))
 
 pub returns-in_ok-own-in-Err-clause-answered : goal.returns-in_ok-own-in-Err-clause-answered
 returns-in_ok-own-in-Err-clause-answered g c =
@@ -34,5 +36,5 @@ returns-in_ok-own-in-Err-clause-held g c = λ honest.
 
 pub returns-in_ok-own-in-Err-clause-refused : goal.returns-in_ok-own-in-Err-clause-refused
 returns-in_ok-own-in-Err-clause-refused g c =
-    weaker (IsRefusedRequest (salvages c.args.place.now.top.now)) c.not_salvaged.result c.not_salvaged.ensures.err
-    (λ fault is. not_read _ fault (subst IsFileFault (sym is) reading_had_no_memory))
+    weaker (λ fault. IsSalvageFault c.args.place.now.top.now (Refused fault)) c.not_salvaged.result c.not_salvaged.ensures.err
+    (λ fault is. subst (λ (f : RunFault). IsSalvageFault c.args.place.now.top.now (Refused f)) (sym is) (system_refuses Memory reading_had_no_memory))

@@ -1,11 +1,36 @@
-use Rattle.dag_main_args.specs.Requests.{asked_by}
-use Rattle.dagrun.specs.Answered.{not_read}
-use Rattle.dagrun.proofs.Requests.{reply-to, refused-reply}
+use Rattle.std.proofs.Common.{◌≡◌, Bool, true, false, Result, Ok, Err, sym, ◌∙◌, subst}
+use Rattle.std.specs.Prelude.{IsErrAnd}
+use Rattle.std.proofs.lemmas.Bool.{false≢true}
+use Rattle.dag_main_args.specs.Requests.{Asked, asked_by}
+use Rattle.dag_main_run.specs.Sites.{Rounds, rounds_at}
+use Rattle.dag_main_check.specs.declared.fault.RunFault.{RunFault}
+use Rattle.dag_main_check.specs.declared.warnings.Answer.{Answer}
+use Rattle.dag_main_files.specs.Beside.{IsRefusalOf}
+use Rattle.dagrun.proofs.Worlds.{input-reply, beside-reply, folder-reply, unasked, told-at}
 use Rattle.dagrun.proofs.commands.answer.Goals as goal
 
-pub returns-in_err-folder-clause-reply : goal.returns-in_err-folder-clause-reply
-returns-in_err-folder-clause-reply g c = refused-reply (asked_by c.args.request) c.in_err-folder.field-0.0
-    (not_read _ _ c.in_err-folder.ensures) c.from_residual.result c.from_residual.ensures.1
+pub returns-then-not-is_beside-clause-reply : goal.returns-then-not-is_beside-clause-reply
+returns-then-not-is_beside-clause-reply g c =
+    let isnt : _ ≡ false = sym c.is_beside.ensures ∙ c.if-not-is_beside.true in
+    input-reply _ _ _ (rounds_at g.H.Here.Journal.Disk g.H.Here.Rescue.Disk (g.H.Here.Site.own c.inputs.result) (g.H.Here.Folder.honest c.inputs.result) (g.H.Here.Folder.holds c.inputs.result))
+    (rounds_at g.H.Here.Journal.Disk g.H.Here.Rescue.Disk (g.H.Host.own c.args.host.now) (g.H.Host.honest c.args.host.now) (g.H.Host.world c.args.host.now).holds)
+    (g.H.Here.Folder.holds c.inputs.result) (g.H.Here.Folder.has c.inputs.result) (asked_by c.args.request) isnt c.answer_in.result c.inputs.ensures.holds
+    (c.answer_in.ensures.some (unasked (asked_by c.args.request) isnt))
+    (λ honest. c.answer_in.ensures.held (c.inputs.ensures.honest honest) (unasked (asked_by c.args.request) isnt))
+
+pub returns-in_err-here-clause-reply : goal.returns-in_err-here-clause-reply
+returns-in_err-here-clause-reply g c =
+    folder-reply _ _ _ _ (asked_by c.args.request) (sym c.is_beside.ensures ∙ c.if-not-is_beside.false) c.in_err-here.field-0.0 c.in_err-here.ensures.refused
+    c.from_residual.result c.from_residual.ensures.1
 
 pub returns-clause-reply : goal.returns-clause-reply
-returns-clause-reply g c = reply-to (asked_by c.args.request) c.answer_in-2.result c.answer_in-2.ensures.answered (c.answer_in-2.ensures.refused (λ run streams. streams))
+returns-clause-reply g c =
+    beside-reply (rounds_at g.H.Here.Journal.Disk g.H.Here.Rescue.Disk (g.H.Here.Site.own c.in_ok-here.here) (g.H.Here.Folder.honest c.in_ok-here.here) (g.H.Here.Folder.holds c.in_ok-here.here))
+    (rounds_at g.H.Here.Journal.Disk g.H.Here.Rescue.Disk (g.H.Host.own c.args.host.now) (g.H.Host.honest c.args.host.now) (g.H.Host.world c.args.host.now).holds)
+    (told-at g.H.Here.Journal.Disk g.H.Here.Rescue.Disk (g.H.Here.Site.own c.in_ok-here.here) (g.H.Host.own c.args.host.now) (g.H.Here.Folder.honest c.in_ok-here.here)
+    (g.H.Host.honest c.args.host.now) (g.H.Here.Folder.holds c.in_ok-here.here) (g.H.Host.world c.args.host.now).holds
+    c.in_ok-here.ensures.own c.in_ok-here.ensures.honest c.in_ok-here.ensures.back c.in_ok-here.ensures.holds)
+    _ _ _ (g.H.Here.Folder.holds c.in_ok-here.here) (g.H.Here.Folder.has c.in_ok-here.here) (asked_by c.args.request)
+    (sym c.is_beside.ensures ∙ c.if-not-is_beside.false) c.answer_in-2.result c.in_ok-here.ensures.holds c.in_ok-here.ensures.has
+    (c.answer_in-2.ensures.some (λ run streams. c.in_ok-here.ensures.unstreamed streams))
+    (λ honest. c.answer_in-2.ensures.held (c.in_ok-here.ensures.honest honest) (λ run streams. c.in_ok-here.ensures.unstreamed streams))

@@ -20,7 +20,7 @@ returns-in-Err-Refused-clause-shown g c = λ honest.
     (_, c.warn.ensures.warned honest)
 
 pub returns-in-Err-Memory-clause-exit : goal.returns-in-Err-Memory-clause-exit
-returns-in-Err-Memory-clause-exit g c = exits-without-memory (lent_words c.args.words.now) c.finish-in-Err-Memory.result c.finish-in-Err-Memory.ensures.exit
+returns-in-Err-Memory-clause-exit g c = exits-without-memory _ (lent_words c.args.words.now) c.finish-in-Err-Memory.result c.finish-in-Err-Memory.ensures.exit
 
 pub returns-in-Err-Memory-clause-shown : goal.returns-in-Err-Memory-clause-shown
 returns-in-Err-Memory-clause-shown g c = λ honest. no_memory c.finish-in-Err-Memory.result (c.finish-in-Err-Memory.ensures.shown honest)

@@ -18,7 +18,7 @@ returns-in-Some-clause-went g c =
     let call_log = g.S.Starter.call_log in
     let old = c.args.manager.now in
     let from = at_rest past (call_log c.args.starter.now) in
-    stretch-still g.D.Disk g.met.D.Disk.only_now limits plan (may c.args.starter.now) (may c.args.starter.now) (count c.args.starter.now) (count c.args.starter.now) old from refl refl c.keeps_the_law.ensures (λ later_log key outcome is. is)
+    stretch-still g.D.Disk g.met.D.Disk.only_now limits plan (may c.args.starter.now) (may c.args.starter.now) (count c.args.starter.now) (count c.args.starter.now) old from refl refl c.keeps_the_law.ensures ((λ later_log key outcome is. is), (λ is. is))
     from refl no_step refl
 
 pub returns-then-is_new-clause-in_step : goal.returns-then-is_new-clause-in_step

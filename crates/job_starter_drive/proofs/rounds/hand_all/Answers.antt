@@ -25,7 +25,7 @@ loop-place-init g c =
       subst (λ (l : List (Key × Outcome)). IsStretch g.D.Disk limits plan (may c.args.starter.now) (may c.args.starter.now) (count c.args.starter.now) (count c.args.starter.now) c.args.manager.now c.args.manager.now
           (At past (call_log c.args.starter.now) c.args.keys.now []) (At past (call_log c.args.starter.now) c.args.keys.now l)) (sym none)
           (stretch-still g.D.Disk g.met.D.Disk.only_now limits plan (may c.args.starter.now) (may c.args.starter.now) (count c.args.starter.now) (count c.args.starter.now) c.args.manager.now
-          (At past (call_log c.args.starter.now) c.args.keys.now []) refl refl c.keeps_the_law.ensures (λ later_log key outcome is. is) (At past (call_log c.args.starter.now) c.args.keys.now []) refl no_step refl),
+          (At past (call_log c.args.starter.now) c.args.keys.now []) refl refl c.keeps_the_law.ensures ((λ later_log key outcome is. is), (λ is. is)) (At past (call_log c.args.starter.now) c.args.keys.now []) refl no_step refl),
       none_started,
     )
 

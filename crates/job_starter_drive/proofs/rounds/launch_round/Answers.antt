@@ -18,7 +18,7 @@ use Rattle.job_starter_drive.proofs.rounds.launch_round.Goals as goal
 pub loop-keys-init : goal.loop-keys-init
 loop-keys-init g c = (
   stretch-still g.D.Disk g.met.D.Disk.only_now (limits_of c.args.manager.now) (plan_of c.args.manager.now) (g.S.Starter.may_return c.args.starter.now) (g.S.Starter.may_return c.args.starter.now) (g.S.Starter.faults c.args.starter.now) (g.S.Starter.faults c.args.starter.now) c.args.manager.now
-      (at_rest (past_of c.args.manager.now) (g.S.Starter.call_log c.args.starter.now)) refl refl c.keeps_the_law.ensures (λ later_log key outcome is. is) (at_rest (past_of c.args.manager.now) (g.S.Starter.call_log c.args.starter.now)) refl no_step refl,
+      (at_rest (past_of c.args.manager.now) (g.S.Starter.call_log c.args.starter.now)) refl refl c.keeps_the_law.ensures ((λ later_log key outcome is. is), (λ is. is)) (at_rest (past_of c.args.manager.now) (g.S.Starter.call_log c.args.starter.now)) refl no_step refl,
   c.requires.in_step,
   c.goes_on.ensures,
   refl,
@@ -42,7 +42,7 @@ returns-in-Err-clause-cut g c =
     let round = c.in-Err.ensures.err in
     cut-on g.D.Disk limits plan (may c.args.starter.now) (may c.loop-keys.starter) (may c.loop-keys.starter) (count c.args.starter.now) (count c.loop-keys.starter) (count c.loop-keys.starter) old mid mid from via i.0
     (call_log c.loop-keys.starter) c.in-Err.fault (subst (IsCutShort g.D.Disk (limits_of mid) (plan_of mid) (may c.loop-keys.starter) (may c.loop-keys.starter) (count c.loop-keys.starter) (count c.loop-keys.starter) mid mid via (call_log c.loop-keys.starter)) (sym round)
-    (cut-still g.D.Disk g.met.D.Disk.only_now (limits_of mid) (plan_of mid) (may c.loop-keys.starter) (may c.loop-keys.starter) (count c.loop-keys.starter) (count c.loop-keys.starter) mid via refl refl c.keeps_the_law-in-loop-keys.ensures (λ later_log key outcome is. is)
+    (cut-still g.D.Disk g.met.D.Disk.only_now (limits_of mid) (plan_of mid) (may c.loop-keys.starter) (may c.loop-keys.starter) (count c.loop-keys.starter) (count c.loop-keys.starter) mid via refl refl c.keeps_the_law-in-loop-keys.ensures ((λ later_log key outcome is. is), (λ is. is))
     [] [] (call_log c.loop-keys.starter) _ no_step round_refused (omega arith) (no_memory_for_round refl)))
 
 pub returns-in-Err-clause-waits_for_none : goal.returns-in-Err-clause-waits_for_none

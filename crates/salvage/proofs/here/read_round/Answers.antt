@@ -1,5 +1,5 @@
 use Rattle.std.proofs.Common.{ℕ, List, Option, Some, ap, subst, string_bytes, ◌∙◌}
-use Rattle.salvage.specs.Inputs.{inputs_text_of}
+use Rattle.round_inputs.specs.Inputs.{inputs_text_of}
 use Rattle.std.specs.Option.{option_map}
 use Rattle.splices_flat.specs.FileSet.{bytes_of}
 use Rattle.dag_main_files.proofs.RunFaults.{input-is-file}

@@ -5,7 +5,7 @@ use Rattle.dag_main_files.proofs.RunFaults.{by-fault}
 use Rattle.salvage.proofs.here.write_rescue.Goals as goal
 
 pub returns-in_err-disk : goal.returns-in_err-disk
-returns-in_err-disk g c = by-fault IsFileFault c.in_err-disk.field-0.0 (subst IsFileFault (sym c.in_err-disk.ensures) reading_had_no_memory)
+returns-in_err-disk g c = by-fault IsFileFault c.in_err-disk.field-0.0 (subst IsFileFault (sym c.in_err-disk.ensures.refused) reading_had_no_memory)
     c.from_residual.result c.from_residual.ensures.1
 
 pub returns-in_err-path-in-Err : goal.returns-in_err-path-in-Err

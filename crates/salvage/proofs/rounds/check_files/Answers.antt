@@ -5,7 +5,7 @@ use Rattle.std.proofs.lemmas.List.Elements.{All-nil, All-push}
 use Rattle.splices_flat.specs.FileSet.{entries_of}
 use Rattle.salvage.specs.Round.{IsSame}
 use Rattle.salvage.specs.Refused.{IsFirstOther, IsOtherFile}
-use Rattle.salvage.proofs.Listings.{lent_file, entries_all}
+use Rattle.round_inputs.proofs.Listings.{lent_file, entries_all}
 use Rattle.salvage.proofs.Refusals.{told-as, first-other}
 use Rattle.salvage.proofs.rounds.check_files.Goals as goal
 

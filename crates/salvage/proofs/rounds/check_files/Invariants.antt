@@ -1,6 +1,6 @@
 use Rattle.std.specs.Prelude.{All}
 use Rattle.salvage.specs.Round.{IsSame}
-use Rattle.salvage.proofs.Listings.{lent_file}
+use Rattle.round_inputs.proofs.Listings.{lent_file}
 use Rattle.salvage.proofs.rounds.check_files.Given as goal
 
 abbrev pub invariant-loop-path : goal.invariant-loop-path

@@ -1,0 +1,250 @@
+-- What comes of a request in a world.
+use Rattle.std.proofs.Common.{◌≡◌, ℕ, Bool, true, false, List, Option, Some, None, Result, Ok, Err, IfOk, string_bytes, refl, sym, subst}
+use Rattle.std.specs.Prelude.{IfErr, IsErrAnd, codes}
+use Rattle.std.proofs.lemmas.Bool.{false≢true}
+use Rattle.event_journal_log.specs.declared.disk.Disk.{Ghosts}
+use Rattle.splices_flat.specs.Opening.{Files}
+use Rattle.splices_flat.specs.declared.file_set.FileSet.{FileSet}
+use Rattle.throttles.specs.declared.Limits.{Limits}
+use Rattle.run_plan.specs.Plan.{Plan}
+use Rattle.job_starter_drive.specs.declared.Call.{Call}
+use Rattle.dag_main_args.specs.declared.request.RunOptions.{RunOptions}
+use Rattle.dag_main_args.specs.declared.request.Request.{Request}
+use Rattle.dag_main_args.specs.Requests.{Asked, asked_by, checks, runs, tells_status, audits, rehearses, draws, asks_why, times, salvages, shows}
+use Rattle.dag_main_files.specs.declared.rounds.Round.{Round}
+use Rattle.dag_main_files.specs.Beside.{IsRefusalOf, path_refused, refusing_had_no_memory}
+use Rattle.dag_main_check.specs.declared.fault.RunFault.{RunFault}
+use Rattle.dag_main_check.specs.declared.warnings.Answer.{Answer}
+use Rattle.dag_main_run.specs.Sites.{Own, IsKnownTo, IsAtSite, IsRoundLedAt, IsRoundStoppedAt, Rounds, rounds_at, journal_found}
+use Rattle.dag_main_run.specs.Runs.{IsRunWhere, IsStopFault, not_cleared, no_endings, round_stopped, leading_had_no_memory, IsHeldFault, not_found_again, another_was_at_work, not_led, IsRunFault, no_graph, not_found, no_plan, no_launcher, no_room, not_alone, not_held, no_memory}
+use Rattle.dagrun.specs.Answered.{Said, World, files_for, is_beside, IsRunWith, led, reported_again, IsRunRefusal, not_run, not_reported, CommandContract, command_of_some, command_from, IsAnswerUnder, ComesTo, IsFolderFault, folder_refused, folder_had_no_memory, IsReply, of_command, of_no_folder, is_run}
+
+-- what a command comes to, by what is said of its answer and of its refusal
+pub comes-to : (command : CommandContract) (r : Result Answer RunFault) → IfOk r (IsAnswerUnder command) → IfErr r command.refused → ComesTo command r
+comes-to command (Ok answer) is why = is
+comes-to command (Err fault) is why = why
+
+-- the same of the command of a request
+pub some-to : (rounds : Rounds) (request other : Request) → request ≡ other → (r : Result Answer RunFault)
+    → IfOk r (IsAnswerUnder (command_of_some rounds (asked_by other))) → IfErr r (command_of_some rounds (asked_by other)).refused
+    → ComesTo (command_of_some rounds (asked_by request)) r
+some-to rounds request other same r is why =
+    subst (λ (q : Request). ComesTo (command_of_some rounds (asked_by q)) r) (sym same) (comes-to (command_of_some rounds (asked_by other)) r is why)
+
+pub held-to : (holds : Files) (has : List ℕ → Bool) (rounds : Rounds) (request other : Request) → request ≡ other → (r : Result Answer RunFault)
+    → IfOk r (IsAnswerUnder (command_from holds has rounds (asked_by other))) → IfErr r (command_from holds has rounds (asked_by other)).refused
+    → ComesTo (command_from holds has rounds (asked_by request)) r
+held-to holds has rounds request other same r is why =
+    subst (λ (q : Request). ComesTo (command_from holds has rounds (asked_by q)) r) (sym same) (comes-to (command_from holds has rounds (asked_by other)) r is why)
+
+-- the same of a refusal that is handed on
+pub refused-to : (command : CommandContract) (given : RunFault) → command.refused given → (r : Result Answer RunFault) → IsErrAnd r (λ fault. fault ≡ given) → ComesTo command r
+refused-to command given why (Ok answer) same = absurd same
+refused-to command given why (Err fault) same = subst command.refused (sym same) why
+
+-- what is said of some rounds is said of others, too
+pub record AreToldAs (rounds known : Rounds) : Type 0 where
+  pub led : (top : List ℕ) (limits : Limits) (plan : Plan) (round : Round) (text : List ℕ) (status : ℕ)
+      → rounds.led top limits plan round text status → known.led top limits plan round text status
+  pub stopped : (top : List ℕ) (limits : Limits) (plan : Plan) (round : Round) (fault : RunFault)
+      → rounds.stopped top limits plan round fault → known.stopped top limits plan round fault
+  pub deaf : rounds.is_deaf → known.is_deaf
+
+module _ (rounds known : Rounds) (told : AreToldAs rounds known) where
+  run-by : (IsRead : FileSet → Type 0) (IsRound : Round → Type 0) (IsRescue : Round → Option (List ℕ) → Type 0) (path : List ℕ) (options : RunOptions)
+      (text warnings : List ℕ) (status : ℕ) → IsRunWhere IsRead IsRound IsRescue rounds path options text warnings status
+      → IsRunWhere IsRead IsRound IsRescue known path options text warnings status
+  run-by IsRead IsRound IsRescue path options text warnings status run = record {
+    files = run.files;
+    read = run.read;
+    round = run.round;
+    is_round = run.is_round;
+    rescue = run.rescue;
+    rescue_is = run.rescue_is;
+    answered = record {
+      plan = run.answered.plan;
+      planned = run.answered.planned;
+      answered = told.led path options.limits run.answered.plan run.round text status run.answered.answered;
+      warnings_are = run.answered.warnings_are;
+    };
+  }
+
+  run-with : (IsRead : FileSet → Type 0) (IsRound : Round → Type 0) (IsRescue : Round → Option (List ℕ) → Type 0) (Again : Said) (NoReport : Type 0)
+      (path : List ℕ) (options : RunOptions) (text warnings : List ℕ) (status : ℕ)
+      → IsRunWith (IsRunWhere IsRead IsRound IsRescue rounds path options) Again NoReport options text warnings status
+      → IsRunWith (IsRunWhere IsRead IsRound IsRescue known path options) Again NoReport options text warnings status
+  run-with IsRead IsRound IsRescue Again NoReport path options text warnings status (led none run) =
+      led none (run-by IsRead IsRound IsRescue path options text warnings status run)
+  run-with IsRead IsRound IsRescue Again NoReport path options text warnings status (reported_again asked again) = reported_again asked again
+
+  stop-fault : (path : List ℕ) (limits : Limits) (plan : Plan) (round : Round) (fault : RunFault)
+      → IsStopFault rounds.is_deaf (rounds.stopped path limits plan round) fault → IsStopFault known.is_deaf (known.stopped path limits plan round) fault
+  stop-fault path limits plan round _ (not_cleared fault why) = not_cleared fault why
+  stop-fault path limits plan round _ (no_endings deaf) = no_endings (told.deaf deaf)
+  stop-fault path limits plan round _ (round_stopped fault why) = round_stopped fault (told.stopped path limits plan round fault why)
+  stop-fault path limits plan round _ leading_had_no_memory = leading_had_no_memory
+
+  held-fault : (options : RunOptions) (path : List ℕ) (plan : Plan) (round : Round) (fault : RunFault)
+      → IsHeldFault options rounds.is_deaf (rounds.stopped path options.limits plan round) fault
+      → IsHeldFault options known.is_deaf (known.stopped path options.limits plan round) fault
+  held-fault options path plan round _ (not_found_again fault why) = not_found_again fault why
+  held-fault options path plan round _ (another_was_at_work fault why) = another_was_at_work fault why
+  held-fault options path plan round _ (not_led fault why) = not_led fault (stop-fault path options.limits plan round fault why)
+
+  run-fault : (path : List ℕ) (options : RunOptions) (fault : RunFault) → IsRunFault rounds path options fault → IsRunFault known path options fault
+  run-fault path options _ (no_graph files fault why) = no_graph files fault why
+  run-fault path options _ (not_found files graph fault is why) = not_found files graph fault is why
+  run-fault path options _ (no_plan files graph fault is why) = no_plan files graph fault is why
+  run-fault path options _ (no_launcher fault planned why) = no_launcher fault planned why
+  run-fault path options _ (no_room fault planned why) = no_room fault planned why
+  run-fault path options _ (not_alone fault planned why) = not_alone fault planned why
+  run-fault path options _ (not_held planned fault why) = not_held planned fault (held-fault options path planned.plan planned.round fault why)
+  run-fault path options _ no_memory = no_memory
+
+  run-refusal : (NotTold : RunFault → Type 0) (NoReport : Type 0) (path : List ℕ) (options : RunOptions) (fault : RunFault)
+      → IsRunRefusal (IsRunFault rounds path options) NotTold NoReport options fault → IsRunRefusal (IsRunFault known path options) NotTold NoReport options fault
+  run-refusal NotTold NoReport path options _ (not_run fault none why) = not_run fault none (run-fault path options fault why)
+  run-refusal NotTold NoReport path options _ (not_reported fault asked why) = not_reported fault asked why
+
+  pub told-some : (asked : Asked) (r : Result Answer RunFault) → ComesTo (command_of_some rounds asked) r → ComesTo (command_of_some known asked) r
+  told-some (checks path hinted) r is = is
+  told-some (runs path options) (Ok answer) is = run-with _ _ _ _ _ path options _ _ _ is
+  told-some (runs path options) (Err fault) is = run-refusal _ _ path options fault is
+  told-some (tells_status path) r is = is
+  told-some (audits path) r is = is
+  told-some (rehearses path outcomes limits always_post) r is = is
+  told-some (draws path) r is = is
+  told-some (asks_why path nodes) r is = is
+  told-some (times path svg) r is = is
+  told-some (salvages path) r is = is
+  told-some (shows page) r is = is
+
+  pub told-from : (holds : Files) (has : List ℕ → Bool) (asked : Asked) (r : Result Answer RunFault) → ComesTo (command_from holds has rounds asked) r
+      → ComesTo (command_from holds has known asked) r
+  told-from holds has (checks path hinted) r is = is
+  told-from holds has (runs path options) (Ok answer) is = run-with _ _ _ _ _ path options _ _ _ is
+  told-from holds has (runs path options) (Err fault) is = run-refusal _ _ path options fault is
+  told-from holds has (tells_status path) r is = is
+  told-from holds has (audits path) r is = is
+  told-from holds has (rehearses path outcomes limits always_post) r is = is
+  told-from holds has (draws path) r is = is
+  told-from holds has (asks_why path nodes) r is = is
+  told-from holds has (times path svg) r is = is
+  told-from holds has (salvages path) r is = is
+  told-from holds has (shows page) r is = is
+
+  -- a reply by what stands beside a DAG file
+  pub beside-reply : (Honest IsLost : Type 0) (world : World) (holds : Files) (has : List ℕ → Bool) (asked : Asked) → is_beside asked ≡ true → (reply : Result Answer RunFault)
+      → (Honest → holds ≡ world.holds) → (Honest → has ≡ world.has) → ComesTo (command_of_some rounds asked) reply
+      → (Honest → ComesTo (command_from holds has rounds asked) reply) → IsReply Honest IsLost world known asked reply
+  beside-reply Honest IsLost world holds has asked beside reply same there some held =
+      of_command reply (told-some asked reply some)
+      (λ honest. subst (λ (b : Bool). ComesTo (command_from (files_for b world) world.has known asked) reply) (sym beside)
+      (subst (λ (f : Files). ComesTo (command_from f world.has known asked) reply) (same honest)
+      (subst (λ (h : List ℕ → Bool). ComesTo (command_from holds h known asked) reply) (there honest) (told-from holds has asked reply (held honest)))))
+
+-- what isn't asked of what stands beside a DAG file, is asked of no round
+pub unbeside-some : (rounds known : Rounds) (asked : Asked) → is_beside asked ≡ false → (r : Result Answer RunFault) → ComesTo (command_of_some rounds asked) r
+    → ComesTo (command_of_some known asked) r
+unbeside-some rounds known (checks path hinted) isnt r is = is
+unbeside-some rounds known (runs path options) isnt r is = absurd (false≢true (sym isnt))
+unbeside-some rounds known (tells_status path) isnt r is = is
+unbeside-some rounds known (audits path) isnt r is = is
+unbeside-some rounds known (rehearses path outcomes limits always_post) isnt r is = is
+unbeside-some rounds known (draws path) isnt r is = is
+unbeside-some rounds known (asks_why path nodes) isnt r is = is
+unbeside-some rounds known (times path svg) isnt r is = is
+unbeside-some rounds known (salvages path) isnt r is = is
+unbeside-some rounds known (shows page) isnt r is = is
+
+pub unbeside-from : (holds : Files) (has there : List ℕ → Bool) (rounds known : Rounds) (asked : Asked) → is_beside asked ≡ false → (r : Result Answer RunFault)
+    → ComesTo (command_from holds has rounds asked) r → ComesTo (command_from holds there known asked) r
+unbeside-from holds has there rounds known (checks path hinted) isnt r is = is
+unbeside-from holds has there rounds known (runs path options) isnt r is = absurd (false≢true (sym isnt))
+unbeside-from holds has there rounds known (tells_status path) isnt r is = is
+unbeside-from holds has there rounds known (audits path) isnt r is = is
+unbeside-from holds has there rounds known (rehearses path outcomes limits always_post) isnt r is = is
+unbeside-from holds has there rounds known (draws path) isnt r is = is
+unbeside-from holds has there rounds known (asks_why path nodes) isnt r is = is
+unbeside-from holds has there rounds known (times path svg) isnt r is = is
+unbeside-from holds has there rounds known (salvages path) isnt r is = is
+unbeside-from holds has there rounds known (shows page) isnt r is = is
+
+-- a reply by what is read alone
+pub input-reply : (Honest IsLost : Type 0) (world : World) (rounds known : Rounds) (holds : Files) (has : List ℕ → Bool) (asked : Asked) → is_beside asked ≡ false
+    → (reply : Result Answer RunFault) → (Honest → holds ≡ world.inputs) → ComesTo (command_of_some rounds asked) reply
+    → (Honest → ComesTo (command_from holds has rounds asked) reply) → IsReply Honest IsLost world known asked reply
+input-reply Honest IsLost world rounds known holds has asked isnt reply same some held =
+    of_command reply (unbeside-some rounds known asked isnt reply some)
+    (λ honest. subst (λ (b : Bool). ComesTo (command_from (files_for b world) world.has known asked) reply) (sym isnt)
+    (subst (λ (f : Files). ComesTo (command_from f world.has known asked) reply) (same honest)
+    (unbeside-from holds has world.has rounds known asked isnt reply (held honest))))
+
+-- no round is asked for where nothing is asked of what stands beside a DAG file
+pub unasked : {P : Type 0} (asked : Asked) → is_beside asked ≡ false → is_run asked ≡ true → P
+unasked (checks path hinted) isnt run = absurd (false≢true run)
+unasked (runs path options) isnt run = absurd (false≢true (sym isnt))
+unasked (tells_status path) isnt run = absurd (false≢true run)
+unasked (audits path) isnt run = absurd (false≢true run)
+unasked (rehearses path outcomes limits always_post) isnt run = absurd (false≢true run)
+unasked (draws path) isnt run = absurd (false≢true run)
+unasked (asks_why path nodes) isnt run = absurd (false≢true run)
+unasked (times path svg) isnt run = absurd (false≢true run)
+unasked (salvages path) isnt run = absurd (false≢true run)
+unasked (shows page) isnt run = absurd (false≢true run)
+
+-- a folder that is refused isn't said
+pub folder-fault : (IsLost : Type 0) → IsLost → (fault : RunFault) → IsRefusalOf (codes ".") fault → IsFolderFault IsLost fault
+folder-fault IsLost lost _ (path_refused file same) = folder_refused lost file same
+folder-fault IsLost lost _ refusing_had_no_memory = folder_had_no_memory
+
+-- the folder isn't known
+pub folder-reply : (Honest IsLost : Type 0) (world : World) (rounds : Rounds) (asked : Asked) → is_beside asked ≡ true → (given : RunFault) → IsFolderFault IsLost given
+    → (reply : Result Answer RunFault) → IsErrAnd reply (λ fault. fault ≡ given) → IsReply Honest IsLost world rounds asked reply
+folder-reply Honest IsLost world rounds asked beside given why (Ok answer) same = absurd same
+folder-reply Honest IsLost world rounds asked beside given why (Err fault) same = of_no_folder fault beside (subst (IsFolderFault IsLost) (sym same) why)
+
+-- What a site says of its rounds, a host says that knows it.
+module _ {D R : Type 0} (disks : Ghosts D) (rescues : Ghosts R) (own known : Own D R) (Here Honest : Type 0) (holds all : Files)
+    (knows : IsKnownTo own known) (to : Honest → Here) (back : Here → Honest) (same : Honest → holds ≡ all) where
+  at-host : (top : List ℕ) (round : Round) (journal : D) (rescue : R) (calls : List Call) (before now : ℕ)
+      → IsAtSite disks rescues own Here holds top round journal rescue calls before now
+      → IsAtSite disks rescues known Honest all top round journal rescue calls before now
+  at-host top round journal rescue calls before now is = record {
+    is_journal = knows.journals top journal is.is_journal;
+    is_rescue = knows.rescues top round.next rescue is.is_rescue;
+    answered = knows.children calls before now is.answered;
+    none_left = is.none_left;
+    honest = λ honest. is.honest (to honest);
+    found = λ honest. subst (λ (f : Files). disks.seen journal ≡ journal_found f top round) (same honest) (is.found (to honest));
+    back = λ honest. back (is.back honest);
+  }
+
+  pub told-at : AreToldAs (rounds_at disks rescues own Here holds) (rounds_at disks rescues known Honest all)
+  told-at = record {
+    led = λ top limits plan round text status is. record {
+      journal = is.journal;
+      rescue = is.rescue;
+      left = is.left;
+      rest = is.rest;
+      calls = is.calls;
+      before = is.before;
+      now = is.now;
+      at_site = at-host top round is.journal is.rescue is.calls is.before is.now is.at_site;
+      led = is.led;
+    };
+    stopped = λ top limits plan round fault is. record {
+      journal = is.journal;
+      rescue = is.rescue;
+      left = is.left;
+      rest = is.rest;
+      calls = is.calls;
+      before = is.before;
+      now = is.now;
+      cause = is.cause;
+      at_site = at-host top round is.journal is.rescue is.calls is.before is.now is.at_site;
+      refused = is.refused;
+      returned = is.returned;
+    };
+    deaf = knows.deaf;
+  }

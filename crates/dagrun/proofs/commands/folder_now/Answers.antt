@@ -1,7 +1,0 @@
-use Rattle.dag_main_files.specs.Beside.{IsFileFault, reading_had_no_memory}
-use Rattle.dag_main_check.specs.declared.fault.RunFault.TheVariants.{Memory}
-use Rattle.dag_main_files.proofs.RunFaults.{by-fault}
-use Rattle.dagrun.proofs.commands.folder_now.Goals as goal
-
-pub returns-in_err-from_str-in-Ok : goal.returns-in_err-from_str-in-Ok
-returns-in_err-from_str-in-Ok g c = by-fault IsFileFault Memory reading_had_no_memory c.from_residual.result c.from_residual.ensures.1

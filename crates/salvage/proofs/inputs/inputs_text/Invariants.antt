@@ -1,6 +1,0 @@
-use Rattle.std.proofs.Common.{◌≡◌, take}
-use Rattle.salvage.specs.Inputs.{inputs_text_of}
-use Rattle.salvage.proofs.inputs.inputs_text.Given as goal
-
-abbrev pub invariant-loop-file : goal.invariant-loop-file
-invariant-loop-file l = l.text.items ≡ inputs_text_of l.inputs.digest (take l.file-index l.inputs.files.items)
