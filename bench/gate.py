@@ -7,7 +7,7 @@ the processor seconds of its proofs (of a crate of tests: with its tests), those
 one process held, and when its first process began and its last one ended, in minutes. A process that lives less than a second may
 be missed; the minutes in all are the system's own. On a rented machine the host may give its processors to others meanwhile: where
 it kept many minutes, the clock says nothing. Before and behind the command it times a loop of Python, which tells the machine's
-pace. The exit status is the command's.
+pace. The exit status is the command's. Every ten minutes it prints how far it is, so that a run which is stopped from outside says so, too.
 """
 
 import os
@@ -19,6 +19,7 @@ import threading
 import time
 
 TICKS = os.sysconf("SC_CLK_TCK")
+NOTE_EVERY = 600
 TOP = os.path.dirname(os.path.dirname(os.path.realpath(__file__)))
 
 
@@ -62,11 +63,22 @@ def descendants(of):
     return found
 
 
+def note(processes, moment):
+    """Prints how far the command is: the minutes until now, and the crates at which it worked in the last minute."""
+    seen = list(processes.values())
+    crates = sorted({it.crate for it in seen if it.crate and it.seen > moment - 60})
+    minutes = sum(it.seconds for it in seen) / 60
+    print(f"gate: {moment / 60:.0f} minutes by the clock, {minutes:.0f} processor minutes, at {', '.join(crates) or 'no crate'}", flush=True)
+
+
 def watch(running, start):
     """Looks at the processes until the command ends, and gives what was seen of each."""
-    processes = {}
+    processes, noted = {}, 0
     while running.poll() is None:
         moment = time.monotonic() - start
+        if moment >= noted + NOTE_EVERY:
+            noted = moment
+            note(processes, moment)
         for number in descendants(os.getpid()):
             try:
                 with open(f"/proc/{number}/stat") as stat:
@@ -115,6 +127,7 @@ def pass_on(lines, last):
 
 def main():
     paces, start, kept, last = [pace()], time.monotonic(), kept_by_the_host(), []
+    print(f"gate: {os.cpu_count()} processors; 10 million additions in Python take {paces[0]:.1f} seconds", flush=True)
     words = sys.argv[1:] or ["./test"]
     with subprocess.Popen(words, cwd=TOP, stdout=subprocess.PIPE, stderr=subprocess.STDOUT, text=True, errors="replace") as running:
         printing = threading.Thread(target=pass_on, args=(running.stdout, last))

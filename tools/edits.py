@@ -5,11 +5,12 @@ text is in its file once, the edit changes something, and the sources with it co
     tools/edits.py               all edits
     tools/edits.py CRATE ..      those of these crates
 
-Sources are compiled with many edits at once, no two in one line, so that three passes do for some 700 edits. A pass over all crates
-takes five processor minutes and 4 GB, so tools/edits.sums has a line for each crate whose edits compiled: its name and the SHA-256
-over its code and its edits. What it has is not compiled again. Where a pass is refused, the edits of the files that it names are
-tried one by one, and then the others again. The status is 1 where an edit doesn't fit. Of an edit of specs/ it is only seen that its
-text is there: the compiler reads no definition without a proof."""
+Sources are compiled with many edits at once, no two in one line, so that three passes do for some 700 edits. tools/edits.sums has a
+line for each crate whose edits compiled: its name and the SHA-256 over its code and its edits. What it has is not compiled again. A
+crate whose libraries are built (`rt check` or `rt lib` in it) is compiled over them, in half a minute a pass; any other one with
+the sources of all below it, which takes five processor minutes and 7 GB for dagrun: so the sums are committed with the edits. Where a
+pass is refused, the edits of the files that it names are tried one by one, and then the others again. The status is 1 where an edit
+doesn't fit. Of an edit of specs/ it is only seen that its text is there: the compiler reads no definition without a proof."""
 
 import concurrent.futures
 import glob
@@ -104,6 +105,21 @@ def below(crate, uses, seen=None):
     return seen
 
 
+def library_of(crate):
+    """The path of a crate's library, where one is built of the sources as they are, else None."""
+    folder = f"{TOP}/crates/{crate}/out/rlib"
+    if not os.path.exists(f"{folder}/stamp"):
+        return None
+    sources = [f"{at}/{file}" for part in PARTS for at, _, files in os.walk(f"{TOP}/crates/{crate}/{part}") for file in files]
+    is_new = all(os.path.getmtime(file) <= os.path.getmtime(f"{folder}/stamp") for file in sources)
+    return f"{folder}/{crate}.rlib" if is_new else None
+
+
+def has_libraries(crate, uses):
+    """Whether the library of each crate below this one is built."""
+    return all(map(library_of, below(crate, uses)))
+
+
 def root_of(room, crate):
     """The path of the file that is a crate's root, in the copy of the repository in this room."""
     program = f"{room}/crates/{crate}/src/main.rt"
@@ -111,15 +127,22 @@ def root_of(room, crate):
 
 
 def compiled(room, crate, uses):
-    """What the compiler says of a crate and all below it, of the sources in this room: no text where it takes them."""
+    """What the compiler says of a crate, over its libraries or with all below it, of the sources in this room: no text where it takes
+    them."""
     kit = os.path.dirname(os.path.dirname(os.path.realpath(shutil.which("rt"))))
     lower = below(crate, uses)
     of_kit = {"core", "std"} | {name for it in [crate, *lower] for name in uses[it] if name not in uses}
     words = ["--crate-name", crate, os.path.relpath(root_of(room, crate), f"{room}/crates/{crate}")]
+    if has_libraries(crate, uses):
+        of_kit = {"std", *uses[crate]} - set(lower)
+        for name in lower:
+            words += ["-L", f"dependency={os.path.dirname(library_of(name))}"]
+            words += ["--extern", f"{name}={library_of(name)}"] * (name in uses[crate])
+    else:
+        for name in lower:
+            words += ["--lib", f"{name}:{','.join(['core', 'std', *uses[name]])}={root_of(room, name)}"]
     for name in sorted(of_kit):
         words += ["--extern", f"{name}={kit}/rlibs/{name}.rlib"]
-    for name in lower:
-        words += ["--lib", f"{name}:{','.join(['core', 'std', *uses[name]])}={root_of(room, name)}"]
     words += ["-L", f"dependency={kit}/rlibs", "--antt-project", f"{kit}/rattle/logic/antt-project.json"]
     words += ["--logic-built", f"{kit}/logic_built", "--jobs", "1", "--only", ""]
     ran = subprocess.run([f"{kit}/bin/rattle", "check", *words], cwd=f"{room}/crates/{crate}", stdin=subprocess.DEVNULL, stdout=subprocess.PIPE, stderr=subprocess.STDOUT, text=True)
@@ -194,10 +217,12 @@ def blamed(said, edits, texts):
 
 
 def tops_of(edits, uses):
-    """The crates of these edits that none of the others stands on: whoever compiles these compiles all."""
+    """The crates of these edits whose libraries are built, and of the others those that none stands on: whoever compiles these compiles
+    all."""
     crates = {edit.crate for edit in edits}
-    lower = {name for crate in crates for name in below(crate, uses)}
-    return sorted(crates - lower)
+    others = {crate for crate in crates if not has_libraries(crate, uses)}
+    lower = {name for crate in others for name in below(crate, uses)}
+    return sorted(crates - (lower & others))
 
 
 def refused_of(edits, texts, uses):
