@@ -37,8 +37,8 @@ PARTS = ["x.dag.rescue002.new", "x.dag.rescue003.new"]
 FILES = ["x.dag", "job.sub", "x.dag.journal", "x.dag.journal.old", "x.dag.lock", *RESCUES, *PARTS, "report"]
 # The words behind `dagrun` of the round that is tried, by the number of the rounds before it.
 ROUNDS = {1: ("run", "x.dag"), 2: ("run", "--dorescuefrom", "1", "x.dag")}
-# Nothing depends on these: where a call of theirs fails, nothing is told but where it can't be read which processes were left.
-FILES += ["x.dag.log", "x.dag.log.old", "x.dag.children", "x.dag.inputs", "x.dag.inputs.new"]
+# Nothing depends on these: where a call of theirs fails, nothing is told but where it can't be read which processes were left, or by what they are known.
+FILES += ["x.dag.log", "x.dag.log.old", "x.dag.children", "x.dag.round", "x.dag.round.new", "x.dag.inputs", "x.dag.inputs.new"]
 ERRORS = {
     "openat": ("EIO", "EINTR", "EMFILE", "EACCES"),
     "write": ("EIO", "ENOSPC", "EINTR"),

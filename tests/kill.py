@@ -1,8 +1,9 @@
 """Kills `run` by SIGKILL at random moments until it finishes, in rounds (tests/kill.sh says how it is called).
 
-The graph has 200 short jobs in rows, each above the next: one job, 64 that are launched together, and then rows of ten; each job
-appends a line to a file of its own, and one of them fails. After each kill the next manager is called at once, which has to end the
-children that the last one left: a job that finds an earlier copy of itself at work says so, and none may. The journal is read each
+The graph has 200 short jobs in rows, each above the next: one job, 64 that are launched together, and then rows of ten. All have the same
+words and know by DAGRUN_NODE who they are; each appends a line to a file of its own, and one of them fails. After each kill the next
+manager is called at once, which has to end the children that the last one left: a job that finds an earlier copy of itself at work
+says so, and none may. Strangers of the same words, group and session are at work all the time, and none may be ended. The journal is read each
 time: its records are those
 that were there before, and perhaps more; no phase has two ends or is launched behind its end; a job whose end was recorded has
 not run since. In the end the report, the exit status and the rescue file are those of a run that is not killed,
@@ -24,13 +25,14 @@ FAILING = "n157"
 # A job that works has a file that names its process; an orphan that has ended, but that nobody asks how, works no more. The shell
 # empties that file itself: an rm that an orphan had called would outlive it, since who ends an orphan ends its process alone, and
 # might then remove the file of the job that runs in its place.
-JOB = f"""if read last <works/$1 2>/dev/null && read stat </proc/$last/stat 2>/dev/null && [ "${{stat##*) }}" = "${{stat##*) [ZX]}}" ]
-then echo $1 >>copies; fi
-echo $$ >works/$1
-echo ran >>runs/$1
+JOB = f"""me=$DAGRUN_NODE
+if read last <works/$me 2>/dev/null && read stat </proc/$last/stat 2>/dev/null && [ "${{stat##*) }}" = "${{stat##*) [ZX]}}" ]
+then echo $me >>copies; fi
+echo $$ >works/$me
+echo ran >>runs/$me
 sleep 0.01
-[ $1 != {FAILING} ] || exit 4
-: >works/$1
+[ $me != {FAILING} ] || exit 4
+: >works/$me
 """
 
 
@@ -41,7 +43,6 @@ def write(folder, name, text):
 
 def make_graph(folder):
     lines = [f"JOB {name} job.sub" for name in NAMES]
-    lines += [f'VARS {name} me="{name}"' for name in NAMES]
     first, parents = 0, []
     for size in SIZES:
         children = NAMES[first : first + size]
@@ -49,7 +50,7 @@ def make_graph(folder):
             lines.append(f"PARENT {' '.join(parents)} CHILD {' '.join(children)}")
         first, parents = first + size, children
     write(folder, "x.dag", "\n".join(lines) + "\n")
-    write(folder, "job.sub", "executable = /bin/sh\narguments = job.sh $(me)\nqueue\n")
+    write(folder, "job.sub", "executable = /bin/sh\narguments = job.sh\nqueue\n")
     write(folder, "job.sh", JOB)
     for name in ("runs", "works"):
         os.mkdir(os.path.join(folder, name))
@@ -70,6 +71,23 @@ def rescue_in(folder):
         return None
     with open(path) as file:
         return file.read()
+
+
+def start_strangers(folder):
+    """Processes of other words' meaning, but of the jobs' words."""
+    os.mkdir(folder)
+    write(folder, "job.sh", "while :; do sleep 0.5; done\n")
+    return [subprocess.Popen(["/bin/sh", "job.sh"], cwd=folder) for _ in range(3)]
+
+
+def end_strangers(strangers):
+    """Ends them, and refuses that one was ended before."""
+    ended = [stranger for stranger in strangers if stranger.poll() is not None]
+    for stranger in strangers:
+        stranger.kill()
+        stranger.wait()
+    if ended:
+        sys.exit(f"{len(ended)} strangers of the same words were ended")
 
 
 def adopt_orphans():
@@ -159,6 +177,7 @@ def main():
         wanted = (run.stdout, run.returncode, rescue_in(calm))
         if run.returncode != 1 or run.stderr or wanted[2] is None:
             sys.exit(f"the run that is not killed ends with {run.returncode}: {run.stderr}")
+        strangers = start_strangers(os.path.join(work, "strangers"))
         for number in range(rounds):
             folder = os.path.join(work, f"round{number}")
             os.mkdir(folder)
@@ -168,7 +187,8 @@ def main():
                 sys.exit(f"round {number}: another report, status or rescue file:\n{found}\n{wanted}")
             kills += killed
             shutil.rmtree(folder)
-    print(f"{rounds} rounds, {kills} kills: nothing was lost and nothing that had ended ran again")
+        end_strangers(strangers)
+    print(f"{rounds} rounds, {kills} kills: nothing was lost, nothing that had ended ran again, no copy ran and no stranger was ended")
 
 
 if __name__ == "__main__":

@@ -12,6 +12,7 @@ import os
 import re
 import shutil
 import signal
+import stat
 import struct
 import subprocess
 import sys
@@ -272,7 +273,8 @@ def what_ignores_signals_is_killed(folder):
     process = left(folder)
     os.kill(process, signal.SIGTERM)
     same(folder.call("run", "x.dag"), (ONE_DONE, "", 0))
-    same((runs_still(process), orphans_in(folder)), (False, ["killed"]))
+    # What it started in turn may have run, too.
+    same((runs_still(process), set(orphans_in(folder))), (False, {"killed"}))
 
 
 def streams_and_environment(folder):
@@ -291,7 +293,12 @@ def streams_and_environment(folder):
     done = subprocess.run([folder.program, "run", "x.dag"], cwd=folder.path, capture_output=True, timeout=PATIENCE, env=own)
     same((done.stdout, done.stderr), (b"A DONE attempts=1 value=0\nB DONE attempts=1 value=0\nresult 0\n", b""))
     same(folder.read("sub/out").decode(), f"two words\n{os.path.realpath(folder.at('sub'))}\nhello\nto standard error\n0 1 2 ")
-    same(folder.read("sub/environment").decode(), "".join(f"{name}={text}\0" for name, text in (*own.items(), ("GREETING", "two words"))))
+    found = folder.read("sub/environment").decode().split("\0")
+    inherited = {"DAG": os.path.join(os.path.realpath(folder.path), "x.dag"), "NODE": "A", "PHASE": "JOB", "ATTEMPT": "0"}
+    [round_of] = [line for line in found if line.startswith("DAGRUN_ROUND=")]
+    same(re.fullmatch(r"DAGRUN_ROUND=[0-9a-f-]{36}", round_of) is not None, True)
+    wanted = [f"{name}={text}" for name, text in own.items()] + [round_of] + [f"DAGRUN_{name}={text}" for name, text in inherited.items()] + ["GREETING=two words", ""]
+    same(sorted(found), sorted(wanted))
     same(folder.read("empty"), b"")
 
 
@@ -1157,12 +1164,6 @@ def runs_still(process):
     return os.path.exists(f"/proc/{process}/stat") and stat_of(process)[0] not in "ZX"
 
 
-def hundredths_up():
-    """For how many hundredths of a second the machine has been up."""
-    with open("/proc/uptime") as file:
-        return int(file.read().split()[0].replace(".", ""))
-
-
 def wait_for_pauses(process, count):
     """Waits until a process has paused so many times from now on: whoever looks again and again, and pauses between, has looked so often."""
     def pauses():
@@ -1181,9 +1182,9 @@ def orphans_in(folder, name="x.dag.log"):
 
 def an_orphan_is_killed(folder):
     process = left_running(folder)
-    # A line of the manager, of what it was about to start, and of the process.
+    # A line of the manager, and one of the process.
     lines = [line.split("\t") for line in folder.read("x.dag.children").decode().splitlines()]
-    same([line[:1] + line[3:] for line in lines[1:]], [["next", "0", "/bin/sh a.sh"], [str(process), "A", "JOB", "0"]])
+    same([line[:1] + line[3:] for line in lines[1:]], [[str(process), "A", "JOB", "0"]])
     same((lines[0][0], len(lines[0])), ("manager", 7))
     same(folder.call("run", "x.dag"), (ONE_DONE, "", 0))
     same((runs_still(process), orphans_in(folder), folder.there("x.dag.children")), (False, ["killed"], False))
@@ -1207,18 +1208,18 @@ def an_orphan_with_an_odd_name(folder):
 
 
 def a_child_that_was_being_started(folder, *options):
-    """A manager is killed once its child runs, and before its process is noted: the child is found by its words."""
+    """A manager is killed once its child runs, and before its process is noted: the child is found all the same."""
     folder.write("x.dag", "JOB A a.sub\n")
     folder.shell("a", "if [ -e again ]; then exit 0; fi\nmkfifo never\necho $$ > process\nmv process begun\nread word < never\n")
-    # The lines of the manager, of what comes next, and of the process.
-    words = ["strace", "-qqq", "-e", "trace=write", "-P", folder.at("x.dag.children"), "-e", "inject=write:signal=SIGKILL:when=3"]
+    # The lines of the manager and of the process.
+    words = ["strace", "-qqq", "-e", "trace=write", "-P", folder.at("x.dag.children"), "-e", "inject=write:signal=SIGKILL:when=2"]
     done = subprocess.run([*words, "-o", "/dev/null", folder.program, "run", *options, "x.dag"], cwd=folder.path, capture_output=True, timeout=PATIENCE)
     same(done.returncode != 0, True)
     folder.wait_for("begun")
     process = int(folder.read("begun"))
-    same((runs_still(process), [line.split("\t")[0] for line in folder.read("x.dag.children").decode().splitlines()]), (True, ["manager", "next"]))
+    same((runs_still(process), [line.split("\t")[0] for line in folder.read("x.dag.children").decode().splitlines()]), (True, ["manager"]))
     folder.write("again", "")
-    # Others of the group are left alone: one with other words, and one whose parent is of the group.
+    # Others of the group are left alone: one with other words, and one with the same.
     others = [subprocess.Popen(["sleep", "100"]), subprocess.Popen(["/bin/sh", "-c", "read word", "/bin/sh", "a.sh"], stdin=subprocess.PIPE)]
     try:
         same(folder.call("run", "x.dag"), (ONE_DONE, "", 0))
@@ -1259,23 +1260,17 @@ def an_orphan_is_waited_for(folder):
 
 
 def another_process_of_that_number(folder):
-    """A process that has the number of a child that is gone began at another time, or since the machine did: it is left alone."""
+    """A process that has the number of a child that is gone is left alone, whatever the note of it says: it is none of the round."""
     process = left_running(folder)
     fields = folder.read("x.dag.children").decode().splitlines(keepends=True)[-1].split("\t")
     os.kill(process, signal.SIGKILL)
-    # The system says when a process began in hundredths of a second, and both may begin within one.
-    wait_until(lambda: hundredths_up() > int(fields[1]), "the next hundredth of a second has not come")
     other = subprocess.Popen(["sleep", "100"])
     try:
         began = stat_of(other.pid)[19]
-        same(began == fields[1], False)
-        for line in ([fields[1], fields[2]], [began, "another-boot"]):
+        for line in ([fields[1], fields[2]], [began, "another-boot"], [began, fields[2]]):
             folder.write("x.dag.children", "\t".join([str(other.pid), *line, *fields[3:]]))
             same(folder.call("run", "x.dag"), (ONE_DONE, "", 0))
             same((other.poll(), orphans_in(folder)), (None, []))
-        folder.write("x.dag.children", "\t".join([str(other.pid), began, *fields[2:]]))
-        same(folder.call("run", "x.dag"), (ONE_DONE, "", 0))
-        same(other.wait(timeout=PATIENCE), -signal.SIGKILL)
     finally:
         other.kill()
         other.wait()
@@ -1368,6 +1363,10 @@ def a_look_beside_a_manager(folder):
         manager.wait(timeout=PATIENCE)
 
 
+# What is said where no file can be opened: it is the first one that is tried.
+FEW = ["dagrun: J1 Device\n"] + [f"dagrun: X2 FileRefused x.dag.{name}\n" for name in ("lock", "round", "children")]
+
+
 def few_descriptors(folder):
     """However few files the manager may have open, a run says what is wanting, and 16 are enough for 40 children at once."""
     names = [f"n{number}" for number in range(40)]
@@ -1380,7 +1379,7 @@ def few_descriptors(folder):
         done = subprocess.run(words, cwd=folder.path, capture_output=True, timeout=PATIENCE)
         text, faults = done.stdout.decode(), done.stderr.decode()
         if done.returncode == 125:
-            same((text, faults in ("dagrun: J1 Device\n", "dagrun: X2 FileRefused x.dag.lock\n")), ("", True))
+            same((text, faults in FEW), ("", True))
         elif done.returncode == 1:
             # None could be started, not even alone: each says so.
             same((text.count(" ERROR attempts=1 value=-1001\n"), faults), (40, ""))
@@ -2037,7 +2036,7 @@ def cut_short_while_going_back(folder):
             shutil.copytree(folder.path, copy.path)
             tracing = ["strace", "-qqq", "-e", "trace=rename,fsync", "-e", "signal=none", "-o", os.path.join(path, "calls"), *fault]
             done = subprocess.run([*tracing, copy.program, *words], cwd=copy.path, capture_output=True, timeout=PATIENCE)
-            calls = [line for line in open(os.path.join(path, "calls")).read().splitlines() if ".dag.log" not in line and ".dag.inputs" not in line]
+            calls = [line for line in open(os.path.join(path, "calls")).read().splitlines() if not any(name in line for name in (".dag.log", ".dag.inputs", ".dag.round"))]
             cut = (done.stdout.decode(), done.stderr.decode(), done.returncode)
             between = everything(copy)
             if fault and done.returncode not in (0, 1):
@@ -2105,7 +2104,7 @@ def the_order_of_the_disk(folder):
 
 
 def names_are_synced(folder):
-    """Behind each name that is changed the folder is synced, before anything else is written or started; the log's name is no promise."""
+    """Behind each name that is changed the folder is synced, before anything else is written or started; the names of the log and of the round's identifier are no promise."""
     for _ in three_rounds(folder):
         pass
     folder.write("code", "5\n")
@@ -2117,7 +2116,7 @@ def names_are_synced(folder):
         (("run", "--autorescue=0", "x.dag"), [*round_of, "rescue004.new rescue004"]),
     ):
         subprocess.run(["strace", "-y", "-e", f"trace={names}", "-e", "signal=none", "-o", "calls", folder.program, *words], cwd=folder.path, capture_output=True, timeout=PATIENCE)
-        calls = [line for line in folder.read("calls").decode(errors="replace").splitlines() if "x.dag.log" not in line]
+        calls = [line for line in folder.read("calls").decode(errors="replace").splitlines() if "x.dag.log" not in line and "x.dag.round" not in line]
         seen = []
         for line, behind in zip(calls, calls[1:]):
             if match := re.match(r'rename\("[^"]*/x\.dag\.([^"]*)", "[^"]*/x\.dag\.([^"]*)"\) += 0', line):
@@ -2666,7 +2665,7 @@ def special_files_beside(folder):
     folder.write("x.dag", "JOB A a.sub\nJOB B b.sub\n")
     folder.echo("a")
     folder.shell("b", "exit 1\n")
-    for name in ("x.dag.journal", "x.dag.lock", "x.dag.children"):
+    for name in ("x.dag.journal", "x.dag.lock", "x.dag.children", "x.dag.round"):
         for make in (lambda path: os.symlink("target", path), os.mkfifo, os.mkdir):
             # A folder in the place of the journal is J1, as the system says it.
             if (name, make) == ("x.dag.journal", os.mkdir):
@@ -2688,6 +2687,85 @@ def special_files_beside(folder):
     os.remove(folder.at("x.dag.journal"))
     os.symlink("target", folder.at("x.dag.journal"))
     refused(folder, ("status", "x.dag"), "X2 FileRefused x.dag.journal")
+
+
+# The files beside a DAG file, and the commands that may read them.
+BESIDE = ("journal", "journal.old", "log", "log.old", "inputs", "children", "round", "lock", "rescue001", "rescue002")
+READERS = (("status",), ("audit",), ("graph",), ("why",), ("times",), ("salvage",), ("run", "--resume"), ("run",), ("check",), ("rehearse",))
+
+
+def measured(folder, *words):
+    """The exit status of a command, how many lines it tells, its seconds, and its most memory in MB."""
+    start = time.monotonic()
+    with open(folder.at("told"), "wb") as told:
+        process = subprocess.Popen([folder.program, *words], cwd=folder.path, stdout=subprocess.DEVNULL, stderr=told)
+    # One that waits for a pipe would wait for ever.
+    ended = []
+    wait_until(lambda: ended.append(os.wait4(process.pid, os.WNOHANG)) or ended[-1][0], f"{words} doesn't end")
+    process.returncode = os.waitstatus_to_exitcode(ended[-1][1])
+    return process.returncode, folder.read("told").count(b"\n"), time.monotonic() - start, ended[-1][2].ru_maxrss / 1000
+
+
+def all_commands_over(folder, make):
+    """Puts something in the place of each file beside a DAG file, and calls each command: what came of each, and that nothing of it was changed."""
+    base = folder.at("base")
+    os.mkdir(base)
+    first = Folder(folder.program, base)
+    first.write("x.dag", "JOB A a.sub\nJOB B b.sub\n")
+    first.echo("a")
+    first.shell("b", "exit 1\n")
+    same(first.call("run", "x.dag")[2], 1)
+    for name in BESIDE:
+        for words in READERS:
+            copy = Folder(folder.program, folder.at("copy"))
+            shutil.copytree(base, copy.path)
+            path = copy.at(f"x.dag.{name}")
+            with contextlib.suppress(FileNotFoundError):
+                os.remove(path)
+            make(path)
+            before = os.lstat(path)
+            yield (name, *words), measured(copy, *words, "x.dag")
+            if os.path.lexists(path):
+                now = os.lstat(path)
+                if stat.S_IFMT(now.st_mode) == stat.S_IFMT(before.st_mode) and not stat.S_ISREG(now.st_mode):
+                    same((now.st_ino, now.st_size), (before.st_ino, before.st_size))
+            shutil.rmtree(copy.path)
+
+
+def pipes_and_devices_beside(folder):
+    """No command waits for a pipe or reads a device that stands in the place of a file beside the DAG file: it ends, and says one line where it is refused."""
+    kinds = [os.mkfifo]
+    if os.getuid() == 0:
+        kinds.append(lambda path: os.mknod(path, 0o666 | stat.S_IFCHR, os.makedev(1, 5)))
+    for number, make in enumerate(kinds):
+        place = Folder(folder.program, folder.at(f"kind{number}"))
+        os.mkdir(place.path)
+        for words, (status, lines, took, megabytes) in all_commands_over(place, make):
+            if status not in (0, 1, 125) or lines != (status == 125) or took > 5 or megabytes > 100:
+                raise AssertionError(f"{words}: status {status}, {lines} lines, {took:.1f} s, {megabytes:.0f} MB")
+
+
+def huge_files_beside(folder):
+    """A file of 1 GB of zeros in the place of a file beside the DAG file takes neither the memory nor the time for it."""
+    def make(path):
+        with open(path, "wb") as file:
+            file.truncate(1_000_000_000)
+    for words, (status, lines, took, megabytes) in all_commands_over(folder, make):
+        if status not in (0, 1, 125) or took > 5 or megabytes > 100:
+            raise AssertionError(f"{words}: status {status}, {lines} lines, {took:.1f} s, {megabytes:.0f} MB")
+
+
+def a_log_under_a_limit(folder):
+    """Under `ulimit -f` the log stops growing before the system would end the manager, and says so; so it does in the next life."""
+    names = [f"n{number}" for number in range(40)]
+    folder.write("x.dag", "".join(f"JOB {name} a.sub\n" for name in names))
+    folder.write("a.sub", "executable = /bin/true\nqueue\n")
+    report = "".join(f"{name} DONE attempts=1 value=0\n" for name in names) + "result 0\n"
+    for _ in range(3):
+        done = subprocess.run(["prlimit", "--fsize=8192", folder.program, "run", "x.dag"], cwd=folder.path, capture_output=True, timeout=PATIENCE)
+        same((done.stdout.decode(), done.stderr, done.returncode), (report, b"", 0))
+        log = folder.read("x.dag.log")
+        same((log.count(b"\tfull\t"), log.splitlines()[-1].split(b"\t")[1], len(log) <= 8192), (1, b"full", True))
 
 
 def permissions_of_what_is_made(folder):
@@ -3102,6 +3180,9 @@ ROWS = [
     a_lock_that_was_removed,
     no_lock_is_left,
     special_files_beside,
+    pipes_and_devices_beside,
+    huge_files_beside,
+    a_log_under_a_limit,
     permissions_of_what_is_made,
     special_inputs,
     inputs_of_many_bytes,

@@ -146,7 +146,7 @@ impl<'a> Place<'a> {
     ///
     /// # Errors
     /// `FileRefused` with the path of a file that the system refuses to read, or that is no regular file;
-    /// `Memory`.
+    /// `Memory`, also for a journal of more than 1 GiB, a log of more than 512 MiB and any other file of more than 64 MiB.
     pub fn read<R: Files + AllocGlobal>(
         &self,
         rt: &R,
@@ -217,7 +217,7 @@ impl<'a> Place<'a> {
         let alloc = rt.alloc();
         lock.frees_journal();
         let place = self.at(alloc, journal_path(alloc, self.top)?.as_str())?;
-        let Ok(journal) = File::open(rt, place.as_str()) else {
+        let Ok(journal) = open_regular(rt, place.as_str()) else {
             return Ok(());
         };
         if !lock_opened(rt, &journal) {
@@ -414,9 +414,38 @@ pub(crate) fn read_beside<R: Files + AllocGlobal>(
     }
 }
 
-/// The bytes of a regular file.
+/// Opens a regular file. A pipe would keep whoever opens it waiting.
+fn open_regular<R: Files<File = File>>(rt: &R, path: &str) -> io::Result<File> {
+    require_regular(rt, path)?;
+    File::open(rt, path)
+}
+
+/// The greatest size of a journal in bytes, 1 GiB: dagrun writes at most 2^24 slots of 32 bytes.
+const MOST_OF_JOURNAL: u64 = 1 << 30;
+
+/// The greatest size of a log in bytes, 512 MiB.
+const MOST_OF_LOG: u64 = 1 << 29;
+
+/// The greatest size of any other file beside a DAG file that is read whole, 64 MiB.
+const MOST_OF_OTHERS: u64 = 1 << 26;
+
+/// The greatest size of the file of this path.
+fn most_bytes(path: &str) -> u64 {
+    if path.ends_with(".journal") || path.ends_with(".journal.old") {
+        MOST_OF_JOURNAL
+    } else if path.ends_with(".log") || path.ends_with(".log.old") {
+        MOST_OF_LOG
+    } else {
+        MOST_OF_OTHERS
+    }
+}
+
+/// The bytes of a regular file. One that is too large is answered as if there were no memory for it.
 fn read_regular<R: Files + AllocGlobal>(rt: &R, path: &str) -> io::Result<Vec<u8>> {
     require_regular(rt, path)?;
+    if fs::metadata(rt, path)?.len() > most_bytes(path) {
+        return Err(io::Error::from(ErrorKind::OutOfMemory));
+    }
     fs::read(rt, path)
 }
 

@@ -5,6 +5,7 @@
 mod beginning;
 mod launching;
 mod progress;
+mod rounds;
 mod runs;
 mod site;
 

@@ -10,9 +10,10 @@ ghost use Rattle.dag_main_check.specs.Warnings.{warning_lines};
 ghost use Rattle.dag_main_run.specs.Sites.{start_by, journal_found, stop_of, rounds_at, IsRoundLedAt, IsRoundStoppedAt};
 ghost use Rattle.dag_main_run.specs.Runs.{IsPlannedRun, IsRunOf, IsRunFrom, IsFindingFault, IsLockedFault, IsFirstRunFault, IsRoundPlanFault, IsStopFault, IsHeldFault, IsRunFault};
 
-use crate::beginning::{forget_children, has_own_files, keep_inputs, life_of, settled, watcher_of};
+use crate::beginning::{forget_processes, has_own_files, keep_inputs, life_of, watcher_of};
 use crate::launching::launcher_of;
 use crate::progress::{RoundWatcher, progress_of};
+use crate::rounds::{identified, orphans_found, settled};
 use crate::site::Site;
 use child_watcher::ChildWatcher;
 use dag_graph::Graph;
@@ -26,6 +27,7 @@ use job_starter_drive::DriveFault;
 use job_starter_local::Launcher;
 use node_machine::Verdict;
 use recovery_manager::ManagerFault;
+use round_identity::RoundIdentity;
 use run_log::RunWatcher;
 use run_plan::Plan;
 use run_progress::Screen;
@@ -103,8 +105,8 @@ fn start_of(round: &Round) -> Start
     }
 }
 
-/// Leads a round of a plan to its end on these disks, with children of the site of which the watcher is informed, and
-/// answers what it prints.
+/// Leads a round of a plan to its end on these disks, with children of the site, which inherit this identity and of which the
+/// watcher is informed, and answers what it prints.
 fn led_by<H: Site, W: ChildWatcher + Drop>(
     site: &H,
     top: &str,
@@ -112,6 +114,7 @@ fn led_by<H: Site, W: ChildWatcher + Drop>(
     round: &Round,
     limits: Limits,
     launcher: &Launcher,
+    identity: RoundIdentity<'_>,
     disks: (H::Journal, H::Rescue),
     watcher: W,
 ) -> Result<Report, Stop>
@@ -129,7 +132,9 @@ fn led_by<H: Site, W: ChildWatcher + Drop>(
 {
     let (journal, rescue) = disks;
     let start = start_of(round);
-    match site.lead(plan, start, limits, launcher, journal, rescue, watcher) {
+    match site.lead(
+        plan, start, limits, launcher, identity, journal, rescue, watcher,
+    ) {
         Ok((_journal, led)) => Ok(Report {
             text: led.text,
             status: led.status,
@@ -166,7 +171,7 @@ fn tell_end<R: Files<File = File> + Clock + AllocGlobal + Copy + Drop>(
         }
     }
     if !some_left && !watcher.has_let_go() {
-        forget_children(&rt, place);
+        forget_processes(&rt, place, ended.is_ok());
     }
 }
 
@@ -195,10 +200,12 @@ fn run_on<R: Processes + Files<File = File> + Clock + Screen + AllocGlobal + Cop
     if site.is_deaf() {
         return Err(RunFault::WaitFault);
     }
-    let left = settled(&rt, place, options.orphans)?;
+    let orphans = orphans_found(&rt, place)?;
     let (journal, rescue) = disks;
     let journal = site.readied(place.top, journal, round, lock)?;
-    let mut log = watcher_of(rt, place, plan, round, left.as_str(), options.sync_output)?;
+    let kept = settled(&rt, place, plan, round, options, orphans)?;
+    let mut log = watcher_of(rt, place, plan, round, options.sync_output)?;
+    let known = identified(rt, place, round, kept, &mut log)?;
     log.begins(&life_of(place, round, options));
     let progress = progress_of(rt, place, plan, round, options);
     let mut watcher = RoundWatcher { log, progress };
@@ -209,11 +216,12 @@ fn run_on<R: Processes + Files<File = File> + Clock + Screen + AllocGlobal + Cop
         round,
         options.limits,
         launcher,
+        known.identity(),
         (journal, rescue),
         &mut watcher,
     );
     watcher.progress.ends();
-    tell_end(rt, place, &mut watcher.log, &ended, !left.is_empty());
+    tell_end(rt, place, &mut watcher.log, &ended, known.some_left);
     match ended {
         Ok(report) => Ok(report),
         Err(stop) => Err(stop.fault),
@@ -415,9 +423,10 @@ fn run_locked<
 /// with its name), another manager that runs the DAG
 /// (`FileRefused` with the file that it has locked; behind a journal that can't be read too), behind a name
 /// beside the DAG file that would be too long (`FileRefused` with it). Then a process to which the system
-/// doesn't tell how children end (`WaitFault`), a process of an earlier manager that can't be
-/// ended (`FileRefused` with the file that names them), and a rescue file or a journal that can't be
-/// renamed (`FileRefused`); the same options go on from there. Then those of the manager
+/// doesn't tell how children end (`WaitFault`), a rescue file or a journal that can't be renamed
+/// (`FileRefused`), and processes of an earlier manager that can't be ended or asked for (`FileRefused` with the file
+/// that names them, with that of the round's identifier, or with `/proc`), but where the journal will be refused;
+/// the same options go on from there. Then those of the manager
 /// (`InManager`) and of the children (`StartMemory`, `WaitFault`); what was recorded stays. Want of
 /// memory may stand before any.
 pub fn run_dag<

@@ -22,6 +22,7 @@ use job_starter_drive::DriveFault;
 use job_starter_local::{Launcher, LocalSystem};
 use job_starter_poll::ProcessStarter;
 use recovery_manager::ManagerFault;
+use round_identity::RoundIdentity;
 use run_plan::Plan;
 use run_round::{RunToEnd, Start, run_round};
 use std::fs::File;
@@ -91,7 +92,8 @@ pub trait Site: Folder {
         ensures back { IfOk result (λ disk. Self.Journal.honest disk → Self.honest self.now) }
         ensures refused { IfErr result IsFileFault };
 
-    /// Leads a round to its end on these disks, with children of this site, of which the watcher is informed. None is left as it returns.
+    /// Leads a round to its end on these disks, with children of this site, which inherit the identity of the round and of which the
+    /// watcher is informed. None is left as it returns.
     ///
     /// # Errors
     /// Those of `run_round`.
@@ -101,6 +103,7 @@ pub trait Site: Folder {
         start: Start,
         limits: Limits,
         launcher: &Launcher,
+        identity: RoundIdentity<'_>,
         journal: Self::Journal,
         rescue: Self::Rescue,
         watcher: W,
@@ -214,6 +217,7 @@ impl<'a, R: Processes + Files<File = File> + Clock + Input + AllocGlobal + Copy 
         start: Start,
         limits: Limits,
         launcher: &Launcher,
+        identity: RoundIdentity<'_>,
         journal: FileDisk<R>,
         rescue: FileDisk<R>,
         watcher: W,
@@ -222,7 +226,8 @@ impl<'a, R: Processes + Files<File = File> + Clock + Input + AllocGlobal + Copy 
         (FileDisk<R>, (Option<FileDisk<R>>, DriveFault)),
     > {
         let alloc = self.rt.alloc();
-        let Ok(system) = LocalSystem::new(alloc, *self.rt, self.seat.as_str(), launcher, watcher)
+        let seat = self.seat.as_str();
+        let Ok(system) = LocalSystem::new(alloc, *self.rt, seat, launcher, plan, identity, watcher)
         else {
             return Err((
                 journal,

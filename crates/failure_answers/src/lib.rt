@@ -13,25 +13,43 @@ use dag_main_check::{Answer, RunFault, warning_text};
 use dag_main_files::{Folder, Place, Reading, files_of, named};
 use dag_main_inspect::{bytes_in, core_of, last_round, plan_by, records_of};
 use dag_reader::Text;
+use event_journal::require_regular;
 use failure_report::{Surroundings, Why, why_text};
 use sched_core::Core;
 use splices_flat::FileSet;
 use std::alloc::Global;
-use std::fs::{self, File};
-use std::io::ErrorKind;
+use std::fs::File;
+use std::io::{self, ErrorKind, Read, Seek, SeekFrom};
 use std::rt::Files;
 
 /// The exit status where a name is none of a node.
 const REFUSED: u8 = 125;
 
-/// The bytes of the log of a DAG file; none where the system has none to give.
-fn log_of<R: Files + AllocGlobal>(rt: &R, place: &Place<'_>) -> Result<Vec<u8>, RunFault>
+/// How much of a log is read, from its end, in bytes.
+const MOST_OF_LOG: u64 = 1 << 26;
+
+/// The end of a regular file, which is opened by nobody who would have to wait.
+fn end_of<R: Files<File = File> + AllocGlobal>(rt: &R, path: &str) -> io::Result<Vec<u8>> {
+    require_regular(rt, path)?;
+    let mut file = File::open(rt, path)?;
+    let size = file.metadata()?.len();
+    file.seek(SeekFrom::Start(size.saturating_sub(MOST_OF_LOG)))?;
+    let mut bytes = Vec::new(rt.alloc());
+    file.take(MOST_OF_LOG).read_to_end(&mut bytes)?;
+    Ok(bytes)
+}
+
+/// The bytes of the log of a DAG file, of one that is long its end; none where the system has none to give.
+fn log_of<R: Files<File = File> + AllocGlobal>(
+    rt: &R,
+    place: &Place<'_>,
+) -> Result<Vec<u8>, RunFault>
     ensures { IfErr result (λ fault. fault ≡ Memory) }
 {
     let alloc = rt.alloc();
     let path = Text::joined(alloc, place.top, ".log")?;
     let path = place.at(alloc, path.as_str())?;
-    match fs::read(rt, path.as_str()) {
+    match end_of(rt, path.as_str()) {
         Ok(bytes) => Ok(bytes),
         Err(error) if error.kind() == ErrorKind::OutOfMemory => Err(RunFault::Memory),
         Err(_) => Ok(Vec::new(alloc)),

@@ -17,13 +17,17 @@ variable_after name said setting =
     if nat_lt (position_or_len is_equals setting) (length setting) && bytes_eq (before_first is_equals setting) name
     then Some (Some (after_first is_equals setting)) else said
 
--- The program of the child and its folder, seen from a folder, and its words; each variable is what the last of its settings says, and all
--- others are inherited.
-pub record IsCommandOf {A : Type 0} (folder : List ℕ) (child : ChildCommand) (command : Command A) : Type 0 where
+-- what is said of a variable behind all these settings: what the last of it says
+abbrev pub variable_behind : List ℕ → Option (Option (List ℕ)) → List (List ℕ) → Option (Option (List ℕ))
+variable_behind name = fold (variable_after name)
+
+-- The program of the child and its folder, seen from a folder, and its words. Each variable is what the last of its own settings says, or else what
+-- the child inherits of its round; all others are its manager's.
+pub record IsCommandOf {A : Type 0} (folder : List ℕ) (inherited : List (List ℕ)) (child : ChildCommand) (command : Command A) : Type 0 where
   pub program : command_program command ≡ join folder child.program
   pub words : command_args command ≡ child.words
   pub place : command_dir command ≡ Some (join folder child.folder)
-  pub variables : (name : List ℕ) → command_var command name ≡ fold (variable_after name) None child.environment
+  pub variables : (name : List ℕ) → command_var command name ≡ variable_behind name (variable_behind name None inherited) child.environment
   pub inherits : clears_env command ≡ false
 
 -- the pause between two looks at so many children up to which each is twice as long, in microseconds: a look takes longer the more there are

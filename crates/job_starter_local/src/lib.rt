@@ -14,12 +14,14 @@ mod launching;
 mod starting;
 
 use child_watcher::ChildWatcher;
-use dag_reader::Text;
+use dag_reader::{Text, Texts};
 use job_starter_drive::{
     Call, CallLog, Killed, StartFault, Started, System, are_same, key_at, no_answer, no_memory,
 };
 pub use launching::Launcher;
 use node_machine::{Key, Outcome};
+use round_identity::RoundIdentity;
+use run_plan::Plan;
 use run_plan_node::ChildCommand;
 pub use starting::command_for;
 use starting::{Refusal, start_child};
@@ -115,6 +117,8 @@ pub struct LocalSystem<
     rt: R,
     folder: Text,
     launcher: &'a Launcher,
+    plan: &'a Plan,
+    identity: RoundIdentity<'a>,
     watcher: W,
     log: CallLog,
     children: Vec<RunningChild<R>>,
@@ -139,6 +143,8 @@ impl<R: Processes + Files<File = File> + Clock + Drop, W: ChildWatcher + Drop> D
             rt: _,
             folder: _,
             launcher: _,
+            plan: _,
+            identity: _,
             watcher: _,
             log: _,
             children: _,
@@ -289,6 +295,21 @@ fn look_where_due<R: Processes>(children: &mut Vec<RunningChild<R>>, looked: &mu
     }
 }
 
+/// How the child at a place did by the last look at all, who are looked at where that is due.
+fn seen_at<R: Processes>(
+    children: &mut Vec<RunningChild<R>>,
+    looked: &mut bool,
+    place: usize,
+) -> Seen
+    requires { place < vec_len children.old }
+    ensures same { map (λ child. child.key) children.new.items
+        ≡ map (λ child. child.key) children.old.items }
+    ensures many { vec_len children.new ≡ vec_len children.old }
+{
+    look_where_due(children, looked);
+    children[place].seen
+}
+
 /// Waits a little where a child runs, so that it may end, and answers whether one does. What those that
 /// have ended leave at the system is collected first.
 fn wait_for_room<R: Processes + Clock>(rt: &R, children: &mut Vec<RunningChild<R>>) -> bool
@@ -305,13 +326,14 @@ fn wait_for_room<R: Processes + Clock>(rt: &R, children: &mut Vec<RunningChild<R
     runs
 }
 
-/// Starts a child, seen from this folder. Where the system has no process or no descriptor to give, those
-/// are collected of the children that have ended, and it is asked again, for ten seconds while a child
-/// runs.
+/// Starts a child, seen from this folder, which inherits these settings. Where the system has no process or no
+/// descriptor to give, those are collected of the children that have ended, and it is asked again, for ten
+/// seconds while a child runs.
 fn start_in_time<R: Processes + Files<File = File> + Clock, W: ChildWatcher>(
     alloc: Global,
     rt: &R,
     folder: &str,
+    inherited: &Texts,
     watcher: &mut W,
     children: &mut Vec<RunningChild<R>>,
     key: &Key,
@@ -323,7 +345,7 @@ fn start_in_time<R: Processes + Files<File = File> + Clock, W: ChildWatcher>(
     ensures room { vec_capacity children.new ≡ vec_capacity children.old }
 {
     for _ in 0..START_TRIES {
-        match start_child(alloc, rt, folder, command) {
+        match start_child(alloc, rt, folder, inherited, command) {
             Err(refusal) if refusal.is_passing() => {
                 watcher.held(key, &refusal.error);
                 if !wait_for_room(rt, children) {
@@ -333,7 +355,16 @@ fn start_in_time<R: Processes + Files<File = File> + Clock, W: ChildWatcher>(
             answer => return answer,
         }
     }
-    start_child(alloc, rt, folder, command)
+    start_child(alloc, rt, folder, inherited, command)
+}
+
+/// The name of a node of a plan.
+fn name_in<'a>(plan: &'a Plan, node: u32) -> &'a str {
+    if node <= plan.count() {
+        plan.spec(node).name()
+    } else {
+        ""
+    }
 }
 
 impl<'a, R: Processes + Files<File = File> + Clock + Drop, W: ChildWatcher + Drop> LocalSystem<
@@ -341,13 +372,15 @@ impl<'a, R: Processes + Files<File = File> + Clock + Drop, W: ChildWatcher + Dro
     R,
     W,
 > {
-    /// A system of no children. The folder is an absolute path; jobs are started by the launcher; the watcher is
-    /// informed of what is done.
+    /// A system of no children. The folder is an absolute path; jobs are started by the launcher; each child inherits the
+    /// identity of the round, with the name that its node has in the plan; the watcher is informed of what is done.
     pub fn new(
         alloc: Global,
         rt: R,
         folder: &str,
         launcher: &'a Launcher,
+        plan: &'a Plan,
+        identity: RoundIdentity<'a>,
         watcher: W,
     ) -> Result<Self, AllocError>
         ensures log { IfOk result (λ system. system.log.calls ≡ []) }
@@ -358,6 +391,8 @@ impl<'a, R: Processes + Files<File = File> + Clock + Drop, W: ChildWatcher + Dro
             rt,
             folder: Text::new(alloc, folder)?,
             launcher,
+            plan,
+            identity,
             watcher,
             log: CallLog::new(alloc),
             children: Vec::new(alloc),
@@ -366,6 +401,14 @@ impl<'a, R: Processes + Files<File = File> + Clock + Drop, W: ChildWatcher + Dro
             pause: FIRST_PAUSE,
             faults: 0,
         })
+    }
+
+    /// The place of the child of a key that runs, which may be this one.
+    fn place_of_child(&self, key: &Key, likely: usize) -> usize
+        requires { IsTrue (is_among key.now (running self.now.log.calls)) }
+        ensures { result < vec_len self.now.children }
+    {
+        place_of(self.log.running(), key, likely)
     }
 
     /// A child ended with this status: it is let go, and its outcome reported.
@@ -403,11 +446,15 @@ impl<R: Processes + Files<File = File> + Clock + Drop, W: ChildWatcher + Drop> S
         let Ok(launched) = self.launcher.started_by(self.alloc, folder, &key, command) else {
             return Err(no_memory(&mut self.faults));
         };
+        let name = name_in(self.plan, key.node);
+        let Ok(inherited) = self.identity.inherited(self.alloc, name, &key) else {
+            return Err(no_memory(&mut self.faults));
+        };
         let started = launched.as_ref().unwrap_or(command);
         self.watcher.launching(&key, command);
         let (watcher, children) = (&mut self.watcher, &mut self.children);
         match start_in_time(
-            self.alloc, &self.rt, folder, watcher, children, &key, started,
+            self.alloc, &self.rt, folder, &inherited, watcher, children, &key, started,
         ) {
             Ok(child) => {
                 let process = child.id();
@@ -429,10 +476,10 @@ impl<R: Processes + Files<File = File> + Clock + Drop, W: ChildWatcher + Drop> S
     }
 
     fn ask(&mut self, key: Key) -> Result<Option<Outcome>, StartFault> {
-        let place = place_of(self.log.running(), &key, self.next);
+        let place = self.place_of_child(&key, self.next);
+        let seen = seen_at(&mut self.children, &mut self.looked, place);
         self.next = place + 1;
-        look_where_due(&mut self.children, &mut self.looked);
-        match self.children[place].seen {
+        match seen {
             Seen::Runs => Ok(None),
             Seen::Ended(status) => Ok(Some(self.end(&key, status))),
             Seen::Refused => Err(no_answer(&mut self.faults)),
@@ -440,7 +487,7 @@ impl<R: Processes + Files<File = File> + Clock + Drop, W: ChildWatcher + Drop> S
     }
 
     fn wait(&mut self, key: Key) -> Result<Outcome, StartFault> {
-        let place = place_of(self.log.running(), &key, 0);
+        let place = self.place_of_child(&key, 0);
         match wait_at(&mut self.children, place) {
             Ok(status) => Ok(self.end(&key, status)),
             Err(_) => Err(no_answer(&mut self.faults)),
@@ -462,7 +509,7 @@ impl<R: Processes + Files<File = File> + Clock + Drop, W: ChildWatcher + Drop> S
     }
 
     fn kill(&mut self, key: Key) -> Killed {
-        let place = place_of(self.log.running(), &key, 0);
+        let place = self.place_of_child(&key, 0);
         let answer = kill_at(&mut self.children, place);
         forget(&mut self.children, &key);
         self.log.killed(key);

@@ -1,11 +1,11 @@
 //! How a child is started.
 
-ghost use Rattle.std.specs.Prelude.{◌≡◌, ℕ, List, ◌++◌, fold, IfOk, OnOk};
+ghost use Rattle.std.specs.Prelude.{◌≡◌, ℕ, List, ◌++◌, IfOk, OnOk};
 ghost use Rattle.std.specs.Process.{command_program, command_args, command_var, clears_env, SameProgramAndArgs, SameEnv};
-ghost use Rattle.job_starter_local.specs.Commands.{variable_after, IsCommandOf};
+ghost use Rattle.job_starter_local.specs.Commands.{variable_after, variable_behind, IsCommandOf};
 
 use child_watcher::CommandPart;
-use dag_reader::Text;
+use dag_reader::{Text, Texts};
 use run_plan_node::ChildCommand;
 use splices_flat::path_in;
 use std::alloc::{AllocError, Global};
@@ -128,7 +128,7 @@ fn set_variable(command: &mut Command, setting: &str) -> Result<(), AllocError>
 /// Sets what is added to the environment.
 fn set_environment(command: &mut Command, settings: &[Text]) -> Result<(), AllocError>
     ensures set { OnOk result ((name : List ℕ) → command_var command.new name
-        ≡ fold (variable_after name) (command_var command.old name) settings.now) }
+        ≡ variable_behind name (command_var command.old name) settings.now) }
     ensures call { OnOk result (SameProgramAndArgs command.old command.new) }
     ensures inherits { OnOk result (clears_env command.new ≡ clears_env command.old) }
 {
@@ -150,17 +150,23 @@ fn set_words(command: &mut Command, words: &[Text]) -> Result<(), AllocError>
 }
 
 /// The command that the system is asked to run for a child: its program and its folder, seen from this folder, its words, and
-/// its environment over the inherited one. The child's streams are not set.
+/// its environment over what it inherits of its round, which is over this process's. The child's streams are not set.
 ///
 /// # Errors
 /// Want of memory.
-pub fn command_for(alloc: Global, folder: &str, child: &ChildCommand) -> Result<Command, AllocError>
-    ensures { IfOk result (IsCommandOf folder.now child.now) }
+pub fn command_for(
+    alloc: Global,
+    folder: &str,
+    inherited: &Texts,
+    child: &ChildCommand,
+) -> Result<Command, AllocError>
+    ensures { IfOk result (IsCommandOf folder.now inherited.now child.now) }
 {
     let program = path_in(alloc, folder, child.program.as_str())?;
     let place = path_in(alloc, folder, child.folder.as_str())?;
     let mut command = Command::new(alloc, program.as_str())?;
     set_words(&mut command, child.words.as_slice())?;
+    set_environment(&mut command, inherited.as_slice())?;
     set_environment(&mut command, child.environment.as_slice())?;
     command.current_dir(place.as_str())?;
     Ok(command)
@@ -193,14 +199,15 @@ fn set_streams<R: Files<File = File>>(
     Ok(())
 }
 
-/// Starts a child, seen from this folder.
+/// Starts a child, seen from this folder, which inherits these settings.
 pub(crate) fn start_child<R: Processes + Files<File = File>>(
     alloc: Global,
     rt: &R,
     folder: &str,
+    inherited: &Texts,
     call_log: &ChildCommand,
 ) -> Result<Child<R::Started>, Refusal> {
-    let made = command_for(alloc, folder, call_log).map_err(io::Error::from);
+    let made = command_for(alloc, folder, inherited, call_log).map_err(io::Error::from);
     let mut command = at_part(CommandPart::Program, made)?;
     set_streams(alloc, rt, folder, call_log, &mut command)?;
     at_part(CommandPart::Program, command.spawn(rt))

@@ -1,12 +1,17 @@
-//! Processes that an earlier manager started and that still run.
+//! Processes of a round that an earlier manager left running.
+//!
+//! Such a process is known by what only it can have: the identifier of the round in its environment, which its manager gave it.
 
-use crate::children::{NextChild, NotedChild, NotedManager, manager_in, next_in, noted_in};
+use crate::children::{NotedManager, manager_in};
 use crate::events::push_time;
 use crate::line_file::LineFile;
-use crate::processes::{Standing, all_numbers, boot_of, own_number, standing_of, words_of};
+use crate::processes::{
+    all_numbers, asked_of, boot_of, environment_of, is_on_its_way, own_number, standing_of, user_of,
+};
 use dag_main_args::OrphanRule;
 use event_journal::require_regular;
-use std::alloc::{AllocError, Global};
+use round_identity::{is_of_round, value_of};
+use std::alloc::{AllocError, AllocFailed, Global};
 use std::fs::{self, File};
 use std::io::{self, ErrorKind};
 use std::process::{Command, Processes, Stdio};
@@ -18,9 +23,15 @@ use thiserror::Error;
 /// Why they could not be dealt with.
 #[derive(Clone, Copy, Debug, PartialEq, Eq, Error)]
 pub enum OrphanFault {
-    /// The system refuses to read the file that names them, or it is no regular file.
+    /// The system refuses to read the file of the manager's processes, or it is no regular file.
     #[error("the file of the processes can't be read")]
     NotRead,
+    /// The same of the file of the round's identifier.
+    #[error("the file of the round's identifier can't be read")]
+    NotKnown,
+    /// The system refuses to say which processes there are.
+    #[error("the system doesn't say which processes there are")]
+    NotAsked,
     /// One of them can't be ended.
     #[error("a process still runs")]
     StillRuns,
@@ -35,25 +46,235 @@ impl From<AllocError> for OrphanFault {
     }
 }
 
-/// How often it is asked whether a process that was killed is gone, and the pause between two
-/// questions, in microseconds: it has ten seconds.
-const QUESTIONS: u64 = 2_000;
+impl<T: Drop> From<AllocFailed<T>> for OrphanFault {
+    fn from(_e: AllocFailed<T>) -> OrphanFault {
+        OrphanFault::Memory
+    }
+}
 
-const PAUSE: u64 = 5_000;
+/// A process of a round.
+#[derive(Drop)]
+struct Orphan {
+    /// Its number.
+    process: u32,
+    /// The process that started it, or one that stands for that since it ended.
+    parent: u32,
+    /// When it began, in ticks of the system's clock.
+    began: u64,
+    /// Its node, phase and attempt, as a line of the log has them.
+    key: String,
+}
 
-/// Whether a process still runs: it has the number, and began at the time.
-fn runs<R: Files + AllocGlobal>(rt: &R, child: &NotedChild<'_>) -> bool {
-    match standing_of(rt, child.process) {
-        Some(standing) => !standing.ended && standing.began == child.began,
+impl Orphan {
+    fn is_same(&self, other: &Orphan) -> bool {
+        self.process == other.process && self.began == other.began
+    }
+}
+
+/// The processes of a round that an earlier manager left, and by what they are known.
+#[derive(Drop)]
+pub struct Orphans {
+    rounds: Vec<String>,
+    /// this process and its ancestors, which are never ended
+    spared: Vec<u32>,
+    found: Vec<Orphan>,
+}
+
+/// For how many milliseconds it is waited until those that were killed are gone, all of them together.
+const PATIENCE: u128 = 10_000;
+
+/// How many milliseconds those have to end by themselves that were started by one that was killed: a launcher may have a second
+/// process that ends its job then.
+const GRACE: u128 = 500;
+
+/// The first pause between two looks at all processes, in microseconds; each further one is longer.
+const FIRST_PAUSE: u64 = 2_000;
+
+/// What no pause is longer than, in microseconds.
+const LONGEST_PAUSE: u64 = 100_000;
+
+/// How often it is looked at most whether those that were killed are gone.
+const LOOKS: u32 = 10_000;
+
+/// How often a process is asked that is on its way to its program, and the pause between two questions, in microseconds.
+const STEPS: u32 = 100;
+
+const STEP_PAUSE: u64 = 1_000;
+
+/// How many generations of ancestors are asked for.
+const GENERATIONS: u32 = 1_024;
+
+/// Whether a manager still runs: it has the number, and began at the time, since the system was started.
+fn is_alive<R: Files + AllocGlobal>(rt: &R, manager: &NotedManager<'_>) -> bool {
+    let Some(boot) = boot_of(rt) else {
+        return false;
+    };
+    match standing_of(rt, manager.process) {
+        Some(standing) => {
+            boot.as_str() == manager.boot && !standing.ended && standing.began == manager.began
+        }
         None => false,
     }
 }
 
-/// Kills a process, which need not be a child of this one. The shell does it, since each system has one.
-fn kill<R: Processes>(alloc: Global, rt: &R, process: u32) -> io::Result<()> {
-    let order = format!(in alloc; "kill -KILL {process}")?;
+/// Whether the last manager that these lines name still runs.
+fn manager_lives<R: Files + AllocGlobal>(rt: &R, text: &str) -> bool {
+    let mut last = None;
+    for line in text.lines() {
+        if let Some(manager) = manager_in(line) {
+            last = Some(manager);
+        }
+    }
+    match last {
+        Some(manager) => is_alive(rt, &manager),
+        None => false,
+    }
+}
+
+/// This process, its parent, and so on.
+fn own_line<R: Files + AllocGlobal>(rt: &R) -> Result<Vec<u32>, OrphanFault> {
+    let mut line = Vec::new(rt.alloc());
+    let mut process = own_number(rt);
+    for _ in 0..GENERATIONS {
+        line.push(process)?;
+        match asked_of(rt, process)? {
+            Some(standing) if standing.parent > 0 => process = standing.parent,
+            _ => break,
+        }
+    }
+    Ok(line)
+}
+
+/// Whether an environment is that of a process of one of these rounds.
+fn is_of_any(environment: &[u8], rounds: &[String]) -> bool {
+    environment.split(|byte| *byte == 0).any(|setting| {
+        rounds
+            .iter()
+            .any(|round| is_of_round(round.as_str(), setting))
+    })
+}
+
+/// Whether a text can stand in a field of a log: it is not empty, and has no control character.
+fn is_word(text: &str) -> bool {
+    !text.is_empty() && text.as_bytes().iter().all(|byte| *byte >= b' ')
+}
+
+/// The value of a variable of an environment, where it can stand in a line of a log; else a dash.
+fn word_in<'a>(environment: &'a [u8], name: &str) -> &'a str {
+    let found = environment
+        .split(|byte| *byte == 0)
+        .find_map(|setting| value_of(setting, name));
+    match found.map(|value| str::from_utf8(value)) {
+        Some(Ok(word)) if is_word(word) => word,
+        _ => "-",
+    }
+}
+
+/// The node, the phase and the attempt that an environment says, as a line of the log has them.
+fn key_in(alloc: Global, environment: &[u8]) -> Result<String, AllocError> {
+    let node = word_in(environment, "DAGRUN_NODE=");
+    let phase = word_in(environment, "DAGRUN_PHASE=");
+    let attempt = word_in(environment, "DAGRUN_ATTEMPT=");
+    format!(in alloc; "{node}\t{phase}\t{attempt}")
+}
+
+/// The environment of a process. One that is on its way to its program has none for a moment: it is asked again.
+fn environment_at<R: Files + Clock + AllocGlobal>(
+    rt: &R,
+    process: u32,
+) -> Result<Option<Vec<u8>>, OrphanFault> {
+    for _ in 0..STEPS {
+        let environment = environment_of(rt, process)?;
+        match &environment {
+            Some(bytes) if bytes.is_empty() => {}
+            _ => return Ok(environment),
+        }
+        if !is_on_its_way(rt, process)? {
+            return Ok(environment);
+        }
+        thread::sleep(rt, Duration::from_micros(STEP_PAUSE));
+    }
+    Ok(None)
+}
+
+/// The process of this number where it is one of these rounds, runs, and is this user's.
+fn orphan_at<R: Files + Clock + AllocGlobal>(
+    rt: &R,
+    process: u32,
+    rounds: &[String],
+    user: Option<u32>,
+) -> Result<Option<Orphan>, OrphanFault> {
+    let Some(environment) = environment_at(rt, process)? else {
+        return Ok(None);
+    };
+    if !is_of_any(&environment, rounds) || user_of(rt, process)? != user {
+        return Ok(None);
+    }
+    let key = key_in(rt.alloc(), &environment)?;
+    match asked_of(rt, process)? {
+        Some(standing) if !standing.ended => Ok(Some(Orphan {
+            process,
+            parent: standing.parent,
+            began: standing.began,
+            key,
+        })),
+        _ => Ok(None),
+    }
+}
+
+/// All processes of these rounds that run now and are this user's, but for the first one of the system and for those that
+/// are spared.
+fn all_of<R: Files + Clock + AllocGlobal + Clone + Drop>(
+    rt: &R,
+    rounds: &[String],
+    spared: &[u32],
+) -> Result<Vec<Orphan>, OrphanFault> {
+    let user = user_of(rt, own_number(rt))?;
+    let mut found = Vec::new(rt.alloc());
+    for process in all_numbers(rt)?.iter() {
+        if *process > 1 && !spared.contains(process) {
+            if let Some(orphan) = orphan_at(rt, *process, rounds, user)? {
+                found.push(orphan)?;
+            }
+        }
+    }
+    Ok(found)
+}
+
+/// Whether a process was started by none of these.
+fn is_first(orphan: &Orphan, orphans: &[Orphan]) -> bool {
+    orphans.iter().all(|other| other.process != orphan.parent)
+}
+
+/// The command of a shell that kills these processes, or those of them alone that none of them started: each that is still
+/// what it was. None where there is no such one.
+fn kill_words<R: Files + Clock + AllocGlobal>(
+    rt: &R,
+    orphans: &[Orphan],
+    rounds: &[String],
+    first_alone: bool,
+) -> Result<Option<String>, OrphanFault> {
+    let user = user_of(rt, own_number(rt))?;
+    let mut words = String::from_str(rt.alloc(), "kill -KILL")?;
+    let mut some = false;
+    for orphan in orphans {
+        if first_alone && !is_first(orphan, orphans) {
+            continue;
+        }
+        if let Some(now) = orphan_at(rt, orphan.process, rounds, user)? {
+            if now.is_same(orphan) {
+                write!(words, " {}", orphan.process)?;
+                some = true;
+            }
+        }
+    }
+    Ok(if some { Some(words) } else { None })
+}
+
+/// Kills processes, which need not be children of this one, by one call of a shell, since each system has one.
+fn kill<R: Processes>(alloc: Global, rt: &R, words: &str) -> io::Result<()> {
     let mut command = Command::new(alloc, "/bin/sh")?;
-    command.arg("-c")?.arg(order.as_str())?;
+    command.arg("-c")?.arg(words)?;
     command
         .stdin(Stdio::null())
         .stdout(Stdio::null())
@@ -62,250 +283,251 @@ fn kill<R: Processes>(alloc: Global, rt: &R, process: u32) -> io::Result<()> {
     Ok(())
 }
 
-/// Waits until a process is gone, and answers whether it is after so many questions.
-fn is_gone<R: Files + Clock + AllocGlobal>(rt: &R, child: &NotedChild<'_>, questions: u64) -> bool {
-    for _ in 0..questions {
-        if !runs(rt, child) {
-            return true;
-        }
-        thread::sleep(rt, Duration::from_micros(PAUSE));
-    }
-    false
-}
-
-/// Tells in the log what was done with a process.
+/// Writes in the log what was done with a process.
 fn tell<R: Clock + AllocGlobal>(
     rt: &R,
     log: &mut LineFile,
-    child: &NotedChild<'_>,
+    orphan: &Orphan,
     done: &str,
 ) -> Result<(), AllocError> {
     let now = rt.since_1970().unwrap_or(Duration::ZERO);
     let mut line = String::new(rt.alloc());
     push_time(&mut line, now)?;
-    let (node, phase, attempt) = (child.node, child.phase, child.attempt);
-    writeln!(
-        line,
-        "\torphan\t{node}\t{phase}\t{attempt}\t{}\tdone={done}",
-        child.process
-    )?;
+    let (key, process) = (orphan.key.as_str(), orphan.process);
+    writeln!(line, "\torphan\t{key}\t{process}\tdone={done}")?;
     log.add(line.as_str());
     Ok(())
 }
 
-/// Whether a process is one that the manager left: it is of its group and its session, began behind it, and
-/// nobody of the group waits for it.
-fn is_left<R: Files + AllocGlobal>(
+/// Writes the same of all.
+fn tell_all<R: Clock + AllocGlobal>(
     rt: &R,
-    standing: &Standing,
-    manager: &NotedManager<'_>,
-) -> bool {
-    let began_behind = !standing.ended && standing.began >= manager.began;
-    if !began_behind || standing.group != manager.group || standing.session != manager.session {
-        return false;
-    }
-    standing.parent == 1
-        || match standing_of(rt, standing.parent) {
-            Some(parent) => parent.group != manager.group,
-            None => true,
-        }
-}
-
-/// Whether these are the words of a child: those of its command, perhaps behind those of an interpreter; or
-/// still those of its manager, or none, since it has not come to its own program.
-fn are_words_of(words: &str, next: &NextChild<'_>, manager: &NotedManager<'_>) -> bool {
-    words.is_empty() || words.ends_with(next.words) || words == manager.words
-}
-
-/// Whether the process of this number has the words of a child.
-fn has_words_of<R: Files + AllocGlobal>(
-    rt: &R,
-    process: u32,
-    next: &NextChild<'_>,
-    manager: &NotedManager<'_>,
-) -> bool {
-    match words_of(rt, process) {
-        Some(words) => are_words_of(words.as_str(), next, manager),
-        None => false,
-    }
-}
-
-/// The process that a manager was about to start as it was killed, where it runs. The manager had not noted its
-/// number.
-fn unnoted<R: Files + AllocGlobal + Clone + Drop>(
-    rt: &R,
-    next: &NextChild<'_>,
-    manager: &NotedManager<'_>,
-) -> Option<(u32, u64)> {
-    let own = own_number(rt);
-    for number in all_numbers(rt)?.iter() {
-        if let Some(standing) = standing_of(rt, *number) {
-            if *number != own && is_left(rt, &standing, manager) {
-                if has_words_of(rt, *number, next, manager) {
-                    return Some((*number, standing.began));
-                }
-            }
-        }
-    }
-    None
-}
-
-/// What the lines of a text say of the last manager, and of what it was about to start where that is the last
-/// of them.
-fn last_of<'a>(text: &'a str) -> (Option<NotedManager<'a>>, Option<NextChild<'a>>) {
-    let (mut manager, mut next) = (None, None);
-    for line in text.lines() {
-        if let Some(found) = manager_in(line) {
-            manager = Some(found);
-        }
-        next = next_in(line);
-    }
-    (manager, next)
-}
-
-/// Adds the line of the process that the last manager was about to start, where it runs.
-fn add_unnoted<R: Files + AllocGlobal + Clone + Drop>(
-    rt: &R,
-    text: &str,
-    boot: &str,
-    running: &mut Vec<String>,
+    log: &mut LineFile,
+    orphans: &[Orphan],
+    done: &str,
 ) -> Result<(), AllocError> {
-    if let (Some(manager), Some(next)) = last_of(text) {
-        if manager.boot == boot {
-            if let Some((process, began)) = unnoted(rt, &next, &manager) {
-                let (node, phase, attempt) = (next.node, next.phase, next.attempt);
-                let line = format!(in rt.alloc();
-                    "{process}\t{began}\t{boot}\t{node}\t{phase}\t{attempt}"
-                )?;
-                running.push(line)?;
-            }
-        }
+    for orphan in orphans {
+        tell(rt, log, orphan, done)?;
     }
     Ok(())
 }
 
-/// The lines of a text of those processes that still run, and were started since the system was; behind them the
-/// line of the one that was about to be noted.
-fn running_in<R: Files + AllocGlobal + Clone + Drop>(
-    rt: &R,
-    text: &str,
-    boot: &str,
-) -> Result<Vec<String>, AllocError> {
-    let mut running = Vec::new(rt.alloc());
-    for line in text.lines() {
-        match noted_in(line) {
-            Some(child) if child.boot == boot && runs(rt, &child) => {
-                running.push(String::from_str(rt.alloc(), line)?)?;
+/// The pause behind one of so many microseconds.
+fn next_pause(pause: u64) -> u64 {
+    pause.saturating_mul(2).min(LONGEST_PAUSE)
+}
+
+/// Whether so many milliseconds are over since this moment.
+fn are_over<R: Clock>(rt: &R, milliseconds: u128, began: Duration) -> bool {
+    match rt.monotonic() {
+        Ok(now) => now.checked_sub(began).unwrap_or(Duration::ZERO).as_millis() >= milliseconds,
+        Err(_) => true,
+    }
+}
+
+impl Orphans {
+    /// Whether there are none.
+    pub fn is_empty(&self) -> bool {
+        self.found.is_empty()
+    }
+
+    /// How many there are.
+    pub fn count(&self) -> usize {
+        self.found.len()
+    }
+
+    /// The identifiers of the rounds whose they are.
+    pub fn into_rounds(self) -> Vec<String> {
+        let Orphans {
+            rounds,
+            spared: _,
+            found: _,
+        } = self;
+        rounds
+    }
+
+    /// Looks at all processes: those of the rounds that run now.
+    fn look<R: Files + Clock + AllocGlobal + Clone + Drop>(
+        &self,
+        rt: &R,
+    ) -> Result<Vec<Orphan>, OrphanFault> {
+        all_of(rt, &self.rounds, &self.spared)
+    }
+
+    /// Whether a process was found before.
+    fn has(&self, orphan: &Orphan) -> bool {
+        self.found.iter().any(|known| known.is_same(orphan))
+    }
+
+    /// Adds those that were not found before, which were started meanwhile by others of the round.
+    fn add_new(&mut self, running: Vec<Orphan>) -> Result<(), AllocError> {
+        for orphan in running {
+            if !self.has(&orphan) {
+                self.found.push(orphan)?;
             }
-            _ => {}
+        }
+        Ok(())
+    }
+
+    /// Ends all, and those that they start meanwhile: first those that none of them started, and the others where they don't end
+    /// by themselves behind these.
+    fn end<R: Processes + Files<File = File> + Clock + AllocGlobal + Clone + Drop>(
+        &mut self,
+        rt: &R,
+        log: &mut LineFile,
+    ) -> Result<(), OrphanFault> {
+        let began = rt.monotonic().unwrap_or(Duration::ZERO);
+        let mut pause = FIRST_PAUSE;
+        let mut running = self.look(rt)?;
+        self.kill(rt, &running, true)?;
+        for _ in 0..LOOKS {
+            if running.is_empty() || are_over(rt, PATIENCE, began) {
+                break;
+            }
+            if are_over(rt, GRACE, began) {
+                self.kill(rt, &running, false)?;
+            }
+            self.add_new(running)?;
+            thread::sleep(rt, Duration::from_micros(pause));
+            pause = next_pause(pause);
+            running = self.look(rt)?;
+        }
+        self.tell_ended(rt, log, &running)
+    }
+
+    /// Kills these, or those of them alone that none of them started. What the system refuses is seen as they are looked at.
+    fn kill<R: Processes + Files<File = File> + Clock + AllocGlobal + Clone + Drop>(
+        &self,
+        rt: &R,
+        running: &[Orphan],
+        first_alone: bool,
+    ) -> Result<(), OrphanFault> {
+        if let Some(words) = kill_words(rt, running, &self.rounds, first_alone)? {
+            let _ = kill(rt.alloc(), rt, words.as_str());
+        }
+        Ok(())
+    }
+
+    /// Writes which were killed, and which of them still run.
+    fn tell_ended<R: Clock + AllocGlobal>(
+        &self,
+        rt: &R,
+        log: &mut LineFile,
+        running: &[Orphan],
+    ) -> Result<(), OrphanFault> {
+        for orphan in &self.found {
+            let still_runs = running.iter().any(|other| other.is_same(orphan));
+            let done = if still_runs { "refused" } else { "killed" };
+            tell(rt, log, orphan, done)?;
+        }
+        if running.is_empty() {
+            Ok(())
+        } else {
+            Err(OrphanFault::StillRuns)
         }
     }
-    add_unnoted(rt, text, boot, &mut running)?;
-    Ok(running)
-}
 
-/// Kills each of the processes of these lines.
-fn kill_all<R: Processes + AllocGlobal>(rt: &R, lines: &[String]) {
-    for line in lines {
-        if let Some(child) = noted_in(line.as_str()) {
-            let _ = kill(rt.alloc(), rt, child.process);
+    /// Waits until all have ended, and those that they start meanwhile.
+    fn wait<R: Files<File = File> + Clock + AllocGlobal + Clone + Drop>(
+        &mut self,
+        rt: &R,
+        log: &mut LineFile,
+    ) -> Result<(), OrphanFault> {
+        let mut pause = FIRST_PAUSE;
+        for _ in 0..u64::MAX {
+            let running = self.look(rt)?;
+            if running.is_empty() {
+                break;
+            }
+            self.add_new(running)?;
+            thread::sleep(rt, Duration::from_micros(pause));
+            pause = next_pause(pause);
         }
+        tell_all(rt, log, &self.found, "waited")?;
+        Ok(())
     }
-}
 
-/// Waits until each of the processes of these lines is gone, and tells in the log what was done.
-fn wait_for_all<R: Files + Clock + AllocGlobal>(
-    rt: &R,
-    log: &mut LineFile,
-    lines: &[String],
-    questions: u64,
-    done: &str,
-) -> Result<(), OrphanFault> {
-    let mut answer = Ok(());
-    for line in lines {
-        if let Some(child) = noted_in(line.as_str()) {
-            if is_gone(rt, &child, questions) {
-                tell(rt, log, &child, done)?;
-            } else {
-                tell(rt, log, &child, "refused")?;
-                answer = Err(OrphanFault::StillRuns);
+    /// Deals with them by this rule; the log, which is of this path, says what was done with each. Answers whether some are
+    /// left. Where there are none, nothing is written.
+    ///
+    /// # Errors
+    /// `StillRuns` where one that was killed is not gone after ten seconds, in which it is waited for all together; `NotAsked`
+    /// where the system refuses to say which processes there are; `Memory`.
+    pub fn settle<R: Processes + Files<File = File> + Clock + AllocGlobal + Clone + Drop>(
+        &mut self,
+        rt: &R,
+        rule: OrphanRule,
+        log: &str,
+    ) -> Result<bool, OrphanFault> {
+        if self.is_empty() {
+            return Ok(false);
+        }
+        let mut log = LineFile::open(rt, log);
+        match rule {
+            OrphanRule::Kill => self.end(rt, &mut log)?,
+            OrphanRule::Wait => self.wait(rt, &mut log)?,
+            OrphanRule::Leave => {
+                tell_all(rt, &mut log, &self.found, "left")?;
+                return Ok(true);
             }
         }
+        Ok(false)
     }
-    answer
 }
 
-/// Tells of the processes of these lines that they are left, and answers the lines.
-fn leave_all<R: Clock + AllocGlobal>(
-    rt: &R,
-    log: &mut LineFile,
-    lines: &[String],
-) -> Result<String, OrphanFault> {
-    let mut left = String::new(rt.alloc());
-    for line in lines {
-        if let Some(child) = noted_in(line.as_str()) {
-            tell(rt, log, &child, "left")?;
-            writeln!(left, "{line}")?;
-        }
-    }
-    Ok(left)
-}
+/// The greatest size in bytes of a file of processes or identifiers, 64 MiB.
+const MOST_BYTES: u64 = 1 << 26;
 
-/// Deals with the processes of these lines, which still run, by this rule, and answers the lines of those
-/// that are left.
-fn deal_with<R: Processes + Files<File = File> + Clock + AllocGlobal>(
-    rt: &R,
-    lines: &[String],
-    rule: OrphanRule,
-    log: &mut LineFile,
-) -> Result<String, OrphanFault> {
-    match rule {
-        OrphanRule::Kill => {
-            kill_all(rt, lines);
-            wait_for_all(rt, log, lines, QUESTIONS, "killed")?;
-        }
-        OrphanRule::Wait => wait_for_all(rt, log, lines, u64::MAX, "waited")?,
-        OrphanRule::Leave => return leave_all(rt, log, lines),
-    }
-    Ok(String::new(rt.alloc()))
-}
-
-/// The text of a regular file.
+/// The text of a regular file of no more than 64 MiB.
 fn regular_text<R: Files + AllocGlobal>(rt: &R, path: &str) -> io::Result<String> {
     require_regular(rt, path)?;
+    if fs::metadata(rt, path)?.len() > MOST_BYTES {
+        return Err(io::Error::new(ErrorKind::InvalidInput, "it is too large"));
+    }
     fs::read_to_string(rt, path)
 }
 
-/// The text of the file of this path; empty where it is missing.
-fn text_at<R: Files + AllocGlobal>(rt: &R, path: &str) -> Result<String, OrphanFault> {
+/// The text of the file of this path; none where it is missing.
+///
+/// # Errors
+/// This fault where the system refuses to read it, or it is no regular file, no text or larger than 64 MiB; `Memory`.
+pub(crate) fn text_at<R: Files + AllocGlobal>(
+    rt: &R,
+    path: &str,
+    fault: OrphanFault,
+) -> Result<Option<String>, OrphanFault> {
     match regular_text(rt, path) {
-        Ok(text) => Ok(text),
-        Err(error) if error.kind() == ErrorKind::NotFound => Ok(String::new(rt.alloc())),
+        Ok(text) => Ok(Some(text)),
+        Err(error) if error.kind() == ErrorKind::NotFound => Ok(None),
         Err(error) if error.kind() == ErrorKind::OutOfMemory => Err(OrphanFault::Memory),
-        Err(_) => Err(OrphanFault::NotRead),
+        Err(_) => Err(fault),
     }
 }
 
-/// Deals with the processes of the file of this path that still run, by this rule, and answers the lines
-/// of those that are left. The log, which is of the other path, says what was done with each; where none
-/// runs nothing is written.
+/// The processes of the rounds of these identifiers that an earlier manager left. There are none where the file of its
+/// processes, which is of this path, is missing, since the last manager then ended by itself and left none; and where the
+/// manager that it names still runs.
 ///
 /// # Errors
-/// `NotRead` where the file is there and the system refuses to read it, or it is no regular one; `StillRuns` where one that was
-/// killed is not gone after ten seconds; `Memory`.
-pub fn settle<R: Processes + Files<File = File> + Clock + AllocGlobal + Clone + Drop>(
+/// `NotRead` where that file is there and the system refuses to read it, or it is no regular one; `NotAsked` where the system
+/// refuses to say which processes there are; `Memory`.
+pub fn orphans_of<R: Files<File = File> + Clock + AllocGlobal + Clone + Drop>(
     rt: &R,
+    rounds: Vec<String>,
     path: &str,
-    rule: OrphanRule,
-    log: &str,
-) -> Result<String, OrphanFault> {
-    let text = text_at(rt, path)?;
-    let Some(boot) = boot_of(rt) else {
-        return Ok(text);
+) -> Result<Orphans, OrphanFault> {
+    let mut orphans = Orphans {
+        rounds,
+        spared: Vec::new(rt.alloc()),
+        found: Vec::new(rt.alloc()),
     };
-    let running = running_in(rt, text.as_str(), boot.as_str())?;
-    if running.is_empty() {
-        return Ok(String::new(rt.alloc()));
+    let Some(text) = text_at(rt, path, OrphanFault::NotRead)? else {
+        return Ok(orphans);
+    };
+    if orphans.rounds.is_empty() || manager_lives(rt, text.as_str()) {
+        return Ok(orphans);
     }
-    deal_with(rt, &running, rule, &mut LineFile::open(rt, log))
+    orphans.spared = own_line(rt)?;
+    orphans.found = orphans.look(rt)?;
+    Ok(orphans)
 }

@@ -1,11 +1,14 @@
-//! What the system tells of its processes.
+//! What the system says of its processes.
 
+use crate::orphans::OrphanFault;
 use log_lines::push_word;
 use std::alloc::AllocError;
 use std::fs;
+use std::io::{self, ErrorKind};
+use std::os::unix::fs::MetadataExt;
 use std::rt::Files;
 
-/// What the system tells of a process.
+/// What the system says of a process.
 #[derive(Clone, Copy, Debug, PartialEq, Eq)]
 pub(crate) struct Standing {
     /// Whether it has ended, and waits only for somebody to ask how.
@@ -20,12 +23,18 @@ pub(crate) struct Standing {
     pub(crate) began: u64,
 }
 
-/// What a text says that the system has of a process: the third word is its state, the fourth its
-/// parent, the fifth its group, the sixth its session, and the twenty-second when it began. The second
-/// stands in parentheses and may have anything in it.
-pub(crate) fn standing_in(stat: &str) -> Option<Standing> {
-    let (_, behind) = stat.rsplit_once(')')?;
-    let mut words = behind.split(' ');
+/// What stands behind the name of a program, which is in parentheses and may have any bytes: what follows the last parenthesis.
+fn behind_name(stat: &[u8]) -> &[u8] {
+    match stat.iter().rposition(|byte| *byte == b')') {
+        Some(place) => &stat[place + 1..],
+        None => &[],
+    }
+}
+
+/// What a text says that the system has of a process, from behind its name on: the first word is its state, the second its
+/// parent, the third its group, the fourth its session, and the twentieth when it began.
+fn standing_behind(text: &str) -> Option<Standing> {
+    let mut words = text.split(' ');
     let state = words.nth(1)?;
     let parent = words.next()?.parse::<u32>().ok()?;
     let group = words.next()?.parse::<u32>().ok()?;
@@ -40,19 +49,105 @@ pub(crate) fn standing_in(stat: &str) -> Option<Standing> {
     })
 }
 
+/// The process whose children are the threads of the system.
+const THREADS: u32 = 2;
+
+/// The code of the system that says that there is no such process any more (ESRCH).
+const NO_PROCESS: i32 = 3;
+
+/// What a question about a process came to: nothing where there is no such process, or where it is none that this user may
+/// ask about. Any other refusal is a fault, since it says nothing of the process.
+fn asked<T>(answer: io::Result<T>) -> Result<Option<T>, OrphanFault> {
+    match answer {
+        Ok(value) => Ok(Some(value)),
+        Err(error) if error.raw_os_error() == Some(NO_PROCESS) => Ok(None),
+        Err(error) => match error.kind() {
+            ErrorKind::NotFound | ErrorKind::PermissionDenied => Ok(None),
+            ErrorKind::OutOfMemory => Err(OrphanFault::Memory),
+            _ => Err(OrphanFault::NotAsked),
+        },
+    }
+}
+
+/// What the system says of the process of this number; none where there is none.
+///
+/// # Errors
+/// `NotAsked` where the question is refused; `Memory`.
+pub(crate) fn asked_of<R: Files + AllocGlobal>(
+    rt: &R,
+    process: u32,
+) -> Result<Option<Standing>, OrphanFault> {
+    let path = format!(in rt.alloc(); "/proc/{process}/stat")?;
+    let Some(bytes) = asked(fs::read(rt, path.as_str()))? else {
+        return Ok(None);
+    };
+    Ok(
+        str::from_utf8(behind_name(&bytes))
+            .ok()
+            .and_then(standing_behind),
+    )
+}
+
+/// The same; none where it is refused, too.
+pub(crate) fn standing_of<R: Files + AllocGlobal>(rt: &R, process: u32) -> Option<Standing> {
+    asked_of(rt, process).ok()?
+}
+
+/// The environment with which the program of a process was started: settings, a byte 0 behind each; none where there is no
+/// such process, or it is another user's.
+///
+/// # Errors
+/// `NotAsked` where the question is refused; `Memory`.
+pub(crate) fn environment_of<R: Files + AllocGlobal>(
+    rt: &R,
+    process: u32,
+) -> Result<Option<Vec<u8>>, OrphanFault> {
+    let path = format!(in rt.alloc(); "/proc/{process}/environ")?;
+    asked(fs::read(rt, path.as_str()))
+}
+
+/// Whether a process is on its way to its program: it runs, is no thread of the system, and has no words and no environment yet.
+///
+/// # Errors
+/// `NotAsked` where the question is refused; `Memory`.
+pub(crate) fn is_on_its_way<R: Files + AllocGlobal>(
+    rt: &R,
+    process: u32,
+) -> Result<bool, OrphanFault> {
+    let path = format!(in rt.alloc(); "/proc/{process}/cmdline")?;
+    let Some(words) = asked(fs::read(rt, path.as_str()))? else {
+        return Ok(false);
+    };
+    if !words.is_empty() {
+        return Ok(false);
+    }
+    Ok(match asked_of(rt, process)? {
+        Some(standing) => !standing.ended && standing.parent != 0 && standing.parent != THREADS,
+        None => false,
+    })
+}
+
+/// The number of the user as whom a process runs; none where there is no such process.
+///
+/// # Errors
+/// `NotAsked` where the question is refused; `Memory`.
+pub(crate) fn user_of<R: Files + AllocGlobal>(
+    rt: &R,
+    process: u32,
+) -> Result<Option<u32>, OrphanFault> {
+    let path = format!(in rt.alloc(); "/proc/{process}")?;
+    match asked(fs::metadata(rt, path.as_str()))? {
+        Some(found) => Ok(Some(found.uid())),
+        None => Ok(None),
+    }
+}
+
 /// The text of a small file of the system; none where it is refused.
 fn text_of<R: Files + AllocGlobal>(rt: &R, path: &str) -> Option<String> {
     fs::read_to_string(rt, path).ok()
 }
 
-/// What the system tells of the process of this number; none where there is none.
-pub(crate) fn standing_of<R: Files + AllocGlobal>(rt: &R, process: u32) -> Option<Standing> {
-    let path = format!(in rt.alloc(); "/proc/{process}/stat").ok()?;
-    let text = text_of(rt, path.as_str())?;
-    standing_in(text.as_str())
-}
-
-/// The number of this process, 0 where the system doesn't tell it.
+/// The number of this process, 0 where the system doesn't say it.
 pub(crate) fn own_number<R: Files + AllocGlobal>(rt: &R) -> u32 {
     match text_of(rt, "/proc/self/stat") {
         Some(text) => number_in(text.as_str()),
@@ -81,7 +176,7 @@ fn quoted_words(words: &str, text: &mut String) -> Result<(), AllocError> {
 }
 
 /// The words with which the process of this number was started, as a shell reads them; none where the
-/// system doesn't tell them.
+/// system doesn't say them.
 pub(crate) fn words_of<R: Files + AllocGlobal>(rt: &R, process: u32) -> Option<String> {
     let path = format!(in rt.alloc(); "/proc/{process}/cmdline").ok()?;
     let words = text_of(rt, path.as_str())?;
@@ -94,17 +189,26 @@ pub(crate) fn words_of<R: Files + AllocGlobal>(rt: &R, process: u32) -> Option<S
     Some(text)
 }
 
-/// The numbers of all processes; none where the system doesn't list them.
-pub(crate) fn all_numbers<R: Files + AllocGlobal + Clone + Drop>(rt: &R) -> Option<Vec<u32>> {
+/// The numbers of all processes.
+///
+/// # Errors
+/// `NotAsked` where the system doesn't list them; `Memory`.
+pub(crate) fn all_numbers<R: Files + AllocGlobal + Clone + Drop>(
+    rt: &R,
+) -> Result<Vec<u32>, OrphanFault> {
     let mut numbers = Vec::new(rt.alloc());
-    for entry in fs::read_dir(rt, "/proc").ok()? {
-        if let Ok(entry) = entry {
-            if let Ok(number) = entry.file_name().parse::<u32>() {
-                numbers.push(number).ok()?;
-            }
+    let Some(entries) = asked(fs::read_dir(rt, "/proc"))? else {
+        return Err(OrphanFault::NotAsked);
+    };
+    for entry in entries {
+        let Some(entry) = asked(entry)? else {
+            continue;
+        };
+        if let Ok(number) = entry.file_name().parse::<u32>() {
+            numbers.push(number)?;
         }
     }
-    Some(numbers)
+    Ok(numbers)
 }
 
 /// The name that the system has since it was started.

@@ -1,8 +1,11 @@
 // Calls of a local system with one child.
+use crate::first_lives::{DIAMOND, SUBMITS};
+use crate::plans::plan_of;
 use crate::same::same;
 use dag_reader::{Text, Texts};
 use job_starter::{Killed, Launcher, LocalSystem, Started, System, Unwatched};
 use node_machine::{Key, Outcome, Phase};
+use round_identity::RoundIdentity;
 use run_plan_node::ChildCommand;
 use std::alloc::{AllocError, Global};
 use std::test::Fail;
@@ -11,6 +14,12 @@ const A: Key = Key {
     node: 0,
     attempt: 0,
     phase: Phase::Job,
+};
+
+/// Who the round of these children is.
+pub const ROUND: RoundIdentity<'static> = RoundIdentity {
+    round: "5f3a",
+    dag: "/there/x.dag",
 };
 
 /// A command that runs a line of shell.
@@ -33,7 +42,8 @@ pub fn shell(alloc: Global, line: &str) -> Result<ChildCommand, AllocError> {
 fn local_wait_succeeds(rt: HostRuntime) -> Result<(), Fail> {
     let alloc = rt.alloc();
     let launcher = Launcher::none(alloc);
-    let mut system = LocalSystem::new(alloc, rt, "/", &launcher, Unwatched)?;
+    let plan = plan_of(alloc, DIAMOND, &SUBMITS)?;
+    let mut system = LocalSystem::new(alloc, rt, "/", &launcher, &plan, ROUND, Unwatched)?;
     let Started::Running = system.spawn(A, &shell(alloc, "exit 3")?)? else {
         panic!(rt; "not started");
     };
@@ -46,7 +56,8 @@ fn local_wait_succeeds(rt: HostRuntime) -> Result<(), Fail> {
 fn local_kill_ends(rt: HostRuntime) -> Result<(), Fail> {
     let alloc = rt.alloc();
     let launcher = Launcher::none(alloc);
-    let mut system = LocalSystem::new(alloc, rt, "/", &launcher, Unwatched)?;
+    let plan = plan_of(alloc, DIAMOND, &SUBMITS)?;
+    let mut system = LocalSystem::new(alloc, rt, "/", &launcher, &plan, ROUND, Unwatched)?;
     let Started::Running = system.spawn(A, &shell(alloc, "exec sleep 60")?)? else {
         panic!(rt; "not started");
     };
@@ -78,8 +89,9 @@ const LAUNCHED: [(u32, Phase, u8); 4] = [
 fn launcher_starts_jobs(rt: HostRuntime) -> Result<(), Fail> {
     let alloc = rt.alloc();
     let launcher = four(alloc)?;
+    let plan = plan_of(alloc, DIAMOND, &SUBMITS)?;
     for (node, phase, code) in LAUNCHED {
-        let mut system = LocalSystem::new(alloc, rt, "/", &launcher, Unwatched)?;
+        let mut system = LocalSystem::new(alloc, rt, "/", &launcher, &plan, ROUND, Unwatched)?;
         let key = Key {
             node,
             attempt: 0,
@@ -89,6 +101,45 @@ fn launcher_starts_jobs(rt: HostRuntime) -> Result<(), Fail> {
             panic!(rt; "not started");
         };
         same(&rt, system.wait(key), Ok(Outcome::Exit(code)));
+    }
+    Ok(())
+}
+
+/// What a child is to find in its environment, as one text, by its key; and what its own command adds to the environment.
+const INHERITED: [(u32, Phase, u32, &str, &str); 3] = [
+    (0, Phase::Job, 0, "", "5f3a /there/x.dag A JOB 0"),
+    (1, Phase::Post, 12, "", "5f3a /there/x.dag B POST 12"),
+    (
+        3,
+        Phase::Pre,
+        1,
+        "DAGRUN_NODE=mine",
+        "5f3a /there/x.dag mine PRE 1",
+    ),
+];
+
+#[test]
+fn children_inherit_their_round(rt: HostRuntime) -> Result<(), Fail> {
+    let alloc = rt.alloc();
+    let launcher = Launcher::none(alloc);
+    let plan = plan_of(alloc, DIAMOND, &SUBMITS)?;
+    for (node, phase, attempt, own, wanted) in INHERITED {
+        let mut system = LocalSystem::new(alloc, rt, "/", &launcher, &plan, ROUND, Unwatched)?;
+        let key = Key {
+            node,
+            attempt,
+            phase,
+        };
+        let names = "$DAGRUN_ROUND $DAGRUN_DAG $DAGRUN_NODE $DAGRUN_PHASE $DAGRUN_ATTEMPT";
+        let line = format!(in alloc; "[ \"{names}\" = '{wanted}' ]")?;
+        let mut command = shell(alloc, line.as_str())?;
+        if !own.is_empty() {
+            command.environment.push(Text::new(alloc, own)?)?;
+        }
+        let Started::Running = system.spawn(key, &command)? else {
+            panic!(rt; "not started");
+        };
+        same(&rt, system.wait(key), Ok(Outcome::Exit(0)));
     }
     Ok(())
 }

@@ -1,4 +1,5 @@
 // A first life of a manager over a file, and a round with real children that goes on behind it.
+use crate::children::ROUND;
 use crate::plans::{File, NO_LIMITS, plan_of};
 use crate::same::same;
 use event_journal::FileDisk;
@@ -11,10 +12,10 @@ use std::fs;
 use std::process::Abort;
 use std::test::Fail;
 
-const DIAMOND: &str = "JOB A e.sub\nJOB B e.sub\nJOB C e.sub\nJOB D e.sub\n\
+pub const DIAMOND: &str = "JOB A e.sub\nJOB B e.sub\nJOB C e.sub\nJOB D e.sub\n\
                        PARENT A CHILD B C\nPARENT B C CHILD D\n";
 
-static SUBMITS: [File; 1] = [("e.sub", "executable = /bin/echo\nqueue\n")];
+pub static SUBMITS: [File; 1] = [("e.sub", "executable = /bin/echo\nqueue\n")];
 
 const ALL_DONE: &str = "A DONE attempts=1 value=0\nB DONE attempts=1 value=0\n\
                         C DONE attempts=1 value=0\nD DONE attempts=1 value=0\nresult 0\n";
@@ -60,7 +61,7 @@ fn goes_on(rt: &impl Abort, host: HostRuntime, plan: &Plan, name: &str) -> Resul
     let rescue = FileDisk::at(host, String::from_str(alloc, "no_rescue_file.test")?);
     let launcher = Launcher::none(alloc);
     let mut starter = ProcessStarter::new(LocalSystem::new(
-        alloc, host, "/", &launcher, Unwatched,
+        alloc, host, "/", &launcher, plan, ROUND, Unwatched,
     )?);
     let ended = run_round(
         alloc,

@@ -12,15 +12,23 @@ at-err P r e is holds = subst (λ r. IfErr r P) is holds
 pub returns-then-is_deaf-clause-refused : goal.returns-then-is_deaf-clause-refused
 returns-then-is_deaf-clause-refused g c = no_endings (c.is_deaf.ensures c.if-is_deaf.true)
 
-pub returns-in_err-left-clause-refused : goal.returns-in_err-left-clause-refused
-returns-in_err-left-clause-refused g c =
-    handed-on (IsStopFault _ _) c.from_residual.result c.from_residual.ensures.1
-    (λ fault same. subst (IsStopFault _ _) (sym same) (not_cleared c.in_err-left.field-0.0 c.in_err-left.ensures))
-
 pub returns-in_err-journal-clause-refused : goal.returns-in_err-journal-clause-refused
 returns-in_err-journal-clause-refused g c =
     handed-on (IsStopFault _ _) c.from_residual-in_err-journal.result c.from_residual-in_err-journal.ensures.1
     (λ fault same. subst (IsStopFault _ _) (sym same) (not_cleared c.in_err-journal.field-0.0 c.in_err-journal.ensures.refused))
+
+pub returns-in_err-kept-clause-refused : goal.returns-in_err-kept-clause-refused
+returns-in_err-kept-clause-refused g c =
+    handed-on (IsStopFault _ _) c.from_residual-in_err-kept.result c.from_residual-in_err-kept.ensures.1
+    (λ fault same. subst (IsStopFault _ _) (sym same) (not_cleared c.in_err-kept.field-0.0 c.in_err-kept.ensures))
+
+pub returns-in_err-orphans-clause-refused : goal.returns-in_err-orphans-clause-refused
+returns-in_err-orphans-clause-refused g c =
+    handed-on (IsStopFault _ _) c.from_residual.result c.from_residual.ensures.1
+    (λ fault same. subst (IsStopFault _ _) (sym same) (not_cleared c.in_err-orphans.field-0.0 c.in_err-orphans.ensures))
+
+pub returns-in_err-known-clause-refused : goal.returns-in_err-known-clause-refused
+returns-in_err-known-clause-refused g c = by-fault (IsStopFault _ _) Memory leading_had_no_memory c.from_residual-in_err-known.result c.from_residual-in_err-known.ensures.1
 
 pub returns-in_err-log-clause-refused : goal.returns-in_err-log-clause-refused
 returns-in_err-log-clause-refused g c = by-fault (IsStopFault _ _) Memory leading_had_no_memory c.from_residual-in_err-log.result c.from_residual-in_err-log.ensures.1

@@ -1,0 +1,263 @@
+//! By what the processes of a round are known, and what is done with those that an earlier manager left.
+
+ghost use Rattle.std.specs.Prelude.{IfErr};
+ghost use Rattle.dag_main_files.specs.Beside.{IsFileFault};
+
+use crate::beginning::{children_name, children_path, log_path, round_name, round_path};
+use dag_main_args::{OrphanRule, RunOptions};
+use dag_main_check::RunFault;
+use dag_main_files::{Journaled, Place, Round, journal_path};
+use dag_reader::Text;
+use event_journal_log::{JournalFault, read_journal};
+use round_identity::RoundIdentity;
+use run_log::{OrphanFault, Orphans, RunWatcher, keep_rounds, kept_rounds, new_round, orphans_of};
+use run_plan::Plan;
+use run_progress::{Screen, way_of};
+use std::alloc::{AllocError, Global};
+use std::fs::File;
+use std::process::Processes;
+use std::rt::Files;
+use std::time::Clock;
+
+/// The identifiers that are kept for a round, first its own, and whether processes of the round were left that still run.
+#[derive(Drop)]
+pub(crate) struct Kept {
+    rounds: Vec<String>,
+    some_left: bool,
+}
+
+/// By what the processes of a round are known, and whether some of earlier managers were left that still run.
+#[derive(Drop)]
+pub(crate) struct Known {
+    rounds: Vec<String>,
+    dag: Text,
+    pub(crate) some_left: bool,
+}
+
+/// The folder in which the DAG file is.
+fn folder_path(alloc: Global, place: &Place<'_>) -> Result<Text, AllocError> {
+    let path = place.at(alloc, place.top)?;
+    match path.as_str().rsplit_once('/') {
+        Some(("", _)) => Text::new(alloc, "/"),
+        Some((folder, _)) => Text::new(alloc, folder),
+        None => Text::new(alloc, "."),
+    }
+}
+
+/// The name of what could not be read or asked, or of the file of the processes of which one still runs.
+fn named_of(alloc: Global, place: &Place<'_>, fault: OrphanFault) -> Result<Text, AllocError> {
+    match fault {
+        OrphanFault::NotAsked => Text::new(alloc, "/proc"),
+        OrphanFault::NotKnown => round_name(alloc, place),
+        _ => children_name(alloc, place),
+    }
+}
+
+/// What is returned where processes of an earlier manager can't be dealt with.
+fn refused_for(alloc: Global, place: &Place<'_>, fault: OrphanFault) -> RunFault
+    ensures { IsFileFault result }
+{
+    if fault == OrphanFault::Memory {
+        return RunFault::Memory;
+    }
+    let Ok(name) = named_of(alloc, place, fault) else {
+        return RunFault::Memory;
+    };
+    match String::from_str(alloc, name.as_str()) {
+        Ok(name) => RunFault::FileRefused(name),
+        Err(_) => RunFault::Memory,
+    }
+}
+
+/// What a person is shown before it is waited for processes that an earlier manager left.
+fn waiting_text(alloc: Global, count: usize, rule: OrphanRule) -> Result<String, AllocError> {
+    let processes = if count == 1 { "process" } else { "processes" };
+    match rule {
+        OrphanRule::Kill => format!(in alloc;
+            "ending {count} {processes} that the earlier manager left running"
+        ),
+        OrphanRule::Wait => format!(in alloc;
+            "waiting for {count} {processes} that the earlier manager left running"
+        ),
+        OrphanRule::Leave => format!(in alloc;
+            "{count} {processes} that the earlier manager left go on (--orphans leave)"
+        ),
+    }
+}
+
+/// Shows it where it is shown how far a run is.
+fn show<R: Processes + Clock + Screen + AllocGlobal>(rt: &R, count: usize, options: &RunOptions) {
+    if count > 0 && way_of(rt, options.progress).is_some() {
+        if let Ok(text) = waiting_text(rt.alloc(), count, options.orphans) {
+            let _ = eprintln!(rt; "{text}");
+        }
+    }
+}
+
+/// Whether the journal of a round that goes on is of another plan or can't be read, so that the manager will be refused.
+fn is_of_others<R: Files + AllocGlobal>(
+    rt: &R,
+    place: &Place<'_>,
+    plan: &Plan,
+    round: &Round,
+) -> Result<bool, AllocError> {
+    if round.journal != Journaled::Unfinished {
+        return Ok(false);
+    }
+    let alloc = rt.alloc();
+    let path = journal_path(alloc, place.top)?;
+    let Ok(Some(bytes)) = place.read(rt, path.as_str()) else {
+        return Ok(false);
+    };
+    match read_journal(alloc, &bytes, plan.digest(), plan.always_post()) {
+        Ok(_records) => Ok(false),
+        Err(JournalFault::Memory) => Err(AllocError),
+        Err(_fault) => Ok(true),
+    }
+}
+
+/// The processes that an earlier manager of the round left.
+fn find_orphans<R: Files<File = File> + Clock + AllocGlobal + Clone + Drop>(
+    rt: &R,
+    place: &Place<'_>,
+) -> Result<Orphans, OrphanFault> {
+    let alloc = rt.alloc();
+    let folder = folder_path(alloc, place)?;
+    let rounds = kept_rounds(rt, round_path(alloc, place)?.as_str(), folder.as_str())?;
+    orphans_of(rt, rounds, children_path(alloc, place)?.as_str())
+}
+
+/// The processes that an earlier manager of the round left. Nothing is done with them yet.
+///
+/// # Errors
+/// `FileRefused` with the file of the manager's processes or that of the round's identifier, where the system refuses to read it or it
+/// is no regular one, or with `/proc`, where the system refuses to say which processes there are; `Memory`.
+pub(crate) fn orphans_found<R: Files<File = File> + Clock + AllocGlobal + Clone + Drop>(
+    rt: &R,
+    place: &Place<'_>,
+) -> Result<Orphans, RunFault>
+    ensures { IfErr result IsFileFault }
+{
+    match find_orphans(rt, place) {
+        Ok(orphans) => Ok(orphans),
+        Err(fault) => Err(refused_for(rt.alloc(), place, fault)),
+    }
+}
+
+/// Deals with these processes, as the options say. They are left alone where the manager will be refused.
+fn settle<R: Processes + Files<File = File> + Clock + Screen + AllocGlobal + Clone + Drop>(
+    rt: &R,
+    place: &Place<'_>,
+    plan: &Plan,
+    round: &Round,
+    options: &RunOptions,
+    orphans: &mut Orphans,
+) -> Result<bool, OrphanFault> {
+    if orphans.is_empty() {
+        return Ok(false);
+    }
+    if is_of_others(rt, place, plan, round)? {
+        return Ok(true);
+    }
+    show(rt, orphans.count(), options);
+    let log = log_path(rt.alloc(), place)?;
+    orphans.settle(rt, options.orphans, log.as_str())
+}
+
+/// Deals with these processes, which an earlier manager of the round left, as the options say, and answers by which identifiers they
+/// are known. Whatever else may refuse the run was asked before: they are left alone where the manager will be refused for the
+/// journal's sake.
+///
+/// # Errors
+/// `FileRefused` with the file of the manager's processes, where one of them can't be ended, or with `/proc`, where the system refuses
+/// to say which processes there are; `Memory`.
+pub(crate) fn settled<
+    R: Processes + Files<File = File> + Clock + Screen + AllocGlobal + Clone + Drop,
+>(
+    rt: &R,
+    place: &Place<'_>,
+    plan: &Plan,
+    round: &Round,
+    options: &RunOptions,
+    orphans: Orphans,
+) -> Result<Kept, RunFault>
+    ensures { IfErr result IsFileFault }
+{
+    let mut orphans = orphans;
+    match settle(rt, place, plan, round, options, &mut orphans) {
+        Ok(some_left) => Ok(Kept {
+            rounds: orphans.into_rounds(),
+            some_left,
+        }),
+        Err(fault) => Err(refused_for(rt.alloc(), place, fault)),
+    }
+}
+
+impl Kept {
+    /// The identifiers of a round that begins: a new one, and behind it those of which processes were left.
+    fn renewed<R: Files + Clock + AllocGlobal>(self, rt: &R) -> Result<Kept, AllocError> {
+        let Kept { rounds, some_left } = self;
+        let mut renewed = Vec::new(rt.alloc());
+        renewed.push(new_round(rt)?)?;
+        if some_left {
+            for round in rounds {
+                renewed.push(round)?;
+            }
+        }
+        Ok(Kept {
+            rounds: renewed,
+            some_left,
+        })
+    }
+}
+
+impl Known {
+    /// Who the round is.
+    pub(crate) fn identity(&self) -> RoundIdentity<'_> {
+        RoundIdentity {
+            round: self.rounds.first().map_or("", |round| round.as_str()),
+            dag: self.dag.as_str(),
+        }
+    }
+}
+
+/// The identifiers of a round: those that are kept, where it goes on, or else a new one, which is kept. Where the system refuses
+/// that, the log says so, and the round goes on.
+fn renewed_where_new<R: Files<File = File> + Clock + AllocGlobal + Copy + Drop>(
+    rt: R,
+    place: &Place<'_>,
+    round: &Round,
+    kept: Kept,
+    log: &mut RunWatcher<'_, R>,
+) -> Result<Kept, AllocError> {
+    if round.journal == Journaled::Unfinished && !kept.rounds.is_empty() {
+        return Ok(kept);
+    }
+    let alloc = rt.alloc();
+    let kept = kept.renewed(&rt)?;
+    let (path, folder) = (round_path(alloc, place)?, folder_path(alloc, place)?);
+    if let Err(error) = keep_rounds(&rt, path.as_str(), folder.as_str(), &kept.rounds) {
+        log.cannot_keep(&error);
+    }
+    Ok(kept)
+}
+
+/// Sees to it that the round has an identifier before anything is started, and answers by what its processes are known.
+///
+/// # Errors
+/// `Memory` alone.
+pub(crate) fn identified<R: Files<File = File> + Clock + AllocGlobal + Copy + Drop>(
+    rt: R,
+    place: &Place<'_>,
+    round: &Round,
+    kept: Kept,
+    log: &mut RunWatcher<'_, R>,
+) -> Result<Known, AllocError> {
+    let dag = place.at(rt.alloc(), place.top)?;
+    let Kept { rounds, some_left } = renewed_where_new(rt, place, round, kept, log)?;
+    Ok(Known {
+        rounds,
+        dag,
+        some_left,
+    })
+}

@@ -1,0 +1,483 @@
+#!/usr/bin/env python3
+"""Kills managers and looks what becomes of the processes that they leave: none has a copy of itself beside it, and no stranger is touched.
+
+    tests/orphans.py PROGRAM [WORD]     WORD: only the rows whose name holds it
+
+Each job is a sleep of a length of its own, so that its processes are told from all others of the machine. Values are worked out by
+hand from docs/MANUAL.md, "Orphans". The last line is 'N passed, M failed'."""
+import contextlib
+import ctypes
+import os
+import shutil
+import signal
+import subprocess
+import sys
+import tempfile
+import time
+
+from runs import PATIENCE, Folder, same, wait_until
+
+# The words of the sleeps of this script: no other process has their fraction.
+MARK = f"{os.getpid() % 100000:05d}"
+
+def length(number=0):
+    """How long a job sleeps: some hundred seconds, by which its processes are known."""
+    return f"{100 + number}.{MARK}"
+
+
+def words_of(process):
+    with open(f"/proc/{process}/cmdline", "rb") as file:
+        return file.read().split(b"\0")[:-1]
+
+
+def state_of(process):
+    with open(f"/proc/{process}/stat") as file:
+        return file.read().rsplit(")", 1)[1].split()
+
+
+def sleeping(number=0):
+    """The numbers of the processes that sleep so long and have not ended."""
+    found = []
+    for name in filter(str.isdigit, os.listdir("/proc")):
+        with contextlib.suppress(OSError, IndexError):
+            words = words_of(name)
+            if words[0].endswith(b"sleep") and words[-1] == length(number).encode() and state_of(name)[0] not in "ZX":
+                found.append(int(name))
+    return sorted(found)
+
+
+def wait_for_sleeping(count, number=0):
+    wait_until(lambda: len(sleeping(number)) == count, f"there are not {count} sleeps of {length(number)}, but {sleeping(number)}")
+    return sleeping(number)
+
+
+def end_all():
+    """Ends what a row left."""
+    for number in range(8):
+        for process in sleeping(number):
+            with contextlib.suppress(OSError):
+                os.kill(process, signal.SIGKILL)
+    wait_until(lambda: not any(map(sleeping, range(8))), "what was killed still runs")
+    with contextlib.suppress(ChildProcessError):
+        while os.waitpid(-1, os.WNOHANG)[0]:
+            pass
+
+
+def sleep_file(folder, name, number=0, program="/bin/sleep", before=""):
+    """A submit file whose job sleeps."""
+    folder.write(f"{name}.sub", f"executable = {program}\narguments = {before}{length(number)}\nqueue\n")
+
+
+def sleepers(folder, *names, dag="x.dag"):
+    """A DAG of jobs of one and the same words, which wait for nothing."""
+    folder.write(dag, "".join(f"JOB {name} s.sub\n" for name in names))
+    sleep_file(folder, "s")
+
+
+def inner(folder, name):
+    """A folder in the folder, which is made."""
+    made = Folder(folder.program, folder.at(name))
+    os.mkdir(made.path)
+    return made
+
+
+def start(folder, *words, **more):
+    return subprocess.Popen([folder.program, "run", *words], cwd=folder.path, stdout=subprocess.DEVNULL, stderr=subprocess.PIPE, **more)
+
+
+def kill(manager):
+    manager.kill()
+    manager.wait(timeout=PATIENCE)
+    manager.stderr.close()
+
+
+def run_killed_at(folder, write, *words):
+    """A run that is killed as it writes for the so manieth time what it has started."""
+    strace = ["strace", "-qqq", "-o", "/dev/null", "-e", "trace=write", "-P", folder.at("x.dag.children"), "-e", f"inject=write:signal=SIGKILL:when={write}"]
+    return subprocess.run([*strace, folder.program, "run", *words, "x.dag"], cwd=folder.path, capture_output=True, timeout=PATIENCE)
+
+
+def orphans_in(folder):
+    """Of each process that was dealt with: its node, phase and attempt, and what was done."""
+    lines = [line.split("\t") for line in folder.read("x.dag.log").decode().splitlines()]
+    return sorted(tuple(line[2:5]) + (line[6],) for line in lines if line[1] == "orphan")
+
+
+def begin_again(folder, count, number=0):
+    """A second manager, once so many jobs run; what ran before runs no more."""
+    before = sleeping(number)
+    second = start(folder, "x.dag")
+    wait_until(lambda: len(sleeping(number)) == count and not set(before) & set(sleeping(number)), f"{sleeping(number)} sleep; {before} slept before")
+    return second
+
+
+def equal_words(folder):
+    """Jobs of the same words, where the manager is killed before the second one, or none, is noted."""
+    for write in (2, 3):
+        place = inner(folder, f"d{write}")
+        sleepers(place, "A", "B")
+        run_killed_at(place, write)
+        wait_for_sleeping(write - 1)
+        second = begin_again(place, 2)
+        same(orphans_in(place), [("A", "JOB", "0", "done=killed"), ("B", "JOB", "0", "done=killed")][: write - 1])
+        kill(second)
+        end_all()
+
+
+def noted_and_not(folder):
+    """One child is noted, the other is not; both are ended, and each has one successor."""
+    sleepers(folder, "A", "B", "C")
+    first = start(folder, "x.dag")
+    wait_for_sleeping(3)
+    kill(first)
+    kill(begin_again(folder, 3))
+    kill(begin_again(folder, 3))
+
+
+def two_folders(folder):
+    """Two managers of the same words in two folders, of one parent, group and session: each knows its own alone."""
+    one, other = inner(folder, "d1"), inner(folder, "d2")
+    sleepers(one, "A")
+    sleepers(other, "A")
+    first = start(one, "x.dag")
+    [child] = wait_for_sleeping(1)
+    second = start(other, "x.dag")
+    wait_for_sleeping(2)
+    [stranger] = [it for it in sleeping() if it != child]
+    kill(first)
+    third = start(one, "x.dag")
+    wait_until(lambda: child not in sleeping() and len(sleeping()) == 2, f"{sleeping()} sleep")
+    same((stranger in sleeping(), second.poll(), orphans_in(one)), (True, None, [("A", "JOB", "0", "done=killed")]))
+    kill(second)
+    kill(third)
+
+
+def copied_folder(folder):
+    """A copy of a folder whose DAG runs: `run` in the copy leaves the children of the original alone, and knows its own."""
+    one = inner(folder, "d1")
+    sleepers(one, "A")
+    first = start(one, "x.dag")
+    [child] = wait_for_sleeping(1)
+    shutil.copytree(one.path, folder.at("d2"))
+    copy = Folder(folder.program, folder.at("d2"))
+    second = start(copy, "x.dag")
+    wait_for_sleeping(2)
+    same((child in sleeping(), first.poll(), orphans_in(copy)), (True, None, []))
+    kill(second)
+    third = start(copy, "x.dag")
+    wait_until(lambda: len(orphans_in(copy)) == 1 and len(sleeping()) == 2, "the copy does not know its own child")
+    same((child in sleeping(), first.poll()), (True, None))
+    kill(first)
+    kill(third)
+
+
+def moved_folder(folder):
+    """A folder that was given another name is the same folder."""
+    one = inner(folder, "d1")
+    sleepers(one, "A")
+    kill_after_start(one, 1)
+    os.rename(one.path, folder.at("d2"))
+    other = Folder(folder.program, folder.at("d2"))
+    kill(begin_again(other, 1))
+    same(orphans_in(other), [("A", "JOB", "0", "done=killed")])
+
+
+def kill_after_start(folder, count):
+    manager = start(folder, "x.dag")
+    wait_for_sleeping(count)
+    kill(manager)
+
+
+def a_refused_start(folder):
+    """The last start of a manager was refused; a process of another one has its words."""
+    sleepers(folder, "A")
+    folder.write("x.dag", "JOB A s.sub\nJOB B t.sub\n")
+    sleep_file(folder, "t", program="./none")
+    other = inner(folder, "d2")
+    sleepers(other, "A")
+    second = start(other, "x.dag")
+    [stranger] = wait_for_sleeping(1)
+    kill_after_start(folder, 2)
+    third = start(folder, "x.dag")
+    wait_until(lambda: len(orphans_in(folder)) == 1 and len(sleeping()) == 2, f"{sleeping()} sleep")
+    same((stranger in sleeping(), second.poll()), (True, None))
+    kill(second)
+    kill(third)
+
+
+def first_process_of_a_container(folder):
+    """The first process of a container starts a manager again, which adopts what the last one left."""
+    sleepers(folder, "A", "B")
+    folder.write("first.sh", f"""
+"$1" run x.dag & manager=$!
+until [ "$(grep -lz 'DAGRUN_ROUND=' /proc/[0-9]*/environ 2>/dev/null | wc -l)" = 2 ]; do sleep 0.02; done
+kill -9 $manager; wait $manager 2>/dev/null
+"$1" run x.dag & manager=$!
+until [ "$(grep -c orphan x.dag.log)" = 2 ] && [ "$(grep -lz 'DAGRUN_ROUND=' /proc/[0-9]*/environ 2>/dev/null | wc -l)" = 2 ]; do sleep 0.02; done
+kill -9 $manager
+""")
+    done = subprocess.run(["unshare", "--pid", "--fork", "--mount-proc", "sh", "first.sh", folder.program], cwd=folder.path, capture_output=True, timeout=PATIENCE)
+    same((done.returncode, orphans_in(folder)), (0, [("A", "JOB", "0", "done=killed"), ("B", "JOB", "0", "done=killed")]))
+
+
+def adopters(folder):
+    """Processes that adopt what a manager leaves."""
+    sleepers(folder, "A", "B")
+    ctypes.CDLL(None).prctl(36, 1)
+    try:
+        kill_after_start(folder, 2)
+        kill(begin_again(folder, 2))
+        same(len(orphans_in(folder)), 2)
+    finally:
+        ctypes.CDLL(None).prctl(36, 0)
+
+
+def wrapped(folder):
+    """Jobs under programs that start or become others, with a launcher, in groups and sessions of their own, with an empty last word."""
+    for words in ([], ["--launcher", "env Y=2"], ["--launcher", "nice"]):
+        place = inner(folder, "_".join(["d", *words]).replace(" ", "_"))
+        place.write("x.dag", "".join(f"JOB {name} {name}.sub\n" for name in "ABCDEF"))
+        sleep_file(place, "A", 0, "/usr/bin/timeout", "900 sleep ")
+        sleep_file(place, "B", 1, "/usr/bin/setsid", "sleep ")
+        sleep_file(place, "C", 2, "/usr/bin/env", "X=1 sleep ")
+        sleep_file(place, "D", 3, "/usr/bin/nice", "sleep ")
+        place.write("E.sub", f"executable = /bin/sh\narguments = \"-c 'sleep {length(4)} & exec sleep {length(5)}' ''\"\nqueue\n")
+        place.write("F.sub", f"executable = /bin/sh\narguments = \"-c 'exec sleep {length(6)}' ''\"\nqueue\n")
+        manager = start(place, *words, "x.dag")
+        before = {it: wait_for_sleeping(1, it) for it in range(7)}
+        kill(manager)
+        second = start(place, *words, "x.dag")
+        wait_until(lambda: all(len(sleeping(it)) == 1 and sleeping(it) != before[it] for it in range(7)), "a job has a copy, or none")
+        kill(second)
+        end_all()
+
+
+def two_hundred(folder):
+    """Two hundred are ended at once, by one call of a shell."""
+    sleepers(folder, *(f"n{it}" for it in range(200)))
+    kill_after_start(folder, 200)
+    before = time.monotonic()
+    second = start(folder, "x.dag")
+    wait_until(lambda: folder.read("x.dag.log").count(b"\torphan\t") == 200, "not all are dealt with")
+    took = time.monotonic() - before
+    wait_for_sleeping(200)
+    kill(second)
+    same([done for *_, done in orphans_in(folder)], ["done=killed"] * 200)
+    if took > 5:
+        raise AssertionError(f"it took {took:.1f} seconds to end 200 processes")
+
+
+def some_that_can_not_be_ended(folder):
+    """Three that can't be ended are waited for together, for ten seconds in all; nothing was started."""
+    sleepers(folder, "A", "B", "C")
+    kill_after_start(folder, 3)
+    began, before = time.monotonic(), sleeping()
+    strace = ["strace", "-qqq", "-f", "-o", "/dev/null", "-e", "trace=kill", "-e", "inject=kill:error=EPERM"]
+    done = subprocess.run([*strace, folder.program, "run", "x.dag"], cwd=folder.path, capture_output=True, timeout=PATIENCE)
+    took = time.monotonic() - began
+    same((done.stdout, done.stderr, done.returncode), (b"", b"dagrun: X2 FileRefused x.dag.children\n", 125))
+    same((sleeping(), [done for *_, done in orphans_in(folder)]), (before, ["done=refused"] * 3))
+    if not 9 < took < 25:
+        raise AssertionError(f"it took {took:.1f} seconds")
+    kill(begin_again(folder, 3))
+
+
+def forged_notes(folder):
+    """What others wrote into the file of the processes names nobody who is ended."""
+    sleepers(folder, "A")
+    kill_after_start(folder, 1)
+    stranger = subprocess.Popen(["sleep", length(1)])
+    began = state_of(stranger.pid)[19]
+    with open("/proc/sys/kernel/random/boot_id") as file:
+        boot = file.read().strip()
+    lines = [f"{it}\t{began}\t{boot}\tA\tJOB\t0\n" for it in (1, 0, -1, os.getpid(), os.getppid(), stranger.pid)]
+    folder.write("x.dag.children", folder.read("x.dag.children").decode() + "".join(lines))
+    kill(begin_again(folder, 1))
+    same((stranger.poll(), orphans_in(folder)), (None, [("A", "JOB", "0", "done=killed")]))
+    stranger.kill()
+    stranger.wait()
+
+
+def forged_identifiers(folder):
+    """Lines that are no identifier of a round in this folder are passed over."""
+    sleepers(folder, "A")
+    kill_after_start(folder, 1)
+    found = os.stat(folder.path)
+    stranger = subprocess.Popen(["sleep", length(1)], env={"DAGRUN_ROUND": "", "DAGRUN_NODE": "A"})
+    other = subprocess.Popen(["sleep", length(1)], env={"DAGRUN_ROUND": "other"})
+    folder.write("x.dag.round", f"\t{found.st_dev}\t{found.st_ino}\nother\t{found.st_dev}\t{found.st_ino + 1}\nother\t1\nother\n" + folder.read("x.dag.round").decode())
+    kill(begin_again(folder, 1))
+    same((stranger.poll(), other.poll(), orphans_in(folder)), (None, None, [("A", "JOB", "0", "done=killed")]))
+    for process in (stranger, other):
+        process.kill()
+        process.wait()
+
+
+def a_manager_that_lives(folder):
+    """Where the manager that is noted still lives, nothing of its round is an orphan, even if somebody removed its lock."""
+    sleepers(folder, "A")
+    first = start(folder, "x.dag")
+    [child] = wait_for_sleeping(1)
+    os.remove(folder.at("x.dag.lock"))
+    os.rename(folder.at("x.dag.journal"), folder.at("kept"))
+    shutil.copy(folder.at("kept"), folder.at("x.dag.journal"))
+    second = start(folder, "x.dag")
+    wait_for_sleeping(2)
+    same((child in sleeping(), first.poll(), orphans_in(folder)), (True, None, []))
+    kill(first)
+    kill(second)
+
+
+def our_ancestor(folder):
+    """A script that a killed manager left calls `run` itself: it is no orphan of it, but its other processes are."""
+    folder.write("x.dag", "JOB A a.sub\n")
+    folder.write("a.sub", "executable = /bin/sh\narguments = a.sh\nqueue\n")
+    folder.write("a.sh", f"""
+if [ -e again ]; then exit 0; fi
+echo $$ > again
+sleep {length()} & sleep {length(1)}
+"{folder.program}" run x.dag > answer 2>&1
+mv answer answered
+""")
+    manager = start(folder, "x.dag")
+    wait_for_sleeping(1, 1)
+    kill(manager)
+    [process] = sleeping(1)
+    os.kill(process, signal.SIGKILL)
+    folder.wait_for("answered")
+    same((folder.read("answered"), sleeping()), (b"A DONE attempts=1 value=0\nresult 0\n", []))
+    same(orphans_in(folder), [("A", "JOB", "0", "done=killed")])
+
+
+def left_and_killed(folder):
+    """What `--orphans leave` leaves is known to later rounds, whatever their identifiers."""
+    sleepers(folder, "A")
+    kill_after_start(folder, 1)
+    [child] = sleeping()
+    sleep_file(folder, "s", 1)
+    # The digest is that of the other file: the round begins anew without its journal.
+    os.remove(folder.at("x.dag.journal"))
+    for count in (1, 2):
+        manager = start(folder, "--orphans", "leave", "x.dag")
+        wait_for_sleeping(count, 1)
+        kill(manager)
+    same((sleeping(), len(sleeping(1))), ([child], 2))
+    second = start(folder, "x.dag")
+    wait_until(lambda: sleeping() == [] and len(sleeping(1)) == 1, f"{sleeping()} and {sleeping(1)} sleep")
+    kill(second)
+
+
+def an_identifier_that_can_not_be_kept(folder):
+    """The round goes on, and its log says so."""
+    folder.write("x.dag", "JOB A a.sub\n")
+    folder.echo("a")
+    os.mkdir(folder.at("x.dag.round.new"))
+    same(folder.call("run", "x.dag"), ("A DONE attempts=1 value=0\nresult 0\n", "", 0))
+    [line] = [line.split("\t") for line in folder.read("x.dag.log").decode().splitlines() if "\tunkept\t" in line]
+    same((line[2:5], line[6]), (["-", "-", "-"], "reason='Is a directory (os error 21)'"))
+
+
+def identifiers_that_can_not_be_read(folder):
+    """A pipe, a link or a folder in place of the file is refused at once, before anything is started."""
+    folder.write("x.dag", "JOB A a.sub\n")
+    folder.echo("a")
+    for make in (os.mkfifo, os.mkdir, lambda path: os.symlink("x.dag", path)):
+        make(folder.at("x.dag.round"))
+        same(folder.call("run", "x.dag"), ("", "dagrun: X2 FileRefused x.dag.round\n", 125))
+        same(folder.there("x.dag.journal"), False)
+        if os.path.isdir(folder.at("x.dag.round")):
+            os.rmdir(folder.at("x.dag.round"))
+        else:
+            os.remove(folder.at("x.dag.round"))
+    same(folder.call("run", "x.dag"), ("A DONE attempts=1 value=0\nresult 0\n", "", 0))
+
+
+def questions_that_are_refused(folder):
+    """A refused question is no answer: nothing is started."""
+    sleepers(folder, "A")
+    kill_after_start(folder, 1)
+    before = sleeping()
+    path = f"/proc/{before[0]}/environ"
+    strace = ["strace", "-qqq", "-o", "/dev/null", "-e", "trace=openat", "-P", path, "-e", "inject=openat:error=EMFILE"]
+    done = subprocess.run([*strace, folder.program, "run", "x.dag"], cwd=folder.path, capture_output=True, timeout=PATIENCE)
+    same((done.stdout, done.stderr, done.returncode, sleeping()), (b"", b"dagrun: X2 FileRefused /proc\n", 125, before))
+
+
+def what_children_inherit(folder):
+    """Its round, its DAG, its node, its phase and its attempt; the identifier is kept while the round goes on, and the next round has another one."""
+    folder.write("x.dag", "JOB A a.sub\nSCRIPT PRE A p.sh\nRETRY A 1\n")
+    folder.write("p.sh", "#!/bin/sh\nenv | grep ^DAGRUN_ | sort >> seen\n")
+    os.chmod(folder.at("p.sh"), 0o755)
+    folder.shell("a", "env | grep ^DAGRUN_ | sort >> seen\ncp x.dag.round kept\n[ -e again ] || { : > again; exit 1; }\n")
+    same(folder.call("run", "x.dag")[2], 0)
+    same(folder.there("x.dag.round"), False)
+    [line] = folder.read("kept").decode().splitlines()
+    found = os.stat(folder.path)
+    same(line.split("\t")[1:], [str(found.st_dev), str(found.st_ino)])
+    round_of = line.split("\t")[0]
+    dag = os.path.join(os.path.realpath(folder.path), "x.dag")
+    wanted = [f"DAGRUN_ATTEMPT={attempt}\nDAGRUN_DAG={dag}\nDAGRUN_NODE=A\nDAGRUN_PHASE={phase}\nDAGRUN_ROUND={round_of}\n" for attempt in (0, 1) for phase in ("PRE", "JOB")]
+    same(folder.read("seen").decode(), "".join(wanted))
+    same(folder.call("run", "x.dag")[2], 0)
+    same(folder.read("kept").decode().split("\t")[0] == round_of, False)
+
+
+def the_identifier_of_all_lives(folder):
+    """A round that is killed and gone on with has one identifier."""
+    sleepers(folder, "A")
+    kill_after_start(folder, 1)
+    before = folder.read("x.dag.round")
+    kill(begin_again(folder, 1))
+    same(folder.read("x.dag.round"), before)
+
+
+ROWS = [
+    noted_and_not,
+    two_folders,
+    copied_folder,
+    moved_folder,
+    a_refused_start,
+    adopters,
+    wrapped,
+    two_hundred,
+    forged_notes,
+    forged_identifiers,
+    a_manager_that_lives,
+    our_ancestor,
+    left_and_killed,
+    an_identifier_that_can_not_be_kept,
+    identifiers_that_can_not_be_read,
+    what_children_inherit,
+    the_identifier_of_all_lives,
+]
+
+
+def main():
+    program = os.path.realpath(sys.argv[1])
+    rows = list(ROWS)
+    if shutil.which("strace"):
+        rows += [equal_words, some_that_can_not_be_ended, questions_that_are_refused]
+    else:
+        print("strace is not installed: no manager is killed between the start of a child and its note, and no call is refused")
+    if os.getuid() == 0 and subprocess.run(["unshare", "--pid", "--fork", "--mount-proc", "true"], capture_output=True).returncode == 0:
+        rows.append(first_process_of_a_container)
+    else:
+        print("no container can be made here: its first process is not tried")
+    if len(sys.argv) > 2:
+        rows = [row for row in rows if sys.argv[2] in row.__name__]
+    failed = 0
+    for row in rows:
+        with tempfile.TemporaryDirectory() as path:
+            try:
+                row(Folder(program, path))
+            except (AssertionError, OSError, ValueError, subprocess.SubprocessError) as fault:
+                failed += 1
+                print(f"FAILED {row.__name__}: {fault}", flush=True)
+            finally:
+                end_all()
+    print(f"{len(rows) - failed} passed, {failed} failed")
+    sys.exit(1 if failed else 0)
+
+
+if __name__ == "__main__":
+    main()
