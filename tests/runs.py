@@ -2660,6 +2660,49 @@ def no_lock_is_left(folder):
     same(folder.there("x.dag.lock"), False)
 
 
+def a_kill_refused_behind_an_abort(folder):
+    """A child that the system doesn't let the manager kill is let go, the log says so, and the next `run` ends it first."""
+    folder.write("x.dag", "JOB A a.sub\nJOB B b.sub\nABORT-DAG-ON A 7\n")
+    folder.shell("a", "[ ! -e again ] || exit 0\nwhile [ ! -e b ]; do sleep 0.02; done; exit 7\n")
+    folder.shell("b", "[ ! -e again ] || exit 0\necho $$ > process\nmv process b\nexec sleep 100\n")
+    words = ["strace", "-qqq", "-o", "/dev/null", "-e", "trace=kill", "-e", "inject=kill:error=EPERM", folder.program, "run", "x.dag"]
+    done = subprocess.run(words, cwd=folder.path, stdout=subprocess.PIPE, stderr=subprocess.DEVNULL, timeout=PATIENCE)
+    same((done.stdout, done.returncode), (b"A ERROR attempts=1 value=7\nB READY attempts=0 value=-\nresult 7\n", 7))
+    process = int(folder.read("b"))
+    [killed] = [line for line in fields_of(folder) if line[0] == "killed"]
+    same((runs_still(process), killed[1], killed[4]["refused"]), (True, "B", "yes"))
+    folder.write("again", "")
+    same(folder.call("run", "x.dag")[2], 0)
+    same((runs_still(process), orphans_in(folder, "x.dag.log.old"), folder.there("x.dag.children"), folder.there("x.dag.round")), (False, ["killed"], False, False))
+
+
+def first_rounds_at_once(folder):
+    """Of many managers that begin at once in a folder without a journal one works, and the others are refused."""
+    folder.write("x.dag", "JOB A a.sub\n")
+    folder.shell("a", "echo ran >> ran\nwhile [ ! -e go ]; do sleep 0.02; done\n")
+    managers = [folder.start("run", "x.dag") for _ in range(8)]
+    wait_until(lambda: sum(manager.poll() is not None for manager in managers) == 7, "not all but one are refused")
+    folder.wait_for("ran")
+    folder.write("go", "")
+    answers = sorted((*(text.decode() for text in manager.communicate(timeout=PATIENCE)), manager.returncode) for manager in managers)
+    same(answers, [("", "dagrun: X2 FileRefused x.dag.lock\n", 125)] * 7 + [("A DONE attempts=1 value=0\nresult 0\n", "", 0)])
+    same(folder.read("ran"), b"ran\n")
+
+
+def another_round_before_the_lock(folder):
+    """Where another manager led a whole round between a manager's look and its lock, this one is refused, and starts nothing."""
+    folder.write("x.dag", "JOB A a.sub\n")
+    folder.shell("a", "echo ran >> ran\n")
+    late = subprocess.Popen(
+        ["strace", "-qqq", "-o", "/dev/null", "-e", "trace=flock", "-e", "inject=flock:delay_enter=2s:when=1", folder.program, "run", "x.dag"],
+        cwd=folder.path, stdout=subprocess.PIPE, stderr=subprocess.PIPE)
+    # It has looked, and holds the lock's file open.
+    wait_until(lambda: folder.there("x.dag.lock"), "the late manager has not come to its lock")
+    same(folder.call("run", "x.dag"), ("A DONE attempts=1 value=0\nresult 0\n", "", 0))
+    same(late.communicate(timeout=PATIENCE), (b"", b"dagrun: X2 FileRefused x.dag.lock\n"))
+    same((late.returncode, folder.read("ran")), (125, b"ran\n"))
+
+
 def special_files_beside(folder):
     """What is no regular file is not opened in the place of one, and no symbolic link is followed."""
     folder.write("x.dag", "JOB A a.sub\nJOB B b.sub\n")
@@ -2757,15 +2800,15 @@ def huge_files_beside(folder):
 
 def a_log_under_a_limit(folder):
     """Under `ulimit -f` the log stops growing before the system would end the manager, and says so; so it does in the next life."""
-    names = [f"n{number}" for number in range(40)]
+    names = [f"a_node_with_a_long_name_{number}" for number in range(100)]
     folder.write("x.dag", "".join(f"JOB {name} a.sub\n" for name in names))
     folder.write("a.sub", "executable = /bin/true\nqueue\n")
     report = "".join(f"{name} DONE attempts=1 value=0\n" for name in names) + "result 0\n"
     for _ in range(3):
-        done = subprocess.run(["prlimit", "--fsize=8192", folder.program, "run", "x.dag"], cwd=folder.path, capture_output=True, timeout=PATIENCE)
+        done = subprocess.run(["prlimit", "--fsize=16384", folder.program, "run", "x.dag"], cwd=folder.path, capture_output=True, timeout=PATIENCE)
         same((done.stdout.decode(), done.stderr, done.returncode), (report, b"", 0))
         log = folder.read("x.dag.log")
-        same((log.count(b"\tfull\t"), log.splitlines()[-1].split(b"\t")[1], len(log) <= 8192), (1, b"full", True))
+        same((log.count(b"\tfull\t"), log.splitlines()[-1].split(b"\t")[1], len(log) <= 16384), (1, b"full", True))
 
 
 def permissions_of_what_is_made(folder):
@@ -3179,6 +3222,7 @@ ROWS = [
     a_journal_that_is_being_written,
     a_lock_that_was_removed,
     no_lock_is_left,
+    first_rounds_at_once,
     special_files_beside,
     pipes_and_devices_beside,
     huge_files_beside,
@@ -3258,7 +3302,7 @@ def main():
     program = os.path.realpath(sys.argv[1])
     rows = list(ROWS)
     if shutil.which("strace"):
-        rows += [a_look_beside_a_manager, the_order_of_the_disk, names_are_synced, outputs_are_synced, outputs_of_endings_together, outputs_that_are_refused, cut_short_while_going_back, a_child_that_was_being_started, a_launched_child_that_was_being_started, what_the_system_said, the_end_of_a_journal, cut_short_while_salvaging]
+        rows += [a_kill_refused_behind_an_abort, another_round_before_the_lock, a_look_beside_a_manager, the_order_of_the_disk, names_are_synced, outputs_are_synced, outputs_of_endings_together, outputs_that_are_refused, cut_short_while_going_back, a_child_that_was_being_started, a_launched_child_that_was_being_started, what_the_system_said, the_end_of_a_journal, cut_short_while_salvaging]
     else:
         print("strace is not installed: the order in which the disk is written is not looked at, and no call of going back is cut short, and no child while it is started")
     if os.getuid() == 0:

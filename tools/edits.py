@@ -8,7 +8,7 @@ text is in its file once, the edit changes something, and the sources with it co
 Sources are compiled with many edits at once, no two in one line, so that three passes do for some 700 edits. tools/edits.sums has a
 line for each crate whose edits compiled: its name and the SHA-256 over its code and its edits. What it has is not compiled again. A
 crate whose libraries are built (`rt check` or `rt lib` in it) is compiled over them, in half a minute a pass; any other one with
-the sources of all below it, which takes five processor minutes and 7 GB for dagrun: so the sums are committed with the edits. Where a
+the sources of all below it, one pass at a time, which takes five processor minutes and up to 11 GB for dagrun: so the sums are committed with the edits. Where a
 pass is refused, the edits of the files that it names are tried one by one, and then the others again. The status is 1 where an edit
 doesn't fit. Of an edit of specs/ it is only seen that its text is there: the compiler reads no definition without a proof."""
 
@@ -269,7 +269,9 @@ def kept_sums():
 def compile_edits(edits, texts, uses):
     """Compiles these edits, and answers a line for each that the compiler refuses, by its edit."""
     rounds = [one.edits for one in rounds_of(edits, texts)]
-    with concurrent.futures.ThreadPoolExecutor(max(1, min(3, os.cpu_count() - 1))) as pool:
+    # With the sources of all below it one pass takes up to 11 GB.
+    is_small = all(has_libraries(crate, uses) for crate in {edit.crate for edit in edits})
+    with concurrent.futures.ThreadPoolExecutor(max(1, min(3, os.cpu_count() - 1)) if is_small else 1) as pool:
         found = [refused for refused in pool.map(lambda edits: refused_of(edits, texts, uses), rounds)]
     return {edit: f"{edit.path}: it doesn't compile: {first_error(said)}" for refused in found for edit, said in refused.items()}
 

@@ -146,7 +146,7 @@ impl<'a> Place<'a> {
     ///
     /// # Errors
     /// `FileRefused` with the path of a file that the system refuses to read, or that is no regular file;
-    /// `Memory`, also for a journal of more than 1 GiB, a log of more than 512 MiB and any other file of more than 64 MiB.
+    /// `Memory`, also for a journal of more than 513 MiB, a log of more than 512 MiB and any other file of more than 64 MiB.
     pub fn read<R: Files + AllocGlobal>(
         &self,
         rt: &R,
@@ -420,8 +420,8 @@ fn open_regular<R: Files<File = File>>(rt: &R, path: &str) -> io::Result<File> {
     File::open(rt, path)
 }
 
-/// The greatest size of a journal in bytes, 1 GiB: dagrun writes at most 2^24 slots of 32 bytes.
-const MOST_OF_JOURNAL: u64 = 1 << 30;
+/// The greatest size of a journal in bytes, 513 MiB: dagrun writes at most 2^24 slots of 32 bytes, behind a header.
+const MOST_OF_JOURNAL: u64 = (1 << 29) + (1 << 20);
 
 /// The greatest size of a log in bytes, 512 MiB.
 const MOST_OF_LOG: u64 = 1 << 29;

@@ -10,7 +10,9 @@ ghost use Rattle.dag_main_check.specs.Warnings.{warning_lines};
 ghost use Rattle.dag_main_run.specs.Sites.{start_by, journal_found, stop_of, rounds_at, IsRoundLedAt, IsRoundStoppedAt};
 ghost use Rattle.dag_main_run.specs.Runs.{IsPlannedRun, IsRunOf, IsRunFrom, IsFindingFault, IsLockedFault, IsFirstRunFault, IsRoundPlanFault, IsStopFault, IsHeldFault, IsRunFault};
 
-use crate::beginning::{forget_processes, has_own_files, keep_inputs, life_of, watcher_of};
+use crate::beginning::{
+    Inputs, forget_processes, has_own_files, keep_inputs, life_of, watcher_of,
+};
 use crate::launching::launcher_of;
 use crate::progress::{RoundWatcher, progress_of};
 use crate::rounds::{identified, orphans_found, settled};
@@ -176,7 +178,7 @@ fn tell_end<R: Files<File = File> + Clock + AllocGlobal + Copy + Drop>(
 }
 
 /// Leads a round of a plan to its end on these disks, once no process of an earlier manager is in its
-/// way, and answers what it prints.
+/// way, and answers what it prints. What a new round begins with is kept first.
 fn run_on<R: Processes + Files<File = File> + Clock + Screen + AllocGlobal + Copy + Drop, H: Site>(
     rt: R,
     site: &H,
@@ -185,6 +187,7 @@ fn run_on<R: Processes + Files<File = File> + Clock + Screen + AllocGlobal + Cop
     round: &Round,
     options: &RunOptions,
     launcher: &Launcher,
+    inputs: Inputs<'_>,
     disks: (H::Journal, H::Rescue),
     lock: &mut Lock,
 ) -> Result<Report, RunFault>
@@ -204,6 +207,7 @@ fn run_on<R: Processes + Files<File = File> + Clock + Screen + AllocGlobal + Cop
     let (journal, rescue) = disks;
     let journal = site.readied(place.top, journal, round, lock)?;
     let kept = settled(&rt, place, plan, round, options, orphans)?;
+    keep_inputs(rt, place, plan, round, inputs)?;
     let mut log = watcher_of(rt, place, plan, round, options.sync_output)?;
     let known = identified(rt, place, round, kept, &mut log)?;
     log.begins(&life_of(place, round, options));
@@ -240,6 +244,7 @@ fn run_planned<
     round: &Round,
     options: &RunOptions,
     launcher: &Launcher,
+    inputs: Inputs<'_>,
     lock: &mut Lock,
 ) -> Result<Report, RunFault>
     requires next { IsRescueNumber round.now.next }
@@ -259,6 +264,7 @@ fn run_planned<
         round,
         options,
         launcher,
+        inputs,
         (journal, rescue),
         lock,
     )
@@ -361,7 +367,7 @@ fn is_same(found: &(Round, Option<Vec<u8>>), again: &(Round, Option<Vec<u8>>)) -
 }
 
 /// Runs the round that was found before the lock was taken, with the rescue file that it reads, where it is
-/// still found, and answers what is printed. What a round begins with is kept first.
+/// still found, and answers what is printed.
 fn run_locked<
     R: Processes + Files<File = File> + Clock + Screen + AllocGlobal + Copy + Drop,
     H: Site,
@@ -390,8 +396,13 @@ fn run_locked<
         return Err(place.taken(alloc));
     }
     let warnings = warning_text(alloc, plan.graph().flat().warnings())?;
-    keep_inputs(rt, place, plan, round, files, rescue.as_deref())?;
-    let report = run_planned(rt, site, place, plan, round, options, launcher, lock)?;
+    let inputs = Inputs {
+        files,
+        rescue: rescue.as_deref(),
+    };
+    let report = run_planned(
+        rt, site, place, plan, round, options, launcher, inputs, lock,
+    )?;
     Ok(Answer {
         text: report.text,
         warnings,

@@ -27,11 +27,6 @@ pub returns-in_err-warnings-clause-refused : goal.returns-in_err-warnings-clause
 returns-in_err-warnings-clause-refused g c =
     by-fault (IsHeldFault c.args.options.now _ _) Memory (not_led _ leading_had_no_memory) c.from_residual-in_err-warnings.result c.from_residual-in_err-warnings.ensures.1
 
-pub returns-in_err-keep_inputs-clause-refused : goal.returns-in_err-keep_inputs-clause-refused
-returns-in_err-keep_inputs-clause-refused g c =
-    by-fault (IsHeldFault c.args.options.now _ _) c.in_err-keep_inputs.field-0.0 (not_led _ (subst (IsStopFault _ _) (sym c.in_err-keep_inputs.ensures) leading_had_no_memory))
-    c.from_residual-in_err-keep_inputs.result c.from_residual-in_err-keep_inputs.ensures.1
-
 pub returns-in_err-report-clause-refused : goal.returns-in_err-report-clause-refused
 returns-in_err-report-clause-refused g c =
     by-fault (IsHeldFault c.args.options.now _ _) c.in_err-report.field-0.0 (not_led _ c.in_err-report.ensures.refused)
