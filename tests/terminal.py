@@ -488,6 +488,33 @@ def hints(folder):
         same(answer.screen.told(), lines)
 
 
+def what_is_in_the_way(folder):
+    """Behind X2 stands what is wrong with the file: its kind, who has its lock."""
+    folder.write("a.sub", "executable = /bin/true\nqueue\n")
+    folder.write("x.dag", "JOB A a.sub\n")
+    for name, make, words in (
+        ("journal", os.mkfifo, "a pipe"),
+        ("lock", lambda path: os.symlink("x.dag", path), "a symbolic link"),
+        ("children", os.mkdir, "a folder"),
+        ("round", os.mkfifo, "a pipe"),
+    ):
+        path = f"x.dag.{name}"
+        make(folder.at(path))
+        answer = folder.on_terminal("run", "x.dag")
+        same((answer.status, answer.text), (125, ""))
+        same(answer.screen.told(), [f"dagrun: X2 FileRefused {path}", f"    {path} is {words}, no regular file", "    dagrun explain X2 says more"])
+        os.rmdir(folder.at(path)) if os.path.isdir(folder.at(path)) else os.remove(folder.at(path))
+    with open(folder.at("x.dag.lock"), "w") as lock:
+        fcntl.flock(lock, fcntl.LOCK_EX)
+        answer = folder.on_terminal("run", "x.dag")
+        same(answer.screen.told()[:2], ["dagrun: X2 FileRefused x.dag.lock", "    another `dagrun run` works on this DAG"])
+    folder.write("x.dag.children", "")
+    with open(folder.at("x.dag.children"), "wb") as file:
+        file.write(b"\xff\n")
+    answer = folder.on_terminal("run", "x.dag")
+    same(answer.screen.told()[:2], ["dagrun: X2 FileRefused x.dag.children", "    it is no text"])
+
+
 def goes_on_where_it_stood(folder):
     """A round that goes on counts what was done before."""
     for name in "ABC":
@@ -628,6 +655,7 @@ ROWS = [
     an_abort,
     a_refusal_in_the_middle,
     hints,
+    what_is_in_the_way,
     goes_on_where_it_stood,
     noops,
     a_final_node,

@@ -7,7 +7,8 @@ use dag_main_files::{Place, read_input};
 use log_lines::{read_line, unquoted, whole_lines};
 use refusal_hints::{Evidence, Refusal, hint_text};
 use std::alloc::{AllocError, Global};
-use std::fs::File;
+use std::fs::{self, File, Metadata};
+use std::os::unix::fs::{FileTypeExt, MetadataExt};
 use std::rt::Files;
 
 /// The states of nodes in a status, in the order in which they are counted.
@@ -37,18 +38,75 @@ fn source_of<R: Files + AllocGlobal>(rt: &R, refusal: &Refusal<'_>) -> Option<Ve
     read_input(rt, place.path, false).ok()
 }
 
-/// What the system says to a look at a path that was refused.
+/// What stands in the place of a regular file, in words; none where it is one.
+fn kind_of(found: &Metadata) -> Option<&'static str> {
+    let kind = found.file_type();
+    if kind.is_symlink() {
+        Some("a symbolic link")
+    } else if kind.is_fifo() {
+        Some("a pipe")
+    } else if kind.is_dir() {
+        Some("a folder")
+    } else if kind.is_file() {
+        None
+    } else {
+        Some("a device or a socket")
+    }
+}
+
+/// The number of the user to whom something belongs, where that is another one than this.
+fn other_owner<R: Files>(rt: &R, found: &Metadata) -> Option<u32> {
+    match fs::metadata(rt, "/proc/self") {
+        Ok(own) if own.uid() != found.uid() => Some(found.uid()),
+        _ => None,
+    }
+}
+
+/// What is wrong with what stands at a path, which is not opened: it is no regular file, or another user's.
+fn seen_at<R: Files + AllocGlobal>(rt: &R, path: &str) -> Result<Option<String>, AllocError> {
+    let alloc = rt.alloc();
+    let Ok(found) = fs::symlink_metadata(rt, path) else {
+        return Ok(None);
+    };
+    if let Some(kind) = kind_of(&found) {
+        return Ok(Some(format!(in alloc; "{path} is {kind}, no regular file")?));
+    }
+    match other_owner(rt, &found) {
+        Some(user) => Ok(Some(format!(in alloc;
+            "{path} belongs to user {user}: remove it, or see --trust-owner"
+        )?)),
+        None => Ok(None),
+    }
+}
+
+/// What is wrong with a regular file of this user's that can be read, by its name.
+fn wrong_with(path: &str, bytes: &[u8]) -> Option<&'static str> {
+    let is_text = str::from_utf8(bytes).is_ok();
+    if path.ends_with(".lock") {
+        Some("another `dagrun run` works on this DAG")
+    } else if !path.ends_with(".children") && !path.ends_with(".round") {
+        None
+    } else if is_text {
+        Some("a process of the round still runs: the log names it with done=refused")
+    } else {
+        Some("it is no text")
+    }
+}
+
+/// What a look at a path that was refused finds.
 fn reason_of_path<R: Files + AllocGlobal>(
     rt: &R,
     path: &str,
 ) -> Result<Option<String>, AllocError> {
+    if let Some(seen) = seen_at(rt, path)? {
+        return Ok(Some(seen));
+    }
     let alloc = rt.alloc();
-    match read_input(rt, path, true) {
-        Ok(_) if path.ends_with(".lock") => Ok(Some(String::from_str(
-            alloc,
-            "another `dagrun run` works on this DAG",
-        )?)),
-        Ok(_) => Ok(None),
+    match read_input(rt, path, false) {
+        Ok(bytes) => match wrong_with(path, &bytes) {
+            Some(words) => Ok(Some(String::from_str(alloc, words)?)),
+            None => Ok(None),
+        },
         Err(error) => Ok(Some(format!(in alloc; "{path}: {error}")?)),
     }
 }
