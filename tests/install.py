@@ -251,6 +251,9 @@ def completion_of_bash(folder):
     same(completed(folder, "dagrun run --"), ["--always-run-post", "--autorescue", "--dorescuefrom", "--help", "--launcher", "--launcher-final", "--maxjobs", "--maxpost", "--maxpre", "--orphans", "--progress", "--resume", "--sync-output", "--trust-owner"])
     same(completed(folder, "dagrun rehearse --max"), ["--maxjobs", "--maxpost", "--maxpre"])
     same(completed(folder, "dagrun status --m"), [])
+    same(completed(folder, "dagrun times --"), ["--help", "--svg", "--trust-owner"])
+    for name in ("audit", "graph", "salvage", "status", "why"):
+        same(completed(folder, f"dagrun {name} --"), ["--help", "--trust-owner"])
     same(completed(folder, "dagrun run --autorescue "), ["0", "1"])
     same(completed(folder, "dagrun run --autorescue="), ["0", "1"])
     same(completed(folder, "dagrun run --maxjobs "), [])

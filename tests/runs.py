@@ -2337,7 +2337,7 @@ def salvaged_at_each_moment(folder):
 
 
 def salvaged_with_submit_files_that_are_broken(folder):
-    """Submit files are not read but for their sums: they may be changed, broken, folders or missing."""
+    """Submit files are not read but for their sums: they may be changed, broken, folders, links or missing."""
     folder.write("x.dag", DIAMOND)
     folder.echo(*"abcd")
     folder.call("run", "x.dag")
@@ -2346,6 +2346,9 @@ def salvaged_with_submit_files_that_are_broken(folder):
     os.remove(folder.at("b.sub"))
     os.remove(folder.at("c.sub"))
     os.mkdir(folder.at("c.sub"))
+    # A link to the same bytes is no change.
+    os.rename(folder.at("d.sub"), folder.at("d.real"))
+    os.symlink("d.real", folder.at("d.sub"))
     lines = "changed since the round began: a.sub\nmissing since the round began: b.sub\nchanged since the round began: c.sub\n"
     same(folder.call("salvage", "x.dag"), ("1 of 4 nodes are done: x.dag.rescue001\n" + lines, "", 0))
     same(folder.read("x.dag.rescue001"), rescue_of(4, "A"))
@@ -2881,6 +2884,63 @@ def files_of_other_users(folder):
                 os.chown(folder.at(name), os.getuid(), os.getgid())
 
 
+def told_by_files_of_other_users(folder):
+    """There the commands that tell of a round, and one that would print its report again, go by such files as a run does."""
+    folder.write("x.dag", "JOB A a.sub\nJOB B b.sub\n")
+    folder.echo("a")
+    folder.shell("b", "exit 1\n")
+    # The second round reads x.dag.rescue001.
+    folder.call("run", "x.dag")
+    folder.call("run", "x.dag")
+    tellers = [("status",), ("audit",), ("graph",), ("why",), ("run", "--resume")]
+    for name, commands in (("x.dag.journal", tellers), ("x.dag.rescue001", tellers), ("x.dag.log", [("why",), ("times",)])):
+        for words in commands:
+            before = everything(folder)
+            wanted = folder.call(*words, "x.dag")
+            os.chown(folder.at(name), NOBODY, NOBODY)
+            os.chmod(folder.path, 0o777)
+            refused(folder, (*words, "x.dag"), f"X2 FileRefused {name}")
+            same(folder.call(*words, "--trust-owner", "x.dag"), wanted)
+            os.chmod(folder.path, 0o755)
+            same(folder.call(*words, "x.dag"), wanted)
+            os.chown(folder.at(name), os.getuid(), os.getgid())
+            same(everything(folder), before)
+
+
+def salvaged_by_files_of_other_users(folder):
+    """There nothing is salvaged by what another user put there: a journal with its inputs could mark any node."""
+    folder.write("x.dag", "JOB A a.sub\nJOB B b.sub\n")
+    folder.echo("a")
+    folder.shell("b", "exit 1\n")
+    folder.call("run", "x.dag")
+    folder.call("run", "x.dag")
+    # Of the second round, which read x.dag.rescue001, is left that a manager began.
+    folder.cut_journal(1)
+    os.remove(folder.at("x.dag.rescue002"))
+    folder.write("x.dag.lock", "")
+    journal = folder.read("x.dag.journal")
+    done = ("1 of 2 nodes are done: x.dag.rescue002\n", "", 0)
+    for names in (["x.dag.journal", "x.dag.inputs"], ["x.dag.lock"], ["x.dag.inputs"], ["x.dag.rescue001"]):
+        for name in names:
+            os.chown(folder.at(name), NOBODY, NOBODY)
+        os.chmod(folder.path, 0o777)
+        before = {name: bytes for name, bytes in everything(folder).items() if name != "x.dag.lock"}
+        refused(folder, ("salvage", "x.dag"), f"X2 FileRefused {names[0]}")
+        same({name: bytes for name, bytes in everything(folder).items() if name != "x.dag.lock"}, before)
+        for mode, words in ((0o777, ("salvage", "--trust-owner")), (0o755, ("salvage",))):
+            os.chmod(folder.path, mode)
+            same(folder.call(*words, "x.dag"), done)
+            same(folder.read("x.dag.rescue002"), rescue_of(2, "A"))
+            os.remove(folder.at("x.dag.rescue002"))
+            os.remove(folder.at("x.dag.journal.old"))
+            folder.write("x.dag.journal", journal)
+            folder.write("x.dag.lock", "")
+            for name in set(names) & {"x.dag.journal", "x.dag.lock"}:
+                os.chown(folder.at(name), NOBODY, NOBODY)
+        for name in names:
+            os.chown(folder.at(name), os.getuid(), os.getgid())
+
+
 def what_the_system_said(folder):
     """Where a call of the journal is refused, the log has the call and the reason."""
     folder.write("x.dag", "JOB A a.sub\nJOB B a.sub\nPARENT A CHILD B\n")
@@ -3306,7 +3366,7 @@ def main():
     else:
         print("strace is not installed: the order in which the disk is written is not looked at, and no call of going back is cut short, and no child while it is started")
     if os.getuid() == 0:
-        rows.append(files_of_other_users)
+        rows += [files_of_other_users, told_by_files_of_other_users, salvaged_by_files_of_other_users]
     else:
         print("this is not root: whose the files are that stand beside a DAG is not looked at")
     if can_mount():

@@ -10,7 +10,7 @@ use Rattle.dag_main_args.specs.declared.request.Request.{Request}
 use Rattle.dag_main_args.specs.declared.request.Request.TheVariants.{Check, Run, Status, Audit, Rehearse, Graph, Why, Times, Salvage, Page}
 use Rattle.dag_main_args.specs.Launchers.{IsLauncherOf, given, not_given}
 use Rattle.dag_main_args.specs.Requests.{Asked, asked_by, asks_why, no_limits, rehearses, runs, shows}
-use Rattle.dag_main_args.specs.Matched.{AreOptionsOf, AsksFor, IsRequestOf, dag_path, is_on, is_set, limits_asked, nodes_asked, number_asked, orphan_rule_of, progress_of, version_text}
+use Rattle.dag_main_args.specs.Matched.{AreOptionsOf, AsksFor, IsRequestOf, dag_path, is_on, is_set, limits_asked, nodes_asked, number_asked, orphan_rule_of, progress_of, trusts_owner, version_text}
 use Rattle.dag_main_args.specs.Table.{dagrun_app}
 use Rattle.dag_main_args.specs.Answered.{clashes}
 use Rattle.dag_main_args.specs.Examples.{AskForAlone, AskInVain, plain_options}
@@ -58,31 +58,31 @@ run_alone : (rows : List Row) (dag : Text) (plain : RunOptions) (request : Reque
     → AsksRun rows plain → asked_by request ≡ runs dag plain
 run_alone rows dag plain (Run path options) h is asks = ap₂ runs (h.1 ∙ is) (same_options rows options plain h.2 asks)
 run_alone rows dag plain (Check path hints condor) h is asks = absurd (differ _ _ refl h.0)
-run_alone rows dag plain (Status path) h is asks = absurd (differ _ _ refl h.0)
-run_alone rows dag plain (Audit path) h is asks = absurd (differ _ _ refl h.0)
+run_alone rows dag plain (Status path owned) h is asks = absurd (differ _ _ refl h.0)
+run_alone rows dag plain (Audit path owned) h is asks = absurd (differ _ _ refl h.0)
 run_alone rows dag plain (Rehearse path outcomes limits always_post) h is asks = absurd (differ _ _ refl h.0)
-run_alone rows dag plain (Graph path) h is asks = absurd (differ _ _ refl h.0)
-run_alone rows dag plain (Why path nodes) h is asks = absurd (differ _ _ refl h.0)
-run_alone rows dag plain (Times path svg) h is asks = absurd (differ _ _ refl h.0)
-run_alone rows dag plain (Salvage path) h is asks = absurd (differ _ _ refl h.0)
+run_alone rows dag plain (Graph path owned) h is asks = absurd (differ _ _ refl h.0)
+run_alone rows dag plain (Why path nodes owned) h is asks = absurd (differ _ _ refl h.0)
+run_alone rows dag plain (Times path svg owned) h is asks = absurd (differ _ _ refl h.0)
+run_alone rows dag plain (Salvage path owned) h is asks = absurd (differ _ _ refl h.0)
 run_alone rows dag plain (Page text) (inl h) is asks = absurd (differ _ _ refl h.0)
 run_alone rows dag plain (Page text) (inr (inl h)) is asks = absurd (differ _ _ refl h)
 run_alone rows dag plain (Page text) (inr (inr h)) is asks = absurd (differ _ _ refl h.0)
 
 why_alone : (rows : List Row) (dag : Text) (nodes : List Text) (request : Request) → IsRequestOf (codes "why") rows request → dag_path rows ≡ dag
-    → nodes_asked rows ≡ nodes → asked_by request ≡ asks_why dag nodes
-why_alone rows dag nodes (Why path names) h is asks = ap₂ asks_why (h.1 ∙ is) (h.2 ∙ asks)
-why_alone rows dag nodes (Run path options) h is asks = absurd (differ _ _ refl h.0)
-why_alone rows dag nodes (Check path hints condor) h is asks = absurd (differ _ _ refl h.0)
-why_alone rows dag nodes (Status path) h is asks = absurd (differ _ _ refl h.0)
-why_alone rows dag nodes (Audit path) h is asks = absurd (differ _ _ refl h.0)
-why_alone rows dag nodes (Rehearse path outcomes limits always_post) h is asks = absurd (differ _ _ refl h.0)
-why_alone rows dag nodes (Graph path) h is asks = absurd (differ _ _ refl h.0)
-why_alone rows dag nodes (Times path svg) h is asks = absurd (differ _ _ refl h.0)
-why_alone rows dag nodes (Salvage path) h is asks = absurd (differ _ _ refl h.0)
-why_alone rows dag nodes (Page text) (inl h) is asks = absurd (differ _ _ refl h.0)
-why_alone rows dag nodes (Page text) (inr (inl h)) is asks = absurd (differ _ _ refl h)
-why_alone rows dag nodes (Page text) (inr (inr h)) is asks = absurd (differ _ _ refl h.0)
+    → nodes_asked rows ≡ nodes → trusts_owner rows ≡ false → asked_by request ≡ asks_why dag nodes false
+why_alone rows dag nodes (Why path names owned) h is asks distrusts = λ i. asks_why ((h.1 ∙ is) i) ((h.2 ∙ asks) i) ((h.3 ∙ distrusts) i)
+why_alone rows dag nodes (Run path options) h is asks distrusts = absurd (differ _ _ refl h.0)
+why_alone rows dag nodes (Check path hints condor) h is asks distrusts = absurd (differ _ _ refl h.0)
+why_alone rows dag nodes (Status path owned) h is asks distrusts = absurd (differ _ _ refl h.0)
+why_alone rows dag nodes (Audit path owned) h is asks distrusts = absurd (differ _ _ refl h.0)
+why_alone rows dag nodes (Rehearse path outcomes limits always_post) h is asks distrusts = absurd (differ _ _ refl h.0)
+why_alone rows dag nodes (Graph path owned) h is asks distrusts = absurd (differ _ _ refl h.0)
+why_alone rows dag nodes (Times path svg owned) h is asks distrusts = absurd (differ _ _ refl h.0)
+why_alone rows dag nodes (Salvage path owned) h is asks distrusts = absurd (differ _ _ refl h.0)
+why_alone rows dag nodes (Page text) (inl h) is asks distrusts = absurd (differ _ _ refl h.0)
+why_alone rows dag nodes (Page text) (inr (inl h)) is asks distrusts = absurd (differ _ _ refl h)
+why_alone rows dag nodes (Page text) (inr (inr h)) is asks distrusts = absurd (differ _ _ refl h.0)
 
 rehearsal_alone : (rows : List Row) (dag : Text) (outcomes : Option Text) (plain : Limits) (post : Bool) (request : Request)
     → IsRequestOf (codes "rehearse") rows request → dag_path rows ≡ dag → first_of (codes "OUTCOMES") rows ≡ outcomes → limits_asked rows ≡ plain
@@ -91,12 +91,12 @@ rehearsal_alone rows dag outcomes plain post (Rehearse path table limits always_
     rehearses ((h.1 ∙ is) i) ((h.2 ∙ asks) i) ((h.3 ∙ most) i) ((h.4 ∙ posts) i)
 rehearsal_alone rows dag outcomes plain post (Run path options) h is asks most posts = absurd (differ _ _ refl h.0)
 rehearsal_alone rows dag outcomes plain post (Check path hints condor) h is asks most posts = absurd (differ _ _ refl h.0)
-rehearsal_alone rows dag outcomes plain post (Status path) h is asks most posts = absurd (differ _ _ refl h.0)
-rehearsal_alone rows dag outcomes plain post (Audit path) h is asks most posts = absurd (differ _ _ refl h.0)
-rehearsal_alone rows dag outcomes plain post (Graph path) h is asks most posts = absurd (differ _ _ refl h.0)
-rehearsal_alone rows dag outcomes plain post (Why path names) h is asks most posts = absurd (differ _ _ refl h.0)
-rehearsal_alone rows dag outcomes plain post (Times path svg) h is asks most posts = absurd (differ _ _ refl h.0)
-rehearsal_alone rows dag outcomes plain post (Salvage path) h is asks most posts = absurd (differ _ _ refl h.0)
+rehearsal_alone rows dag outcomes plain post (Status path owned) h is asks most posts = absurd (differ _ _ refl h.0)
+rehearsal_alone rows dag outcomes plain post (Audit path owned) h is asks most posts = absurd (differ _ _ refl h.0)
+rehearsal_alone rows dag outcomes plain post (Graph path owned) h is asks most posts = absurd (differ _ _ refl h.0)
+rehearsal_alone rows dag outcomes plain post (Why path names owned) h is asks most posts = absurd (differ _ _ refl h.0)
+rehearsal_alone rows dag outcomes plain post (Times path svg owned) h is asks most posts = absurd (differ _ _ refl h.0)
+rehearsal_alone rows dag outcomes plain post (Salvage path owned) h is asks most posts = absurd (differ _ _ refl h.0)
 rehearsal_alone rows dag outcomes plain post (Page text) (inl h) is asks most posts = absurd (differ _ _ refl h.0)
 rehearsal_alone rows dag outcomes plain post (Page text) (inr (inl h)) is asks most posts = absurd (differ _ _ refl h)
 rehearsal_alone rows dag outcomes plain post (Page text) (inr (inr h)) is asks most posts = absurd (differ _ _ refl h.0)
@@ -104,13 +104,13 @@ rehearsal_alone rows dag outcomes plain post (Page text) (inr (inr h)) is asks m
 version_alone : (rows : List Row) (request : Request) → IsRequestOf (codes "version") rows request → asked_by request ≡ shows version_text
 version_alone rows (Run path options) h = absurd (differ _ _ refl h.0)
 version_alone rows (Check path hints condor) h = absurd (differ _ _ refl h.0)
-version_alone rows (Status path) h = absurd (differ _ _ refl h.0)
-version_alone rows (Audit path) h = absurd (differ _ _ refl h.0)
+version_alone rows (Status path owned) h = absurd (differ _ _ refl h.0)
+version_alone rows (Audit path owned) h = absurd (differ _ _ refl h.0)
 version_alone rows (Rehearse path outcomes limits always_post) h = absurd (differ _ _ refl h.0)
-version_alone rows (Graph path) h = absurd (differ _ _ refl h.0)
-version_alone rows (Why path names) h = absurd (differ _ _ refl h.0)
-version_alone rows (Times path svg) h = absurd (differ _ _ refl h.0)
-version_alone rows (Salvage path) h = absurd (differ _ _ refl h.0)
+version_alone rows (Graph path owned) h = absurd (differ _ _ refl h.0)
+version_alone rows (Why path names owned) h = absurd (differ _ _ refl h.0)
+version_alone rows (Times path svg owned) h = absurd (differ _ _ refl h.0)
+version_alone rows (Salvage path owned) h = absurd (differ _ _ refl h.0)
 version_alone rows (Page text) (inl h) = absurd (differ _ _ refl h.0)
 version_alone rows (Page text) (inr (inl h)) = absurd (differ _ _ refl h)
 version_alone rows (Page text) (inr (inr h)) = ap shows h.1
@@ -194,11 +194,11 @@ unfolding clap_on_literals
 why_taken orphans progress = refl
 
 why_only : (orphans progress : Bor (List (Bor Text))) (request : Request) → AsksFor (subcommand_of (dagrun_app false orphans progress) why_words) request
-    → asked_by request ≡ asks_why (codes "x.dag") (codes "B" ∷ codes "A" ∷ [])
+    → asked_by request ≡ asks_why (codes "x.dag") (codes "B" ∷ codes "A" ∷ []) false
 unfolding clap_on_literals
-why_only orphans progress request h = why_alone (rows_in (subcommand_of (dagrun_app false orphans progress) why_words)) (codes "x.dag") _ request h refl refl
+why_only orphans progress request h = why_alone (rows_in (subcommand_of (dagrun_app false orphans progress) why_words)) (codes "x.dag") _ request h refl refl refl
 
-pub nodes_in_order : AskForAlone why_words (asks_why (codes "x.dag") (codes "B" ∷ codes "A" ∷ []))
+pub nodes_in_order : AskForAlone why_words (asks_why (codes "x.dag") (codes "B" ∷ codes "A" ∷ []) false)
 nodes_in_order = by_table why_words _ why_taken why_only
 
 abbrev clash_words : List Text

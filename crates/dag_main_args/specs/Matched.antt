@@ -65,6 +65,10 @@ progress_of rows =
     if is_given_as (codes "progress") (codes "always") rows then Always
     else (if is_given_as (codes "progress") (codes "never") rows then Never else Auto)
 
+-- whether the owner of the files beside the DAG file is trusted
+abbrev pub trusts_owner : List Row → Bool
+trusts_owner rows = is_set (codes "trust-owner") rows
+
 -- how a run is asked for to be done, option by option
 pub record AreOptionsOf (rows : List Row) (options : RunOptions) : Type 0 where
   pub limits : options.limits ≡ limits_asked rows
@@ -81,7 +85,7 @@ pub record AreOptionsOf (rows : List Row) (options : RunOptions) : Type 0 where
   pub launcher_final : options.launcher_final ≡ is_set (codes "launcher-final") rows
   pub progress : options.progress ≡ progress_of rows
   pub resume : options.resume ≡ is_set (codes "resume") rows
-  pub trust_owner : options.trust_owner ≡ is_set (codes "trust-owner") rows
+  pub trust_owner : options.trust_owner ≡ trusts_owner rows
 
 -- the path of the DAG file, which each command has that reads one
 abbrev pub dag_path : List Row → Text
@@ -95,13 +99,15 @@ nodes_asked rows = unwrap_or (all_of (codes "NODE") rows) []
 abbrev pub version_text : Text
 version_text = codes "dagrun 0.1.0\n"
 
--- the commands whose answer is a page, and all commands
+-- the commands whose answer is a page; with those that tell of a round by what stands beside its DAG file; and all commands
 abbrev pub page_names : List Text
 page_names = codes "explain" ∷ codes "help" ∷ codes "version" ∷ []
 
+abbrev pub told_names : List Text
+told_names = codes "status" ∷ codes "audit" ∷ codes "graph" ∷ codes "why" ∷ codes "times" ∷ codes "salvage" ∷ page_names
+
 abbrev pub command_names : List Text
-command_names = codes "run" ∷ codes "status" ∷ codes "audit" ∷ codes "check" ∷ codes "rehearse" ∷ codes "graph" ∷ codes "why"
-    ∷ codes "times" ∷ codes "salvage" ∷ page_names
+command_names = codes "run" ∷ codes "check" ∷ codes "rehearse" ∷ told_names
 
 abbrev pub is_text_among : List Text → Text → Bool
 is_text_among names command = list_any (bytes_eq command) names
@@ -116,15 +122,17 @@ abbrev pub IsRequestOf : Text → List Row → Request → Type 0
 IsRequestOf command rows (Check dag hints condor) = (command ≡ codes "check") × (dag.now ≡ dag_path rows)
     × (hints ≡ is_set (codes "hints") rows) × (condor ≡ is_set (codes "condor") rows)
 IsRequestOf command rows (Run dag options) = (command ≡ codes "run") × (dag.now ≡ dag_path rows) × AreOptionsOf rows options
-IsRequestOf command rows (Status dag) = (command ≡ codes "status") × (dag.now ≡ dag_path rows)
-IsRequestOf command rows (Audit dag) = (command ≡ codes "audit") × (dag.now ≡ dag_path rows)
+IsRequestOf command rows (Status dag trust_owner) = (command ≡ codes "status") × (dag.now ≡ dag_path rows) × (trust_owner ≡ trusts_owner rows)
+IsRequestOf command rows (Audit dag trust_owner) = (command ≡ codes "audit") × (dag.now ≡ dag_path rows) × (trust_owner ≡ trusts_owner rows)
 IsRequestOf command rows (Rehearse dag outcomes limits always_post) = (command ≡ codes "rehearse") × (dag.now ≡ dag_path rows)
     × (option_map (λ t. t.now) outcomes ≡ first_of (codes "OUTCOMES") rows) × (limits ≡ limits_asked rows)
     × (always_post ≡ is_set (codes "always-run-post") rows)
-IsRequestOf command rows (Graph dag) = (command ≡ codes "graph") × (dag.now ≡ dag_path rows)
-IsRequestOf command rows (Why dag nodes) = (command ≡ codes "why") × (dag.now ≡ dag_path rows) × (map (λ n. n.now) nodes.items ≡ nodes_asked rows)
-IsRequestOf command rows (Times dag svg) = (command ≡ codes "times") × (dag.now ≡ dag_path rows) × (svg ≡ is_set (codes "svg") rows)
-IsRequestOf command rows (Salvage dag) = (command ≡ codes "salvage") × (dag.now ≡ dag_path rows)
+IsRequestOf command rows (Graph dag trust_owner) = (command ≡ codes "graph") × (dag.now ≡ dag_path rows) × (trust_owner ≡ trusts_owner rows)
+IsRequestOf command rows (Why dag nodes trust_owner) = (command ≡ codes "why") × (dag.now ≡ dag_path rows)
+    × (map (λ n. n.now) nodes.items ≡ nodes_asked rows) × (trust_owner ≡ trusts_owner rows)
+IsRequestOf command rows (Times dag svg trust_owner) = (command ≡ codes "times") × (dag.now ≡ dag_path rows)
+    × (svg ≡ is_set (codes "svg") rows) × (trust_owner ≡ trusts_owner rows)
+IsRequestOf command rows (Salvage dag trust_owner) = (command ≡ codes "salvage") × (dag.now ≡ dag_path rows) × (trust_owner ≡ trusts_owner rows)
 IsRequestOf command rows (Page text) = IsPageOf command rows (string_bytes text)
 
 -- what the command asks for that was matched to words; where none was, a rehearsal of standard input

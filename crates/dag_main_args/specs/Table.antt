@@ -56,19 +56,23 @@ program all = record {
   subs = all;
 }
 
--- the path of the DAG file, and a command that has no argument but that
+-- the path of the DAG file, and whether the owner of the files beside it is trusted
 abbrev pub dag : Rule
 dag = needed (codes "DAG")
 
+abbrev pub trust_owner : Rule
+trust_owner = flag (codes "trust-owner")
+
+-- a command that has no argument but these two
 abbrev pub of_dag : Text → Shape
-of_dag name = command name (dag ∷ [])
+of_dag name = command name (dag ∷ trust_owner ∷ [])
 
 -- what a run may be given
 abbrev pub run_rules : (is_tied : Bool) → (orphans progress : Bor (List (Bor Text))) → List Rule
 run_rules is_tied orphans progress = dag ∷ number (codes "maxjobs") ∷ number (codes "maxpre") ∷ number (codes "maxpost") ∷ switch (codes "autorescue")
     ∷ number (codes "dorescuefrom") ∷ flag (codes "always-run-post") ∷ switch (codes "sync-output") ∷ named_text (codes "launcher")
     ∷ flag (codes "launcher-final") ∷ choice (codes "orphans") orphans ∷ choice (codes "progress") progress
-    ∷ tied_flag is_tied (codes "resume") ∷ flag (codes "trust-owner") ∷ []
+    ∷ tied_flag is_tied (codes "resume") ∷ trust_owner ∷ []
 
 -- what a rehearsal may be given
 abbrev pub rehearsal_rules : List Rule
@@ -79,8 +83,8 @@ rehearsal_rules = dag ∷ optional (codes "OUTCOMES") ∷ number (codes "maxjobs
 abbrev pub commands : (is_tied : Bool) → (orphans progress : Bor (List (Bor Text))) → List Shape
 commands is_tied orphans progress = command (codes "run") (run_rules is_tied orphans progress)
     ∷ of_dag (codes "status")
-    ∷ command (codes "why") (dag ∷ many (codes "NODE") ∷ [])
-    ∷ command (codes "times") (dag ∷ flag (codes "svg") ∷ [])
+    ∷ command (codes "why") (dag ∷ many (codes "NODE") ∷ trust_owner ∷ [])
+    ∷ command (codes "times") (dag ∷ flag (codes "svg") ∷ trust_owner ∷ [])
     ∷ of_dag (codes "salvage")
     ∷ of_dag (codes "audit")
     ∷ command (codes "check") (dag ∷ flag (codes "hints") ∷ flag (codes "condor") ∷ [])

@@ -211,7 +211,7 @@ static COMMANDS: [CommandRow; 12] = [
     CommandRow {
         name: "status",
         about: "Says where each node of a run stands, by its journal",
-        arguments: &[FILE],
+        arguments: &[FILE, TRUST_OWNER],
         examples: "  dagrun status x.dag                 where each node stands, also while it runs
   watch dagrun status x.dag           again and again
 ",
@@ -219,7 +219,7 @@ static COMMANDS: [CommandRow; 12] = [
     CommandRow {
         name: "why",
         about: "Says why nodes are in error, and for whom others wait",
-        arguments: &[FILE, NODES],
+        arguments: &[FILE, NODES, TRUST_OWNER],
         examples: "  dagrun why x.dag                    all nodes in error, those first that hold up most
   dagrun why x.dag Report             why Report is in error, or for whom it waits
 ",
@@ -227,7 +227,7 @@ static COMMANDS: [CommandRow; 12] = [
     CommandRow {
         name: "times",
         about: "Says when each phase of a run began and how long it took, by its log",
-        arguments: &[FILE, SVG],
+        arguments: &[FILE, SVG, TRUST_OWNER],
         examples: "  dagrun times x.dag                  a table, for a spreadsheet
   dagrun times --svg x.dag > x.svg    a picture of the run over time
 ",
@@ -235,14 +235,14 @@ static COMMANDS: [CommandRow; 12] = [
     CommandRow {
         name: "salvage",
         about: "Makes a rescue file of a round that was cut short, whose submit files were changed since",
-        arguments: &[FILE],
+        arguments: &[FILE, TRUST_OWNER],
         examples: "  dagrun salvage x.dag                keeps what is done; `dagrun run x.dag` starts the rest
 ",
     },
     CommandRow {
         name: "audit",
         about: "Says whether a journal is that of a finished run, and what its nodes came to",
-        arguments: &[FILE],
+        arguments: &[FILE, TRUST_OWNER],
         examples: "  dagrun audit x.dag                  what the journal of the last round stands for
 ",
     },
@@ -267,7 +267,7 @@ static COMMANDS: [CommandRow; 12] = [
     CommandRow {
         name: "graph",
         about: "Draws the graph of a DAG, coloured by where its nodes stand, for graphviz",
-        arguments: &[FILE],
+        arguments: &[FILE, TRUST_OWNER],
         examples: "  dagrun graph x.dag | dot -Tsvg > x.svg   a picture, by graphviz
 ",
     },

@@ -118,14 +118,17 @@ pub enum Request<'a> {
         options: RunOptions,
     },
 
-    /// `status DAG`: the path of the DAG file.
+    /// `status DAG`: the path of the DAG file; and, as in the five below, whether the owner of the files that stand
+    /// beside it is trusted, as `RunOptions` says it.
     Status {
         dag: &'a str,
+        trust_owner: bool,
     },
 
     /// `audit DAG`: the path of the DAG file.
     Audit {
         dag: &'a str,
+        trust_owner: bool,
     },
 
     /// `rehearse DAG [OUTCOMES]`, and no words at all, which is `rehearse -`: the path of the DAG
@@ -141,6 +144,7 @@ pub enum Request<'a> {
     /// `graph DAG`: the path of the DAG file.
     Graph {
         dag: &'a str,
+        trust_owner: bool,
     },
 
     /// `why DAG [NODE ..]`: the path of the DAG file, and the names of nodes; none for all that are in
@@ -148,17 +152,20 @@ pub enum Request<'a> {
     Why {
         dag: &'a str,
         nodes: Vec<&'a str>,
+        trust_owner: bool,
     },
 
     /// `times DAG`: the path of the DAG file, and whether a picture is asked for.
     Times {
         dag: &'a str,
         svg: bool,
+        trust_owner: bool,
     },
 
     /// `salvage DAG`: the path of the DAG file.
     Salvage {
         dag: &'a str,
+        trust_owner: bool,
     },
 
     /// `explain [CODE]`, `help [COMMAND]` and `version`: the page that is to be printed, which the words
@@ -394,6 +401,39 @@ fn rehearsal_of<'a>(found: &ArgMatches<'a>) -> Request<'a>
     }
 }
 
+/// The request for what is told of a round, or is made of it, by the files that stand beside the DAG file; for another
+/// command the one for a page.
+fn told_of_round<'a>(
+    alloc: Global,
+    command: &str,
+    found: &ArgMatches<'a>,
+) -> Result<Request<'a>, WordsFault>
+    ensures fit { IfOk result (λ request. IfSome (limits_in (asked_by request)) AreLimits) }
+    ensures asked { IfOk result (λ request. matched.is_text_among matched.told_names command.now ≡ true
+        → matched.IsRequestOf command.now (rows_of (found_of found.now)) request) }
+    ensures refused { IfErr result (λ fault. (fault ≡ WordsFault.Memory) ⊎ AsksForNone command.now (rows_of (found_of found.now))) }
+{
+    let dag = dag_of(found);
+    let trust_owner = is_set(found, "trust-owner");
+    match command {
+        "status" => Ok(Request::Status { dag, trust_owner }),
+        "audit" => Ok(Request::Audit { dag, trust_owner }),
+        "graph" => Ok(Request::Graph { dag, trust_owner }),
+        "why" => Ok(Request::Why {
+            dag,
+            nodes: nodes_of(alloc, found)?,
+            trust_owner,
+        }),
+        "times" => Ok(Request::Times {
+            dag,
+            svg: is_set(found, "svg"),
+            trust_owner,
+        }),
+        "salvage" => Ok(Request::Salvage { dag, trust_owner }),
+        _ => page_of(alloc, command, found),
+    }
+}
+
 /// The request that a command asks for by what was matched to it.
 fn asked_for<'a>(
     alloc: Global,
@@ -410,25 +450,13 @@ fn asked_for<'a>(
             dag: dag_of(found),
             options: options_of(alloc, found)?,
         }),
-        "status" => Ok(Request::Status { dag: dag_of(found) }),
-        "audit" => Ok(Request::Audit { dag: dag_of(found) }),
         "check" => Ok(Request::Check {
             dag: dag_of(found),
             hints: is_set(found, "hints"),
             condor: is_set(found, "condor"),
         }),
         "rehearse" => Ok(rehearsal_of(found)),
-        "graph" => Ok(Request::Graph { dag: dag_of(found) }),
-        "why" => Ok(Request::Why {
-            dag: dag_of(found),
-            nodes: nodes_of(alloc, found)?,
-        }),
-        "times" => Ok(Request::Times {
-            dag: dag_of(found),
-            svg: is_set(found, "svg"),
-        }),
-        "salvage" => Ok(Request::Salvage { dag: dag_of(found) }),
-        _ => page_of(alloc, command, found),
+        _ => told_of_round(alloc, command, found),
     }
 }
 

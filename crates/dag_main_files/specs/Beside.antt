@@ -52,8 +52,9 @@ pub data IsInputFault (path : List ℕ) : RunFault → Type 0 where
   input_refused : (file : String Global) → path ≡ codes "-" → string_bytes file ≡ codes "-" → IsInputFault path (FileRefused file)
   input_had_no_memory : IsInputFault path Memory
 
--- the journal can't be read, or memory ran out
+-- the journal may be another user's; it can't be read; or memory ran out
 pub data IsJournalFault : RunFault → Type 0 where
+  journal_of_another : (fault : RunFault) → IsFileFault fault → IsJournalFault fault
   journal_refused : (fault : JournalFault) → IsReadFault fault → IsJournalFault (InManager (manager.Journal fault))
   peeking_had_no_memory : IsJournalFault Memory
 
@@ -63,7 +64,7 @@ MayGoBack None = Unit {0}
 MayGoBack (Some number) = IsFileNumber number
 
 -- Why it is not known which round this is, the first cause first. The rescue file is not there to which the round is to go back, if it is
--- to: no file has its number, or it is missing; then, the journal can't be read; the run is to go back and has not ended; it is to go on,
+-- to: no file has its number, or it is missing; then, the journal may be another user's, or can't be read; the run is to go back and has not ended; it is to go on,
 -- and the header of its journal has a number that no rescue file has; the system refuses the folder. Or memory ran out.
 pub data IsRoundFault (from : Option ℕ) : RunFault → Type 0 where
   not_there : (number : ℕ) → from ≡ Some number → IsRoundFault from (NotThere number)

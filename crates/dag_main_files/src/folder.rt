@@ -60,8 +60,8 @@ pub trait Folder {
     /// The bytes of a file of this path that dagrun writes beside a DAG file; none where it is missing.
     ///
     /// # Errors
-    /// `FileRefused` with the path of a file that the system refuses to read, or that is no regular file;
-    /// `Memory`.
+    /// `FileRefused` with the path of a file that the system refuses to read, that is no regular file, or that may be
+    /// another user's; `Memory`.
     fn beside(&self, alloc: Global, path: &str) -> Result<Option<Vec<u8>>, RunFault>
         ensures bytes { honest self.now → IfOk result (λ bytes. option_map (λ b. b.items) bytes ≡ holds self.now path.now) }
         ensures refused { IfErr result IsFileFault };
@@ -88,7 +88,8 @@ pub trait Folder {
     /// where no journal was begun.
     ///
     /// # Errors
-    /// `InManager` with the fault of a journal that can't be read, `Memory`.
+    /// `FileRefused` with the path of a journal that may be another user's; `InManager` with the fault of one that can't
+    /// be read; `Memory`.
     fn journal(&self, alloc: Global, top: &str) -> Result<Option<Peek>, RunFault>
         ensures peek { honest self.now → IfOk result (λ peek. ReadsPeek peek (journal_in (holds self.now) top.now)) }
         ensures refused { IfErr result IsJournalFault };
@@ -105,6 +106,25 @@ pub struct SystemFolder<'a, R> {
     pub seat: String,
     /// Whether `-` is standard input where the caller names it.
     pub has_input: bool,
+    /// Whether root goes by files of others that stand beside a DAG file, and others by those of root.
+    pub trusts_owner: bool,
+}
+
+impl<'a, R: Files + AllocGlobal> SystemFolder<'a, R> {
+    /// Sees to it that the file of this path, which dagrun writes beside a DAG file, was put there by nobody else, as
+    /// `Place::trusts` says it.
+    ///
+    /// # Errors
+    /// `FileRefused` with the path of a file that may be another user's; `Memory`.
+    fn goes_by(&self, path: &str) -> Result<(), RunFault>
+        ensures { IfErr result IsFileFault }
+    {
+        let place = Place {
+            folder: self.seat.as_str(),
+            top: path,
+        };
+        place.trusts(self.rt, path, self.trusts_owner)
+    }
 }
 
 impl<'a, R: Files<File = File> + Input + AllocGlobal + Copy + Drop> Folder for SystemFolder<'a, R> {
@@ -128,6 +148,7 @@ impl<'a, R: Files<File = File> + Input + AllocGlobal + Copy + Drop> Folder for S
     }
 
     fn beside(&self, alloc: Global, path: &str) -> Result<Option<Vec<u8>>, RunFault> {
+        self.goes_by(path)?;
         read_beside(alloc, self.rt, self.seat.as_str(), path)
     }
 
@@ -146,6 +167,7 @@ impl<'a, R: Files<File = File> + Input + AllocGlobal + Copy + Drop> Folder for S
 
     fn journal(&self, alloc: Global, top: &str) -> Result<Option<Peek>, RunFault> {
         let path = journal_path(alloc, top)?;
+        self.goes_by(path.as_str())?;
         let place = Place {
             folder: self.seat.as_str(),
             top,

@@ -131,8 +131,8 @@ pub fn rescue_disk<R: Files<File = File> + AllocGlobal + Copy + Drop>(
 ///
 /// # Errors
 /// In this order: `NotThere` with the number that is given, where it is 0 or above 999 or its file is
-/// missing; a journal that can't be read; `Unfinished`, where a number is given and the journal's run
-/// has not ended; else a number in the header of such a journal that no rescue file has, that of the
+/// missing; a journal that may be another user's, or that can't be read; `Unfinished`, where a number is
+/// given and the journal's run has not ended; else a number in the header of such a journal that no rescue file has, that of the
 /// file read first; a folder that can't be listed.
 pub fn round_of<F: Folder>(
     alloc: Global,
@@ -164,7 +164,7 @@ pub fn round_of<F: Folder>(
 /// The round that comes next.
 ///
 /// # Errors
-/// In this order: a journal that can't be read; a number in the header of an unfinished one that no rescue file has,
+/// In this order: a journal that may be another user's, or that can't be read; a number in the header of an unfinished one that no rescue file has,
 /// that of the file read first; a folder that can't be listed.
 fn next_round<F: Folder>(
     alloc: Global,
@@ -198,7 +198,8 @@ fn next_round<F: Folder>(
 /// The round that goes back to the rescue file of this number, which is from 1 to 999.
 ///
 /// # Errors
-/// In this order: `NotThere` with the number, where its file is missing; a journal that can't be read;
+/// In this order: `NotThere` with the number, where its file is missing; a journal that may be another user's, or that
+/// can't be read;
 /// `Unfinished`, where its run has not ended; a folder that can't be listed.
 fn round_behind<F: Folder>(
     alloc: Global,

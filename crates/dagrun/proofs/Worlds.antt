@@ -110,13 +110,13 @@ module _ (rounds known : Rounds) (told : AreToldAs rounds known) where
   told-some (checks path hinted) r is = is
   told-some (runs path options) (Ok answer) is = run-with _ _ _ _ _ path options _ _ _ is
   told-some (runs path options) (Err fault) is = run-refusal _ _ path options fault is
-  told-some (tells_status path) r is = is
-  told-some (audits path) r is = is
+  told-some (tells_status path owned) r is = is
+  told-some (audits path owned) r is = is
   told-some (rehearses path outcomes limits always_post) r is = is
-  told-some (draws path) r is = is
-  told-some (asks_why path nodes) r is = is
-  told-some (times path svg) r is = is
-  told-some (salvages path) r is = is
+  told-some (draws path owned) r is = is
+  told-some (asks_why path nodes owned) r is = is
+  told-some (times path svg owned) r is = is
+  told-some (salvages path owned) r is = is
   told-some (shows page) r is = is
 
   pub told-from : (holds : Files) (has : List ℕ → Bool) (asked : Asked) (r : Result Answer RunFault) → ComesTo (command_from holds has rounds asked) r
@@ -124,13 +124,13 @@ module _ (rounds known : Rounds) (told : AreToldAs rounds known) where
   told-from holds has (checks path hinted) r is = is
   told-from holds has (runs path options) (Ok answer) is = run-with _ _ _ _ _ path options _ _ _ is
   told-from holds has (runs path options) (Err fault) is = run-refusal _ _ path options fault is
-  told-from holds has (tells_status path) r is = is
-  told-from holds has (audits path) r is = is
+  told-from holds has (tells_status path owned) r is = is
+  told-from holds has (audits path owned) r is = is
   told-from holds has (rehearses path outcomes limits always_post) r is = is
-  told-from holds has (draws path) r is = is
-  told-from holds has (asks_why path nodes) r is = is
-  told-from holds has (times path svg) r is = is
-  told-from holds has (salvages path) r is = is
+  told-from holds has (draws path owned) r is = is
+  told-from holds has (asks_why path nodes owned) r is = is
+  told-from holds has (times path svg owned) r is = is
+  told-from holds has (salvages path owned) r is = is
   told-from holds has (shows page) r is = is
 
   -- a reply by what stands beside a DAG file
@@ -148,26 +148,26 @@ pub unbeside-some : (rounds known : Rounds) (asked : Asked) → is_beside asked 
     → ComesTo (command_of_some known asked) r
 unbeside-some rounds known (checks path hinted) isnt r is = is
 unbeside-some rounds known (runs path options) isnt r is = absurd (false≢true (sym isnt))
-unbeside-some rounds known (tells_status path) isnt r is = is
-unbeside-some rounds known (audits path) isnt r is = is
+unbeside-some rounds known (tells_status path owned) isnt r is = is
+unbeside-some rounds known (audits path owned) isnt r is = is
 unbeside-some rounds known (rehearses path outcomes limits always_post) isnt r is = is
-unbeside-some rounds known (draws path) isnt r is = is
-unbeside-some rounds known (asks_why path nodes) isnt r is = is
-unbeside-some rounds known (times path svg) isnt r is = is
-unbeside-some rounds known (salvages path) isnt r is = is
+unbeside-some rounds known (draws path owned) isnt r is = is
+unbeside-some rounds known (asks_why path nodes owned) isnt r is = is
+unbeside-some rounds known (times path svg owned) isnt r is = is
+unbeside-some rounds known (salvages path owned) isnt r is = is
 unbeside-some rounds known (shows page) isnt r is = is
 
 pub unbeside-from : (holds : Files) (has there : List ℕ → Bool) (rounds known : Rounds) (asked : Asked) → is_beside asked ≡ false → (r : Result Answer RunFault)
     → ComesTo (command_from holds has rounds asked) r → ComesTo (command_from holds there known asked) r
 unbeside-from holds has there rounds known (checks path hinted) isnt r is = is
 unbeside-from holds has there rounds known (runs path options) isnt r is = absurd (false≢true (sym isnt))
-unbeside-from holds has there rounds known (tells_status path) isnt r is = is
-unbeside-from holds has there rounds known (audits path) isnt r is = is
+unbeside-from holds has there rounds known (tells_status path owned) isnt r is = is
+unbeside-from holds has there rounds known (audits path owned) isnt r is = is
 unbeside-from holds has there rounds known (rehearses path outcomes limits always_post) isnt r is = is
-unbeside-from holds has there rounds known (draws path) isnt r is = is
-unbeside-from holds has there rounds known (asks_why path nodes) isnt r is = is
-unbeside-from holds has there rounds known (times path svg) isnt r is = is
-unbeside-from holds has there rounds known (salvages path) isnt r is = is
+unbeside-from holds has there rounds known (draws path owned) isnt r is = is
+unbeside-from holds has there rounds known (asks_why path nodes owned) isnt r is = is
+unbeside-from holds has there rounds known (times path svg owned) isnt r is = is
+unbeside-from holds has there rounds known (salvages path owned) isnt r is = is
 unbeside-from holds has there rounds known (shows page) isnt r is = is
 
 -- a reply by what is read alone
@@ -184,13 +184,13 @@ input-reply Honest IsLost world rounds known holds has asked isnt reply same som
 pub unasked : {P : Type 0} (asked : Asked) → is_beside asked ≡ false → is_run asked ≡ true → P
 unasked (checks path hinted) isnt run = absurd (false≢true run)
 unasked (runs path options) isnt run = absurd (false≢true (sym isnt))
-unasked (tells_status path) isnt run = absurd (false≢true run)
-unasked (audits path) isnt run = absurd (false≢true run)
+unasked (tells_status path owned) isnt run = absurd (false≢true run)
+unasked (audits path owned) isnt run = absurd (false≢true run)
 unasked (rehearses path outcomes limits always_post) isnt run = absurd (false≢true run)
-unasked (draws path) isnt run = absurd (false≢true run)
-unasked (asks_why path nodes) isnt run = absurd (false≢true run)
-unasked (times path svg) isnt run = absurd (false≢true run)
-unasked (salvages path) isnt run = absurd (false≢true run)
+unasked (draws path owned) isnt run = absurd (false≢true run)
+unasked (asks_why path nodes owned) isnt run = absurd (false≢true run)
+unasked (times path svg owned) isnt run = absurd (false≢true run)
+unasked (salvages path owned) isnt run = absurd (false≢true run)
 unasked (shows page) isnt run = absurd (false≢true run)
 
 -- a folder that is refused isn't said

@@ -78,6 +78,17 @@ is_beside (rehearses path outcomes limits always_post) = false
 is_beside (shows page) = false
 is_beside _ = true
 
+-- whether the owner of the files beside the DAG file is trusted
+abbrev pub is_owner_trusted : Asked → Bool
+is_owner_trusted (runs path options) = options.trust_owner
+is_owner_trusted (tells_status path trust_owner) = trust_owner
+is_owner_trusted (audits path trust_owner) = trust_owner
+is_owner_trusted (draws path trust_owner) = trust_owner
+is_owner_trusted (asks_why path nodes trust_owner) = trust_owner
+is_owner_trusted (times path svg trust_owner) = trust_owner
+is_owner_trusted (salvages path trust_owner) = trust_owner
+is_owner_trusted _ = false
+
 -- the files that a request is answered by
 abbrev pub files_for : Bool → World → Files
 files_for true world = world.holds
@@ -108,16 +119,16 @@ command_of_some rounds (runs path options) = record {
   answers = IsRunWith (IsRunOf rounds path options) (IsReportHere path) (Unit {0}) options;
   refused = IsRunRefusal (IsRunFault rounds path options) (IsAnswerFault Status path) (Unit {0}) options;
 }
-command_of_some rounds (tells_status path) = record { answers = IsAnswerOfRun Status path; refused = IsAnswerFault Status path }
-command_of_some rounds (audits path) = record { answers = IsAnswerOfRun Audit path; refused = IsAnswerFault Audit path }
+command_of_some rounds (tells_status path trust_owner) = record { answers = IsAnswerOfRun Status path; refused = IsAnswerFault Status path }
+command_of_some rounds (audits path trust_owner) = record { answers = IsAnswerOfRun Audit path; refused = IsAnswerFault Audit path }
 command_of_some rounds (rehearses path outcomes limits always_post) = record {
   answers = IsRehearsalWith (λ table. IsRehearsalOfSome always_post path table limits) outcomes;
   refused = IsRehearsalRefusalWith (IsRehearsalRefusal path) outcomes;
 }
-command_of_some rounds (draws path) = record { answers = IsAnswerOfRun Graph path; refused = IsAnswerFault Graph path }
-command_of_some rounds (asks_why path nodes) = record { answers = IsWhyOf path nodes; refused = IsAnswerFault Status path }
-command_of_some rounds (times path svg) = record { answers = IsTimesOf path svg; refused = IsTimesFault path }
-command_of_some rounds (salvages path) = record { answers = IsSalvageWith (IsSalvageOf path) path; refused = λ fault. IsSalvageFault path (Refused fault) }
+command_of_some rounds (draws path trust_owner) = record { answers = IsAnswerOfRun Graph path; refused = IsAnswerFault Graph path }
+command_of_some rounds (asks_why path nodes trust_owner) = record { answers = IsWhyOf path nodes; refused = IsAnswerFault Status path }
+command_of_some rounds (times path svg trust_owner) = record { answers = IsTimesOf path svg; refused = IsTimesFault path }
+command_of_some rounds (salvages path trust_owner) = record { answers = IsSalvageWith (IsSalvageOf path) path; refused = λ fault. IsSalvageFault path (Refused fault) }
 command_of_some rounds (shows page) = record { answers = IsPage page; refused = λ fault. ⊥ }
 
 -- The same where these files are held and these paths are there: of the files that are held.
@@ -127,16 +138,16 @@ command_from holds has rounds (runs path options) = record {
   answers = IsRunWith (IsRunFrom holds has rounds path options) (IsReportFrom holds path) (IsNoReportFrom holds path) options;
   refused = IsRunRefusal (IsRunFault rounds path options) (IsAnswerFault Status path) (IsNoReportFrom holds path) options;
 }
-command_from holds has rounds (tells_status path) = record { answers = IsAnswerHeld holds Status path; refused = IsAnswerFault Status path }
-command_from holds has rounds (audits path) = record { answers = IsAnswerHeld holds Audit path; refused = IsAnswerFault Audit path }
+command_from holds has rounds (tells_status path trust_owner) = record { answers = IsAnswerHeld holds Status path; refused = IsAnswerFault Status path }
+command_from holds has rounds (audits path trust_owner) = record { answers = IsAnswerHeld holds Audit path; refused = IsAnswerFault Audit path }
 command_from holds has rounds (rehearses path outcomes limits always_post) = record {
   answers = IsRehearsalWith (λ table. IsRehearsalOf always_post holds path table limits) outcomes;
   refused = IsRehearsalRefusalWith (IsRehearsalRefusal path) outcomes;
 }
-command_from holds has rounds (draws path) = record { answers = IsAnswerHeld holds Graph path; refused = IsAnswerFault Graph path }
-command_from holds has rounds (asks_why path nodes) = record { answers = IsWhyHeld holds path nodes; refused = IsAnswerFault Status path }
-command_from holds has rounds (times path svg) = record { answers = IsTimesFrom holds path svg; refused = IsTimesFault path }
-command_from holds has rounds (salvages path) = record { answers = IsSalvageWith (IsSalvageFrom holds path) path; refused = λ fault. IsSalvageFault path (Refused fault) }
+command_from holds has rounds (draws path trust_owner) = record { answers = IsAnswerHeld holds Graph path; refused = IsAnswerFault Graph path }
+command_from holds has rounds (asks_why path nodes trust_owner) = record { answers = IsWhyHeld holds path nodes; refused = IsAnswerFault Status path }
+command_from holds has rounds (times path svg trust_owner) = record { answers = IsTimesFrom holds path svg; refused = IsTimesFault path }
+command_from holds has rounds (salvages path trust_owner) = record { answers = IsSalvageWith (IsSalvageFrom holds path) path; refused = λ fault. IsSalvageFault path (Refused fault) }
 command_from holds has rounds (shows page) = record { answers = IsPage page; refused = λ fault. ⊥ }
 
 -- what is said of the answer of a command

@@ -62,23 +62,27 @@ pub(crate) fn answer_in<
     let seat = folder.seat();
     match request {
         Request::Run { dag, options } => run_in(rt, folder, dag, &options),
-        Request::Status { dag } => answer_here(alloc, folder, dag, Question::Status),
-        Request::Audit { dag } => answer_here(alloc, folder, dag, Question::Audit),
-        Request::Graph { dag } => answer_here(alloc, folder, dag, Question::Graph),
-        Request::Why { dag, nodes } => {
+        Request::Status { dag, .. } => answer_here(alloc, folder, dag, Question::Status),
+        Request::Audit { dag, .. } => answer_here(alloc, folder, dag, Question::Audit),
+        Request::Graph { dag, .. } => answer_here(alloc, folder, dag, Question::Graph),
+        Request::Why {
+            dag,
+            nodes,
+            trust_owner,
+        } => {
             let place = Place {
                 folder: seat,
                 top: dag,
             };
-            why_here(rt, folder, &place, &nodes)
+            why_here(rt, folder, &place, &nodes, trust_owner)
         }
-        Request::Times { dag, svg } => times_here(alloc, folder, dag, svg),
-        Request::Salvage { dag } => {
+        Request::Times { dag, svg, .. } => times_here(alloc, folder, dag, svg),
+        Request::Salvage { dag, trust_owner } => {
             let place = Place {
                 folder: seat,
                 top: dag,
             };
-            salvage_in(rt, folder, &place)
+            salvage_in(rt, folder, &place, trust_owner)
         }
         Request::Page { text } => Ok(page(alloc, text)),
         Request::Check { dag, hints, condor } => {
@@ -157,6 +161,7 @@ fn salvage_in<R: Files<File = File> + Clock + AllocGlobal + Copy + Drop, F: Fold
     rt: &R,
     folder: &F,
     place: &Place<'_>,
+    trust_owner: bool,
 ) -> Result<Answer, RunFault>
     ensures answered { IfOk result (λ answer. IsSalvageWith (IsSalvageOf place.now.top.now) place.now.top.now
         (string_bytes answer.text) (string_bytes answer.warnings) answer.status) }
@@ -164,7 +169,7 @@ fn salvage_in<R: Files<File = File> + Clock + AllocGlobal + Copy + Drop, F: Fold
         (string_bytes answer.text) (string_bytes answer.warnings) answer.status) }
     ensures refused { IfErr result (λ fault. IsSalvageFault place.now.top.now (Refused fault)) }
 {
-    match salvage_here(*rt, folder, place) {
+    match salvage_here(*rt, folder, place, trust_owner) {
         Ok(answer) => Ok(answer),
         Err(fault) => {
             let own = fault.own()?;

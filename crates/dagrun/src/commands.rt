@@ -4,7 +4,7 @@ ghost use Rattle.std.specs.Prelude.{◌≡◌, map};
 ghost use Rattle.dag_main_args.specs.Requests.{asked_by};
 ghost use Rattle.answer_console.specs.Display.{IsExitStatusOf};
 ghost use Rattle.dag_main_run.specs.Sites.{rounds_at};
-ghost use Rattle.dagrun.specs.Answered.{is_beside, IsReply, IsExit, AreHints, IsDisplayedThen, IsCall};
+ghost use Rattle.dagrun.specs.Answered.{is_beside, is_owner_trusted, IsReply, IsExit, AreHints, IsDisplayedThen, IsCall};
 
 use crate::answers::{REFUSED, answer_in};
 use crate::host::Host;
@@ -84,7 +84,7 @@ fn answer<
     if !is_beside(&request) {
         return answer_in(rt, console, &host.inputs(), request);
     }
-    let here = host.here()?;
+    let here = host.here(is_owner_trusted(&request))?;
     answer_in(rt, console, &here, request)
 }
 
@@ -98,16 +98,32 @@ fn is_beside(request: &Request<'_>) -> bool
     }
 }
 
+/// Whether the owner of the files that stand beside the DAG file of a request is trusted.
+fn is_owner_trusted(request: &Request<'_>) -> bool
+    ensures { result ≡ is_owner_trusted (asked_by request.now) }
+{
+    match request {
+        Request::Run { options, .. } => options.trust_owner,
+        Request::Status { trust_owner, .. }
+        | Request::Audit { trust_owner, .. }
+        | Request::Graph { trust_owner, .. }
+        | Request::Why { trust_owner, .. }
+        | Request::Times { trust_owner, .. }
+        | Request::Salvage { trust_owner, .. } => *trust_owner,
+        _ => false,
+    }
+}
+
 /// The path of the DAG file that a request is for; none for a page.
 fn dag_in<'a>(request: &Request<'a>) -> Option<&'a str> {
     match request {
         Request::Run { dag, .. }
-        | Request::Status { dag }
-        | Request::Audit { dag }
-        | Request::Graph { dag }
+        | Request::Status { dag, .. }
+        | Request::Audit { dag, .. }
+        | Request::Graph { dag, .. }
         | Request::Why { dag, .. }
         | Request::Times { dag, .. }
-        | Request::Salvage { dag }
+        | Request::Salvage { dag, .. }
         | Request::Check { dag, .. }
         | Request::Rehearse { dag, .. } => Some(*dag),
         Request::Page { text: _ } => None,
@@ -117,8 +133,12 @@ fn dag_in<'a>(request: &Request<'a>) -> Option<&'a str> {
 /// What is displayed behind the answer to a request.
 fn postscript_to(request: &Request<'_>) -> Postscript {
     match request {
-        Request::Status { .. } => Postscript::Totals,
-        Request::Why { .. } => Postscript::Worker,
+        Request::Status { trust_owner, .. } => Postscript::Totals {
+            trusts_owner: *trust_owner,
+        },
+        Request::Why { trust_owner, .. } => Postscript::Worker {
+            trusts_owner: *trust_owner,
+        },
         _ => Postscript::Nothing,
     }
 }

@@ -34,11 +34,12 @@ pub trait Host {
     /// its children are those that it is asked to start.
     ghost honest: { Self → Type 0 };
 
-    /// The folder in which the program was called.
+    /// The folder in which the program was called; with `trusts_owner` the owner of the files that stand beside a DAG
+    /// file there is trusted, as `SystemFolder` says it.
     ///
     /// # Errors
     /// `FileRefused` with `.`, where the system doesn't tell which it is; `Memory`.
-    fn here(&self) -> Result<Self::Here, RunFault>
+    fn here(&self, trusts_owner: bool) -> Result<Self::Here, RunFault>
         ensures honest { honest self.now → IfOk result (λ here. Self.Here.honest here) }
         ensures back { IfOk result (λ here. Self.Here.honest here → honest self.now) }
         ensures holds { honest self.now → IfOk result (λ here. Self.Here.holds here ≡ (world self.now).holds) }
@@ -72,13 +73,14 @@ impl<'a, R: Processes + Files<File = File> + Clock + Env + Input + AllocGlobal +
 
     ghost honest = { λ _. ⊥ };
 
-    fn here(&self) -> Result<SystemFolder<'a, R>, RunFault> {
+    fn here(&self, trusts_owner: bool) -> Result<SystemFolder<'a, R>, RunFault> {
         let rt = self.rt;
         match env::current_dir(rt) {
             Ok(folder) => Ok(SystemFolder {
                 rt,
                 seat: String::from_str(rt.alloc(), folder.as_str())?,
                 has_input: false,
+                trusts_owner,
             }),
             Err(error) => Err(refused(rt.alloc(), ".", &error)),
         }
@@ -89,6 +91,7 @@ impl<'a, R: Processes + Files<File = File> + Clock + Env + Input + AllocGlobal +
             rt: self.rt,
             seat: String::new(self.rt.alloc()),
             has_input: true,
+            trusts_owner: false,
         }
     }
 }

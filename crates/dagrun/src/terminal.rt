@@ -26,10 +26,10 @@ const STATES: [&str; 7] = [
 #[derive(Clone, Copy)]
 pub(crate) enum Postscript {
     Nothing,
-    /// How many nodes stand in which state, and who works on them.
-    Totals,
-    /// Who works on the DAG.
-    Worker,
+    /// How many nodes stand in which state, and who works on them; whether the owner of the log is trusted that tells it.
+    Totals { trusts_owner: bool },
+    /// Who works on the DAG; the same of the log.
+    Worker { trusts_owner: bool },
 }
 
 /// The bytes of the file of whose place a refusal tells.
@@ -198,9 +198,16 @@ fn totals_of(alloc: Global, status: &str) -> Result<String, AllocError> {
     Ok(text)
 }
 
-/// The process of the last manager that began to work, by the log of a DAG file.
-fn manager_in_log<R: Files + AllocGlobal>(rt: &R, dag: &str) -> Option<u32> {
+/// The process of the last manager that began to work, by the log of the DAG file of this place; none where it may be
+/// another user's, as `Place::trusts` tells it.
+fn manager_in_log<R: Files + AllocGlobal>(
+    rt: &R,
+    place: &Place<'_>,
+    trusts_owner: bool,
+) -> Option<u32> {
+    let dag = place.top;
     let path = format!(in rt.alloc(); "{dag}.log").ok()?;
+    place.trusts(rt, path.as_str(), trusts_owner).ok()?;
     let log = read_input(rt, path.as_str(), false).ok()?;
     let lives = whole_lines(&log)
         .rsplit(|byte| *byte == b'\n')
@@ -214,7 +221,11 @@ fn manager_in_log<R: Files + AllocGlobal>(rt: &R, dag: &str) -> Option<u32> {
 }
 
 /// Who works on this DAG file: no manager, a process, or a manager of which the log doesn't tell.
-fn worker_of<R: Files<File = File> + AllocGlobal>(rt: &R, dag: &str) -> Result<String, AllocError> {
+fn worker_of<R: Files<File = File> + AllocGlobal>(
+    rt: &R,
+    dag: &str,
+    trusts_owner: bool,
+) -> Result<String, AllocError> {
     let alloc = rt.alloc();
     let here = Place {
         folder: "",
@@ -223,7 +234,7 @@ fn worker_of<R: Files<File = File> + AllocGlobal>(rt: &R, dag: &str) -> Result<S
     if !here.is_at_work(rt) {
         return String::from_str(alloc, "no manager");
     }
-    match manager_in_log(rt, dag) {
+    match manager_in_log(rt, &here, trusts_owner) {
         Some(process) => format!(in alloc; "process {process}"),
         None => String::from_str(alloc, "a manager"),
     }
@@ -239,13 +250,13 @@ fn postscript_of<R: Files<File = File> + AllocGlobal>(
     let alloc = rt.alloc();
     match postscript {
         Postscript::Nothing => Ok(String::new(alloc)),
-        Postscript::Totals => {
+        Postscript::Totals { trusts_owner } => {
             let totals = totals_of(alloc, text)?;
-            let worker = worker_of(rt, dag)?;
+            let worker = worker_of(rt, dag, trusts_owner)?;
             format!(in alloc; "{totals}; {worker} works on them\n")
         }
-        Postscript::Worker => {
-            let worker = worker_of(rt, dag)?;
+        Postscript::Worker { trusts_owner } => {
+            let worker = worker_of(rt, dag, trusts_owner)?;
             format!(in alloc; "{worker} works on {dag}\n")
         }
     }

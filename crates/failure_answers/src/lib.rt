@@ -4,6 +4,7 @@
 ghost use Rattle.std.specs.Prelude.{◌≡◌, map, IfOk, IfErr, option_map, string_bytes};
 ghost use Rattle.dag_main_check.specs.declared.fault.RunFault.TheVariants.{Memory};
 ghost use Rattle.splices_flat.specs.FileSet.{bytes_of, entries_of};
+ghost use Rattle.dag_main_files.specs.Beside.{IsFileFault};
 ghost use Rattle.dag_main_inspect.specs.Asked.{IsAnswerFault};
 ghost use Rattle.dag_main_inspect.specs.Statused.{IsStatusFault};
 ghost use Rattle.dag_main_inspect.specs.declared.by_journal.Question.TheVariants.{Status};
@@ -54,6 +55,21 @@ fn log_of<R: Files<File = File> + AllocGlobal>(
         Err(error) if error.kind() == ErrorKind::OutOfMemory => Err(RunFault::Memory),
         Err(_) => Ok(Vec::new(alloc)),
     }
+}
+
+/// Sees to it that the log of a DAG file was put there by nobody else, where others may write into its folder.
+///
+/// # Errors
+/// `FileRefused` with the path of a log that may be another user's; `Memory`.
+fn has_own_log<R: Files + AllocGlobal>(
+    rt: &R,
+    place: &Place<'_>,
+    trust_owner: bool,
+) -> Result<(), RunFault>
+    ensures { IfErr result IsFileFault }
+{
+    let path = Text::joined(rt.alloc(), place.top, ".log")?;
+    place.trusts(rt, path.as_str(), trust_owner)
 }
 
 /// What is answered of nodes of a run.
@@ -121,13 +137,15 @@ fn why_of<R: Files<File = File> + AllocGlobal>(
 ///
 /// # Errors
 /// As `answer_here` for the status: in this order a journal that the system refuses to read, a number of a
-/// rescue file above 999 in its header, a rescue file that the system refuses to read; then those of
-/// `status_of`, a fault in a line of the rescue file with its path. Want of memory may stand before any.
+/// rescue file above 999 in its header, a rescue file that the system refuses to read; then a log that may be another
+/// user's (`FileRefused`, as `Place::trusts` tells it); then those of `status_of`, a fault in a line of the rescue file
+/// with its path. Want of memory may stand before any.
 pub fn why_here<R: Files<File = File> + AllocGlobal, F: Folder>(
     rt: &R,
     folder: &F,
     place: &Place<'_>,
     names: &[&str],
+    trust_owner: bool,
 ) -> Result<Answer, RunFault>
     ensures answered { IfOk result (λ answer. IsWhyOf place.now.top.now (map (λ n. n.now) names.now)
         (string_bytes answer.text) (string_bytes answer.warnings) answer.status) }
@@ -139,6 +157,7 @@ pub fn why_here<R: Files<File = File> + AllocGlobal, F: Folder>(
 {
     let alloc = rt.alloc();
     let round = last_round(alloc, folder, place.top)?;
+    has_own_log(rt, place, trust_owner)?;
     let files = files_of(alloc, folder, place.top, Reading::SubmitFilesToo)?;
     let rescue = round.rescue.as_deref();
     let journal = round.journal.as_deref();

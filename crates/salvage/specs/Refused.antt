@@ -116,7 +116,7 @@ pub data IsCutShortFault (top journal digest : List ℕ) (used : ℕ) (always_po
       IsCutShortFault top journal digest used always_post (Refused fault)
 
 -- Why no round of the DAG file of this path is salvaged: none was cut short, by its journal; or one was, and what stands beside it says why; or the
--- system refuses a file, as the lock that another manager has, or memory ran out.
+-- system refuses a file, as the lock that another manager has; or a file may be another user's; or memory ran out.
 pub data IsSalvageFault (top : List ℕ) : SalvageFault → Type 0 where
   no_round : (fault : SalvageFault) → IsNoRound top fault → IsSalvageFault top fault
   round_refused : (journal digest : List ℕ) (used next : ℕ) (always_post : Bool) (fault : SalvageFault) → IsUnfinishedRound journal digest used next always_post →

@@ -20,6 +20,7 @@ use dag_main_check::{Answer, RunFault, graph_of, warning_text};
 use dag_main_files::{
     Folder, Place, Reading, files_of, journal_path, named, rescue_disk, rescue_path,
 };
+use dag_reader::Text;
 use event_journal_log::put_bytes;
 use round_inputs::{Inputs, Listed};
 use run_plan::Plan;
@@ -85,12 +86,11 @@ fn change_of<F: Folder>(
     ensures held { F.honest folder.now → IfOk result (IsChangeFrom (F.holds folder.now) file.now) }
     ensures refused { IfErr result IsFileFault }
 {
-    let bytes = match folder.beside(alloc, file.path.as_str()) {
-        Ok(bytes) => bytes,
-        Err(RunFault::FileRefused(_path)) => return Ok(Some(Change::Other)),
-        Err(fault) => return Err(fault),
-    };
-    let Some(bytes) = bytes else {
+    let path = file.path.as_str();
+    let Some(bytes) = folder.input(alloc, path)? else {
+        if folder.is_there(alloc, path)? {
+            return Ok(Some(Change::Other));
+        }
         return Ok(Some(Change::Missing));
     };
     if is_sum(bytes.as_slice(), &file.sum) {
@@ -248,6 +248,23 @@ fn salvage_locked<R: Files<File = File> + AllocGlobal + Copy + Drop, F: Folder>(
     Ok(answer)
 }
 
+/// Sees to it that the journal and the lock were put there by nobody else, where others may write into their folder.
+///
+/// # Errors
+/// `FileRefused` with the first that may be another user's; `Memory`.
+fn has_own_files<R: Files + AllocGlobal>(
+    rt: &R,
+    place: &Place<'_>,
+    journal: &str,
+    trust_owner: bool,
+) -> Result<(), RunFault>
+    ensures { IfErr result IsFileFault }
+{
+    place.trusts(rt, journal, trust_owner)?;
+    let lock = Text::joined(rt.alloc(), place.top, ".lock")?;
+    place.trusts(rt, lock.as_str(), trust_owner)
+}
+
 /// Makes a rescue file of the last round of the DAG file of this path, which was cut short, of the files that stand
 /// in a folder. Relative paths are taken from its path, which is absolute; both are as they were for `run`.
 ///
@@ -258,7 +275,8 @@ fn salvage_locked<R: Files<File = File> + AllocGlobal + Copy + Drop, F: Folder>(
 /// status 0.
 ///
 /// # Errors
-/// In this order, each before anything is changed: no journal (`NoJournal`), another manager that runs the DAG
+/// In this order, each before anything is changed: no journal (`NoJournal`), a journal or a lock that may be another
+/// user's (`FileRefused`, as `Place::trusts` tells it), another manager that runs the DAG
 /// (`FileRefused` with the file that it has locked), a journal that the system refuses or that can't be read,
 /// a round that has ended (`Ended`), a number in the header that no rescue file has (`NotThere`), what the round
 /// was begun with (`NoInputs`, `BadInputs`, `OtherRound`), the first DAG file in the order of paths that is not
@@ -270,6 +288,7 @@ pub fn salvage_here<R: Files<File = File> + Clock + AllocGlobal + Copy + Drop, F
     rt: R,
     folder: &F,
     place: &Place<'_>,
+    trust_owner: bool,
 ) -> Result<Answer, SalvageFault>
     ensures salvaged { IfOk result (λ answer. IsSalvageOf place.now.top.now
         (string_bytes answer.text) (string_bytes answer.warnings) answer.status) }
@@ -283,6 +302,7 @@ pub fn salvage_here<R: Files<File = File> + Clock + AllocGlobal + Copy + Drop, F
     if !folder.is_there(alloc, journal.as_str())? {
         return Err(SalvageFault::NoJournal(journal));
     }
+    has_own_files(&rt, place, journal.as_str(), trust_owner)?;
     let lock = place.lock(&rt)?;
     let answer = salvage_locked(rt, folder, place);
     place.unlock(&rt, lock);

@@ -14,6 +14,12 @@ returns-in_err-round-clause-refused g c =
     by-fault (IsAnswerFault Status c.args.place.now.top.now) c.in_err-round.field-0.0 (no_last_round _ c.in_err-round.ensures.refused)
     c.from_residual.result c.from_residual.ensures.1
 
+pub returns-in_err-has_own_log-clause-refused : goal.returns-in_err-has_own_log-clause-refused
+returns-in_err-has_own_log-clause-refused g c =
+    by-fault (IsAnswerFault Status c.args.place.now.top.now) c.in_err-has_own_log.field-0.0
+    (no_last_round _ (folder_not_read _ tt c.in_err-has_own_log.ensures))
+    c.from_residual-in_err-has_own_log.result c.from_residual-in_err-has_own_log.ensures.1
+
 pub returns-in_err-files-clause-refused : goal.returns-in_err-files-clause-refused
 returns-in_err-files-clause-refused g c =
     by-fault (IsAnswerFault Status c.args.place.now.top.now) c.in_err-files.field-0.0

@@ -20,6 +20,11 @@ pub returns-then-not-branch-clause-refused : goal.returns-then-not-branch-clause
 returns-then-not-branch-clause-refused g c =
     subst (λ (n : List ℕ). IsSalvageFault c.args.place.now.top.now (NoJournal n)) (sym c.in_ok-journal.ensures) (no_round _ has_no_journal)
 
+pub returns-in_err-has_own_files-clause-refused : goal.returns-in_err-has_own_files-clause-refused
+returns-in_err-has_own_files-clause-refused g c =
+    told-as (IsSalvageFault c.args.place.now.top.now) (Refused c.in_err-has_own_files.field-0.0) (system_refuses _ c.in_err-has_own_files.ensures)
+    c.from_residual-in_err-has_own_files.result c.from_residual-in_err-has_own_files.ensures.1
+
 pub returns-in_err-lock-clause-refused : goal.returns-in_err-lock-clause-refused
 returns-in_err-lock-clause-refused g c =
     told-as (IsSalvageFault c.args.place.now.top.now) (Refused c.in_err-lock.field-0.0) (system_refuses _ c.in_err-lock.ensures) c.from_residual-in_err-lock.result c.from_residual-in_err-lock.ensures.1
