@@ -248,7 +248,7 @@ def completion_of_bash(folder):
     os.mkdir(f"{folder}/below")
     same(completed(folder, "dagrun "), ["--help", "audit", "check", "explain", "graph", "help", "rehearse", "run", "salvage", "status", "times", "version", "why"])
     same(completed(folder, "dagrun r"), ["rehearse", "run"])
-    same(completed(folder, "dagrun run --"), ["--always-run-post", "--autorescue", "--dorescuefrom", "--help", "--launcher", "--launcher-final", "--maxjobs", "--maxpost", "--maxpre", "--orphans", "--progress", "--resume", "--sync-output", "--trust-owner"])
+    same(completed(folder, "dagrun run --"), ["--always-run-post", "--autorescue", "--dorescuefrom", "--help", "--launcher", "--launcher-final", "--log-limit", "--maxjobs", "--maxpost", "--maxpre", "--orphans", "--progress", "--resume", "--sync-output", "--trust-owner"])
     same(completed(folder, "dagrun rehearse --max"), ["--maxjobs", "--maxpost", "--maxpre"])
     same(completed(folder, "dagrun status --m"), [])
     same(completed(folder, "dagrun times --"), ["--help", "--svg", "--trust-owner"])

@@ -32,6 +32,7 @@ record AsksRun (rows : List Row) (options : RunOptions) : Type 0 where
   orphans : orphan_rule_of rows ≡ options.orphans
   always_post : is_set (codes "always-run-post") rows ≡ options.always_post
   sync_output : is_on (codes "sync-output") rows ≡ options.sync_output
+  log_limit : number_asked 16 (codes "log-limit") rows ≡ options.log_limit
   launcher : first_of (codes "launcher") rows ≡ None
   none : options.launcher ≡ []
   launcher_final : is_set (codes "launcher-final") rows ≡ options.launcher_final
@@ -47,6 +48,7 @@ same_options rows options plain a b = λ i. record {
   orphans = (a.orphans ∙ b.orphans) i;
   always_post = (a.always_post ∙ b.always_post) i;
   sync_output = (a.sync_output ∙ b.sync_output) i;
+  log_limit = (a.log_limit ∙ b.log_limit) i;
   launcher = (unlaunched _ _ a.launcher b.launcher ∙ sym b.none) i;
   launcher_final = (a.launcher_final ∙ b.launcher_final) i;
   progress = (a.progress ∙ b.progress) i;
@@ -147,6 +149,7 @@ four_only orphans progress request h = run_alone (rows_in (subcommand_of (dagrun
   orphans = refl;
   always_post = refl;
   sync_output = refl;
+  log_limit = refl;
   launcher = refl;
   none = refl;
   launcher_final = refl;
@@ -175,6 +178,7 @@ fresh_only orphans progress request h = run_alone (rows_in (subcommand_of (dagru
   orphans = refl;
   always_post = refl;
   sync_output = refl;
+  log_limit = refl;
   launcher = refl;
   none = refl;
   launcher_final = refl;

@@ -20,6 +20,7 @@ plain_options = record {
   orphans = Kill;
   always_post = false;
   sync_output = true;
+  log_limit = None;
   launcher = [];
   launcher_final = false;
   progress = Auto;

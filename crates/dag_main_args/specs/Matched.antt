@@ -80,6 +80,8 @@ pub record AreOptionsOf (rows : List Row) (options : RunOptions) : Type 0 where
   pub always_post : options.always_post ≡ is_set (codes "always-run-post") rows
   -- files of output and error are brought to the disk, but under `--sync-output 0`
   pub sync_output : options.sync_output ≡ is_on (codes "sync-output") rows
+  -- the log stops growing at so many MiB only where that is given
+  pub log_limit : options.log_limit ≡ number_asked 16 (codes "log-limit") rows
   -- the launcher is split into words as a submit file's arguments are
   pub launcher : IsLauncherOf (first_of (codes "launcher") rows) options.launcher
   pub launcher_final : options.launcher_final ≡ is_set (codes "launcher-final") rows

@@ -109,6 +109,12 @@ const SYNC_OUTPUT: ArgumentRow = ArgumentRow {
     help: "0: the files of output and error are not brought to the disk before an ending is recorded",
 };
 
+const LOG_LIMIT: ArgumentRow = ArgumentRow {
+    name: "log-limit",
+    kind: Kind::Number,
+    help: "How many MiB the log of a round may have; 64 where it is not given, 0 is no limit",
+};
+
 const CODE: ArgumentRow = ArgumentRow {
     name: "CODE",
     kind: Kind::Optional,
@@ -194,6 +200,7 @@ static COMMANDS: [CommandRow; 12] = [
             DORESCUEFROM,
             ALWAYS_POST,
             SYNC_OUTPUT,
+            LOG_LIMIT,
             LAUNCHER,
             LAUNCHER_FINAL,
             ORPHANS,

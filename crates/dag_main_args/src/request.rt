@@ -70,6 +70,8 @@ pub struct RunOptions {
     /// Whether the files that take the output and the errors of a job are brought to the disk before its
     /// ending is recorded.
     pub sync_output: bool,
+    /// How many MiB the log of the round may have, where that is said; 0 is no limit.
+    pub log_limit: Option<u16>,
     /// The program that starts jobs, and the words before theirs; none where they are started by themselves.
     pub launcher: Texts,
     /// Whether it starts FINAL's job, too.
@@ -92,6 +94,7 @@ impl Drop for RunOptions {
             orphans: _,
             always_post: _,
             sync_output: _,
+            log_limit: _,
             launcher: _,
             launcher_final: _,
             progress: _,
@@ -319,6 +322,7 @@ fn options_of(alloc: Global, found: &ArgMatches<'_>) -> Result<RunOptions, Words
         orphans: orphan_rule_of(found),
         always_post: is_set(found, "always-run-post"),
         sync_output: is_on(found, "sync-output"),
+        log_limit: number_of(found, "log-limit"),
         launcher: launcher_in(alloc, value_of(found, "launcher"))?,
         launcher_final: is_set(found, "launcher-final"),
         progress: progress_of(found),

@@ -3,7 +3,7 @@
 ghost use Rattle.std.specs.Prelude.{IfErr};
 ghost use Rattle.dag_main_files.specs.Beside.{IsFileFault};
 
-use crate::beginning::{children_name, children_path, log_path, round_name, round_path};
+use crate::beginning::{children_name, children_path, log_of, round_name, round_path};
 use dag_main_args::{OrphanRule, RunOptions};
 use dag_main_check::RunFault;
 use dag_main_files::{Journaled, Place, Round, journal_path};
@@ -160,8 +160,8 @@ fn settle<R: Processes + Files<File = File> + Clock + Screen + AllocGlobal + Clo
         return Ok(true);
     }
     show(rt, orphans.count(), options);
-    let log = log_path(rt.alloc(), place)?;
-    orphans.settle(rt, options.orphans, log.as_str())
+    let mut log = log_of(rt, place, options)?;
+    orphans.settle(rt, options.orphans, &mut log)
 }
 
 /// Deals with these processes, which an earlier manager of the round left, as the options say, and answers by which identifiers they

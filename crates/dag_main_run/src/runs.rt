@@ -10,9 +10,7 @@ ghost use Rattle.dag_main_check.specs.Warnings.{warning_lines};
 ghost use Rattle.dag_main_run.specs.Sites.{start_by, journal_found, stop_of, rounds_at, IsRoundLedAt, IsRoundStoppedAt};
 ghost use Rattle.dag_main_run.specs.Runs.{IsPlannedRun, IsRunOf, IsRunFrom, IsFindingFault, IsLockedFault, IsFirstRunFault, IsRoundPlanFault, IsStopFault, IsHeldFault, IsRunFault};
 
-use crate::beginning::{
-    Inputs, forget_processes, has_own_files, keep_inputs, life_of, watcher_of,
-};
+use crate::beginning::{Inputs, forget_processes, has_own_files, keep_inputs, life_of, watcher_of};
 use crate::launching::launcher_of;
 use crate::progress::{RoundWatcher, progress_of};
 use crate::rounds::{identified, orphans_found, settled};
@@ -208,7 +206,7 @@ fn run_on<R: Processes + Files<File = File> + Clock + Screen + AllocGlobal + Cop
     let journal = site.readied(place.top, journal, round, lock)?;
     let kept = settled(&rt, place, plan, round, options, orphans)?;
     keep_inputs(rt, place, plan, round, inputs)?;
-    let mut log = watcher_of(rt, place, plan, round, options.sync_output)?;
+    let mut log = watcher_of(rt, place, plan, round, options)?;
     let known = identified(rt, place, round, kept, &mut log)?;
     log.begins(&life_of(place, round, options));
     let progress = progress_of(rt, place, plan, round, options);

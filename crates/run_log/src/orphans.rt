@@ -447,8 +447,7 @@ impl Orphans {
         Ok(())
     }
 
-    /// Deals with them by this rule; the log, which is of this path, says what was done with each. Answers whether some are
-    /// left. Where there are none, nothing is written.
+    /// Deals with them by this rule; the log says what was done with each. Answers whether some are left.
     ///
     /// # Errors
     /// `StillRuns` where one that was killed is not gone after ten seconds, in which it is waited for all together; `NotAsked`
@@ -457,21 +456,14 @@ impl Orphans {
         &mut self,
         rt: &R,
         rule: OrphanRule,
-        log: &str,
+        log: &mut LineFile,
     ) -> Result<bool, OrphanFault> {
-        if self.is_empty() {
-            return Ok(false);
-        }
-        let mut log = LineFile::open(rt, log);
         match rule {
-            OrphanRule::Kill => self.end(rt, &mut log)?,
-            OrphanRule::Wait => self.wait(rt, &mut log)?,
-            OrphanRule::Leave => {
-                tell_all(rt, &mut log, &self.found, "left")?;
-                return Ok(true);
-            }
+            OrphanRule::Kill => self.end(rt, log)?,
+            OrphanRule::Wait => self.wait(rt, log)?,
+            OrphanRule::Leave => tell_all(rt, log, &self.found, "left")?,
         }
-        Ok(false)
+        Ok(rule == OrphanRule::Leave)
     }
 }
 
