@@ -496,9 +496,8 @@ pub(crate) fn text_at<R: Files + AllocGlobal>(
     }
 }
 
-/// The processes of the rounds of these identifiers that an earlier manager left. There are none where the file of its
-/// processes, which is of this path, is missing, since the last manager then ended by itself and left none; and where the
-/// manager that it names still runs.
+/// The processes of the rounds of these identifiers that an earlier manager left. There are none where the manager still runs that the
+/// file of this path names last.
 ///
 /// # Errors
 /// `NotRead` where that file is there and the system refuses to read it, or it is no regular one; `NotAsked` where the system
@@ -513,10 +512,9 @@ pub fn orphans_of<R: Files<File = File> + Clock + AllocGlobal + Clone + Drop>(
         spared: Vec::new(rt.alloc()),
         found: Vec::new(rt.alloc()),
     };
-    let Some(text) = text_at(rt, path, OrphanFault::NotRead)? else {
-        return Ok(orphans);
-    };
-    if orphans.rounds.is_empty() || manager_lives(rt, text.as_str()) {
+    let text = text_at(rt, path, OrphanFault::NotRead)?;
+    let noted = text.as_ref().map_or("", |text| text.as_str());
+    if orphans.rounds.is_empty() || manager_lives(rt, noted) {
         return Ok(orphans);
     }
     orphans.spared = own_line(rt)?;
