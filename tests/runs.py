@@ -768,6 +768,7 @@ def endings_that_nobody_is_told(folder):
         preexec_fn=lambda: signal.signal(signal.SIGCHLD, signal.SIG_IGN),
     )
     same((done.stdout, done.stderr, done.returncode), (b"", b"dagrun: A2 WaitFault\n", 125))
+    same([name for name in os.listdir(folder.path) if name.startswith("x.dag.")], [])
     same([folder.there(name) for name in ("a.out", "x.dag.journal", "x.dag.log")], [False, False, False])
     same(folder.call("run", "x.dag"), ("A DONE attempts=1 value=0\nresult 0\n", "", 0))
 

@@ -15,7 +15,7 @@ _dagrun() {
         --orphans) values='kill wait leave' ;;
         --progress) values='auto always never' ;;
         --sync-output) values='0 1' ;;
-        --dorescuefrom|--launcher|--maxjobs|--maxpost|--maxpre) return ;;
+        --dorescuefrom|--launcher|--log-limit|--maxjobs|--maxpost|--maxpre) return ;;
     esac
     if [ -n "$values" ]; then
         COMPREPLY=($(compgen -W "$values" -- "$word"))
@@ -23,15 +23,15 @@ _dagrun() {
     fi
     case $command in
         '') options='run status why times salvage audit check rehearse graph explain help version --help' ;;
-        run) options='--maxjobs --maxpre --maxpost --autorescue --dorescuefrom --always-run-post --sync-output --launcher --launcher-final --orphans --progress --resume --trust-owner --help' ;;
-        status) options='--help' ;;
-        why) options='--help' ;;
-        times) options='--svg --help' ;;
-        salvage) options='--help' ;;
-        audit) options='--help' ;;
+        run) options='--maxjobs --maxpre --maxpost --autorescue --dorescuefrom --always-run-post --sync-output --log-limit --launcher --launcher-final --orphans --progress --resume --trust-owner --help' ;;
+        status) options='--trust-owner --help' ;;
+        why) options='--trust-owner --help' ;;
+        times) options='--svg --trust-owner --help' ;;
+        salvage) options='--trust-owner --help' ;;
+        audit) options='--trust-owner --help' ;;
         check) options='--hints --condor --help' ;;
         rehearse) options='--maxjobs --maxpre --maxpost --always-run-post --help' ;;
-        graph) options='--help' ;;
+        graph) options='--trust-owner --help' ;;
         explain) options='--help' ;;
         help) options='--help' ;;
         version) options='--help' ;;

@@ -33,6 +33,7 @@ _dagrun() {
                 '--dorescuefrom=[Begins a new round by the rescue file of this number; those of higher numbers are renamed to .old]:N:' \
                 '--always-run-post[POST scripts run behind PRE scripts that failed, too, and decide]' \
                 '--sync-output=[0\: the files of output and error are not brought to the disk before an ending is recorded]:0 or 1:(0 1)' \
+                '--log-limit=[How many MiB the log of a round may have; 64 where it is not given, 0 is no limit]:N:' \
                 '--launcher=[What stands before the program of each job, as "srun -n1"; it is split as arguments are]:WORDS:' \
                 '--launcher-final[It stands before the program of FINAL'\''s job, too]' \
                 '--orphans=[What is done with processes that a manager which was killed left running; kill where it is not given \[possible values\: kill, wait, leave\]]:kill or wait or leave:(kill wait leave)' \
@@ -44,11 +45,13 @@ _dagrun() {
         status)
             _arguments \
                 '(-h --help)'{-h,--help}'[Print help]' \
+                '--trust-owner[Root goes by the journal, the rescue files and the lock of another user, and others by those of root]' \
                 '1:DAG:_files -g "*.dag"'
             ;;
         why)
             _arguments \
                 '(-h --help)'{-h,--help}'[Print help]' \
+                '--trust-owner[Root goes by the journal, the rescue files and the lock of another user, and others by those of root]' \
                 '1:DAG:_files -g "*.dag"' \
                 '2::NODE:'
             ;;
@@ -56,16 +59,19 @@ _dagrun() {
             _arguments \
                 '(-h --help)'{-h,--help}'[Print help]' \
                 '--svg[A picture of the run over time, in place of a table]' \
+                '--trust-owner[Root goes by the journal, the rescue files and the lock of another user, and others by those of root]' \
                 '1:DAG:_files -g "*.dag"'
             ;;
         salvage)
             _arguments \
                 '(-h --help)'{-h,--help}'[Print help]' \
+                '--trust-owner[Root goes by the journal, the rescue files and the lock of another user, and others by those of root]' \
                 '1:DAG:_files -g "*.dag"'
             ;;
         audit)
             _arguments \
                 '(-h --help)'{-h,--help}'[Print help]' \
+                '--trust-owner[Root goes by the journal, the rescue files and the lock of another user, and others by those of root]' \
                 '1:DAG:_files -g "*.dag"'
             ;;
         check)
@@ -88,6 +94,7 @@ _dagrun() {
         graph)
             _arguments \
                 '(-h --help)'{-h,--help}'[Print help]' \
+                '--trust-owner[Root goes by the journal, the rescue files and the lock of another user, and others by those of root]' \
                 '1:DAG:_files -g "*.dag"'
             ;;
         explain)
