@@ -229,7 +229,9 @@ fn show_unkept<R: Processes + Clock + Screen + AllocGlobal>(
     error: &io::Error,
 ) {
     if way_of(rt, options.progress).is_some() {
-        let _ = eprintln!(rt; "the round's identifier can't be kept ({error}): a later run will not know its processes");
+        let _ = eprintln!(rt;
+            "the round's identifier can't be kept ({error}): a later run will not know its processes"
+        );
     }
 }
 
