@@ -103,11 +103,17 @@ def orphans_in(folder):
     return sorted(tuple(line[2:5]) + (line[6],) for line in lines if line[1] == "orphan")
 
 
+def are_others(before, count, number=0):
+    """Whether so many sleep, and none of those that slept before. They are looked at once."""
+    now = sleeping(number)
+    return len(now) == count and not set(before) & set(now)
+
+
 def begin_again(folder, count, number=0):
     """A second manager, once so many jobs run; what ran before runs no more."""
     before = sleeping(number)
     second = start(folder, "x.dag")
-    wait_until(lambda: len(sleeping(number)) == count and not set(before) & set(sleeping(number)), f"{sleeping(number)} sleep; {before} slept before")
+    wait_until(lambda: are_others(before, count, number), f"not {count} others than {before} sleep")
     return second
 
 
@@ -146,7 +152,7 @@ def two_folders(folder):
     [stranger] = [it for it in sleeping() if it != child]
     kill(first)
     third = start(one, "x.dag")
-    wait_until(lambda: child not in sleeping() and len(sleeping()) == 2, f"{sleeping()} sleep")
+    wait_until(lambda: [it != child for it in sleeping()] == [True, True], f"{sleeping()} sleep")
     same((stranger in sleeping(), second.poll(), orphans_in(one)), (True, None, [("A", "JOB", "0", "done=killed")]))
     kill(second)
     kill(third)
@@ -247,7 +253,7 @@ def wrapped(folder):
         before = {it: wait_for_sleeping(1, it) for it in range(7)}
         kill(manager)
         second = start(place, *words, "x.dag")
-        wait_until(lambda: all(len(sleeping(it)) == 1 and sleeping(it) != before[it] for it in range(7)), "a job has a copy, or none")
+        wait_until(lambda: all(are_others(before[it], 1, it) for it in range(7)), "a job has a copy, or none")
         kill(second)
         end_all()
 
