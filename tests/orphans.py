@@ -15,7 +15,7 @@ import sys
 import tempfile
 import time
 
-from runs import PATIENCE, Folder, same, wait_until
+from runs import PATIENCE, Folder, runs_still, same, wait_until
 
 # The words of the sleeps of this script: no other process has their fraction.
 MARK = f"{os.getpid() % 100000:05d}"
@@ -140,6 +140,18 @@ def noted_and_not(folder):
     kill(begin_again(folder, 3))
 
 
+def start_by_a_script(*folders, first_words=""):
+    """Managers in these folders, started one behind the other by one script that ends then: one group, one session, no parent. Before
+    the first one stand these words. Answers their numbers."""
+    lines = ""
+    for it in folders:
+        lines += f"(cd '{it.path}' && exec {first_words} '{it.program}' run x.dag) >/dev/null 2>&1 </dev/null &\n"
+        lines += f"until grep -qs manager '{it.path}/x.dag.children'; do sleep 0.01; done\n"
+        first_words = ""
+    subprocess.run(["setsid", "sh", "-c", lines], timeout=PATIENCE)
+    return [int(it.read("x.dag.children").split(b"\t")[1]) for it in folders]
+
+
 def two_folders(folder):
     """Two managers of the same words in two folders, of one parent, group and session: each knows its own alone."""
     one, other = inner(folder, "d1"), inner(folder, "d2")
@@ -156,6 +168,21 @@ def two_folders(folder):
     same((stranger in sleeping(), second.poll(), orphans_in(one)), (True, None, [("A", "JOB", "0", "done=killed")]))
     kill(second)
     kill(third)
+
+
+def another_manager_of_the_same_words(folder):
+    """A manager is killed once its child runs and before that is noted; another one of the same words, group and session works in another folder."""
+    one, other = inner(folder, "d1"), inner(folder, "d2")
+    sleepers(one, "A")
+    sleepers(other, "A")
+    killing = f"strace -qqq -o /dev/null -e trace=write -P '{one.at('x.dag.children')}' -e inject=write:signal=SIGKILL:when=2"
+    _, manager = start_by_a_script(one, other, first_words=killing)
+    wait_for_sleeping(2)
+    third = start(one, "x.dag")
+    wait_until(lambda: orphans_in(one) and len(sleeping()) == 2, f"{sleeping()} sleep")
+    same((orphans_in(one), runs_still(manager), orphans_in(other)), ([("A", "JOB", "0", "done=killed")], True, []))
+    kill(third)
+    os.kill(manager, signal.SIGKILL)
 
 
 def copied_folder(folder):
@@ -195,19 +222,21 @@ def kill_after_start(folder, count):
 
 
 def a_refused_start(folder):
-    """The last start of a manager was refused; a process of another one has its words."""
-    sleepers(folder, "A")
-    folder.write("x.dag", "JOB A s.sub\nJOB B t.sub\n")
-    sleep_file(folder, "t", program="./none")
-    other = inner(folder, "d2")
+    """The last start of a manager was refused; a process of another manager that was killed, too, has its words, group and session."""
+    one, other = inner(folder, "d1"), inner(folder, "d2")
+    one.write("x.dag", "JOB A a.sub\nJOB B b.sub\n")
+    sleep_file(one, "a", 1)
+    one.write("b.sub", f"executable = /bin/sleep\narguments = {length()}\ninput = none\nqueue\n")
     sleepers(other, "A")
-    second = start(other, "x.dag")
-    [stranger] = wait_for_sleeping(1)
-    kill_after_start(folder, 2)
-    third = start(folder, "x.dag")
-    wait_until(lambda: len(orphans_in(folder)) == 1 and len(sleeping()) == 2, f"{sleeping()} sleep")
-    same((stranger in sleeping(), second.poll()), (True, None))
-    kill(second)
+    managers = start_by_a_script(one, other)
+    [stranger], [child] = wait_for_sleeping(1), wait_for_sleeping(1, 1)
+    wait_until(lambda: b"\tnotstarted\tB\t" in one.read("x.dag.log"), "B was not refused")
+    for manager in managers:
+        os.kill(manager, signal.SIGKILL)
+    wait_until(lambda: not any(os.path.exists(f"/proc/{it}") and state_of(it)[0] not in "ZX" for it in managers), "the managers still run")
+    third = start(one, "x.dag")
+    wait_until(lambda: are_others([child], 1, 1), "A has not begun again")
+    same((sleeping(), orphans_in(one)), ([stranger], [("A", "JOB", "0", "done=killed")]))
     kill(third)
 
 
@@ -462,7 +491,7 @@ def main():
     program = os.path.realpath(sys.argv[1])
     rows = list(ROWS)
     if shutil.which("strace"):
-        rows += [equal_words, some_that_can_not_be_ended, questions_that_are_refused]
+        rows += [equal_words, another_manager_of_the_same_words, some_that_can_not_be_ended, questions_that_are_refused]
     else:
         print("strace is not installed: no manager is killed between the start of a child and its note, and no call is refused")
     if os.getuid() == 0 and subprocess.run(["unshare", "--pid", "--fork", "--mount-proc", "true"], capture_output=True).returncode == 0:
