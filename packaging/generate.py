@@ -30,6 +30,9 @@ class Help:
                 self.usage = line[len("Usage: ") :].split()
             elif line.endswith(":") and line[:-1] in self.parts:
                 part = self.parts[line[:-1]]
+            elif line.startswith("  ") and part and len(part[-1]) == 1:
+                # Where its words are long, an option's text is on a line of its own.
+                part[-1].append(line.strip())
             elif line.startswith("  "):
                 part.append(re.split(r"  +", line.strip(), maxsplit=1))
 
@@ -90,11 +93,17 @@ def see(told, names):
     return ",\n".join(f".BR {roff(name)} (1)" for name in others).replace(" (1),", " (1),")
 
 
-def page(told, names):
+def version_of(program):
+    """What the program says of itself, as `dagrun 1.0.0`: the one place from which pages and packages have it."""
+    return subprocess.run([program, "version"], capture_output=True, text=True, timeout=60, check=True).stdout.strip()
+
+
+def page(told, names, version):
     with open(os.path.join(HERE, "pages", page_of(told.command) + ".1")) as file:
         text = file.read()
     about = told.about[0].lower() + told.about[1:]
     made = {
+        "@version@": roff(version),
         "@name@": f"{roff(page_of(told.command))} \\- {roff(about)}",
         "@synopsis@": synopsis(told),
         "@options@": options(told),
@@ -224,7 +233,8 @@ def made(program):
     top = Help(program, "")
     names = [name for name, _ in top.parts["Commands"]]
     helps = [Help(program, name) for name in names]
-    files = {f"man/{page_of(told.command)}.1": page(told, names) for told in [top, *helps]}
+    version = version_of(program)
+    files = {f"man/{page_of(told.command)}.1": page(told, names, version) for told in [top, *helps]}
     files["completion/dagrun.bash"] = bash(top, helps)
     files["completion/dagrun.zsh"] = zsh(top, helps)
     files["completion/dagrun.fish"] = fish(top, helps)

@@ -6,7 +6,7 @@
 Two rounds are tried, each of them behind a finished one: it reads a rescue file, puts the old journal away, starts phases, 64 of them
 together, of which one fails twice, and writes a rescue file. The first reads the rescue file of the highest number; the second goes back behind it
 (--dorescuefrom), so that it is put away too. Under strace each open, write, sync, cut and renaming of one of their files fails in
-turn, with each of the errors below; and each write is cut short in turn (tests/short_write.c). Each time the run answers as it does
+turn, with each of the errors below; and each write is cut short in turn (tests/at_call.py). Each time the run answers as it does
 without, or prints nothing but one line with the fault and ends with 125; where it is standard output that fails, what stands there
 is a part from the start of what is printed without. Then the same command is given again, and where it answers
 that the run has not ended, which it may once the round has begun, the command without --dorescuefrom: the records that were
@@ -21,6 +21,7 @@ import subprocess
 import sys
 import tempfile
 
+from at_call import Changed
 from journals import check_records, ended_in, is_finished, records_in
 
 HERE = os.path.dirname(os.path.abspath(__file__))
@@ -38,7 +39,7 @@ FILES = ["x.dag", "job.sub", "x.dag.journal", "x.dag.journal.old", "x.dag.lock",
 # The words behind `dagrun` of the round that is tried, by the number of the rounds before it.
 ROUNDS = {1: ("run", "x.dag"), 2: ("run", "--dorescuefrom", "1", "x.dag")}
 # Nothing depends on these: where a call of theirs fails, nothing is told but where it can't be read which processes were left, or by what they are known.
-FILES += ["x.dag.log", "x.dag.log.old", "x.dag.children", "x.dag.round", "x.dag.round.new", "x.dag.inputs", "x.dag.inputs.new"]
+FILES += ["x.dag.log", "x.dag.log.old", "x.dag.children", "x.dag.round", "x.dag.round.new", "x.dag.inputs", "x.dag.inputs.new", "x.dag.begun", "x.dag.begun.new"]
 ERRORS = {
     "openat": ("EIO", "EINTR", "EMFILE", "EACCES"),
     "write": ("EIO", "ENOSPC", "EINTR"),
@@ -100,7 +101,8 @@ def faulty(program, folder, place, library):
     """A round in which the call of this place fails."""
     words = ROUNDS[place.round]
     if place.error == "short":
-        return call(program, folder, words, environment={"LD_PRELOAD": library, "SHORT_AT": str(place.number)})
+        (*before, _), environment = library.around([program], place.number)
+        return call(program, folder, words, before, environment)
     inject = f"inject={place.call}:error={place.error}:when={place.number}"
     return call(program, folder, words, traced(folder, "-e", inject))
 
@@ -199,8 +201,7 @@ def main():
         print("strace is not installed: no call of the system is made to fail")
         return
     with tempfile.TemporaryDirectory() as work:
-        library = os.path.join(work, "short_write.so")
-        subprocess.run(["cc", "-shared", "-fPIC", "-O1", "-o", library, os.path.join(HERE, "short_write.c"), "-ldl"], check=True)
+        library = Changed(work, "shorten")
         bases = {number: make_base(program, work, number) for number in ROUNDS}
         wanted = {number: without_faults(program, base, number) for number, base in bases.items()}
         places = []

@@ -16,16 +16,22 @@ import sys
 import tempfile
 import time
 
+from at_call import is_static
+
 TOP = os.path.realpath(os.path.join(os.path.dirname(__file__), ".."))
 SHIPPED = os.path.join(TOP, "dist/dagrun")
 PAGES = sorted(os.listdir(os.path.join(TOP, "packaging/man")))
 INSTALLED = sorted(
     [
         "bin/dagrun",
+        "bin/dagrun-slurm",
+        "bin/dagrun-ssh",
         "share/bash-completion/completions/dagrun",
         "share/fish/vendor_completions.d/dagrun.fish",
         "share/zsh/site-functions/_dagrun",
         *(f"share/man/man1/{page}" for page in PAGES),
+        *(f"share/doc/dagrun/{page}" for page in ("CHANGELOG.md", "NOTICE", "SECURITY.md")),
+        *(f"share/doc/dagrun/{page}.md" for page in ("MANUAL", "FROM_DAGMAN", "FROM_MAKE", "TO_HTCONDOR", "GLOSSARY", "LOG", "JOURNAL", "STABILITY")),
     ]
 )
 # What install.sh may use besides bash.
@@ -154,49 +160,139 @@ def installed_and_removed(folder):
     same(call(folder, f"{TOP}/install.sh", env=settings), (f"dagrun is installed: {prefix}/bin/dagrun\n", "", 0))
     same(call(folder, f"{TOP}/install.sh", "--remove", env=settings), (f"dagrun is removed from {prefix}\n", "", 0))
     same(files_below(prefix), ["bin/other"])
+    same(os.listdir(prefix), ["bin"])
     # With a prefix, seen from the working folder.
     same(call(folder, f"{TOP}/install.sh", "some where", env=settings)[1:], ("", 0))
     same(files_below(f"{folder}/some where"), INSTALLED)
     same(call(folder, f"{TOP}/install.sh", "some where", "--remove", env=settings)[1:], ("", 0))
-    same(files_below(f"{folder}/some where"), [])
+    same(os.listdir(f"{folder}/some where"), [])
     said, told, status = call(folder, f"{TOP}/install.sh", "--elsewhere", env=settings)
     same((said, told.startswith("install.sh: usage: "), status), ("", True, 1))
 
 
-def what_the_program_needs(folder):
-    """The newest version of the C library that the program names is the one that README and the package tell."""
-    with open(SHIPPED, "rb") as file:
-        shipped = file.read()
-    newest = max(tuple(map(int, found.split(b"."))) for found in re.findall(rb"GLIBC_([0-9.]+)\0", shipped))
-    version = ".".join(map(str, newest))
-    for name in ("README.md", "install.sh"):
-        same(f"glibc {version} or newer" in open(os.path.join(TOP, name)).read(), True)
-    same(f"libc6 (>= {version})" in open(os.path.join(TOP, "packaging/deb.sh")).read(), True)
+def the_program_needs_no_library(folder):
+    """The shipped program is linked statically: it names no loader, and nothing of a C library that it would find on a machine."""
+    if not os.path.exists(f"{TOP}/dist/dagrun.o"):
+        raise Skipped("dist/dagrun.o is not there, so dist/dagrun is linked dynamically yet")
+    same(is_static(SHIPPED), True)
+    needs("objdump")
+    said, _, status = call(folder, "objdump", "-T", SHIPPED)
+    same(("GLIBC_" in said, status), (False, 0))
+    said, _, status = call(folder, "objdump", "-p", SHIPPED)
+    same(("NEEDED" in said, status), (False, 0))
 
 
-def an_older_system(folder):
+def another_machine(folder):
     copy(folder, "install.sh", "packaging")
     with open(SHIPPED, "rb") as file:
         shipped = file.read()
-    # To this program the system here is an older one.
+    # The program of another kind of processor.
     os.mkdir(f"{folder}/dist")
     with open(f"{folder}/dist/dagrun", "wb") as file:
-        file.write(shipped.replace(b"GLIBC_2.34\0", b"GLIBC_2.94\0"))
-    os.chmod(f"{folder}/dist/dagrun", 0o755)
-    same("GLIBC_2.94" in call(folder, "dist/dagrun")[1], True)
-    write(f"{folder}/bin/getconf", "#!/bin/sh\necho glibc 2.31\n", 0o755)
-    write(f"{folder}/bin/uname", "#!/bin/sh\ncase $1 in -s) echo Linux;; *) echo x86_64;; esac\n", 0o755)
-    settings = with_path(f"{folder}/bin", os.environ["PATH"])
-    needed = "install.sh: dagrun needs an x86-64 Linux with glibc 2.34 or newer; this is "
-    line = f"{needed}Linux x86_64 with glibc 2.31, and nothing was installed\n"
-    same(call(folder, "./install.sh", "new", env=settings), ("", line, 1))
-    # Another machine, another system, and no word on the library.
-    with open(f"{folder}/dist/dagrun", "wb") as file:
         file.write(shipped[:18] + b"\xb7" + shipped[19:])
-    write(f"{folder}/bin/getconf", "#!/bin/sh\nexit 1\n", 0o755)
+    os.chmod(f"{folder}/dist/dagrun", 0o755)
     write(f"{folder}/bin/uname", "#!/bin/sh\ncase $1 in -s) echo Linux;; *) echo aarch64;; esac\n", 0o755)
-    same(call(folder, "./install.sh", "new", env=settings), ("", f"{needed}Linux aarch64, and nothing was installed\n", 1))
+    settings = with_path(f"{folder}/bin", os.environ["PATH"])
+    line = "install.sh: dagrun needs an x86-64 Linux; this is Linux aarch64, the program does not run here, and nothing was installed\n"
+    same(call(folder, "./install.sh", "new", env=settings), ("", line, 1))
     same(os.path.exists(f"{folder}/new"), False)
+
+
+# A toolchain of a few lines: `rt run` compiles the crate, and its linker links an object file to the C library of the machine.
+TOOLCHAIN = {
+    "rt": """#!/bin/sh
+case $1 in
+version) echo 'a version' ;;
+run)
+    mkdir -p out
+    gcc -x c -O1 -fPIE -c -o out/dagrun.o src/main.c
+    "${0%/*}/rattle-link" --target x --toolchain x -o out/dagrun out/dagrun.o
+    echo run >>"$TOLD" ;;
+esac
+""",
+    "rattle-link": '#!/bin/sh\nexec gcc -o "$6" "$7"\n',
+}
+
+
+def shipped_statically(folder):
+    """What dist.sh makes of an object file, when it is due, and what the gate compares."""
+    needs("gcc", "ld", "ar")
+    kit = f"{folder}/kit"
+    for name, text in TOOLCHAIN.items():
+        write(f"{kit}/bin/{name}", text, 0o755)
+    os.mkdir(f"{kit}/c")
+    for name in ("libos_c.a", "liblibc_c.a"):
+        same(call(f"{kit}/c", "ar", "rc", name)[2], 0)
+    here = f"{folder}/here"
+    copy(here, "dist.sh", "build", "dist/functions.sh")
+    write(f"{here}/packaging/generate.py", "#!/bin/sh\n", 0o755)
+    write(f"{here}/crates.txt", "dagrun:\n")
+    write(f"{here}/crates/dagrun/src/main.c", '#include <stdio.h>\nint main(void) { puts("of C"); return 0; }\n')
+    write(f"{here}/crates/dagrun/stdin", "")
+    settings = dict(with_path(f"{kit}/bin", os.environ["PATH"]), TOLD=f"{folder}/told")
+    if "libc.a" in call(here, "bash", "-c", "top=$PWD; . dist/functions.sh; has_static_parts", env=settings)[1]:
+        raise Skipped("libc.a is not installed")
+
+    def dist(*words):
+        said, told, status = call(here, "./dist.sh", *words, env=settings)
+        return said, status
+
+    def gate():
+        said, _, status = call(here, "bash", "-c", "top=$PWD; . dist/functions.sh; is_proved_program", env=settings)
+        return said, status
+
+    def bytes_of(path):
+        with open(f"{here}/{path}", "rb") as file:
+            return file.read()
+
+    def put(path, content):
+        with open(f"{here}/{path}", "wb") as file:
+            file.write(content)
+
+    is_due = ("dist/dagrun is not of these sources: ./dist.sh renews it\n", 1)
+    is_of_these = ("dist/dagrun is of these sources\n", 0)
+    same(dist("--check"), is_due)
+    same(dist(), ("dist/dagrun is of these sources now\n", 0))
+    same((dist("--check"), dist(), gate()), (is_of_these, is_of_these, ("", 0)))
+    same((is_static(f"{here}/dist/dagrun"), is_static(f"{here}/crates/dagrun/out/dagrun")), (True, False))
+    same(call(here, "dist/dagrun"), ("of C\n", "", 0))
+    same(open(f"{folder}/told").read(), "run\n")
+    made = {path: bytes_of(path) for path in ("dist/dagrun", "dist/dagrun.o", "dist/SOURCES")}
+    # Linked anew it is the same, and in another folder, too.
+    same(dist("--link"), ("dist/dagrun is linked anew\n", 0))
+    same({path: bytes_of(path) for path in made}, made)
+    shutil.copytree(here, f"{folder}/there", symlinks=True)
+    same(call(f"{folder}/there", "./dist.sh", "--link", env=settings)[2], 0)
+    with open(f"{folder}/there/dist/dagrun", "rb") as file:
+        same(file.read() == made["dist/dagrun"], True)
+    # Another program, another object file, none, and another linker.
+    put("dist/dagrun", made["dist/dagrun"] + b"x")
+    same((dist("--check"), gate()[1], "linked statically" in gate()[0]), (is_due, 1, True))
+    put("dist/dagrun", made["dist/dagrun"])
+    put("dist/dagrun.o", made["dist/dagrun.o"].replace(b"of C", b"of D"))
+    same((dist("--check"), gate()[1], "is not the object file of the program that was proved and built" in gate()[0]), (is_due, 1, True))
+    os.remove(f"{here}/dist/dagrun.o")
+    same((dist("--check"), gate()), (is_due, ("dist/dagrun.o is missing, so dist/dagrun is no static program: ./dist.sh makes both\n", 1)))
+    put("dist/dagrun.o", made["dist/dagrun.o"])
+    put("dist/SOURCES", made["dist/SOURCES"].replace(b"GNU ld", b"another ld"))
+    same((dist("--check"), gate()[1], "so its object file alone is compared" in gate()[0]), (is_of_these, 0, True))
+    put("dist/SOURCES", made["dist/SOURCES"])
+    # Without a compiler it is still said whether the program is of the sources, and what is missing to link it.
+    bare = f"{folder}/bare"
+    os.mkdir(bare)
+    for folder_of in os.environ["PATH"].split(os.pathsep):
+        for name in os.listdir(folder_of) if os.path.isdir(folder_of) else ():
+            if name not in ("gcc", "rt") and not os.path.lexists(f"{bare}/{name}"):
+                os.symlink(f"{folder_of}/{name}", f"{bare}/{name}")
+    settings = dict(with_path(f"{kit}/bin", bare), TOLD=f"{folder}/told")
+    same(dist("--check"), is_of_these)
+    told = call(here, "bash", "-c", "top=$PWD; . dist/functions.sh; has_static_parts", env=settings)[1:]
+    same(told, ("a static program can't be linked here, for want of: gcc and ld (Debian: apt-get install gcc libc6-dev)\n", 1))
+    # A source was changed: that is found out before anything is proved.
+    write(f"{here}/crates/dagrun/src/main.c", "int main(void) { return 7; }\n")
+    same((dist("--check"), dist()[1], open(f"{folder}/told").read()), (is_due, 1, "run\n"))
+    settings = dict(with_path(f"{kit}/bin", os.environ["PATH"]), TOLD=f"{folder}/told")
+    same((dist()[1], call(here, "dist/dagrun")[2], gate()[1]), (0, 7, 0))
 
 
 def generated_texts(folder):
@@ -246,12 +342,13 @@ def completion_of_bash(folder):
     for name in ("one.dag", "two words.dag", "one.outcomes"):
         write(f"{folder}/{name}", "")
     os.mkdir(f"{folder}/below")
-    same(completed(folder, "dagrun "), ["--help", "audit", "check", "explain", "graph", "help", "rehearse", "run", "salvage", "status", "times", "version", "why"])
-    same(completed(folder, "dagrun r"), ["rehearse", "run"])
-    same(completed(folder, "dagrun run --"), ["--always-run-post", "--autorescue", "--dorescuefrom", "--help", "--launcher", "--launcher-final", "--log-limit", "--maxjobs", "--maxpost", "--maxpre", "--orphans", "--progress", "--resume", "--sync-output", "--trust-owner"])
+    same(completed(folder, "dagrun "), ["--help", "audit", "check", "explain", "graph", "help", "redo", "rehearse", "run", "salvage", "status", "times", "version", "why"])
+    same(completed(folder, "dagrun r"), ["redo", "rehearse", "run"])
+    same(completed(folder, "dagrun run --"), ["--always-run-post", "--autorescue", "--dorescuefrom", "--help", "--launcher", "--launcher-final", "--launcher-grace", "--log-limit", "--maxjobs", "--maxpost", "--maxpre", "--orphans", "--progress", "--resume", "--script-output", "--sync-output", "--trust-owner"])
     same(completed(folder, "dagrun rehearse --max"), ["--maxjobs", "--maxpost", "--maxpre"])
     same(completed(folder, "dagrun status --m"), [])
     same(completed(folder, "dagrun times --"), ["--help", "--svg", "--trust-owner"])
+    same(completed(folder, "dagrun redo --"), ["--help", "--only", "--trust-owner"])
     for name in ("audit", "graph", "salvage", "status", "why"):
         same(completed(folder, f"dagrun {name} --"), ["--help", "--trust-owner"])
     same(completed(folder, "dagrun run --autorescue "), ["0", "1"])
@@ -262,7 +359,7 @@ def completion_of_bash(folder):
     same(completed(folder, "dagrun rehearse one.dag one"), ["one.dag", "one.outcomes"])
     same(completed(folder, "dagrun status one.o"), ["one.outcomes"])
     same(completed(folder, "dagrun graph t"), ["two words.dag"])
-    same(completed(folder, "dagrun help r"), ["rehearse", "run"])
+    same(completed(folder, "dagrun help r"), ["redo", "rehearse", "run"])
     same((completed(folder, "dagrun explain "), completed(folder, "dagrun version ")), ([], []))
     # As bash finds it: the word's own function.
     said = call(folder, "bash", "--norc", "-c", f". {TOP}/packaging/completion/dagrun.bash; complete -p dagrun")
@@ -287,7 +384,7 @@ def completion_of_fish(folder):
         same((told, status), ("", 0))
         return sorted(entry.split("\t")[0] for entry in said.splitlines())
 
-    same(fish("dagrun r"), ["rehearse", "run"])
+    same(fish("dagrun r"), ["redo", "rehearse", "run"])
     same(fish("dagrun run --m"), ["--maxjobs", "--maxpost", "--maxpre"])
     same(fish("dagrun run --autorescue "), ["0", "1"])
     same(fish("dagrun run o"), ["one.dag"])
@@ -442,13 +539,14 @@ def options_of_condor_submit_dag(folder):
     same((said.splitlines()[0], told, status), ("File for submitting this DAG: x.dag.condor.sub", "", 0))
     same(open(f"{folder}/below/ran").read(), f"{folder}/below\n")
     same(os.listdir(f"{folder}/outputs"), ["x.dag.dagman.out"])
-    for name in ("inputs", "journal", "log"):
+    for name in ("begun", "inputs", "journal", "log"):
         os.remove(f"{folder}/below/x.dag.{name}")
     same(call(f"{folder}/below", SUBMIT, "-no_submit", "x.dag"), (TOLD, "", 0))
     same(sorted(os.listdir(f"{folder}/below")), ["a.sh", "a.sub", "ran", "x.dag", "x.dag.condor.sub"])
     write(f"{folder}/below/y.dag", "JOB A a.sub\nSCRIPT PRE A /bin/sh -c false\nSCRIPT POST A /bin/echo\n")
     for option, status in (("-AlwaysRunPost", 0), ("-DontAlwaysRunPost", 1)):
         same(call(f"{folder}/below", SUBMIT, option, "-wait", "y.dag")[2], status)
+    shutil.rmtree(f"{folder}/below/y.dag.scripts")
     for name in os.listdir(f"{folder}/below"):
         if name.startswith("y.dag"):
             os.remove(f"{folder}/below/{name}")
@@ -565,8 +663,9 @@ ROWS = [
     dagrun_runs_the_shipped_program,
     build_proves_what_it_finds,
     installed_and_removed,
-    what_the_program_needs,
-    an_older_system,
+    the_program_needs_no_library,
+    another_machine,
+    shipped_statically,
     generated_texts,
     manual_pages,
     graphviz_reads_a_graph,

@@ -8,6 +8,7 @@ hand from docs/MANUAL.md, "Orphans". The last line is 'N passed, M failed'."""
 import contextlib
 import ctypes
 import os
+import shlex
 import shutil
 import signal
 import subprocess
@@ -33,6 +34,10 @@ def words_of(process):
 def state_of(process):
     with open(f"/proc/{process}/stat") as file:
         return file.read().rsplit(")", 1)[1].split()
+
+
+def folder_of(process):
+    return os.readlink(f"/proc/{process}/cwd")
 
 
 def sleeping(number=0):
@@ -74,6 +79,12 @@ def sleepers(folder, *names, dag="x.dag"):
     sleep_file(folder, "s")
 
 
+def apart(folder, *names):
+    """The same of jobs that leave the group and the session of their manager, so that nothing but the round tells whose they are."""
+    sleepers(folder, *names)
+    sleep_file(folder, "s", 0, "/usr/bin/setsid", "sleep ")
+
+
 def inner(folder, name):
     """A folder in the folder, which is made."""
     made = Folder(folder.program, folder.at(name))
@@ -91,10 +102,14 @@ def kill(manager):
     manager.stderr.close()
 
 
-def run_killed_at(folder, write, *words):
-    """A run that is killed as it writes for the so manieth time what it has started."""
-    strace = ["strace", "-qqq", "-o", "/dev/null", "-e", "trace=write", "-P", folder.at("x.dag.children"), "-e", f"inject=write:signal=SIGKILL:when={write}"]
-    return subprocess.run([*strace, folder.program, "run", *words, "x.dag"], cwd=folder.path, capture_output=True, timeout=PATIENCE)
+def killing_at(folder, write):
+    """The words that kill what they start as it writes for the so manieth time what it has started."""
+    return ["strace", "-qqq", "-o", "/dev/null", "-e", "trace=write", "-P", folder.at("x.dag.children"), "-e", f"inject=write:signal=SIGKILL:when={write}"]
+
+
+def run_killed_at(folder, write):
+    """A run that is killed as it writes for the so manieth time what it has started: the child of that moment is not noted."""
+    return subprocess.run([*killing_at(folder, write), folder.program, "run", "x.dag"], cwd=folder.path, capture_output=True, timeout=PATIENCE)
 
 
 def orphans_in(folder):
@@ -131,42 +146,41 @@ def equal_words(folder):
 
 
 def noted_and_not(folder):
-    """One child is noted, the other is not; both are ended, and each has one successor."""
-    sleepers(folder, "A", "B", "C")
-    first = start(folder, "x.dag")
+    """Two children are noted, the third is not; all are ended, and each has one successor."""
+    apart(folder, "A", "B", "C")
+    run_killed_at(folder, 4)
     wait_for_sleeping(3)
-    kill(first)
     kill(begin_again(folder, 3))
+    same(orphans_in(folder), [(node, "JOB", "0", "done=killed") for node in "ABC"])
     kill(begin_again(folder, 3))
 
 
-def start_by_a_script(*folders, first_words=""):
+def start_by_a_script(*folders, words=()):
     """Managers in these folders, started one behind the other by one script that ends then: one group, one session, no parent. Before
-    the first one stand these words. Answers their numbers."""
+    each one stand its words, if there are any. Answers their numbers."""
     lines = ""
-    for it in folders:
-        lines += f"(cd '{it.path}' && exec {first_words} '{it.program}' run x.dag) >/dev/null 2>&1 </dev/null &\n"
+    for place, it in enumerate(folders):
+        before = shlex.join(words[place]) if place < len(words) else ""
+        lines += f"(cd '{it.path}' && exec {before} '{it.program}' run x.dag) >/dev/null 2>&1 </dev/null &\n"
         lines += f"until grep -qs manager '{it.path}/x.dag.children'; do sleep 0.01; done\n"
-        first_words = ""
     subprocess.run(["setsid", "sh", "-c", lines], timeout=PATIENCE)
     return [int(it.read("x.dag.children").split(b"\t")[1]) for it in folders]
 
 
 def two_folders(folder):
-    """Two managers of the same words in two folders, of one parent, group and session: each knows its own alone."""
-    one, other = inner(folder, "d1"), inner(folder, "d2")
-    sleepers(one, "A")
+    """Two managers of the same words in two folders, of one group and session, are killed, the second before its child is noted: each folder's
+    next manager ends its own child alone."""
+    other, one = inner(folder, "d1"), inner(folder, "d2")
     sleepers(other, "A")
-    first = start(one, "x.dag")
-    [child] = wait_for_sleeping(1)
-    second = start(other, "x.dag")
+    sleepers(one, "A")
+    manager, _ = start_by_a_script(other, one, words=((), killing_at(one, 2)))
     wait_for_sleeping(2)
-    [stranger] = [it for it in sleeping() if it != child]
-    kill(first)
+    os.kill(manager, signal.SIGKILL)
+    wait_until(lambda: not runs_still(manager), "the manager still runs")
+    [stranger] = [it for it in sleeping() if folder_of(it) == other.path]
     third = start(one, "x.dag")
-    wait_until(lambda: [it != child for it in sleeping()] == [True, True], f"{sleeping()} sleep")
-    same((stranger in sleeping(), second.poll(), orphans_in(one)), (True, None, [("A", "JOB", "0", "done=killed")]))
-    kill(second)
+    wait_until(lambda: orphans_in(one) and len(sleeping()) == 2, f"{sleeping()} sleep")
+    same((stranger in sleeping(), orphans_in(one)), (True, [("A", "JOB", "0", "done=killed")]))
     kill(third)
 
 
@@ -175,8 +189,7 @@ def another_manager_of_the_same_words(folder):
     one, other = inner(folder, "d1"), inner(folder, "d2")
     sleepers(one, "A")
     sleepers(other, "A")
-    killing = f"strace -qqq -o /dev/null -e trace=write -P '{one.at('x.dag.children')}' -e inject=write:signal=SIGKILL:when=2"
-    _, manager = start_by_a_script(one, other, first_words=killing)
+    _, manager = start_by_a_script(one, other, words=(killing_at(one, 2),))
     wait_for_sleeping(2)
     third = start(one, "x.dag")
     wait_until(lambda: orphans_in(one) and len(sleeping()) == 2, f"{sleeping()} sleep")
@@ -207,8 +220,9 @@ def copied_folder(folder):
 def moved_folder(folder):
     """A folder that was given another name is the same folder."""
     one = inner(folder, "d1")
-    sleepers(one, "A")
-    kill_after_start(one, 1)
+    apart(one, "A")
+    run_killed_at(one, 2)
+    wait_for_sleeping(1)
     os.rename(one.path, folder.at("d2"))
     other = Folder(folder.program, folder.at("d2"))
     kill(begin_again(other, 1))
@@ -255,14 +269,41 @@ kill -9 $manager
     same((done.returncode, orphans_in(folder)), (0, [("A", "JOB", "0", "done=killed"), ("B", "JOB", "0", "done=killed")]))
 
 
+def a_number_used_again(folder):
+    """A manager has looked which processes there are; before it ends the one that it has found, that is gone, and a stranger has its number."""
+    sleepers(folder, "A")
+    folder.write("again.sh", f"""
+"$1" run x.dag & manager=$!
+until grep -qs '	start	A	' x.dag.log; do sleep 0.02; done
+kill -9 $manager; wait $manager 2>/dev/null
+orphan=$(grep '	start	A	' x.dag.log | cut -f 6)
+# The manager stops as it opens the log, which is behind its look.
+strace -qqq -o /dev/null -e trace=openat -P "$PWD/x.dag.log" -e inject=openat:signal=SIGSTOP:when=1 "$1" run x.dag & tracer=$!
+until manager=$(pgrep -P $tracer) && grep -q '^State:.[Tt]' /proc/$manager/status; do sleep 0.02; done
+kill -9 $orphan
+until [ ! -e /proc/$orphan ]; do sleep 0.02; done
+until [ "$stranger" = $orphan ]; do
+    echo $((orphan - 1)) > /proc/sys/kernel/ns_last_pid
+    sleep {length(1)} & stranger=$!
+done
+kill -CONT $manager
+until [ "$(grep -c '	start	A	' x.dag.log)" = 2 ]; do sleep 0.02; done
+[ -e /proc/$stranger ] && grep -q '^State:.S' /proc/$stranger/status && echo spared
+kill -9 $manager
+""")
+    done = subprocess.run(["unshare", "--pid", "--fork", "--mount-proc", "sh", "again.sh", folder.program], cwd=folder.path, capture_output=True, timeout=PATIENCE)
+    same((done.returncode, done.stdout), (0, b"spared\n"))
+
+
 def adopters(folder):
-    """Processes that adopt what a manager leaves."""
-    sleepers(folder, "A", "B")
+    """Processes that adopt what a manager leaves, of which one child is noted and the other is not."""
+    apart(folder, "A", "B")
     ctypes.CDLL(None).prctl(36, 1)
     try:
-        kill_after_start(folder, 2)
+        run_killed_at(folder, 3)
+        wait_for_sleeping(2)
         kill(begin_again(folder, 2))
-        same(len(orphans_in(folder)), 2)
+        same(orphans_in(folder), [("A", "JOB", "0", "done=killed"), ("B", "JOB", "0", "done=killed")])
     finally:
         ctypes.CDLL(None).prctl(36, 0)
 
@@ -288,9 +329,10 @@ def wrapped(folder):
 
 
 def two_hundred(folder):
-    """Two hundred are ended at once, by one call of a shell."""
-    sleepers(folder, *(f"n{it}" for it in range(200)))
-    kill_after_start(folder, 200)
+    """Two hundred, of which the last one is not noted, are ended at once, by one call of a shell."""
+    apart(folder, *(f"n{it}" for it in range(200)))
+    run_killed_at(folder, 201)
+    wait_for_sleeping(200)
     before = time.monotonic()
     second = start(folder, "x.dag")
     wait_until(lambda: folder.read("x.dag.log").count(b"\torphan\t") == 200, "not all are dealt with")
@@ -386,10 +428,10 @@ mv answer answered
 
 def left_and_killed(folder):
     """What `--orphans leave` leaves is known to later rounds, whatever their identifiers."""
-    sleepers(folder, "A")
-    kill_after_start(folder, 1)
-    [child] = sleeping()
-    sleep_file(folder, "s", 1)
+    apart(folder, "A")
+    run_killed_at(folder, 2)
+    [child] = wait_for_sleeping(1)
+    sleep_file(folder, "s", 1, "/usr/bin/setsid", "sleep ")
     # The digest is that of the other file: the round begins anew without its journal.
     os.remove(folder.at("x.dag.journal"))
     for count in (1, 2):
@@ -467,23 +509,31 @@ def the_identifier_of_all_lives(folder):
 
 
 ROWS = [
-    noted_and_not,
-    two_folders,
     copied_folder,
-    moved_folder,
     a_refused_start,
-    adopters,
     wrapped,
-    two_hundred,
     forged_notes,
     forged_identifiers,
     a_manager_that_lives,
     our_ancestor,
-    left_and_killed,
     an_identifier_that_can_not_be_kept,
     identifiers_that_can_not_be_read,
     what_children_inherit,
     the_identifier_of_all_lives,
+]
+
+# These need strace.
+TRACED = [
+    equal_words,
+    noted_and_not,
+    two_folders,
+    another_manager_of_the_same_words,
+    moved_folder,
+    adopters,
+    two_hundred,
+    left_and_killed,
+    some_that_can_not_be_ended,
+    questions_that_are_refused,
 ]
 
 
@@ -491,11 +541,11 @@ def main():
     program = os.path.realpath(sys.argv[1])
     rows = list(ROWS)
     if shutil.which("strace"):
-        rows += [equal_words, another_manager_of_the_same_words, some_that_can_not_be_ended, questions_that_are_refused]
+        rows += TRACED
     else:
         print("strace is not installed: no manager is killed between the start of a child and its note, and no call is refused")
     if os.getuid() == 0 and subprocess.run(["unshare", "--pid", "--fork", "--mount-proc", "true"], capture_output=True).returncode == 0:
-        rows.append(first_process_of_a_container)
+        rows += [first_process_of_a_container, a_number_used_again] if shutil.which("strace") else [first_process_of_a_container]
     else:
         print("no container can be made here: its first process is not tried")
     if len(sys.argv) > 2:

@@ -16,6 +16,7 @@ import subprocess
 import sys
 import tempfile
 
+from at_call import Changed
 from journals import HEADER, SLOT, check_records, is_finished, records_in, slots_in
 
 HERE = os.path.dirname(os.path.abspath(__file__))
@@ -25,8 +26,8 @@ CALM = 5
 
 def call(folder, library, place, *words):
     """What the program prints, what it tells and its exit status, with the allocation of this place refused; 0 is none."""
-    environment = {**os.environ, "LD_PRELOAD": library, "REFUSE_AT": str(place), "REFUSE_TOLD": library + ".told"} if place else None
-    done = subprocess.run(words, cwd=folder, capture_output=True, text=True, timeout=60, env=environment)
+    words, environment = library.around(words, place) if place else (words, {})
+    done = subprocess.run(words, cwd=folder, capture_output=True, text=True, timeout=60, env={**os.environ, **environment})
     return done.stdout, done.stderr, done.returncode
 
 
@@ -314,7 +315,7 @@ class Calling:
 
 
 def each(name, step, tried):
-    count, calm, place, told = 0, 0, 1, tried.library + ".told"
+    count, calm, place, told = 0, 0, 1, tried.library.told
     while calm < CALM:
         if os.path.exists(told):
             os.remove(told)
@@ -386,8 +387,7 @@ def main():
     paths = [os.path.realpath(path) for path in words]
     memory = "/dev/shm" if os.access("/dev/shm", os.W_OK) else None
     with tempfile.TemporaryDirectory(dir=memory) as work:
-        library = os.path.join(work, "refuse.so")
-        subprocess.run(["cc", "-shared", "-fPIC", "-O1", "-o", library, os.path.join(HERE, "refuse_memory.c"), "-ldl"], check=True)
+        library = Changed(work, "refuse")
         {"program": of_program, "libraries": of_libraries}[kind](library, work, step, *paths)
 
 

@@ -277,6 +277,47 @@ def what_ignores_signals_is_killed(folder):
     same((runs_still(process), set(orphans_in(folder))), (False, {"killed"}))
 
 
+def launched_until_an_abort(folder, trap, *words):
+    """How many seconds an abort takes, where B, which a launcher has started with such a trap, would never leave by itself; none of it runs
+    any more."""
+    # The launcher starts what it is told in a process of its own, and waits for it.
+    folder.write("l.sh", f"#!/bin/sh\ntrap '{trap}' TERM\n\"$@\" & job=$!\nwhile :; do wait $job && exit 0; status=$?; [ $status -lt 128 ] && exit $status; done\n")
+    os.chmod(folder.at("l.sh"), 0o755)
+    folder.shell("a", "while [ ! -e b ]; do sleep 0.02; done; exit 7\n")
+    folder.shell("b", "echo $$ > process\nmv process b\nexec sleep 100\n")
+    folder.write("x.dag", "JOB A a.sub\nJOB B b.sub\nABORT-DAG-ON A 7\n")
+    began = time.monotonic()
+    same(folder.call("run", "--launcher", "./l.sh", *words, "x.dag"), ("A ERROR attempts=1 value=7\nB READY attempts=0 value=-\nresult 7\n", "", 7))
+    took = time.monotonic() - began
+    same(folder.read("x.dag.log").count(b"\tkilled\tB\t"), 1)
+    return took
+
+
+def an_abort_asks_launchers(folder):
+    """At an abort a launcher is asked to end, and ends its job; it is waited for no longer than that takes."""
+    took = launched_until_an_abort(folder, "kill $job; : > asked; exit 0", "--launcher-grace", "60")
+    same((folder.there("asked"), runs_still(int(folder.read("b"))), took < 50), (True, False, True))
+
+
+def an_abort_kills_launchers(folder):
+    """One that does not end is killed once its time is over, and at once where it has none; a job without a launcher is never asked."""
+    took = launched_until_an_abort(folder, ": > asked", "--launcher-grace", "1")
+    same((folder.there("asked"), took >= 1), (True, True))
+    os.kill(int(folder.read("b")), signal.SIGKILL)
+    for words in (("--launcher-grace", "0"), ("--launcher", "")):
+        place = Folder(folder.program, folder.at("".join(words)))
+        os.mkdir(place.path)
+        if words[0] == "--launcher-grace":
+            launched_until_an_abort(place, ": > asked", *words)
+            os.kill(int(place.read("b")), signal.SIGKILL)
+        else:
+            place.shell("a", "while [ ! -e b ]; do sleep 0.02; done; exit 7\n")
+            place.shell("b", "trap ': > asked' TERM\n: > b\nwhile :; do sleep 0.05; done\n")
+            place.write("x.dag", "JOB A a.sub\nJOB B b.sub\nABORT-DAG-ON A 7\n")
+            same(place.call("run", "x.dag")[2], 7)
+        same(place.there("asked"), False)
+
+
 def streams_and_environment(folder):
     """A child finds the environment of the call and its job's, its folder and its streams, and no other open file."""
     probe = 'echo "$GREETING"; cat /proc/$$/environ >environment; pwd; cat; echo to standard error >&2\n'
@@ -422,6 +463,20 @@ def a_journal_that_stays(folder):
     os.mkdir(folder.at("x.dag.journal.old"))
     refused(folder, ("run", "x.dag"), "X2 FileRefused x.dag.journal")
     same(folder.read("x.dag.journal"), before)
+
+
+def a_folder_in_the_way_of_salvage(folder):
+    """A folder that has the other name of the journal is named before anything is written."""
+    folder.write("x.dag", DIAMOND)
+    folder.echo(*"abcd")
+    folder.call("run", "x.dag")
+    folder.cut_journal(3)
+    os.mkdir(folder.at("x.dag.journal.old"))
+    before = sorted(os.listdir(folder.path))
+    refused(folder, ("salvage", "x.dag"), "X2 FileRefused x.dag.journal.old")
+    same(sorted(os.listdir(folder.path)), before)
+    os.rmdir(folder.at("x.dag.journal.old"))
+    same(folder.call("salvage", "x.dag"), ("1 of 4 nodes are done: x.dag.rescue001\n", "", 0))
 
 
 def other_inputs(folder):
@@ -959,7 +1014,27 @@ def help_and_version(folder):
     same((text.startswith(folder.call("--help")[1] + "\nExamples:\n"), told, status), (True, "", 0))
     text, told, status = folder.call("version")
     same((re.fullmatch(r"dagrun \d+\.\d+\.\d+\n", text) is not None, told, status), (True, "", 0))
+    for words in (("--version",), ("-V",)):
+        same(folder.call(*words), (text, "", 0))
+    for words in (("--version", "x"), ("run", "-V"), ("-V", "-V")):
+        same(folder.call(*words)[::2], ("", 125))
     same(os.listdir(folder.path), [])
+
+
+def how_many_jobs_at_once(folder):
+    """`-j N` is `--maxjobs N`, also in one word; `-j cpus` is the number of processors that the process may run on."""
+    folder.write("x.dag", "JOB A a.sub\n")
+    folder.echo("a")
+    cpus = len(os.sched_getaffinity(0))
+    for words, jobs in ((("-j", "3"), 3), (("-j7",), 7), (("-j", "cpus"), cpus), (("-jcpus",), cpus), (("--maxjobs", "2"), 2), ((), 0)):
+        same(folder.call("run", *words, "x.dag"), (ONE_DONE, "", 0))
+        same(fields_of(folder)[0][4]["jobs"], str(jobs))
+    same(folder.call("rehearse", "-j", "1", "x.dag"), (ONE_DONE, "", 0))
+    for words in (("-j",), ("-j", "-1"), ("-j", "many"), ("-j2", "--maxjobs", "3"), ("-j", "1", "-j", "2"), ("-j65536",)):
+        same(folder.call("run", *words, "x.dag")[::2], ("", 125))
+    same(folder.call("check", "-j", "1", "x.dag")[::2], ("", 125))
+    # What is no option any more is a path.
+    same(folder.call("run", "--", "-j"), ("", "dagrun: S1 MissingFile -j\n", 125))
 
 
 def what_help_says_of_defaults(folder):
@@ -1518,6 +1593,11 @@ def no_process(folder):
     same(folder.call("run", "--trust-owner", "x.dag"), ("A DONE attempts=1 value=0\nresult 0\n", "", 0))
 
 
+def last_before_earlier(text):
+    """The last line of what `why` says of the last attempt."""
+    return text.split("\n    earlier")[0].splitlines()[-1]
+
+
 def why_attempts(folder):
     """Retries; the last five lines of an error output, cut, escaped, and the last one without its end; a signal."""
     folder.write("x.dag", "JOB fetch fetch.sub\nJOB B b.sub\nJOB C c.sub\nJOB D d.sub\nPARENT fetch CHILD D\nRETRY fetch 2\nRETRY B 2 UNLESS-EXIT 4\n")
@@ -1531,7 +1611,7 @@ def why_attempts(folder):
     same(folder.call("run", "x.dag"), (report, "", 1))
     here = os.path.realpath(folder.path)
     text = why(folder)
-    same(re.sub(r"took     \d+\.\d{3} s", "took     0.000 s", text), f"""fetch ERROR: its job ended with exit 2, in attempt 3 of 3; 1 node waits for it
+    same(re.sub(r"(took     |after )\d+\.\d{3} s", r"\g<1>0.000 s", text), f"""fetch ERROR: its job ended with exit 2, in attempt 3 of 3; 1 node waits for it
     command  /bin/sh fetch.sh 'a b'
     folder   {here}
     output   {here}/fetch.out
@@ -1541,6 +1621,12 @@ def why_attempts(folder):
         line 4
         line 5
         line 6
+        {"x" * 159}y [cut]
+        \\x1b[31mred\\ttab\\r
+    earlier  attempt 1: its job ended with exit 2 after 0.000 s
+        {"x" * 159}y [cut]
+        \\x1b[31mred\\ttab\\r
+    earlier  attempt 2: its job ended with exit 2 after 0.000 s
         {"x" * 159}y [cut]
         \\x1b[31mred\\ttab\\r
 
@@ -1558,6 +1644,7 @@ C ERROR: its job ended with signal 9 (SIGKILL), in attempt 1 of 1; no node waits
     output   not kept: no file is named for it
     error    not kept: no file is named for it
     took     0.000 s
+    repair   it was killed; where memory ran out, the kernel's log says so (dmesg)
 """)
     # The nodes that are named, in their order.
     same([line.split()[0] for line in why(folder, "C", "D", "fetch").splitlines() if line[:1].strip()], ["C", "D", "fetch"])
@@ -1572,20 +1659,20 @@ C ERROR: its job ended with signal 9 (SIGKILL), in attempt 1 of 1; no node waits
             os.unlink(folder.at("fetch.err"))
         else:
             folder.write("fetch.err", content)
-        same(why(folder, "fetch").splitlines()[-1], said)
+        same(last_before_earlier(why(folder, "fetch")), said)
     os.mkdir(folder.at("fetch.err.d"))
     os.unlink(folder.at("fetch.err"))
     os.rename(folder.at("fetch.err.d"), folder.at("fetch.err"))
-    same(why(folder, "fetch").splitlines()[-1], "    its error output is no file that can be quoted")
+    same(last_before_earlier(why(folder, "fetch")), "    its error output is no file that can be quoted")
     os.rmdir(folder.at("fetch.err"))
     os.mkfifo(folder.at("fetch.err"))
-    same(why(folder, "fetch").splitlines()[-1], "    its error output is no file that can be quoted")
+    same(last_before_earlier(why(folder, "fetch")), "    its error output is no file that can be quoted")
 
 
 def why_scripts(folder):
     """PRE and POST that fail, and what had failed before a POST."""
     folder.write("x.dag", "JOB A a.sub\nJOB B b.sub\nJOB C c.sub\nJOB E b.sub NOOP\nSCRIPT PRE A pre.sh x\nSCRIPT POST B post.sh $RETURN\nSCRIPT PRE C none.sh\nSCRIPT POST E post.sh 9\n")
-    folder.write("pre.sh", "#!/bin/sh\nexit 3\n")
+    folder.write("pre.sh", "#!/bin/sh\necho looking\necho no disk >&2\nexit 3\n")
     folder.write("post.sh", "#!/bin/sh\nexit $1\n")
     for name in ("pre.sh", "post.sh"):
         os.chmod(folder.at(name), 0o755)
@@ -1599,14 +1686,18 @@ def why_scripts(folder):
     same(text, f"""A ERROR: its PRE script ended with exit 3, in attempt 1 of 1; no node waits for it
     command  {here}/pre.sh x
     folder   {here}
-    output   not kept: that of a script never is
-    error    not kept: that of a script never is
+    output   {here}/x.dag.scripts/A.PRE.0
+    error    {here}/x.dag.scripts/A.PRE.0
+    last lines of its error output:
+        looking
+        no disk
 
 B ERROR: its POST script ended with exit 5, in attempt 1 of 1; no node waits for it
     command  {here}/post.sh 5
     folder   {here}
-    output   not kept: that of a script never is
-    error    not kept: that of a script never is
+    output   {here}/x.dag.scripts/B.POST.0
+    error    {here}/x.dag.scripts/B.POST.0
+    its error output is empty
     before that, its job ended with exit 5
     command  /bin/sh b.sh
     folder   {here}
@@ -1618,16 +1709,55 @@ B ERROR: its POST script ended with exit 5, in attempt 1 of 1; no node waits for
 C ERROR: its PRE script was not started: {here}/none.sh: No such file or directory (os error 2), in attempt 1 of 1; no node waits for it
     command  {here}/none.sh
     folder   {here}
-    output   not kept: that of a script never is
-    error    not kept: that of a script never is
+    output   not kept: no file is named for it
+    error    not kept: no file is named for it
     repair   there is no such program: put it there, or mend its path: {here}/none.sh
 
 E ERROR: its POST script ended with exit 9, in attempt 1 of 1; no node waits for it
     command  {here}/post.sh 9
     folder   {here}
-    output   not kept: that of a script never is
-    error    not kept: that of a script never is
+    output   {here}/x.dag.scripts/E.POST.0
+    error    {here}/x.dag.scripts/E.POST.0
+    its error output is empty
 """)
+
+
+def what_scripts_print(folder):
+    """It is kept where they fail, its last 64 KiB, until the next round begins; what the system refuses is dropped, and so is all where it is
+    asked for."""
+    folder.write("x.dag", "JOB A a.sub\nJOB a/b a.sub\nSCRIPT PRE A pre.sh\nSCRIPT POST a/b post.sh\nRETRY A 1\n")
+    folder.write("pre.sh", "#!/bin/sh\necho kept here\nhead -c 100000 /dev/zero | tr '\\0' x\necho last >&2\nexit 3\n")
+    folder.write("post.sh", "#!/bin/sh\necho printed\n[ ! -e fail ]\n")
+    for name in ("pre.sh", "post.sh"):
+        os.chmod(folder.at(name), 0o755)
+    folder.echo("a")
+    one_failed = "A ERROR attempts=2 value=3\na/b DONE attempts=1 value=0\nresult 1\n"
+    same(folder.call("run", "x.dag"), (one_failed, "", 1))
+    same(sorted(os.listdir(folder.at("x.dag.scripts"))), ["A.PRE.0", "A.PRE.1"])
+    same(folder.read("x.dag.scripts/A.PRE.1"), b"x" * (65536 - 5) + b"last\n")
+    # The next round begins without them; a file of another name stays.
+    folder.write("x.dag.scripts/mine", "")
+    folder.write("fail", "")
+    os.remove(folder.at("x.dag.rescue001"))
+    both = "A ERROR attempts=2 value=3\na/b ERROR attempts=1 value=1\nresult 1\n"
+    same(folder.call("run", "--script-output", "0", "x.dag"), (both, "", 1))
+    same(os.listdir(folder.at("x.dag.scripts")), ["mine"])
+    os.remove(folder.at("x.dag.rescue001"))
+    same(folder.call("run", "x.dag"), (both, "", 1))
+    same(sorted(os.listdir(folder.at("x.dag.scripts"))), ["A.PRE.0", "A.PRE.1", "a%2Fb.POST.0", "mine"])
+    same(folder.read("x.dag.scripts/a%2Fb.POST.0"), b"printed\n")
+    # Where there can be no such folder the run is as ever.
+    shutil.rmtree(folder.at("x.dag.scripts"))
+    folder.write("x.dag.scripts", "mine")
+    os.remove(folder.at("x.dag.rescue001"))
+    same(folder.call("run", "x.dag"), (both, "", 1))
+    same(folder.read("x.dag.scripts"), b"mine")
+    # One that ends well leaves nothing.
+    os.remove(folder.at("x.dag.scripts"))
+    os.remove(folder.at("fail"))
+    folder.write("y.dag", "JOB A a.sub\nSCRIPT POST A post.sh\n")
+    same(folder.call("run", "y.dag"), (ONE_DONE, "", 0))
+    same(folder.there("y.dag.scripts"), False)
 
 
 def why_waiting(folder):
@@ -1715,7 +1845,10 @@ def why_by_the_journal(folder):
     # Lines and events that are none are passed over.
     folder.write("x.dag.log", log + b"\xff\n2027\tdance\tA\tJOB\t1\t5\tseconds=1\nend\tA\n" + end.replace(b"JOB\t1", b"JOB\t0") + b"exit=7\tseconds=8.888\n" + end)
     text = why(folder)
-    same((re.sub(r"    took     \d\.\d{3} s\n", "", text), len(lines_of(text, "took"))), (bare, 1))
+    # An attempt that a forged line ends once more is listed twice.
+    earlier = "    earlier  attempt 1: its job ended with exit 7 after 0.000 s\n"
+    text = re.sub(r"after \d\.\d{3} s", "after 0.000 s", text)
+    same((re.sub(r"    took     \d\.\d{3} s\n", "", text), len(lines_of(text, "took"))), (bare + earlier + "        attempt 0\n" + earlier, 1))
     # An ending that the journal has and the log has not: its child was started, and no more is known.
     folder.write("x.dag.log", end + b"exit=7\tseconds=1.5\x1b[2J\n")
     same(lines_of(why(folder), "took"), ["1.5\\x1b[2J s"])
@@ -1782,7 +1915,7 @@ def in_another_folder(folder):
     folder.echo("a")
     same(folder.call("run", "dags/x.dag"), ("A DONE attempts=1 value=0\nresult 0\n", "", 0))
     same(sorted(os.listdir(folder.path)), ["a.out", "a.sub", "dags"])
-    same(sorted(os.listdir(folder.at("dags"))), ["x.dag", "x.dag.inputs", "x.dag.journal", "x.dag.log"])
+    same(sorted(os.listdir(folder.at("dags"))), ["x.dag", "x.dag.begun", "x.dag.inputs", "x.dag.journal", "x.dag.log"])
 
 
 def the_example(folder):
@@ -2038,7 +2171,7 @@ def cut_short_while_going_back(folder):
             shutil.copytree(folder.path, copy.path)
             tracing = ["strace", "-qqq", "-e", "trace=rename,fsync", "-e", "signal=none", "-o", os.path.join(path, "calls"), *fault]
             done = subprocess.run([*tracing, copy.program, *words], cwd=copy.path, capture_output=True, timeout=PATIENCE)
-            calls = [line for line in open(os.path.join(path, "calls")).read().splitlines() if not any(name in line for name in (".dag.log", ".dag.inputs", ".dag.round"))]
+            calls = [line for line in open(os.path.join(path, "calls")).read().splitlines() if not any(name in line for name in (".dag.log", ".dag.inputs", ".dag.begun", ".dag.round"))]
             cut = (done.stdout.decode(), done.stderr.decode(), done.returncode)
             between = everything(copy)
             if fault and done.returncode not in (0, 1):
@@ -2111,7 +2244,7 @@ def names_are_synced(folder):
         pass
     folder.write("code", "5\n")
     names = "pwrite64,fsync,fdatasync,execve,ftruncate,rename,unlink"
-    round_of = ["inputs.new inputs", "journal journal.old"]
+    round_of = ["begun.new begun", "inputs.new inputs", "journal journal.old"]
     for words, wanted in (
         (("run", "--dorescuefrom", "1", "x.dag"), ["rescue002 rescue002.old", *round_of, "rescue002.new rescue002"]),
         (("run", "x.dag"), [*round_of, "rescue003.new rescue003"]),
@@ -2211,6 +2344,15 @@ def head_of(folder, name="x.dag"):
     return f"# dagrun inputs, digest {folder.read(name + '.journal')[8:40].hex()}\n"
 
 
+def begun_of(folder, *names, rescue=None):
+    """The text of x.dag.begun, as docs/JOURNAL.md has it, of these files as they are now."""
+    text = f"# dagrun begun, digest {folder.read('x.dag.journal')[8:40].hex()}\n".encode()
+    for word, name in [("file", name) for name in names] + ([("rescue", rescue)] if rescue else []):
+        bytes = folder.read(name)
+        text += f"{word} {len(name.encode())} {len(bytes)}\n{name}\n".encode() + bytes + b"\n"
+    return text + b"end\n"
+
+
 def rescue_of(total, *names):
     """The text of a rescue file, as docs/MANUAL.md has it."""
     return (f"# Rescue DAG file\n# Total number of Nodes: {total}\n# Nodes premarked DONE: {len(names)}\n\n" + "".join(f"DONE {name}\n" for name in names)).encode()
@@ -2228,20 +2370,24 @@ def what_a_round_began_with(folder):
     # In the order of the bytes of the paths; a NOOP's submit file is not looked at.
     files = ["a.sub", "b.sub", "sub/s.dag", "sub/y.sub", "x.dag"]
     same(folder.read("x.dag.inputs").decode(), head_of(folder) + sums_of(folder, *files))
+    same(folder.read("x.dag.begun"), begun_of(folder, *files))
     same(checked(folder), ("".join(f"{name}: OK\n" for name in files), 0))
     folder.write("b.sub", "executable = /bin/false\nqueue\n")
     same(checked(folder), ("".join(f"{name}: {'FAILED' if name == 'b.sub' else 'OK'}\n" for name in files), 1))
     # The next round reads a rescue file, which stands last.
     same(folder.call("run", "x.dag")[2], 1)
     same(folder.read("x.dag.inputs").decode(), head_of(folder) + sums_of(folder, *files, "x.dag.rescue001"))
+    same(folder.read("x.dag.begun"), begun_of(folder, *files, rescue="x.dag.rescue001"))
     same(checked(folder), ("".join(f"{name}: OK\n" for name in [*files, "x.dag.rescue001"]), 0))
-    same(folder.there("x.dag.inputs.new"), False)
-    # One that goes on leaves it as it is.
+    same((folder.there("x.dag.inputs.new"), folder.there("x.dag.begun.new")), (False, False))
+    same(os.stat(folder.at("x.dag.begun")).st_mode & 0o777, 0o600)
+    # One that goes on leaves them as they are.
     folder.cut_journal(1)
-    before = os.stat(folder.at("x.dag.inputs"))
+    kept = ("x.dag.inputs", "x.dag.begun")
+    before = [os.stat(folder.at(name)) for name in kept]
     same(folder.call("run", "x.dag")[2], 1)
-    after = os.stat(folder.at("x.dag.inputs"))
-    same((after.st_ino, after.st_mtime_ns), (before.st_ino, before.st_mtime_ns))
+    after = [os.stat(folder.at(name)) for name in kept]
+    same([(one.st_ino, one.st_mtime_ns) for one in after], [(one.st_ino, one.st_mtime_ns) for one in before])
 
 
 def inputs_with_odd_names(folder):
@@ -2400,8 +2546,9 @@ def salvaged_splices(folder):
     folder.write("s.dag", "JOB X x.sub\nJOB Y y.sub\nPARENT X CHILD Y\n")
     folder.echo("a", "x", "y", "f")
     same(folder.call("run", "x.dag")[2], 0)
-    # Life, the launches and ends of A and S+X.
+    # Life, the launches and ends of A and S+X. Nothing keeps the files that the round was begun with.
     folder.cut_journal(5)
+    os.remove(folder.at("x.dag.begun"))
     before = everything(folder)
     folder.write("s.dag", "JOB X x.sub\nJOB Y y.sub\n")
     refused(folder, ("salvage", "x.dag"), "R6 Changed s.dag")
@@ -2431,6 +2578,8 @@ def refusals_of_salvage(folder):
     refused(folder, words, "R2 Ended x.dag.journal")
     cut_short(folder, folder.read("x.dag.journal"), LIFE, launched(2, 1))
     os.remove(folder.at("x.dag.rescue002"))
+    # Nothing keeps the files that the round was begun with.
+    os.remove(folder.at("x.dag.begun"))
     whole = everything(folder)
     journal, inputs = whole["x.dag.journal"], whole["x.dag.inputs"]
     lines = inputs.splitlines(keepends=True)
@@ -2502,6 +2651,195 @@ def refusals_of_salvage(folder):
     refused(folder, words, "R1 NoJournal x.dag.journal")
 
 
+SWEEP = "JOB first first.sub\n" + "".join(f'JOB P{n} point.sub\nVARS P{n} point="{n}"\n' for n in range(1, 6)) + """JOB last last.sub
+PARENT first CHILD P1 P2 P3 P4 P5
+PARENT P1 P2 P3 P4 P5 CHILD last
+"""
+POINTS = [f"P{n}" for n in range(1, 6)]
+
+
+def sweep(folder):
+    """A sweep of five points that has run."""
+    folder.write("x.dag", SWEEP)
+    folder.shell("first", "echo ran >> first.ran\n")
+    folder.write("point.sh", "echo ran >> P$1.ran\n")
+    folder.write("point.sub", "executable = /bin/sh\narguments = point.sh $(point)\nqueue\n")
+    folder.shell("last", "echo ran >> last.ran\n")
+    same(folder.call("run", "x.dag"), (report_of_sweep("first", *POINTS, "last"), "", 0))
+
+
+def report_of_sweep(*again):
+    """The report of a round of the sweep in which these nodes run and the others are done from the start."""
+    names = ["first", *POINTS, "last"]
+    return "".join(f"{name} DONE attempts={int(name in again)} value={0 if name in again else '-'}\n" for name in names) + "result 0\n"
+
+
+def times_run(folder):
+    """The nodes of the sweep that ran more than once."""
+    return [name for name in ("first", *POINTS, "last") if folder.read(f"{name}.ran") != b"ran\n"]
+
+
+def redone_point(folder):
+    """A point of a sweep runs again after a full success, and what comes after it; the journal stays until then."""
+    sweep(folder)
+    journal = folder.read("x.dag.journal")
+    same(folder.call("redo", "x.dag", "P3"), ("5 of 7 nodes are done: x.dag.rescue001\n", "", 0))
+    same(rescues(folder), {"001": rescue_of(7, "first", "P1", "P2", "P4", "P5")})
+    same((folder.read("x.dag.journal"), folder.there("x.dag.journal.old"), folder.there("x.dag.lock")), (journal, False, False))
+    # Nothing has run yet, and the last round can still be asked for.
+    same((times_run(folder), folder.call("status", "x.dag")[2]), ([], 0))
+    same(folder.call("run", "x.dag"), (report_of_sweep("P3", "last"), "", 0))
+    same((times_run(folder), folder.read("x.dag.journal.old")), (["P3", "last"], journal))
+    # The round that follows has done all of it: what was done from its start counts, too.
+    same(folder.call("redo", "x.dag", "last"), ("6 of 7 nodes are done: x.dag.rescue002\n", "", 0))
+    same(folder.read("x.dag.rescue002"), rescue_of(7, "first", *POINTS))
+    same(folder.call("run", "x.dag"), (report_of_sweep("last"), "", 0))
+
+
+def redone_points(folder):
+    """Two points run again, one of which is named twice, and the first node, after which all come."""
+    sweep(folder)
+    same(folder.call("redo", "x.dag", "P4", "P2", "P4"), ("4 of 7 nodes are done: x.dag.rescue001\n", "", 0))
+    same(folder.read("x.dag.rescue001"), rescue_of(7, "first", "P1", "P3", "P5"))
+    # Where none is named, all that is done stays so.
+    same(folder.call("redo", "x.dag"), ("7 of 7 nodes are done: x.dag.rescue002\n", "", 0))
+    os.remove(folder.at("x.dag.rescue002"))
+    same(folder.call("redo", "x.dag", "first"), ("0 of 7 nodes are done: x.dag.rescue002\n", "", 0))
+    same(folder.read("x.dag.rescue002"), rescue_of(7))
+    os.remove(folder.at("x.dag.rescue002"))
+    same(folder.call("run", "x.dag"), (report_of_sweep("P2", "P4", "last"), "", 0))
+    same(times_run(folder), ["P2", "P4", "last"])
+
+
+def redone_alone(folder):
+    """With --only those that are named run again, and those that come after them stay done."""
+    sweep(folder)
+    same(folder.call("redo", "--only", "x.dag", "first", "P5"), ("5 of 7 nodes are done: x.dag.rescue001\n", "", 0))
+    same(folder.read("x.dag.rescue001"), rescue_of(7, "P1", "P2", "P3", "P4", "last"))
+    same(folder.call("run", "x.dag"), (report_of_sweep("first", "P5"), "", 0))
+    same(times_run(folder), ["first", "P5"])
+
+
+def redone_numbers(folder):
+    """The rescue file of a round that has ended has the number after the highest that is there; 999 is written again."""
+    folder.write("x.dag", DIAMOND)
+    folder.echo(*"abcd")
+    same(folder.call("run", "x.dag")[2], 0)
+    for there, number in (("001", "002"), ("007", "008"), ("998", "999"), ("999", "999")):
+        folder.write(f"x.dag.rescue{there}", rescue_of(4))
+        same(folder.call("redo", "x.dag", "D"), (f"3 of 4 nodes are done: x.dag.rescue{number}\n", "", 0))
+        same(rescues(folder)[number], rescue_of(4, "A", "B", "C"))
+        for name in rescues(folder):
+            os.remove(folder.at("x.dag.rescue" + name))
+
+
+def redone_after_failure(folder):
+    """Of a round in which a node failed: what was done stays so, but for the node that is named and what comes after it."""
+    for code in three_rounds(folder):
+        if code == 3:
+            break
+    same(rescues(folder), {"001": RESCUE_OF_TWO})
+    same(folder.call("redo", "x.dag", "B"), ("1 of 4 nodes are done: x.dag.rescue002\n", "", 0))
+    same(folder.read("x.dag.rescue002"), rescue_of(4, "A"))
+    # A node that is not done is not marked, whether it is named or not.
+    same(folder.call("redo", "x.dag", "C", "D"), ("2 of 4 nodes are done: x.dag.rescue003\n", "", 0))
+    same(folder.read("x.dag.rescue003"), RESCUE_OF_TWO)
+    os.remove(folder.at("x.dag.rescue003"))
+    folder.write("code", "0\n")
+    report = "A DONE attempts=0 value=-\n" + "".join(f"{name} DONE attempts=1 value=0\n" for name in "BCD") + "result 0\n"
+    same(folder.call("run", "x.dag"), (report, "", 0))
+
+
+def redone_when_cut_short(folder):
+    """Of a round that was cut short the rescue file has the number of the journal's header, and the journal is put away."""
+    folder.write("x.dag", DIAMOND)
+    folder.echo(*"abcd")
+    same(folder.call("run", "x.dag"), (ALL_DONE, "", 0))
+    cut_short(folder, folder.read("x.dag.journal"), LIFE, launched(0, 1), exited(0, 0), batch(launched(1, 2), launched(2, 3)), exited(1, 0))
+    journal = folder.read("x.dag.journal")
+    same(folder.call("redo", "x.dag", "B"), ("1 of 4 nodes are done: x.dag.rescue001\n", "", 0))
+    same(rescues(folder), {"001": rescue_of(4, "A")})
+    same((folder.there("x.dag.journal"), folder.read("x.dag.journal.old")), (False, journal))
+    report = "A DONE attempts=0 value=-\n" + "".join(f"{name} DONE attempts=1 value=0\n" for name in "BCD") + "result 0\n"
+    same(folder.call("run", "x.dag"), (report, "", 0))
+    # A header with a number that no rescue file has.
+    cut_short(folder, changed(changed(folder.read("x.dag.journal"), 6, 3), 7, 0xE8), LIFE)
+    before = everything(folder)
+    refused(folder, ("redo", "x.dag", "B"), "E4 NotThere 1000")
+    same(everything(folder), before)
+
+
+def redone_splices_and_final(folder):
+    """Nodes of splices have their full names; FINAL may be named, and changes nothing: it runs in each round."""
+    folder.write("x.dag", "JOB A a.sub\nSPLICE S s.dag\nFINAL F a.sub\nPARENT A CHILD S\n")
+    folder.write("s.dag", "JOB X a.sub\nJOB Y a.sub\nPARENT X CHILD Y\n")
+    folder.echo("a")
+    same(folder.call("run", "x.dag")[2], 0)
+    same(folder.call("redo", "x.dag", "F"), ("3 of 3 nodes are done: x.dag.rescue001\n", "", 0))
+    same(folder.call("redo", "x.dag", "S+X"), ("1 of 3 nodes are done: x.dag.rescue002\n", "", 0))
+    same(rescues(folder), {"001": rescue_of(3, "A", "S+X", "S+Y"), "002": rescue_of(3, "A")})
+    report = "A DONE attempts=0 value=-\nS+X DONE attempts=1 value=0\nS+Y DONE attempts=1 value=0\nF DONE attempts=1 value=0\nresult 0\n"
+    same(folder.call("run", "x.dag"), (report, "", 0))
+
+
+def refusals_of_redo(folder):
+    """Why nothing runs again, and that nothing is changed then."""
+    def is_refused(*told):
+        before = everything(folder)
+        same(folder.call("redo", "x.dag", *words), ("", "".join(f"dagrun: {line}\n" for line in told), 125))
+        same(everything(folder), before)
+
+    words = ["table"]
+    folder.write("x.dag", "JOB fetch a.sub\nJOB table a.sub\nPARENT fetch CHILD table\n")
+    folder.echo("a")
+    # No round, which needs no file to be read; no lock is made.
+    is_refused("x.dag has no round whose nodes are done")
+    same(folder.there("x.dag.lock"), False)
+    same(folder.call("redo", "no such.dag", "A"), ("", "dagrun: 'no such.dag' has no round whose nodes are done\n", 125))
+    same(folder.call("run", "x.dag")[2], 0)
+    words = ["fetch", "tabel", "nothing"]
+    is_refused("x.dag has no node tabel; the nearest name is table")
+    words = ["table"]
+    with locked(folder):
+        is_refused("X2 FileRefused x.dag.lock")
+    os.remove(folder.at("x.dag.lock"))
+    os.mkdir(folder.at("x.dag.journal.old"))
+    is_refused("X2 FileRefused x.dag.journal.old")
+    os.rmdir(folder.at("x.dag.journal.old"))
+    journal = folder.read("x.dag.journal")
+    folder.write("x.dag.journal", b"a" * 66)
+    is_refused("J3 NotAJournal")
+    folder.write("x.dag.journal", journal)
+    folder.write("a.sub", "executable = /bin/true\nqueue\n")
+    is_refused("J5 OtherInputs")
+    os.remove(folder.at("a.sub"))
+    is_refused("P1 MissingFile a.sub")
+
+
+def redone_by_files_of_other_users(folder):
+    """There nothing runs again by what another user put there: a journal could mark any node."""
+    folder.write("x.dag", "JOB A a.sub\nJOB B a.sub\n")
+    folder.echo("a")
+    folder.call("run", "x.dag")
+    for name in ("x.dag.journal", "x.dag.lock"):
+        folder.write("x.dag.lock", "")
+        os.chown(folder.at(name), NOBODY, NOBODY)
+        os.chmod(folder.path, 0o777)
+        before = everything(folder)
+        refused(folder, ("redo", "x.dag", "B"), f"X2 FileRefused {name}")
+        same(everything(folder), before)
+        for mode, words in ((0o777, ("redo", "--trust-owner")), (0o755, ("redo",))):
+            os.chmod(folder.path, mode)
+            same(folder.call(*words, "x.dag", "B"), ("1 of 2 nodes are done: x.dag.rescue001\n", "", 0))
+            same(folder.read("x.dag.rescue001"), rescue_of(2, "A"))
+            os.remove(folder.at("x.dag.rescue001"))
+            folder.write("x.dag.lock", "")
+            if name == "x.dag.lock":
+                os.chown(folder.at(name), NOBODY, NOBODY)
+        os.chown(folder.at("x.dag.journal"), os.getuid(), os.getgid())
+        os.remove(folder.at("x.dag.lock"))
+
+
 def inputs_that_can_not_be_written(folder):
     """A run depends on it in nothing."""
     folder.write("x.dag", DIAMOND)
@@ -2528,6 +2866,249 @@ def inputs_that_can_not_be_written(folder):
     refused(folder, ("salvage", "x.dag"), "R5 OtherRound x.dag.inputs")
     folder.write("x.dag.inputs", second)
     same(folder.call("salvage", "x.dag"), ("1 of 4 nodes are done: x.dag.rescue001\n", "", 0))
+
+
+# The records of a diamond at several moments, and the nodes that are done by then.
+MOMENTS = (
+    ((LIFE,), ""),
+    ((LIFE, launched(0, 1)), ""),
+    ((LIFE, launched(0, 1), exited(0, 0)), "A"),
+    ((LIFE, launched(0, 1), exited(0, 0), batch(launched(1, 2), launched(2, 3)), exited(2, 0)), "AC"),
+    ((LIFE, launched(0, 1), exited(0, 0), batch(launched(1, 2), launched(2, 3)), exited(2, 1), exited(1, 0)), "AB"),
+    ((LIFE, launched(0, 1), exited(0, 0), batch(launched(1, 2), launched(2, 3)), exited(2, 0), exited(1, 0), launched(3, 4)), "ABC"),
+)
+# What becomes of a diamond: its text, and its ordinary nodes in plan order.
+CHANGED_DIAMONDS = (
+    (DIAMOND + "# a comment more\n", "ABCD"),
+    (DIAMOND + "JOB E e.sub\nPARENT A CHILD E\n", "ABCDE"),
+    ("JOB E e.sub\nPARENT E CHILD A\n" + DIAMOND, "EABCD"),
+    ("JOB A a.sub\nJOB B b.sub\nJOB D d.sub\nPARENT A CHILD B\nPARENT B CHILD D\n", "ABD"),
+    ("JOB D d.sub\nJOB C c.sub\nJOB B b.sub\nJOB A a.sub\nPARENT D CHILD C\n", "DCBA"),
+    ("JOB B b.sub\nJOB C c.sub\nJOB E a.sub\nFINAL A a.sub\n", "BCE"),
+)
+
+
+def lines_of_gone(names):
+    """The warnings of nodes that were done and are gone."""
+    lines = [f"warning: {name} was done and is no longer in the DAG\n" for name in names[:20]]
+    return "".join(lines) + (f"warning: and {len(names) - 20} more\n" if len(names) > 20 else "")
+
+
+def salvaged_after_any_change(folder):
+    """A DAG file is changed after a stop: each node that was done and is still there is marked, by its name, and no other one."""
+    folder.write("x.dag", DIAMOND)
+    folder.echo(*"abcde")
+    same(folder.call("run", "x.dag"), (ALL_DONE, "", 0))
+    kept = {name: folder.read(name) for name in ("x.dag.journal", "x.dag.inputs", "x.dag.begun")}
+    for text, nodes in CHANGED_DIAMONDS:
+        for records, done in MOMENTS:
+            for name in rescues(folder):
+                os.remove(folder.at("x.dag.rescue" + name))
+            for name, bytes in kept.items():
+                folder.write(name, bytes)
+            cut_short(folder, kept["x.dag.journal"], *records)
+            before = folder.read("x.dag.journal")
+            folder.write("x.dag", text)
+            marks = [name for name in nodes if name in done]
+            answer = f"{len(marks)} of {len(nodes)} nodes are done: x.dag.rescue001\nchanged since the round began: x.dag\n"
+            same(folder.call("salvage", "x.dag"), (answer, lines_of_gone([name for name in done if name not in nodes]), 0))
+            same(rescues(folder), {"001": rescue_of(len(nodes), *marks)})
+            same((folder.there("x.dag.journal"), folder.read("x.dag.journal.old")), (False, before))
+            same(folder.read("x.dag.begun"), kept["x.dag.begun"])
+        # What was done does not run again, and all else does.
+        names = nodes + ("A" if "FINAL" in text else "")
+        report = "".join(f"{name} DONE attempts={0 if name in marks else 1} value={'-' if name in marks else 0}\n" for name in names)
+        same(folder.call("run", "x.dag"), (report + "result 0\n", "", 0))
+
+
+def salvaged_with_samples_added(folder):
+    """A sample is added to a graph whose run was killed, and then another one after a second kill: what was done never runs again."""
+    folder.write("x.dag", "JOB A a.sub\nJOB B b.sub\n")
+    for name in "ac":
+        folder.shell(name, f"echo ran >> {name}.ran\n")
+    folder.shell("b", "echo $$ > b.process\nmv b.process b.began\nsleep 100\n")
+    folder.echo("d")
+    for names, added in (("A", "C"), ("AC", "D")):
+        run = folder.start("run", "x.dag")
+        folder.wait_for("b.began")
+        wait_until(lambda: all(f"{name} DONE" in folder.call("status", "x.dag")[0] for name in names), f"{names} are not done")
+        run.kill()
+        run.communicate(timeout=PATIENCE)
+        os.remove(folder.at("b.began"))
+        folder.write("x.dag", folder.read("x.dag").decode() + f"JOB {added} {added.lower()}.sub\n")
+        refused(folder, ("run", "--orphans", "leave", "x.dag"), "J5 OtherInputs")
+        number = len(rescues(folder)) + 1
+        answer = f"{len(names)} of {len(names) + 2} nodes are done: x.dag.rescue{number:03}\nchanged since the round began: x.dag\n"
+        same(folder.call("salvage", "x.dag"), (answer, "", 0))
+    same(folder.read("x.dag.rescue002"), rescue_of(4, "A", "C"))
+    folder.echo("b")
+    report = "A DONE attempts=0 value=-\nB DONE attempts=1 value=0\nC DONE attempts=0 value=-\nD DONE attempts=1 value=0\nresult 0\n"
+    same(folder.call("run", "x.dag"), (report, "", 0))
+    same([folder.read(f"{name}.ran") for name in "ac"], [b"ran\n"] * 2)
+
+
+def put_back(folder, files):
+    """Leaves just these files, and the folder's log."""
+    for name in everything(folder):
+        if name not in files:
+            os.remove(folder.at(name))
+    for name, bytes in files.items():
+        if bytes is not None:
+            folder.write(name, bytes)
+        elif folder.there(name):
+            os.remove(folder.at(name))
+
+
+def salvaged_with_changed_splices(folder):
+    """A splice's file is edited, moved or taken away: nodes go by their full names, and FINAL is never marked."""
+    top, splice = "JOB A a.sub\nSPLICE S s.dag\nFINAL F f.sub\nPARENT A CHILD S\n", "JOB X x.sub\nJOB Y y.sub\nPARENT X CHILD Y\n"
+    folder.write("x.dag", top)
+    folder.write("s.dag", splice)
+    folder.echo("a", "x", "y", "z", "f")
+    same(folder.call("run", "x.dag")[2], 0)
+    # Life, the launches and ends of A and S+X.
+    folder.cut_journal(5)
+    kept = everything(folder)
+    gone = lines_of_gone(["S+X"])
+    for files, total, marks, changes, warnings in (
+        ({"s.dag": "JOB X x.sub\nJOB Y y.sub\nJOB Z z.sub\n"}, 4, ["A", "S+X"], ["changed s.dag"], ""),
+        ({"s.dag": "JOB Z z.sub\nJOB X x.sub\n"}, 3, ["A", "S+X"], ["changed s.dag"], ""),
+        ({"s.dag": "JOB Y y.sub\n"}, 2, ["A"], ["changed s.dag"], gone),
+        ({"x.dag": top.replace("s.dag", "t.dag"), "t.dag": splice}, 3, ["A", "S+X"], ["changed x.dag"], ""),
+        ({"x.dag": top.replace("s.dag", "t.dag"), "t.dag": splice, "s.dag": None}, 3, ["A", "S+X"], ["missing s.dag", "changed x.dag"], ""),
+        ({"x.dag": "JOB A a.sub\nFINAL F f.sub\n", "s.dag": None}, 1, ["A"], ["missing s.dag", "changed x.dag"], gone),
+        ({"x.dag": top.replace("SPLICE S", "SPLICE T").replace("CHILD S", "CHILD T")}, 3, ["A"], ["changed x.dag"], gone),
+        ({"x.dag": top.replace("FINAL F", "JOB F")}, 4, ["A", "S+X"], ["changed x.dag"], ""),
+        ({"x.dag": "JOB F f.sub\nFINAL A a.sub\n"}, 1, [], ["changed x.dag"], lines_of_gone(["A", "S+X"])),
+    ):
+        put_back(folder, {**kept, **files})
+        lines = "".join(f"{line.split()[0]} since the round began: {line.split()[1]}\n" for line in changes)
+        same(folder.call("salvage", "x.dag"), (f"{len(marks)} of {total} nodes are done: x.dag.rescue001\n{lines}", warnings, 0))
+        names = [line.split()[1] for line in folder.read("x.dag.rescue001").decode().splitlines() if line.startswith("DONE ")]
+        same(sorted(names), sorted(marks))
+        same(folder.call("run", "x.dag")[2], 0)
+    # The DAG as it is now has a fault.
+    for text, line in (("JOB A a.sub\nSPLICE T no.dag\n", "S1 MissingFile no.dag"), ("JOB A a.sub\nJOB B a.sub\nPARENT A CHILD B\nPARENT B CHILD A\n", "G1 Cycle A B")):
+        put_back(folder, {**kept, "x.dag": text})
+        before = everything(folder)
+        refused(folder, ("salvage", "x.dag"), line)
+        same(everything(folder), before)
+
+
+def salvaged_without_its_rescue_file(folder):
+    """The rescue file that a round read is changed or removed: what it marked is done, as the round has it."""
+    folder.write("x.dag", DIAMOND)
+    folder.echo(*"abd")
+    folder.shell("c", "exit 1\n")
+    same(folder.call("run", "x.dag")[2], 1)
+    same(folder.call("run", "x.dag")[2], 1)
+    # Of the second round, which read 001 with A and B, is left that C was launched.
+    cut_short(folder, folder.read("x.dag.journal"), LIFE, launched(2, 1))
+    os.remove(folder.at("x.dag.rescue002"))
+    kept = everything(folder)
+    for bytes, word in ((None, "missing"), (RESCUE_OF_TWO + b"DONE C\n", "changed"), (b"no rescue file\n", "changed"), (b"", "changed")):
+        put_back(folder, {**kept, "x.dag.rescue001": bytes})
+        same(folder.call("salvage", "x.dag"), (f"2 of 4 nodes are done: x.dag.rescue002\n{word} since the round began: x.dag.rescue001\n", "", 0))
+        same(folder.read("x.dag.rescue002"), rescue_of(4, "A", "B"))
+
+
+def many_nodes_that_are_gone(folder):
+    """Of the nodes that were done and are gone 20 are named, and how many more there are."""
+    folder.echo("a", "b")
+    for count in (1, 19, 20, 21, 45):
+        names = [f"n{number:02}" for number in range(count)]
+        folder.write("x.dag", "".join(f"JOB {name} a.sub\n" for name in names) + "JOB last b.sub\nPARENT " + " ".join(names) + " CHILD last\n")
+        same(folder.call("run", "x.dag")[2], 0)
+        # All but the last two records: the end of the last node, and Finish.
+        folder.cut_journal(len(slots_in(folder.read("x.dag.journal"))[0]) - 2)
+        folder.write("x.dag", "JOB last b.sub\n")
+        same(folder.call("salvage", "x.dag"), ("0 of 1 nodes are done: x.dag.rescue001\nchanged since the round began: x.dag\n", lines_of_gone(names), 0))
+        os.remove(folder.at("x.dag.rescue001"))
+
+
+def kept_files_that_are_no_good(folder):
+    """A file of another round, one that was changed, and one that is cut short keep nothing: R6, as where there is none."""
+    folder.write("x.dag", DIAMOND)
+    folder.echo(*"abcd")
+    same(folder.call("run", "x.dag"), (ALL_DONE, "", 0))
+    other, other_digest = folder.read("x.dag.begun"), folder.read("x.dag.journal")[8:40].hex().encode()
+    folder.write("x.dag", DIAMOND + "# of the second round\n")
+    same(folder.call("run", "x.dag"), (ALL_DONE, "", 0))
+    folder.cut_journal(3)
+    begun, digest = folder.read("x.dag.begun"), folder.read("x.dag.journal")[8:40].hex().encode()
+    folder.write("x.dag", DIAMOND + "JOB E a.sub\n")
+    words = ("salvage", "x.dag")
+    for bytes in (
+        None,
+        b"",
+        other,
+        # The files of the other round under this round's digest, and this round's under another.
+        other.replace(other_digest, digest),
+        begun.replace(digest, b"0" * 64),
+        begun.replace(digest, digest[:-1] + digest[-1:].upper() + b" "),
+        begun.replace(b"executable", b"Executable", 1),
+        begun.replace(b"JOB A a.sub", b"JOB A d.sub", 1),
+        begun.replace(b"file 5", b"file 05", 1),
+        begun + b"\n",
+        begun[:-1],
+        begun[:-4],
+        begun[: len(begun) // 2],
+        begun.replace(b"\nend\n", b"\nrescue 15 0\nx.dag.rescue001\n\nend\n"),
+    ):
+        if bytes is None:
+            os.remove(folder.at("x.dag.begun"))
+        else:
+            same(bytes != begun, True)
+            folder.write("x.dag.begun", bytes)
+        before = everything(folder)
+        refused(folder, words, "R6 Changed x.dag")
+        same(everything(folder), before)
+    # A folder in its place, and a file that is larger than any that is read.
+    os.remove(folder.at("x.dag.begun"))
+    os.mkdir(folder.at("x.dag.begun"))
+    refused(folder, words, "X2 FileRefused x.dag.begun")
+    os.rmdir(folder.at("x.dag.begun"))
+    folder.write("x.dag.begun", begun + b"#" * (65 << 20))
+    refused(folder, words, "X1 Memory")
+    # It is not read where nothing but submit files was changed.
+    changed_dag, journal = folder.read("x.dag"), folder.read("x.dag.journal")
+    folder.write("x.dag", DIAMOND + "# of the second round\n")
+    same(folder.call(*words), ("1 of 4 nodes are done: x.dag.rescue001\n", "", 0))
+    folder.write("x.dag.journal", journal)
+    folder.write("x.dag", changed_dag)
+    folder.write("x.dag.begun", begun)
+    same(folder.call(*words), ("1 of 5 nodes are done: x.dag.rescue001\nchanged since the round began: x.dag\n", "", 0))
+
+
+def kept_files_that_are_too_large(folder):
+    """Files of more than 64 MiB are not kept, an older file is removed, and the log says so; the round runs as any."""
+    folder.write("x.dag", "JOB A a.sub\nJOB B b.sub\n")
+    folder.echo("a", "b")
+    same(folder.call("run", "x.dag")[2], 0)
+    same((folder.there("x.dag.begun"), "begun" in fields_of(folder)[0][4]), (True, False))
+    with open(folder.at("b.sub"), "ab") as file:
+        file.write((b"#" * 1023 + b"\n") * (65 << 10))
+    same(folder.call("run", "x.dag")[2], 0)
+    first = fields_of(folder)[0]
+    same((folder.there("x.dag.begun"), first[0], first[4]["begun"]), (False, "life", "left_out"))
+    folder.cut_journal(3)
+    folder.write("x.dag", "JOB A a.sub\nJOB B b.sub\nJOB C a.sub\n")
+    refused(folder, ("salvage", "x.dag"), "R6 Changed x.dag")
+
+
+def kept_files_that_can_not_be_written(folder):
+    """A run depends on them in nothing."""
+    folder.write("x.dag", DIAMOND)
+    folder.echo(*"abcd")
+    for name in ("x.dag.begun", "x.dag.begun.new"):
+        if folder.there(name):
+            os.remove(folder.at(name))
+        os.mkdir(folder.at(name))
+        same(folder.call("run", "x.dag"), (ALL_DONE, "", 0))
+        os.rmdir(folder.at(name))
+    folder.write("x.dag.begun.new", "of one that was cut short" * 99)
+    same(folder.call("run", "x.dag"), (ALL_DONE, "", 0))
+    same(folder.read("x.dag.begun"), begun_of(folder, "a.sub", "b.sub", "c.sub", "d.sub", "x.dag"))
 
 
 def cut_short_while_salvaging(folder):
@@ -2794,14 +3375,11 @@ def pipes_and_devices_beside(folder):
 
 
 def huge_files_beside(folder):
-    """A file of 1 GB of zeros in the place of a file beside the DAG file takes neither the memory nor the time for it. (A journal that large is
-    read whole by `run`, which is not looked at here.)"""
+    """A file of 1 GB of zeros in the place of a file beside the DAG file takes neither the memory nor the time for it."""
     def make(path):
         with open(path, "wb") as file:
             file.truncate(1_000_000_000)
     for words, (status, lines, took, megabytes) in all_commands_over(folder, make):
-        if words[:2] == ("journal", "run"):
-            continue
         if status not in (0, 1, 125) or took > 5 or megabytes > 100:
             raise AssertionError(f"{words}: status {status}, {lines} lines, {took:.1f} s, {megabytes:.0f} MB")
 
@@ -2871,7 +3449,7 @@ def files_of_other_users(folder):
     folder.echo("a")
     folder.shell("b", "exit 1\n")
     folder.call("run", "x.dag")
-    for suffix in ("journal", "lock", "children", "rescue"):
+    for suffix in ("journal", "lock", "children", "round", "log", "rescue"):
         for mode, words, wanted in ((0o777, [], None), (0o777, ["--trust-owner"], ("", 1)), (0o755, [], ("", 1))):
             name = f"x.dag.{suffix}"
             if suffix == "rescue":
@@ -2944,6 +3522,14 @@ def salvaged_by_files_of_other_users(folder):
                 os.chown(folder.at(name), NOBODY, NOBODY)
         for name in names:
             os.chown(folder.at(name), os.getuid(), os.getgid())
+    # What keeps the files of the round is asked for where the DAG was changed.
+    folder.write("x.dag", "JOB A a.sub\nJOB B b.sub\nJOB C a.sub\n")
+    os.chown(folder.at("x.dag.begun"), NOBODY, NOBODY)
+    os.chmod(folder.path, 0o777)
+    refused(folder, ("salvage", "x.dag"), "X2 FileRefused x.dag.begun")
+    os.chmod(folder.path, 0o755)
+    text = "1 of 3 nodes are done: x.dag.rescue002\nchanged since the round began: x.dag\n"
+    same(folder.call("salvage", "x.dag"), (text, "", 0))
 
 
 def what_the_system_said(folder):
@@ -3260,6 +3846,7 @@ ROWS = [
     a_folder_for_a_rescue_file,
     a_folder_for_the_journal,
     a_journal_that_stays,
+    a_folder_in_the_way_of_salvage,
     other_inputs,
     no_journal,
     post_behind_a_failed_pre,
@@ -3312,8 +3899,11 @@ ROWS = [
     no_launcher,
     endings_by_a_launcher,
     another_launcher,
+    an_abort_asks_launchers,
+    an_abort_kills_launchers,
     words_that_are_no_request,
     help_and_version,
+    how_many_jobs_at_once,
     what_help_says_of_defaults,
     a_picture_of_a_run,
     in_another_folder,
@@ -3343,6 +3933,7 @@ ROWS = [
     no_process,
     why_attempts,
     why_scripts,
+    what_scripts_print,
     why_waiting,
     why_many,
     why_no_round,
@@ -3359,7 +3950,23 @@ ROWS = [
     salvaged_with_the_flag,
     salvaged_rounds,
     salvaged_splices,
+    salvaged_after_any_change,
+    salvaged_with_samples_added,
+    salvaged_with_changed_splices,
+    salvaged_without_its_rescue_file,
+    many_nodes_that_are_gone,
+    kept_files_that_are_no_good,
+    kept_files_that_are_too_large,
+    kept_files_that_can_not_be_written,
     refusals_of_salvage,
+    redone_point,
+    redone_points,
+    redone_alone,
+    redone_numbers,
+    redone_after_failure,
+    redone_when_cut_short,
+    redone_splices_and_final,
+    refusals_of_redo,
 ]
 
 
@@ -3371,7 +3978,7 @@ def main():
     else:
         print("strace is not installed: the order in which the disk is written is not looked at, and no call of going back is cut short, and no child while it is started")
     if os.getuid() == 0:
-        rows += [files_of_other_users, told_by_files_of_other_users, salvaged_by_files_of_other_users]
+        rows += [files_of_other_users, told_by_files_of_other_users, salvaged_by_files_of_other_users, redone_by_files_of_other_users]
     else:
         print("this is not root: whose the files are that stand beside a DAG is not looked at")
     if can_mount():

@@ -12,6 +12,7 @@ import pty
 import re
 import resource
 import select
+import shutil
 import signal
 import struct
 import subprocess
@@ -21,7 +22,12 @@ import termios
 import time
 import unicodedata
 
+from journals import HEADER, SLOT, slots_in
+
 # A line that says how far a run is, with its counts.
+# The line behind a run: how many nodes are in which state, and how long it took.
+END = re.compile(r"^(\d+ done(, \d+ failed)?(, \d+ waiting)?), (\d+\.\d s|\d+:\d\d)(; dagrun why \S+ says why)?$")
+
 LINE = re.compile(r"^(\d+)/(\d+) done, (\d+) running( \(.*\))?, (\d+) ready, (\d+) failed  (\d+:\d\d)$")
 
 
@@ -130,6 +136,20 @@ class Told:
         """The lines that were shown and did not stay, with 0 seconds in place of however many there were."""
         return [steady(line) for line in self.screen.seen if line]
 
+    def end(self):
+        """The lines behind the report of a run: which nodes are not done, if there are any, and the last one without its time."""
+        lines = self.screen.told()
+        found = END.match(lines[-1]) if lines else None
+        if not found:
+            return []
+        front = [line for line in lines[-2:-1] if line.startswith("not done: ")]
+        return [*front, found.group(1) + (found.group(5) or "")]
+
+    def kept(self):
+        """The lines that stay before these."""
+        lines = self.screen.told()
+        return lines[: len(lines) - len(self.end())]
+
     def has_shown(self, line):
         holds(line in self.lines(), f"no {line!r} in {self.lines()}")
 
@@ -157,6 +177,12 @@ class Folder:
         with open(self.at(name), "rb") as file:
             return file.read()
 
+    def cut(self, name):
+        """Takes the last record of a journal away, that of its end; the others are each alone behind their gates."""
+        journal = self.read(name)
+        slots = [journal[at : at + SLOT] for at in slots_in(journal)[0][:-1]]
+        self.write(name, journal[:HEADER] + b"".join(slots) + b"\0")
+
     def shell(self, name, script, error=True):
         """A submit file whose job is a shell script."""
         self.write(name + ".sh", script)
@@ -169,10 +195,15 @@ class Folder:
         done = subprocess.run([self.program, *words], cwd=self.path, capture_output=True, timeout=120, env=environment)
         return done.stdout.decode(), done.stderr.decode(), done.returncode
 
-    def on_terminal(self, *words, columns=80, resized=(), term="xterm", limit=None, killed=None):
+    def on_terminal(self, *words, columns=80, resized=(), term="xterm", limit=None, killed=None, typed=None):
         """Calls the program with standard error on a terminal. `resized`: seconds and columns; `limit`: bytes that a file may have;
-        `killed`: what is to be seen before the program is killed."""
+        `killed`: what is to be seen before the program is killed; `typed`: standard input is the terminal, too, on which this is typed, with no echo."""
         ours, theirs = pty.openpty()
+        if typed is not None:
+            modes = termios.tcgetattr(theirs)
+            modes[3] &= ~termios.ECHO
+            termios.tcsetattr(theirs, termios.TCSANOW, modes)
+            os.write(ours, typed)
         fcntl.ioctl(theirs, termios.TIOCSWINSZ, struct.pack("HHHH", 24, columns, 0, 0))
         environment = {name: value for name, value in os.environ.items() if name not in ("TERM", "COLUMNS")}
         if term is not None:
@@ -189,7 +220,7 @@ class Folder:
         began = time.monotonic()
         with tempfile.TemporaryFile() as output:
             run = subprocess.Popen(
-                [self.program, *words], cwd=self.path, stdin=subprocess.DEVNULL, stdout=output, stderr=theirs, env=environment,
+                [self.program, *words], cwd=self.path, stdin=subprocess.DEVNULL if typed is None else theirs, stdout=output, stderr=theirs, env=environment,
                 preexec_fn=prepare, restore_signals=False,
             )
             os.close(theirs)
@@ -255,7 +286,7 @@ def goes_on(folder):
     told = folder.on_terminal("run", "x.dag")
     same(told.text, ALL_DONE)
     same(told.status, 0)
-    same(told.screen.told(), [])
+    same(told.kept(), [])
     told.has_shown("0/4 done, 2 running (A 0 s, B 0 s), 0 ready, 0 failed  0:00")
     told.has_shown("2/4 done, 2 running (C 0 s, D 0 s), 0 ready, 0 failed  0:00")
     holds(told.screen.wrapped == 0, "it is wider than the terminal")
@@ -280,7 +311,7 @@ def at_20_columns(folder):
     four(folder)
     told = folder.on_terminal("run", "x.dag", columns=20)
     same(told.text, ALL_DONE)
-    same(told.screen.told(), [])
+    same(told.kept(), [])
     same(told.screen.wrapped, 0)
     # 19 columns, so that the last one stays free.
     told.has_shown("0/4 done, 2 runni..")
@@ -292,7 +323,7 @@ def at_200_columns(folder):
     folder.shell("j", "sleep 4\n")
     folder.write("x.dag", "".join(f"JOB {name} j.sub\n" for name in names))
     told = folder.on_terminal("run", "--maxjobs", "60", "x.dag", columns=200)
-    same(told.screen.told(), [])
+    same(told.kept(), [])
     same(told.screen.wrapped, 0)
     # `0/40 done, 40 running` and `, 0 ready, 0 failed  0:00` take 21 and 25 columns, ` (` and `, ..)` seven: 146 of 199 are left, of which
     # `name_00 0 s` takes 11 and each further one 13: eleven fit.
@@ -338,7 +369,7 @@ def a_failure_in_between(folder):
     folder.shell("B", "sleep 1\n")
     folder.write("x.dag", "JOB A A.sub\nJOB B B.sub\nRETRY A 1\n")
     told = folder.on_terminal("run", "x.dag")
-    same(told.screen.told(), [
+    same(told.kept(), [
         "A JOB, attempt 0: exit 3; errors in A.err; it is tried again",
         "A JOB, attempt 1: exit 3; errors in A.err",
         "  | one",
@@ -358,12 +389,12 @@ def signals_and_scripts(folder):
     folder.shell("D", "exit 5\n")
     folder.write("x.dag", "JOB A A.sub\nJOB B B.sub\nSCRIPT PRE B missing.sh\nJOB C C.sub\nSCRIPT POST C /bin/false\nJOB D D.sub\nSCRIPT POST D /bin/true\n")
     told = folder.on_terminal("run", "x.dag", "--maxjobs", "1", columns=200)
-    lines = told.screen.told()
+    lines = told.kept()
     holds("A JOB, attempt 0: signal 9 (SIGKILL); errors in A.err" in lines, f"{lines}")
     missing = os.path.realpath(folder.at("missing.sh"))
     holds(f"B PRE, attempt 0: could not be started: {missing}: No such file or directory (os error 2)" in lines, f"{lines}")
     at = lines.index("C JOB, attempt 0: exit 5; errors in C.err")
-    same(lines[at + 1 : at + 3], ["  | lost", "C POST, attempt 0: exit 1"])
+    same(lines[at + 1 : at + 3], ["  | lost", "C POST, attempt 0: exit 1; errors in x.dag.scripts/C.POST.0"])
     # What D's POST script made good is no failure.
     holds(not any(line.startswith("D ") for line in lines), f"{lines}")
 
@@ -379,7 +410,7 @@ def ends_of_files(folder):
     names = "ABCDEF"
     folder.write("x.dag", "".join(f"JOB {name} {name}.sub\n" for name in names))
     told = folder.on_terminal("run", "--maxjobs", "1", "x.dag")
-    same(told.screen.told(), [
+    same(told.kept(), [
         "A JOB, attempt 0: exit 1; errors in A.err",
         *(f"  | {number}" for number in range(199996, 200001)),
         "B JOB, attempt 0: exit 1; errors in B.err",
@@ -403,7 +434,9 @@ def dumb_terminals(folder):
     four(folder)
     for term in ("dumb", None):
         told = folder.on_terminal("run", "x.dag", term=term)
-        same(steady(told.raw.decode()), "0/4 done, 2 running (A 0 s, B 0 s), 0 ready, 0 failed  0:00\r\n", f"{term}: ")
+        holds(b"\x1b" not in told.raw, f"{term}: {told.raw!r}")
+        same([steady(line) for line in told.kept()], ["0/4 done, 2 running (A 0 s, B 0 s), 0 ready, 0 failed  0:00"], f"{term}: ")
+        same(told.end(), ["4 done"], f"{term}: ")
         same(told.text, ALL_DONE)
         os.remove(folder.at("x.dag.journal"))
 
@@ -448,9 +481,105 @@ def an_abort(folder):
     folder.shell("B", "sleep 30\n")
     folder.write("x.dag", "JOB A A.sub\nJOB B B.sub\nABORT-DAG-ON A 7 RETURN 9\n")
     told = folder.on_terminal("run", "x.dag")
-    same(told.screen.told(), ["A JOB, attempt 0: exit 7; errors in A.err"])
+    same(told.kept(), ["A JOB, attempt 0: exit 7; errors in A.err"])
+    same(told.end(), ["not done: A ERROR, B READY", "0 done, 1 failed, 1 waiting; dagrun why x.dag says why"])
     same(told.status, 9)
     holds(told.took < 20, "it waited for B")
+
+
+def how_it_ended(folder):
+    """Behind the report stands what is not done, at most twenty names, how many nodes are in which state, and how long it took; but for
+    `--progress never`, and where standard error is no terminal."""
+    folder.shell("A", "exit 1\n", error=False)
+    folder.shell("B", "exit 0\n", error=False)
+    folder.write("x.dag", "".join(f"JOB A{number} A.sub\n" for number in range(22)) + "JOB B B.sub\nJOB C B.sub\nPARENT A0 CHILD C\n")
+    told = folder.on_terminal("run", "x.dag", columns=400)
+    names = ", ".join(f"A{number} ERROR" for number in range(20))
+    same(told.end(), [f"not done: {names} and 3 more", "1 done, 22 failed, 1 waiting; dagrun why x.dag says why"])
+    same((told.status, told.text.splitlines()[-1]), (1, "result 1"))
+    same(folder.call("run", "x.dag")[1:], ("", 1))
+    folder.write("y.dag", "JOB B B.sub\n")
+    told = folder.on_terminal("run", "y.dag")
+    same((told.status, told.screen.told()[:-1], told.end()), (0, [], ["1 done"]))
+    same(folder.on_terminal("run", "--progress", "never", "y.dag").screen.told(), [])
+
+
+def what_is_kept(folder):
+    """As a round begins or goes on it is said how many nodes are done, and by which rescue file."""
+    folder.shell("A", "exit 0\n", error=False)
+    folder.shell("B", "[ -e mended ]\n", error=False)
+    folder.write("x.dag", "JOB A A.sub\nJOB B B.sub\nJOB C A.sub\nPARENT B CHILD C\n")
+    same(folder.on_terminal("run", "x.dag").kept(), ["B JOB, attempt 0: exit 1"])
+    told = folder.on_terminal("run", "x.dag")
+    same(told.kept(), ["new round by x.dag.rescue001: 1 of 3 nodes is done (--autorescue 0 begins anew)", "B JOB, attempt 0: exit 1"])
+    folder.write("mended", "")
+    same(folder.on_terminal("run", "--autorescue", "0", "x.dag").kept(), [])
+    # Of that round is left what was recorded before C's launch: the manager, and the launches and endings of A and B.
+    journal = folder.read("x.dag.journal")
+    slots = [journal[at : at + SLOT] for at in slots_in(journal)[0][:5]]
+    folder.write("x.dag.journal", journal[:HEADER] + b"".join(slots) + b"\0")
+    told = folder.on_terminal("run", "x.dag")
+    same((told.kept(), told.end(), told.status), (["goes on: 2 of 3 nodes are done"], ["3 done"], 0))
+
+
+def what_will_fail(folder):
+    """Before anything is started it is said which of the jobs that can start at once will fail: their programs, and the folders of their
+    files, are looked at. Each cause has one line."""
+    folder.write("a.sub", "executable = no/such\nqueue\n")
+    folder.write("b.sub", "executable = plain\nqueue\n")
+    folder.write("plain", "")
+    folder.write("c.sub", "executable = /bin/true\noutput = away/$(JOB).out\nqueue\n")
+    folder.write("d.sub", "executable = /bin/true\ninitialdir = nowhere\nqueue\n")
+    folder.write("e.sub", "executable = made\nqueue\n")
+    folder.write("x.dag", "JOB A a.sub\nJOB B b.sub\nJOB C1 c.sub\nJOB C2 c.sub\nJOB D d.sub\nJOB E e.sub\nPARENT B CHILD E\nJOB F e.sub\nSCRIPT PRE F true\n")
+    here = os.path.realpath(folder.path)
+    told = folder.on_terminal("run", "x.dag", columns=200)
+    same(told.kept()[:4], [
+        f"A will fail: {here}/no/such is not there: put it there, or mend its path",
+        f"B will fail: {here}/plain may not be executed: chmod +x {here}/plain",
+        f"2 nodes will fail: the folder {here}/away is not there: mkdir -p {here}/away",
+        f"D will fail: the folder {here}/nowhere is not there: mkdir -p {here}/nowhere",
+    ])
+    holds(not any("will fail" in line for line in told.kept()[4:]), f"{told.kept()}")
+    # A launcher may find the program elsewhere.
+    told = folder.on_terminal("run", "--launcher", "env", "x.dag", columns=200)
+    same([line.split(":")[0] for line in told.kept() if "will fail" in line], ["2 nodes will fail", "D will fail"])
+
+
+def what_is_odd(folder):
+    """Behind the answer of a check stands what is odd in the files, without being asked for; where it is no terminal there is nothing."""
+    folder.write("a.sub", "executable = no/such\nqueue\n")
+    folder.write("x.dag", "JOB A a.sub\n")
+    told = folder.on_terminal("check", "x.dag", columns=200)
+    same((told.status, told.screen.told()), (0, folder.call("check", "--hints", "x.dag")[1].splitlines()))
+    same(len(told.screen.told()), 1)
+    same(told.text, folder.call("check", "x.dag")[0])
+    same(folder.call("check", "x.dag")[1], "")
+    # Where they are asked for they stand there once.
+    same(folder.on_terminal("check", "--hints", "x.dag", columns=200).screen.told(), told.screen.told())
+
+
+def what_can_not_be_noted(folder):
+    """That a later run may not know the processes of the round is said once."""
+    folder.shell("A", "exit 0\n", error=False)
+    folder.write("x.dag", "JOB A A.sub\nJOB B A.sub\n")
+    os.mkdir(folder.at("x.dag.round.new"))
+    told = folder.on_terminal("run", "x.dag", columns=120)
+    same(told.kept(), ["the round's processes can't be noted (Is a directory (os error 21)): a later run may not know them"])
+    same((told.end(), told.status), (["2 done"], 0))
+
+
+def what_is_changed(folder):
+    """Behind J5 stands which files are changed, and the command that keeps what is done."""
+    folder.shell("A", "exit 0\n", error=False)
+    folder.shell("B", "exit 1\n", error=False)
+    folder.write("my flow.dag", "JOB A A.sub\nJOB B B.sub\n")
+    folder.call("run", "my flow.dag")
+    folder.cut("my flow.dag.journal")
+    folder.write("B.sub", "executable = /bin/true\nqueue\n")
+    for words in (("run",), ("status",)):
+        told = folder.on_terminal(*words, "my flow.dag", columns=120)
+        same(told.screen.told()[:2], ["dagrun: J5 OtherInputs", "    changed since the round began: B.sub; dagrun salvage my flow.dag keeps what is done"])
 
 
 def a_refusal_in_the_middle(folder):
@@ -475,17 +604,51 @@ def hints(folder):
     folder.write("y.dag", "JOB A a.sub\n# the next\nJOBS B b.sub\n")
     folder.write("z.dag", "JOB A away/a.sub\n")
     folder.write("q.dag", "JOB A two.sub\n")
+    here = os.path.realpath(folder.path)
     told = {
         "x.dag": ["dagrun: S5 UnknownNode x.dag:2:20", "    2 | PARENT Fetch CHILD Fecth", "                           ^", "    is Fetch meant?", "    dagrun explain S5 says more"],
         "y.dag": ["dagrun: L2 UnknownCommand y.dag:3:1", "    3 | JOBS B b.sub", "        ^", "    is JOB meant?", "    dagrun explain L2 says more"],
-        "z.dag": ["dagrun: P1 MissingFile away/a.sub", "    away/a.sub: No such file or directory (os error 2)", "    dagrun explain P1 says more"],
+        "z.dag": ["dagrun: P1 MissingFile away/a.sub", f"    away/a.sub: No such file or directory (os error 2), seen from {here}", "    dagrun explain P1 says more"],
         "q.dag": ["dagrun: U4 QueueCount two.sub:2", "    2 | queue 2", "    Write `queue` once, with no count, and a JOB line for each of the jobs, with", "    its number by VARS."],
-        "away.dag": ["dagrun: S1 MissingFile away.dag", "    away.dag: No such file or directory (os error 2)", "    dagrun explain S1 says more"],
+        "away.dag": ["dagrun: S1 MissingFile away.dag", f"    away.dag: No such file or directory (os error 2), seen from {here}", "    dagrun explain S1 says more"],
     }
     for dag, lines in told.items():
-        answer = folder.on_terminal("check", dag)
+        answer = folder.on_terminal("check", dag, columns=200)
         same((answer.status, answer.text), (125, ""))
         same(answer.screen.told(), lines)
+
+
+def without_words(folder):
+    """Without words a DAG is read from the terminal, and it is said so; nothing is said where standard input is none."""
+    told = folder.on_terminal(columns=120, typed=b"JOB A a.sub\n\x04")
+    same((told.text, told.status), ("A DONE attempts=1 value=0\nresult 0\n", 0))
+    same(told.screen.told(), ["dagrun reads a DAG from here, and rehearses it (Ctrl-D ends it); dagrun help says what else it does"])
+    same(folder.on_terminal().screen.told(), [])
+
+
+def a_folder_that_is_closed(folder):
+    """Where no file can be made beside the DAG file, that is said, and not that there is none."""
+    folder.write("x.dag", "JOB A a.sub\n")
+    folder.write("a.sub", "executable = /bin/true\nqueue\n")
+    shutil.copy(folder.program, folder.at("program"))
+    words = [folder.at("program"), "run", "x.dag"]
+    if os.getuid() == 0:
+        os.chmod(folder.path, 0o755)
+        words = ["setpriv", "--reuid=65534", "--regid=65534", "--clear-groups", *words]
+    else:
+        os.chmod(folder.path, 0o555)
+    answer = Folder(words[0], folder.path).on_terminal(*words[1:])
+    same(answer.screen.told()[:2], ["dagrun: X2 FileRefused x.dag.lock", "    you may not write in the folder ."])
+    os.chmod(folder.path, 0o755)
+
+
+def a_program_elsewhere(folder):
+    """A program by its name alone is not looked for in the folders of PATH; it is said which one may be meant."""
+    folder.write("a.sub", "executable = sh\nqueue\n")
+    folder.write("x.dag", "JOB A a.sub\n")
+    found = shutil.which("sh")
+    told = folder.on_terminal("check", "x.dag", columns=200)
+    same((told.status, told.screen.told()), (0, [f"hint: a.sub:1 sh is not there, and the folders of PATH are not searched: is {found} meant?"]))
 
 
 def what_is_in_the_way(folder):
@@ -559,10 +722,10 @@ def too_many(folder):
     folder.write("x.dag", "".join(f"JOB j{number} j.sub\n" for number in range(count)))
     told = folder.on_terminal("run", "x.dag")
     word = "processor" if processors == 1 else "processors"
-    same(told.screen.told(), [f"{count} children run at once on {processors} {word}: --maxjobs limits them"])
+    same(told.kept(), [f"{count} children run at once on {processors} {word}: --maxjobs limits them"])
     os.remove(folder.at("x.dag.journal"))
     told = folder.on_terminal("run", "--maxjobs", str(count), "x.dag")
-    same(told.screen.told(), [])
+    same(told.kept(), [])
 
 
 def all_are_done(folder):
@@ -572,13 +735,13 @@ def all_are_done(folder):
     folder.call("run", "x.dag")
     folder.write("x.dag.rescue001", folder.read("x.dag.rescue001") + b"DONE A\n")
     told = folder.on_terminal("run", "x.dag", columns=120)
-    same(told.screen.told(), ["all nodes are done: x.dag.rescue001 says so; remove it, or call with --autorescue 0, to begin anew"])
+    same(told.kept(), ["all nodes are done: x.dag.rescue001 says so; remove it, or call with --autorescue 0, to begin anew"])
     same(told.text, "A DONE attempts=0 value=-\nresult 0\n")
     same(folder.call("run", "x.dag")[1], "")
     os.remove(folder.at("x.dag.rescue001"))
     folder.write("x.dag", "JOB A A.sub DONE\n")
     told = folder.on_terminal("run", "x.dag")
-    same(told.screen.told(), ["all nodes are done: x.dag says so"])
+    same(told.kept(), ["all nodes are done: x.dag says so"])
 
 
 def a_status(folder):
@@ -653,6 +816,15 @@ ROWS = [
     no_terminal,
     same_output,
     an_abort,
+    how_it_ended,
+    what_is_kept,
+    what_will_fail,
+    what_is_odd,
+    what_can_not_be_noted,
+    what_is_changed,
+    without_words,
+    a_folder_that_is_closed,
+    a_program_elsewhere,
     a_refusal_in_the_middle,
     hints,
     what_is_in_the_way,

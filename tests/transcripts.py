@@ -16,9 +16,10 @@ import tempfile
 TOP = os.path.realpath(os.path.join(os.path.dirname(__file__), ".."))
 # The pages, and of a page that has other blocks too the headings of the cases.
 PAGES = {
+    "README.md": ["Your own"],
     "docs/FROM_DAGMAN.md": None,
     "docs/FROM_MAKE.md": None,
-    "docs/MANUAL.md": ["Why a node failed", "A picture of the graph", "A round whose submit files were changed", "What a fault says", "What is odd in files"],
+    "docs/MANUAL.md": ["Why a node failed", "A picture of the graph", "A round whose files were changed", "What a fault says", "What is odd in files"],
     "docs/TO_HTCONDOR.md": ["What check --condor tells"],
 }
 

@@ -6,7 +6,7 @@ _dagrun() {
     if [ "$word" = '=' ]; then word=''; elif [ "$before" = '=' ]; then before=${COMP_WORDS[COMP_CWORD - 2]}; fi
     for ((place = 1; place < COMP_CWORD; place++)); do
         case $command:${COMP_WORDS[place]} in
-        :run|:status|:why|:times|:salvage|:audit|:check|:rehearse|:graph|:explain|:help|:version) command=${COMP_WORDS[place]} ;;
+        :run|:status|:why|:times|:salvage|:redo|:audit|:check|:rehearse|:graph|:explain|:help|:version) command=${COMP_WORDS[place]} ;;
         ?*:*.dag | rehearse:-) dag=${COMP_WORDS[place]} ;;
         esac
     done
@@ -15,19 +15,20 @@ _dagrun() {
         --orphans) values='kill wait leave' ;;
         --progress) values='auto always never' ;;
         --sync-output) values='0 1' ;;
-        --dorescuefrom|--launcher|--log-limit|--maxjobs|--maxpost|--maxpre) return ;;
+        --dorescuefrom|--launcher|--launcher-grace|--log-limit|--maxjobs|--maxpost|--maxpre|--script-output) return ;;
     esac
     if [ -n "$values" ]; then
         COMPREPLY=($(compgen -W "$values" -- "$word"))
         return
     fi
     case $command in
-        '') options='run status why times salvage audit check rehearse graph explain help version --help' ;;
-        run) options='--maxjobs --maxpre --maxpost --autorescue --dorescuefrom --always-run-post --sync-output --log-limit --launcher --launcher-final --orphans --progress --resume --trust-owner --help' ;;
+        '') options='run status why times salvage redo audit check rehearse graph explain help version --help' ;;
+        run) options='--maxjobs --maxpre --maxpost --autorescue --dorescuefrom --always-run-post --sync-output --script-output --log-limit --launcher --launcher-final --launcher-grace --orphans --progress --resume --trust-owner --help' ;;
         status) options='--trust-owner --help' ;;
         why) options='--trust-owner --help' ;;
         times) options='--svg --trust-owner --help' ;;
         salvage) options='--trust-owner --help' ;;
+        redo) options='--only --trust-owner --help' ;;
         audit) options='--trust-owner --help' ;;
         check) options='--hints --condor --help' ;;
         rehearse) options='--maxjobs --maxpre --maxpost --always-run-post --help' ;;
@@ -42,7 +43,7 @@ _dagrun() {
     fi
     case $command in
         help)
-            COMPREPLY=($(compgen -W 'run status why times salvage audit check rehearse graph explain help version' -- "$word"))
+            COMPREPLY=($(compgen -W 'run status why times salvage redo audit check rehearse graph explain help version' -- "$word"))
             return
             ;;
         explain|version) return ;;

@@ -8,6 +8,7 @@ _dagrun() {
         'why:Says why nodes are in error, and for whom others wait'
         'times:Says when each phase of a run began and how long it took, by its log'
         'salvage:Makes a rescue file of a round that was cut short, whose submit files were changed since'
+        'redo:Makes a rescue file of the last round by which nodes run again that are done'
         'audit:Says whether a journal is that of a finished run, and what its nodes came to'
         'check:Reads a DAG file with its splices, and says whether it is right'
         'rehearse:Runs a DAG file at the outcomes of a table, and starts no program'
@@ -33,9 +34,11 @@ _dagrun() {
                 '--dorescuefrom=[Begins a new round by the rescue file of this number; those of higher numbers are renamed to .old]:N:' \
                 '--always-run-post[POST scripts run behind PRE scripts that failed, too, and decide]' \
                 '--sync-output=[0\: the files of output and error are not brought to the disk before an ending is recorded]:0 or 1:(0 1)' \
+                '--script-output=[0\: what scripts print is dropped, also where they fail]:N:' \
                 '--log-limit=[How many MiB the log of a round may have; 64 where it is not given, 0 is no limit]:N:' \
                 '--launcher=[What stands before the program of each job, as "srun -n1"; it is split as arguments are]:WORDS:' \
                 '--launcher-final[It stands before the program of FINAL'\''s job, too]' \
+                '--launcher-grace=[How many seconds launchers have to end where a run is stopped; 10 where it is not given, 0\: killed at once]:N:' \
                 '--orphans=[What is done with processes that a manager which was killed left running; kill where it is not given \[possible values\: kill, wait, leave\]]:kill or wait or leave:(kill wait leave)' \
                 '--progress=[Whether standard error shows how far the run is; auto where it is not given\: on a terminal \[possible values\: auto, always, never\]]:auto or always or never:(auto always never)' \
                 '--resume[Where the last round has ended, prints its report again and starts nothing]' \
@@ -67,6 +70,14 @@ _dagrun() {
                 '(-h --help)'{-h,--help}'[Print help]' \
                 '--trust-owner[Root goes by the journal, the rescue files and the lock of another user, and others by those of root]' \
                 '1:DAG:_files -g "*.dag"'
+            ;;
+        redo)
+            _arguments \
+                '(-h --help)'{-h,--help}'[Print help]' \
+                '--only[These nodes alone run again\: those that come after them stay done]' \
+                '--trust-owner[Root goes by the journal, the rescue files and the lock of another user, and others by those of root]' \
+                '1:DAG:_files -g "*.dag"' \
+                '2::NODE:'
             ;;
         audit)
             _arguments \
@@ -105,7 +116,7 @@ _dagrun() {
         help)
             _arguments \
                 '(-h --help)'{-h,--help}'[Print help]' \
-                '1::COMMAND:(run status why times salvage audit check rehearse graph explain help version)'
+                '1::COMMAND:(run status why times salvage redo audit check rehearse graph explain help version)'
             ;;
         version)
             _arguments \

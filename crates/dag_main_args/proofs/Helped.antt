@@ -32,7 +32,7 @@ IsHelped orphans progress name = fault_of (dagrun_app false orphans progress) (a
 each_helped : (orphans progress : Bor (List (Bor Text))) → Each (IsHelped orphans progress) command_names
 unfolding clap_on_literals
 each_helped orphans progress =
-    (refl, (refl, (refl, (refl, (refl, (refl, (refl, (refl, (refl, (refl, (refl, (refl, tt))))))))))))
+    (refl, (refl, (refl, (refl, (refl, (refl, (refl, (refl, (refl, (refl, (refl, (refl, (refl, tt)))))))))))))
 
 pub all_helped : (orphans progress : Bor (List (Bor Text))) → fault_of (dagrun_app false orphans progress) (codes "dagrun" ∷ codes "--help" ∷ []) ≡ DisplayHelp ∷ []
 unfolding clap_on_literals

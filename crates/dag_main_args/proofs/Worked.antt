@@ -7,7 +7,7 @@ use Rattle.throttles.specs.declared.Limits.{Limits}
 use Rattle.clap.proofs.OnLiterals.{clap_on_literals}
 use Rattle.dag_main_args.specs.declared.request.RunOptions.{RunOptions}
 use Rattle.dag_main_args.specs.declared.request.Request.{Request}
-use Rattle.dag_main_args.specs.declared.request.Request.TheVariants.{Check, Run, Status, Audit, Rehearse, Graph, Why, Times, Salvage, Page}
+use Rattle.dag_main_args.specs.declared.request.Request.TheVariants.{Check, Run, Status, Audit, Rehearse, Graph, Why, Times, Salvage, Redo, Page}
 use Rattle.dag_main_args.specs.Launchers.{IsLauncherOf, given, not_given}
 use Rattle.dag_main_args.specs.Requests.{Asked, asked_by, asks_why, no_limits, rehearses, runs, shows}
 use Rattle.dag_main_args.specs.Matched.{AreOptionsOf, AsksFor, IsRequestOf, dag_path, is_on, is_set, limits_asked, nodes_asked, number_asked, orphan_rule_of, progress_of, trusts_owner, version_text}
@@ -32,9 +32,11 @@ record AsksRun (rows : List Row) (options : RunOptions) : Type 0 where
   orphans : orphan_rule_of rows ≡ options.orphans
   always_post : is_set (codes "always-run-post") rows ≡ options.always_post
   sync_output : is_on (codes "sync-output") rows ≡ options.sync_output
+  script_output : is_on (codes "script-output") rows ≡ options.script_output
   log_limit : number_asked 16 (codes "log-limit") rows ≡ options.log_limit
   launcher : first_of (codes "launcher") rows ≡ None
   none : options.launcher ≡ []
+  launcher_grace : number_asked 16 (codes "launcher-grace") rows ≡ options.launcher_grace
   launcher_final : is_set (codes "launcher-final") rows ≡ options.launcher_final
   progress : progress_of rows ≡ options.progress
   resume : is_set (codes "resume") rows ≡ options.resume
@@ -48,8 +50,10 @@ same_options rows options plain a b = λ i. record {
   orphans = (a.orphans ∙ b.orphans) i;
   always_post = (a.always_post ∙ b.always_post) i;
   sync_output = (a.sync_output ∙ b.sync_output) i;
+  script_output = (a.script_output ∙ b.script_output) i;
   log_limit = (a.log_limit ∙ b.log_limit) i;
   launcher = (unlaunched _ _ a.launcher b.launcher ∙ sym b.none) i;
+  launcher_grace = (a.launcher_grace ∙ b.launcher_grace) i;
   launcher_final = (a.launcher_final ∙ b.launcher_final) i;
   progress = (a.progress ∙ b.progress) i;
   resume = (a.resume ∙ b.resume) i;
@@ -67,6 +71,7 @@ run_alone rows dag plain (Graph path owned) h is asks = absurd (differ _ _ refl 
 run_alone rows dag plain (Why path nodes owned) h is asks = absurd (differ _ _ refl h.0)
 run_alone rows dag plain (Times path svg owned) h is asks = absurd (differ _ _ refl h.0)
 run_alone rows dag plain (Salvage path owned) h is asks = absurd (differ _ _ refl h.0)
+run_alone rows dag plain (Redo path names only owned) h is asks = absurd (differ _ _ refl h.0)
 run_alone rows dag plain (Page text) (inl h) is asks = absurd (differ _ _ refl h.0)
 run_alone rows dag plain (Page text) (inr (inl h)) is asks = absurd (differ _ _ refl h)
 run_alone rows dag plain (Page text) (inr (inr h)) is asks = absurd (differ _ _ refl h.0)
@@ -82,6 +87,7 @@ why_alone rows dag nodes (Rehearse path outcomes limits always_post) h is asks d
 why_alone rows dag nodes (Graph path owned) h is asks distrusts = absurd (differ _ _ refl h.0)
 why_alone rows dag nodes (Times path svg owned) h is asks distrusts = absurd (differ _ _ refl h.0)
 why_alone rows dag nodes (Salvage path owned) h is asks distrusts = absurd (differ _ _ refl h.0)
+why_alone rows dag nodes (Redo path names only owned) h is asks distrusts = absurd (differ _ _ refl h.0)
 why_alone rows dag nodes (Page text) (inl h) is asks distrusts = absurd (differ _ _ refl h.0)
 why_alone rows dag nodes (Page text) (inr (inl h)) is asks distrusts = absurd (differ _ _ refl h)
 why_alone rows dag nodes (Page text) (inr (inr h)) is asks distrusts = absurd (differ _ _ refl h.0)
@@ -99,6 +105,7 @@ rehearsal_alone rows dag outcomes plain post (Graph path owned) h is asks most p
 rehearsal_alone rows dag outcomes plain post (Why path names owned) h is asks most posts = absurd (differ _ _ refl h.0)
 rehearsal_alone rows dag outcomes plain post (Times path svg owned) h is asks most posts = absurd (differ _ _ refl h.0)
 rehearsal_alone rows dag outcomes plain post (Salvage path owned) h is asks most posts = absurd (differ _ _ refl h.0)
+rehearsal_alone rows dag outcomes plain post (Redo path names only owned) h is asks most posts = absurd (differ _ _ refl h.0)
 rehearsal_alone rows dag outcomes plain post (Page text) (inl h) is asks most posts = absurd (differ _ _ refl h.0)
 rehearsal_alone rows dag outcomes plain post (Page text) (inr (inl h)) is asks most posts = absurd (differ _ _ refl h)
 rehearsal_alone rows dag outcomes plain post (Page text) (inr (inr h)) is asks most posts = absurd (differ _ _ refl h.0)
@@ -113,6 +120,7 @@ version_alone rows (Graph path owned) h = absurd (differ _ _ refl h.0)
 version_alone rows (Why path names owned) h = absurd (differ _ _ refl h.0)
 version_alone rows (Times path svg owned) h = absurd (differ _ _ refl h.0)
 version_alone rows (Salvage path owned) h = absurd (differ _ _ refl h.0)
+version_alone rows (Redo path names only owned) h = absurd (differ _ _ refl h.0)
 version_alone rows (Page text) (inl h) = absurd (differ _ _ refl h.0)
 version_alone rows (Page text) (inr (inl h)) = absurd (differ _ _ refl h)
 version_alone rows (Page text) (inr (inr h)) = ap shows h.1
@@ -149,9 +157,11 @@ four_only orphans progress request h = run_alone (rows_in (subcommand_of (dagrun
   orphans = refl;
   always_post = refl;
   sync_output = refl;
+  script_output = refl;
   log_limit = refl;
   launcher = refl;
   none = refl;
+  launcher_grace = refl;
   launcher_final = refl;
   progress = refl;
   resume = refl;
@@ -178,9 +188,11 @@ fresh_only orphans progress request h = run_alone (rows_in (subcommand_of (dagru
   orphans = refl;
   always_post = refl;
   sync_output = refl;
+  script_output = refl;
   log_limit = refl;
   launcher = refl;
   none = refl;
+  launcher_grace = refl;
   launcher_final = refl;
   progress = refl;
   resume = refl;

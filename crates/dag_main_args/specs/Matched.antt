@@ -13,7 +13,7 @@ use Rattle.dag_main_args.specs.declared.request.OrphanRule.TheVariants.{Kill, Wa
 use Rattle.dag_main_args.specs.declared.request.ProgressRule.{ProgressRule}
 use Rattle.dag_main_args.specs.declared.request.ProgressRule.TheVariants.{Auto, Always, Never}
 use Rattle.dag_main_args.specs.declared.request.Request.{Request}
-use Rattle.dag_main_args.specs.declared.request.Request.TheVariants.{Check, Run, Status, Audit, Rehearse, Graph, Why, Times, Salvage, Page}
+use Rattle.dag_main_args.specs.declared.request.Request.TheVariants.{Check, Run, Status, Audit, Rehearse, Graph, Why, Times, Salvage, Redo, Page}
 use Rattle.dag_main_args.specs.Launchers.{IsLauncherOf}
 use Rattle.dag_main_args.specs.Pages.{IsExplained}
 use Rattle.dag_main_args.specs.Requests.{asked_by, no_limits, rehearses}
@@ -80,10 +80,14 @@ pub record AreOptionsOf (rows : List Row) (options : RunOptions) : Type 0 where
   pub always_post : options.always_post ≡ is_set (codes "always-run-post") rows
   -- files of output and error are brought to the disk, but under `--sync-output 0`
   pub sync_output : options.sync_output ≡ is_on (codes "sync-output") rows
+  -- what scripts print is kept where they fail, but under `--script-output 0`
+  pub script_output : options.script_output ≡ is_on (codes "script-output") rows
   -- the log stops growing at so many MiB only where that is given
   pub log_limit : options.log_limit ≡ number_asked 16 (codes "log-limit") rows
   -- the launcher is split into words as a submit file's arguments are
   pub launcher : IsLauncherOf (first_of (codes "launcher") rows) options.launcher
+  -- how many seconds launchers have to end, only where that is given
+  pub launcher_grace : options.launcher_grace ≡ number_asked 16 (codes "launcher-grace") rows
   pub launcher_final : options.launcher_final ≡ is_set (codes "launcher-final") rows
   pub progress : options.progress ≡ progress_of rows
   pub resume : options.resume ≡ is_set (codes "resume") rows
@@ -106,7 +110,7 @@ abbrev pub page_names : List Text
 page_names = codes "explain" ∷ codes "help" ∷ codes "version" ∷ []
 
 abbrev pub told_names : List Text
-told_names = codes "status" ∷ codes "audit" ∷ codes "graph" ∷ codes "why" ∷ codes "times" ∷ codes "salvage" ∷ page_names
+told_names = codes "status" ∷ codes "audit" ∷ codes "graph" ∷ codes "why" ∷ codes "times" ∷ codes "salvage" ∷ codes "redo" ∷ page_names
 
 abbrev pub command_names : List Text
 command_names = codes "run" ∷ codes "check" ∷ codes "rehearse" ∷ told_names
@@ -135,6 +139,8 @@ IsRequestOf command rows (Why dag nodes trust_owner) = (command ≡ codes "why")
 IsRequestOf command rows (Times dag svg trust_owner) = (command ≡ codes "times") × (dag.now ≡ dag_path rows)
     × (svg ≡ is_set (codes "svg") rows) × (trust_owner ≡ trusts_owner rows)
 IsRequestOf command rows (Salvage dag trust_owner) = (command ≡ codes "salvage") × (dag.now ≡ dag_path rows) × (trust_owner ≡ trusts_owner rows)
+IsRequestOf command rows (Redo dag nodes only trust_owner) = (command ≡ codes "redo") × (dag.now ≡ dag_path rows)
+    × (map (λ n. n.now) nodes.items ≡ nodes_asked rows) × (only ≡ is_set (codes "only") rows) × (trust_owner ≡ trusts_owner rows)
 IsRequestOf command rows (Page text) = IsPageOf command rows (string_bytes text)
 
 -- what the command asks for that was matched to words; where none was, a rehearsal of standard input

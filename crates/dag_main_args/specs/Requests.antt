@@ -4,7 +4,7 @@ use Rattle.std.specs.Option.{option_map}
 use Rattle.throttles.specs.declared.Limits.{Limits}
 use Rattle.dag_main_args.specs.declared.request.RunOptions.{RunOptions}
 use Rattle.dag_main_args.specs.declared.request.Request.{Request}
-use Rattle.dag_main_args.specs.declared.request.Request.TheVariants.{Check, Run, Status, Audit, Rehearse, Graph, Why, Times, Salvage, Page}
+use Rattle.dag_main_args.specs.declared.request.Request.TheVariants.{Check, Run, Status, Audit, Rehearse, Graph, Why, Times, Salvage, Redo, Page}
 
 -- a command with its words: the path of the DAG file first; of a check also whether hints are asked for; of a command that reads what stands beside
 -- that file last whether its owner is trusted; or the page that is to be printed, which the words alone determine
@@ -18,6 +18,7 @@ pub data Asked : Type 0 where
   asks_why : List ℕ → List (List ℕ) → (trust_owner : Bool) → Asked
   times : List ℕ → (svg trust_owner : Bool) → Asked
   salvages : List ℕ → (trust_owner : Bool) → Asked
+  redoes : List ℕ → List (List ℕ) → (only trust_owner : Bool) → Asked
   shows : List ℕ → Asked
 
 -- what a request asks for
@@ -31,6 +32,7 @@ asked_by (Graph dag trust_owner) = draws dag.now trust_owner
 asked_by (Why dag nodes trust_owner) = asks_why dag.now (map (λ n. n.now) nodes.items) trust_owner
 asked_by (Times dag svg trust_owner) = times dag.now svg trust_owner
 asked_by (Salvage dag trust_owner) = salvages dag.now trust_owner
+asked_by (Redo dag nodes only trust_owner) = redoes dag.now (map (λ n. n.now) nodes.items) only trust_owner
 asked_by (Page text) = shows (string_bytes text)
 
 -- no limits but that on all children
@@ -55,4 +57,5 @@ limits_in (draws dag trust_owner) = None
 limits_in (asks_why dag nodes trust_owner) = None
 limits_in (times dag svg trust_owner) = None
 limits_in (salvages dag trust_owner) = None
+limits_in (redoes dag nodes only trust_owner) = None
 limits_in (shows text) = None

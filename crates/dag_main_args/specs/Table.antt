@@ -70,8 +70,8 @@ of_dag name = command name (dag ∷ trust_owner ∷ [])
 -- what a run may be given
 abbrev pub run_rules : (is_tied : Bool) → (orphans progress : Bor (List (Bor Text))) → List Rule
 run_rules is_tied orphans progress = dag ∷ number (codes "maxjobs") ∷ number (codes "maxpre") ∷ number (codes "maxpost") ∷ switch (codes "autorescue")
-    ∷ number (codes "dorescuefrom") ∷ flag (codes "always-run-post") ∷ switch (codes "sync-output") ∷ number (codes "log-limit") ∷ named_text (codes "launcher")
-    ∷ flag (codes "launcher-final") ∷ choice (codes "orphans") orphans ∷ choice (codes "progress") progress
+    ∷ number (codes "dorescuefrom") ∷ flag (codes "always-run-post") ∷ switch (codes "sync-output") ∷ switch (codes "script-output") ∷ number (codes "log-limit") ∷ named_text (codes "launcher")
+    ∷ flag (codes "launcher-final") ∷ number (codes "launcher-grace") ∷ choice (codes "orphans") orphans ∷ choice (codes "progress") progress
     ∷ tied_flag is_tied (codes "resume") ∷ trust_owner ∷ []
 
 -- what a rehearsal may be given
@@ -86,6 +86,7 @@ commands is_tied orphans progress = command (codes "run") (run_rules is_tied orp
     ∷ command (codes "why") (dag ∷ many (codes "NODE") ∷ trust_owner ∷ [])
     ∷ command (codes "times") (dag ∷ flag (codes "svg") ∷ trust_owner ∷ [])
     ∷ of_dag (codes "salvage")
+    ∷ command (codes "redo") (dag ∷ many (codes "NODE") ∷ flag (codes "only") ∷ trust_owner ∷ [])
     ∷ of_dag (codes "audit")
     ∷ command (codes "check") (dag ∷ flag (codes "hints") ∷ flag (codes "condor") ∷ [])
     ∷ command (codes "rehearse") rehearsal_rules

@@ -109,6 +109,12 @@ const SYNC_OUTPUT: ArgumentRow = ArgumentRow {
     help: "0: the files of output and error are not brought to the disk before an ending is recorded",
 };
 
+const SCRIPT_OUTPUT: ArgumentRow = ArgumentRow {
+    name: "script-output",
+    kind: Kind::Switch,
+    help: "0: what scripts print is dropped, also where they fail",
+};
+
 const LOG_LIMIT: ArgumentRow = ArgumentRow {
     name: "log-limit",
     kind: Kind::Number,
@@ -151,6 +157,18 @@ const NODES: ArgumentRow = ArgumentRow {
     help: "The nodes that are asked for; without one, all that are in error",
 };
 
+const REDONE: ArgumentRow = ArgumentRow {
+    name: "NODE",
+    kind: Kind::Many,
+    help: "The nodes that run again, and all that come after them; without one, no more than is left",
+};
+
+const ONLY: ArgumentRow = ArgumentRow {
+    name: "only",
+    kind: Kind::Flag,
+    help: "These nodes alone run again: those that come after them stay done",
+};
+
 const SVG: ArgumentRow = ArgumentRow {
     name: "svg",
     kind: Kind::Flag,
@@ -167,6 +185,12 @@ const LAUNCHER_FINAL: ArgumentRow = ArgumentRow {
     name: "launcher-final",
     kind: Kind::Flag,
     help: "It stands before the program of FINAL's job, too",
+};
+
+const LAUNCHER_GRACE: ArgumentRow = ArgumentRow {
+    name: "launcher-grace",
+    kind: Kind::Number,
+    help: "How many seconds launchers have to end where a run is stopped; 10 where it is not given, 0: killed at once",
 };
 
 const ORPHANS: ArgumentRow = ArgumentRow {
@@ -187,7 +211,7 @@ const CONDOR: ArgumentRow = ArgumentRow {
     help: "Says there, with places, what would be otherwise under condor_submit_dag",
 };
 
-static COMMANDS: [CommandRow; 12] = [
+static COMMANDS: [CommandRow; 13] = [
     CommandRow {
         name: "run",
         about: "Runs a DAG file, or goes on with a run that was cut short",
@@ -200,9 +224,11 @@ static COMMANDS: [CommandRow; 12] = [
             DORESCUEFROM,
             ALWAYS_POST,
             SYNC_OUTPUT,
+            SCRIPT_OUTPUT,
             LOG_LIMIT,
             LAUNCHER,
             LAUNCHER_FINAL,
+            LAUNCHER_GRACE,
             ORPHANS,
             PROGRESS,
             RESUME,
@@ -244,6 +270,14 @@ static COMMANDS: [CommandRow; 12] = [
         about: "Makes a rescue file of a round that was cut short, whose submit files were changed since",
         arguments: &[FILE, TRUST_OWNER],
         examples: "  dagrun salvage x.dag                keeps what is done; `dagrun run x.dag` starts the rest
+",
+    },
+    CommandRow {
+        name: "redo",
+        about: "Makes a rescue file of the last round by which nodes run again that are done",
+        arguments: &[FILE, REDONE, ONLY, TRUST_OWNER],
+        examples: "  dagrun redo x.dag Fit               `dagrun run x.dag` runs Fit and all that come after it
+  dagrun redo --only x.dag Fit Plot   these two alone
 ",
     },
     CommandRow {

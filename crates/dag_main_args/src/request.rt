@@ -70,10 +70,14 @@ pub struct RunOptions {
     /// Whether the files that take the output and the errors of a job are brought to the disk before its
     /// ending is recorded.
     pub sync_output: bool,
+    /// Whether what scripts print is kept where they fail.
+    pub script_output: bool,
     /// How many MiB the log of the round may have, where that is said; 0 is no limit.
     pub log_limit: Option<u16>,
     /// The program that starts jobs, and the words before theirs; none where they are started by themselves.
     pub launcher: Texts,
+    /// How many seconds it has to end by itself where a run is stopped, where that is said.
+    pub launcher_grace: Option<u16>,
     /// Whether it starts FINAL's job, too.
     pub launcher_final: bool,
     /// Whether standard error shows how far the run is.
@@ -94,8 +98,10 @@ impl Drop for RunOptions {
             orphans: _,
             always_post: _,
             sync_output: _,
+            script_output: _,
             log_limit: _,
             launcher: _,
+            launcher_grace: _,
             launcher_final: _,
             progress: _,
             resume: _,
@@ -121,7 +127,7 @@ pub enum Request<'a> {
         options: RunOptions,
     },
 
-    /// `status DAG`: the path of the DAG file; and, as in the five below, whether the owner of the files that stand
+    /// `status DAG`: the path of the DAG file; and, as in the six below, whether the owner of the files that stand
     /// beside it is trusted, as `RunOptions` says it.
     Status {
         dag: &'a str,
@@ -168,6 +174,14 @@ pub enum Request<'a> {
     /// `salvage DAG`: the path of the DAG file.
     Salvage {
         dag: &'a str,
+        trust_owner: bool,
+    },
+
+    /// `redo DAG NODE ..`: the path of the DAG file, the names of nodes, and whether these alone run again.
+    Redo {
+        dag: &'a str,
+        nodes: Vec<&'a str>,
+        only: bool,
         trust_owner: bool,
     },
 
@@ -322,8 +336,10 @@ fn options_of(alloc: Global, found: &ArgMatches<'_>) -> Result<RunOptions, Words
         orphans: orphan_rule_of(found),
         always_post: is_set(found, "always-run-post"),
         sync_output: is_on(found, "sync-output"),
+        script_output: is_on(found, "script-output"),
         log_limit: number_of(found, "log-limit"),
         launcher: launcher_in(alloc, value_of(found, "launcher"))?,
+        launcher_grace: number_of(found, "launcher-grace"),
         launcher_final: is_set(found, "launcher-final"),
         progress: progress_of(found),
         resume: is_set(found, "resume"),
@@ -434,6 +450,12 @@ fn told_of_round<'a>(
             trust_owner,
         }),
         "salvage" => Ok(Request::Salvage { dag, trust_owner }),
+        "redo" => Ok(Request::Redo {
+            dag,
+            nodes: nodes_of(alloc, found)?,
+            only: is_set(found, "only"),
+            trust_owner,
+        }),
         _ => page_of(alloc, command, found),
     }
 }

@@ -264,15 +264,15 @@ impl<'a> Place<'a> {
         }
     }
 
-    /// Sees to it that the file of this path is no symbolic link, pipe, socket or device.
+    /// Sees to it that the file of this path is no symbolic link, pipe, socket or device, and no larger than one that is read.
     ///
     /// # Errors
-    /// `FileRefused` with the path of such a one; `Memory`.
+    /// `FileRefused` with the path of such a one; `Memory`, also for one that is too large, as `read` says it.
     pub fn is_regular<R: Files + AllocGlobal>(&self, rt: &R, path: &str) -> Result<(), RunFault>
         ensures { IfErr result IsFileFault }
     {
         let place = self.at(rt.alloc(), path)?;
-        match require_regular(rt, place.as_str()) {
+        match require_readable(rt, place.as_str()) {
             Ok(()) => Ok(()),
             Err(error) => Err(refused(rt.alloc(), path, &error)),
         }
@@ -440,12 +440,21 @@ fn most_bytes(path: &str) -> u64 {
     }
 }
 
+/// Sees to it that the file of this path is a regular one, or missing, and not too large: such a one is answered as if there were
+/// no memory for it.
+fn require_readable<R: Files>(rt: &R, path: &str) -> io::Result<()> {
+    require_regular(rt, path)?;
+    match fs::metadata(rt, path) {
+        Ok(found) if found.len() > most_bytes(path) => {
+            Err(io::Error::from(ErrorKind::OutOfMemory))
+        }
+        _ => Ok(()),
+    }
+}
+
 /// The bytes of a regular file. One that is too large is answered as if there were no memory for it.
 fn read_regular<R: Files + AllocGlobal>(rt: &R, path: &str) -> io::Result<Vec<u8>> {
-    require_regular(rt, path)?;
-    if fs::metadata(rt, path)?.len() > most_bytes(path) {
-        return Err(io::Error::from(ErrorKind::OutOfMemory));
-    }
+    require_readable(rt, path)?;
     fs::read(rt, path)
 }
 

@@ -22,6 +22,9 @@ const FOLDERS: &str = "/bin:/usr/bin";
 /// The permissions of those who may run a file.
 const SOMEBODY_RUNS: u32 = 0o111;
 
+/// How many seconds launchers have to end where a run is stopped and no other number is asked for.
+const GRACE: u16 = 10;
+
 /// Whether there is a file of this path that somebody may run.
 fn is_program<R: Files>(rt: &R, path: &str) -> bool {
     match fs::metadata(rt, path) {
@@ -96,6 +99,8 @@ pub(crate) fn launcher_of<R: Files + Env + AllocGlobal>(
     ensures refused { IfErr result (IsLauncherFault options.now.launcher) }
 {
     let alloc = rt.alloc();
+    let keeps_output = options.script_output;
+    let grace = options.launcher_grace.unwrap_or(GRACE);
     let spared = if options.launcher_final {
         None
     } else {
@@ -106,6 +111,8 @@ pub(crate) fn launcher_of<R: Files + Env + AllocGlobal>(
             program: None,
             words: Texts::new(alloc),
             spared,
+            grace,
+            keeps_output,
         });
     };
     let Some(program) = path_of(rt, folder, name.as_str())? else {
@@ -115,5 +122,7 @@ pub(crate) fn launcher_of<R: Files + Env + AllocGlobal>(
         program: Some(program),
         words: options.launcher.from_place(alloc, 1)?,
         spared,
+        grace,
+        keeps_output,
     })
 }

@@ -11,6 +11,6 @@ mod site;
 
 pub use dag_main_args::RunOptions;
 pub use dag_main_check::{Answer, RunFault};
-pub use run_progress::Screen;
+pub use run_progress::{Screen, processor_count};
 pub use runs::run_dag;
 pub use site::Site;

@@ -61,12 +61,18 @@ pub(crate) fn progress_of<
         plan,
         folder: place.folder,
         limits: options.limits,
+        is_launched: !options.launcher.as_slice().is_empty(),
         way,
     };
     let records = records_before(&rt, place, plan, round);
     let before = records.as_ref().map(|records| records.as_slice());
     let mut progress = ProgressWatcher::new(rt, run, before.unwrap_or(&[]));
-    if round.journal != Journaled::Unfinished {
+    if round.journal == Journaled::Unfinished {
+        // A journal that can't be read, or is of another plan, is refused.
+        if before.is_some() {
+            progress.goes_on();
+        }
+    } else {
         if let Ok(rescue) = rescue_read(alloc, place, round) {
             let path = rescue.as_ref().map(|path| path.as_str());
             progress.begins(place.top, path);
@@ -97,6 +103,9 @@ impl<
 
     fn launched(&mut self, key: &Key, process: u32, command: &ChildCommand) {
         self.log.launched(key, process, command);
+        if let Some(reason) = self.log.take_unkept() {
+            self.progress.cannot_keep(reason.as_str());
+        }
         self.progress.launched(key, process, command);
     }
 

@@ -15,7 +15,6 @@ use run_plan::Plan;
 use run_progress::{Screen, way_of};
 use std::alloc::{AllocError, Global};
 use std::fs::File;
-use std::io;
 use std::process::Processes;
 use std::rt::Files;
 use std::time::Clock;
@@ -222,28 +221,12 @@ impl Known {
     }
 }
 
-/// Shows, where it is shown how far a run is, that the identifier of the round can't be kept.
-fn show_unkept<R: Processes + Clock + Screen + AllocGlobal>(
-    rt: &R,
-    options: &RunOptions,
-    error: &io::Error,
-) {
-    if way_of(rt, options.progress).is_some() {
-        let _ = eprintln!(rt;
-            "the round's identifier can't be kept ({error}): a later run will not know its processes"
-        );
-    }
-}
-
 /// The identifiers of a round: those that are kept, where it goes on, or else a new one, which is kept. Where the system refuses
-/// that, the log says so, and a person is shown it, and the round goes on.
-fn renewed_where_new<
-    R: Processes + Files<File = File> + Clock + Screen + AllocGlobal + Copy + Drop,
->(
+/// that, the log says so, and the round goes on.
+fn renewed_where_new<R: Files<File = File> + Clock + AllocGlobal + Copy + Drop>(
     rt: R,
     place: &Place<'_>,
     round: &Round,
-    options: &RunOptions,
     kept: Kept,
     log: &mut RunWatcher<'_, R>,
 ) -> Result<Kept, AllocError> {
@@ -255,7 +238,6 @@ fn renewed_where_new<
     let (path, folder) = (round_path(alloc, place)?, folder_path(alloc, place)?);
     if let Err(error) = keep_rounds(&rt, path.as_str(), folder.as_str(), &kept.rounds) {
         log.cannot_keep(&error);
-        show_unkept(&rt, options, &error);
     }
     Ok(kept)
 }
@@ -264,18 +246,15 @@ fn renewed_where_new<
 ///
 /// # Errors
 /// `Memory` alone.
-pub(crate) fn identified<
-    R: Processes + Files<File = File> + Clock + Screen + AllocGlobal + Copy + Drop,
->(
+pub(crate) fn identified<R: Files<File = File> + Clock + AllocGlobal + Copy + Drop>(
     rt: R,
     place: &Place<'_>,
     round: &Round,
-    options: &RunOptions,
     kept: Kept,
     log: &mut RunWatcher<'_, R>,
 ) -> Result<Known, AllocError> {
     let dag = place.at(rt.alloc(), place.top)?;
-    let Kept { rounds, some_left } = renewed_where_new(rt, place, round, options, kept, log)?;
+    let Kept { rounds, some_left } = renewed_where_new(rt, place, round, kept, log)?;
     Ok(Known {
         rounds,
         dag,

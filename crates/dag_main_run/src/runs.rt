@@ -205,10 +205,10 @@ fn run_on<R: Processes + Files<File = File> + Clock + Screen + AllocGlobal + Cop
     let (journal, rescue) = disks;
     let journal = site.readied(place.top, journal, round, lock)?;
     let kept = settled(&rt, place, plan, round, options, orphans)?;
-    keep_inputs(rt, place, plan, round, inputs)?;
+    let left_out = keep_inputs(rt, place, plan, round, inputs)?;
     let mut log = watcher_of(rt, place, plan, round, options)?;
-    let known = identified(rt, place, round, options, kept, &mut log)?;
-    log.begins(&life_of(place, round, options));
+    let known = identified(rt, place, round, kept, &mut log)?;
+    log.begins(&life_of(place, round, options, left_out));
     let progress = progress_of(rt, place, plan, round, options);
     let mut watcher = RoundWatcher { log, progress };
     let ended = led_by(

@@ -10,7 +10,7 @@ use Rattle.run_plan.specs.Plan.{Plan}
 use Rattle.job_starter_drive.specs.declared.Call.{Call}
 use Rattle.dag_main_args.specs.declared.request.RunOptions.{RunOptions}
 use Rattle.dag_main_args.specs.declared.request.Request.{Request}
-use Rattle.dag_main_args.specs.Requests.{Asked, asked_by, checks, runs, tells_status, audits, rehearses, draws, asks_why, times, salvages, shows}
+use Rattle.dag_main_args.specs.Requests.{Asked, asked_by, checks, runs, tells_status, audits, rehearses, draws, asks_why, times, salvages, redoes, shows}
 use Rattle.dag_main_files.specs.declared.rounds.Round.{Round}
 use Rattle.dag_main_files.specs.Beside.{IsRefusalOf, path_refused, refusing_had_no_memory}
 use Rattle.dag_main_check.specs.declared.fault.RunFault.{RunFault}
@@ -117,6 +117,7 @@ module _ (rounds known : Rounds) (told : AreToldAs rounds known) where
   told-some (asks_why path nodes owned) r is = is
   told-some (times path svg owned) r is = is
   told-some (salvages path owned) r is = is
+  told-some (redoes path nodes only owned) r is = is
   told-some (shows page) r is = is
 
   pub told-from : (holds : Files) (has : List ℕ → Bool) (asked : Asked) (r : Result Answer RunFault) → ComesTo (command_from holds has rounds asked) r
@@ -131,6 +132,7 @@ module _ (rounds known : Rounds) (told : AreToldAs rounds known) where
   told-from holds has (asks_why path nodes owned) r is = is
   told-from holds has (times path svg owned) r is = is
   told-from holds has (salvages path owned) r is = is
+  told-from holds has (redoes path nodes only owned) r is = is
   told-from holds has (shows page) r is = is
 
   -- a reply by what stands beside a DAG file
@@ -155,6 +157,7 @@ unbeside-some rounds known (draws path owned) isnt r is = is
 unbeside-some rounds known (asks_why path nodes owned) isnt r is = is
 unbeside-some rounds known (times path svg owned) isnt r is = is
 unbeside-some rounds known (salvages path owned) isnt r is = is
+unbeside-some rounds known (redoes path nodes only owned) isnt r is = is
 unbeside-some rounds known (shows page) isnt r is = is
 
 pub unbeside-from : (holds : Files) (has there : List ℕ → Bool) (rounds known : Rounds) (asked : Asked) → is_beside asked ≡ false → (r : Result Answer RunFault)
@@ -168,6 +171,7 @@ unbeside-from holds has there rounds known (draws path owned) isnt r is = is
 unbeside-from holds has there rounds known (asks_why path nodes owned) isnt r is = is
 unbeside-from holds has there rounds known (times path svg owned) isnt r is = is
 unbeside-from holds has there rounds known (salvages path owned) isnt r is = is
+unbeside-from holds has there rounds known (redoes path nodes only owned) isnt r is = is
 unbeside-from holds has there rounds known (shows page) isnt r is = is
 
 -- a reply by what is read alone
@@ -191,6 +195,7 @@ unasked (draws path owned) isnt run = absurd (false≢true run)
 unasked (asks_why path nodes owned) isnt run = absurd (false≢true run)
 unasked (times path svg owned) isnt run = absurd (false≢true run)
 unasked (salvages path owned) isnt run = absurd (false≢true run)
+unasked (redoes path nodes only owned) isnt run = absurd (false≢true run)
 unasked (shows page) isnt run = absurd (false≢true run)
 
 -- a folder that is refused isn't said

@@ -5,7 +5,7 @@ use Rattle.splices_flat.specs.Opening.{Files}
 use Rattle.throttles.specs.declared.Limits.{Limits}
 use Rattle.dag_main_args.specs.declared.request.Request.{Request}
 use Rattle.dag_main_args.specs.Answered.{IsAskedFor, IsRefused}
-use Rattle.dag_main_args.specs.Requests.{Asked, asked_by, checks, runs, tells_status, audits, rehearses, draws, asks_why, times, salvages, shows, no_limits, limits_in, AreLimits}
+use Rattle.dag_main_args.specs.Requests.{Asked, asked_by, checks, runs, tells_status, audits, rehearses, draws, asks_why, times, salvages, redoes, shows, no_limits, limits_in, AreLimits}
 use Rattle.dag_main_args.specs.declared.request.RunOptions.{RunOptions}
 use Rattle.dag_main_files.specs.Beside.{IsRefusalOf}
 use Rattle.dag_main_check.specs.Checked.{IsCheckOf}
@@ -21,12 +21,13 @@ use Rattle.dag_main_inspect.specs.Asked.{IsAnswerOfRun, IsAnswerHeld, IsAnswerFa
 use Rattle.dag_main_inspect.specs.Reported.{IsReportHere, IsReportFrom, IsNoReportFrom}
 use Rattle.run_times.specs.Answered.{IsTimesOf, IsTimesFrom, IsTimesFault}
 use Rattle.dag_main_inspect.specs.declared.by_journal.Question.TheVariants.{Status, Audit, Graph}
-use Rattle.salvage.specs.Salvaged.{IsSalvageOf, IsSalvageFrom}
+use Rattle.salvage.specs.Answered.{IsSalvageOf, IsSalvageFrom}
 use Rattle.salvage.specs.Faults.{fault_text}
 use Rattle.salvage.specs.declared.fault.SalvageFault.{SalvageFault}
 use Rattle.salvage.specs.Refused.{IsSalvageFault}
 use Rattle.salvage.specs.declared.fault.SalvageFault.TheVariants.{Refused}
 use Rattle.failure_answers.specs.Answered.{IsWhyOf, IsWhyHeld}
+use Rattle.redo.specs.Answered.{IsRedoOf, IsRedoHeld, IsRedoFault}
 
 -- what is said of the text, the warnings and the status of an answer
 abbrev pub Said : Type 1
@@ -87,6 +88,7 @@ is_owner_trusted (draws path trust_owner) = trust_owner
 is_owner_trusted (asks_why path nodes trust_owner) = trust_owner
 is_owner_trusted (times path svg trust_owner) = trust_owner
 is_owner_trusted (salvages path trust_owner) = trust_owner
+is_owner_trusted (redoes path nodes only trust_owner) = trust_owner
 is_owner_trusted _ = false
 
 -- the files that a request is answered by
@@ -129,6 +131,7 @@ command_of_some rounds (draws path trust_owner) = record { answers = IsAnswerOfR
 command_of_some rounds (asks_why path nodes trust_owner) = record { answers = IsWhyOf path nodes; refused = IsAnswerFault Status path }
 command_of_some rounds (times path svg trust_owner) = record { answers = IsTimesOf path svg; refused = IsTimesFault path }
 command_of_some rounds (salvages path trust_owner) = record { answers = IsSalvageWith (IsSalvageOf path) path; refused = λ fault. IsSalvageFault path (Refused fault) }
+command_of_some rounds (redoes path nodes only trust_owner) = record { answers = IsRedoOf path nodes only; refused = IsRedoFault path }
 command_of_some rounds (shows page) = record { answers = IsPage page; refused = λ fault. ⊥ }
 
 -- The same where these files are held and these paths are there: of the files that are held.
@@ -148,6 +151,7 @@ command_from holds has rounds (draws path trust_owner) = record { answers = IsAn
 command_from holds has rounds (asks_why path nodes trust_owner) = record { answers = IsWhyHeld holds path nodes; refused = IsAnswerFault Status path }
 command_from holds has rounds (times path svg trust_owner) = record { answers = IsTimesFrom holds path svg; refused = IsTimesFault path }
 command_from holds has rounds (salvages path trust_owner) = record { answers = IsSalvageWith (IsSalvageFrom holds path) path; refused = λ fault. IsSalvageFault path (Refused fault) }
+command_from holds has rounds (redoes path nodes only trust_owner) = record { answers = IsRedoHeld holds path nodes only; refused = IsRedoFault path }
 command_from holds has rounds (shows page) = record { answers = IsPage page; refused = λ fault. ⊥ }
 
 -- what is said of the answer of a command

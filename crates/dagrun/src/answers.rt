@@ -9,7 +9,7 @@ ghost use Rattle.dag_main_rehearse.specs.Rehearsed.{IsRehearsalOf};
 ghost use Rattle.folder_answers.specs.Answered.{IsCheckOfSome, IsCheckRefusal, IsRehearsalOfSome, IsRehearsalRefusal};
 ghost use Rattle.dag_main_check.specs.declared.fault.RunFault.TheVariants.{Memory};
 ghost use Rattle.salvage.specs.Faults.{fault_text};
-ghost use Rattle.salvage.specs.Salvaged.{IsSalvageOf, IsSalvageFrom};
+ghost use Rattle.salvage.specs.Answered.{IsSalvageOf, IsSalvageFrom};
 ghost use Rattle.salvage.specs.Refused.{IsSalvageFault};
 ghost use Rattle.salvage.specs.declared.fault.SalvageFault.TheVariants.{Refused};
 ghost use Rattle.dag_main_run.specs.Sites.{rounds_at};
@@ -24,6 +24,7 @@ use dag_main_run::{Screen, Site, run_dag};
 use failure_answers::why_here;
 use folder_answers::{check_here, rehearse_here};
 use hint_answers::{Wanted, hints_of};
+use redo::redo_here;
 use run_times::times_here;
 use salvage::{SalvageFault, salvage_here};
 use std::alloc::Global;
@@ -83,6 +84,18 @@ pub(crate) fn answer_in<
                 top: dag,
             };
             salvage_in(rt, folder, &place, trust_owner)
+        }
+        Request::Redo {
+            dag,
+            nodes,
+            only,
+            trust_owner,
+        } => {
+            let place = Place {
+                folder: seat,
+                top: dag,
+            };
+            redo_here(*rt, folder, &place, &nodes, only, trust_owner)
         }
         Request::Page { text } => Ok(page(alloc, text)),
         Request::Check { dag, hints, condor } => {

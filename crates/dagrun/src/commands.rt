@@ -10,13 +10,13 @@ use crate::answers::{REFUSED, answer_in};
 use crate::host::Host;
 use crate::terminal::{Postscript, display_hint, display_postscript};
 use answer_console::{Console, display_reply};
-use dag_main_args::{Request, WordsFault, read_words};
+use dag_main_args::{ProgressRule, Request, WordsFault, read_words};
 use dag_main_check::{Answer, RunFault};
 use dag_main_run::Screen;
 use std::fs::File;
 use std::process::Processes;
-use std::rt::Files;
-use std::time::Clock;
+use std::rt::{Env, Files};
+use std::time::{Clock, Duration};
 
 /// Runs the command of these words, of which the first is the program's name, and answers the
 /// exit status.
@@ -26,7 +26,7 @@ use std::time::Clock;
 /// `dagrun: CODE Name detail`, both with status 125 and nothing on standard output. At a terminal, what may help
 /// stands behind it on standard error, and so does what is displayed while a run goes on, which isn't written to this console.
 pub fn run<
-    R: Files<File = File> + Processes + Clock + Screen + AllocGlobal + Copy + Drop,
+    R: Files<File = File> + Processes + Clock + Screen + Input + AllocGlobal + Copy + Drop,
     H: Host,
     C: Console,
 >(rt: &R, host: &H, console: &mut C, words: &[&str]) -> u8
@@ -44,7 +44,7 @@ pub fn run<
     match read_words(rt.alloc(), words) {
         Ok(request) => {
             let dag = dag_in(&request);
-            let postscript = postscript_to(&request);
+            let postscript = postscript_to(rt, &request);
             let reply = answer(rt, host, console, request);
             finish(rt, console, dag, postscript, &reply)
         }
@@ -109,7 +109,8 @@ fn is_owner_trusted(request: &Request<'_>) -> bool
         | Request::Graph { trust_owner, .. }
         | Request::Why { trust_owner, .. }
         | Request::Times { trust_owner, .. }
-        | Request::Salvage { trust_owner, .. } => *trust_owner,
+        | Request::Salvage { trust_owner, .. }
+        | Request::Redo { trust_owner, .. } => *trust_owner,
         _ => false,
     }
 }
@@ -124,6 +125,7 @@ fn dag_in<'a>(request: &Request<'a>) -> Option<&'a str> {
         | Request::Why { dag, .. }
         | Request::Times { dag, .. }
         | Request::Salvage { dag, .. }
+        | Request::Redo { dag, .. }
         | Request::Check { dag, .. }
         | Request::Rehearse { dag, .. } => Some(*dag),
         Request::Page { text: _ } => None,
@@ -131,8 +133,16 @@ fn dag_in<'a>(request: &Request<'a>) -> Option<&'a str> {
 }
 
 /// What is displayed behind the answer to a request.
-fn postscript_to(request: &Request<'_>) -> Postscript {
+fn postscript_to<R: Clock>(rt: &R, request: &Request<'_>) -> Postscript {
     match request {
+        Request::Run { options, .. } if options.progress != ProgressRule::Never => Postscript::Run {
+            began: rt.monotonic().unwrap_or(Duration::ZERO),
+        },
+        Request::Check {
+            hints: false,
+            condor: false,
+            ..
+        } => Postscript::Hints,
         Request::Status { trust_owner, .. } => Postscript::Totals {
             trusts_owner: *trust_owner,
         },
@@ -145,7 +155,7 @@ fn postscript_to(request: &Request<'_>) -> Postscript {
 
 /// Displays the reply to a request for this DAG file, and gives the exit status; at a terminal, also what may help
 /// where it is refused, and who works on the DAG.
-fn finish<R: Files<File = File> + AllocGlobal, C: Console>(
+fn finish<R: Files<File = File> + Clock + Env + Input + AllocGlobal + Copy + Drop, C: Console>(
     rt: &R,
     console: &mut C,
     dag: Option<&str>,
@@ -158,7 +168,7 @@ fn finish<R: Files<File = File> + AllocGlobal, C: Console>(
 {
     let status = display_reply(rt.alloc(), console, reply);
     match (reply, dag) {
-        (Ok(answer), Some(dag)) if status == 0 => {
+        (Ok(answer), Some(dag)) if postscript.is_due(status) => {
             display_postscript(rt, console, dag, postscript, answer.text.as_str());
         }
         (Ok(_), _) => {}

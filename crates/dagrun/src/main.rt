@@ -4,15 +4,17 @@
 mod answers;
 mod commands;
 mod host;
+mod shorthand;
 mod terminal;
 
 use answer_console::SystemConsole;
 use commands::run;
 use dag_main_run::Screen;
 use host::SystemHost;
+use shorthand::spelled_out;
 use std::alloc::Global;
 use std::fs::OpenOptions;
-use std::io::ErrorKind;
+use std::io::{ErrorKind, IsTerminal};
 use std::os::fd::{AsRawFd, IntoRawFd};
 use std::process::ExitCode;
 use std::{env, io};
@@ -83,12 +85,23 @@ fn standing_options(rt: &HostRuntime, words: &[String]) -> io::Result<Vec<String
     Ok(options)
 }
 
+/// Says at a terminal that a DAG file is read from there, where the program is given no word.
+fn show_bare(rt: &HostRuntime, words: &[String]) {
+    if words.len() == 1 && rt.is_terminal() && rt.stdin().is_terminal() {
+        let _ = eprintln!(rt;
+            "dagrun reads a DAG from here, and rehearses it (Ctrl-D ends it); dagrun help says what else it does"
+        );
+    }
+}
+
 /// Runs the command of the words that the program is given, and answers the exit status.
 fn run_words(rt: &HostRuntime) -> io::Result<u8> {
     let mut owned = Vec::new(rt.alloc());
     for word in env::args(rt)? {
         owned.push(word)?;
     }
+    let owned = spelled_out(rt, owned)?;
+    show_bare(rt, &owned);
     let standing = standing_options(rt, &owned)?;
     let words: Vec<&str> = owned
         .iter()

@@ -2,14 +2,20 @@
 
 ghost use Rattle.answer_console.specs.Display.{OnlyWarnsAtTerminal};
 
+use crate::answers::REFUSED;
 use answer_console::Console;
-use dag_main_files::{Place, read_input};
+use dag_main_files::{Place, Reading, SystemFolder, files_of, read_input};
+use hint_answers::{Wanted, hints_of};
 use log_lines::{read_line, unquoted, whole_lines};
 use refusal_hints::{Evidence, Refusal, hint_text};
+use round_inputs::{Inputs, Listed, inputs_in, list_file};
 use std::alloc::{AllocError, Global};
+use std::env;
 use std::fs::{self, File, Metadata};
+use std::io::{self, ErrorKind};
 use std::os::unix::fs::{FileTypeExt, MetadataExt};
-use std::rt::Files;
+use std::rt::{Env, Files};
+use std::time::{Clock, Duration};
 
 /// The states of nodes in a status, in the order in which they are counted.
 const STATES: [&str; 7] = [
@@ -22,14 +28,43 @@ const STATES: [&str; 7] = [
     "NOT_READY",
 ];
 
+/// The permission by which the owner of a folder writes there, and those by which others do.
+const OWNER_WRITES: u32 = 0o200;
+
+const OTHERS_WRITE: u32 = 0o022;
+
+/// The number of root.
+const ROOT: u32 = 0;
+
+/// How many changed files are named.
+const MOST_CHANGED: usize = 5;
+
+/// How many nodes that are not done are named behind a run.
+const MOST_NAMED: usize = 20;
+
 /// What is displayed at a terminal behind an answer.
 #[derive(Clone, Copy)]
 pub(crate) enum Postscript {
     Nothing,
+    /// Which nodes are not done behind a run, how many are, and how long it took since this moment.
+    Run { began: Duration },
+    /// What is odd in the files of a check.
+    Hints,
     /// How many nodes stand in which state, and who works on them; whether the owner of the log is trusted that tells it.
     Totals { trusts_owner: bool },
     /// Who works on the DAG; the same of the log.
     Worker { trusts_owner: bool },
+}
+
+impl Postscript {
+    /// Whether it is displayed where the command ends with this status: behind a run that was led to its end with any, else
+    /// with 0 alone.
+    pub(crate) fn is_due(self, status: u8) -> bool {
+        match self {
+            Postscript::Run { .. } => status != REFUSED,
+            _ => status == 0,
+        }
+    }
 }
 
 /// The bytes of the file of whose place a refusal tells.
@@ -93,10 +128,54 @@ fn wrong_with(path: &str, bytes: &[u8]) -> Option<&'static str> {
     }
 }
 
-/// What a look at a path that was refused finds.
-fn reason_of_path<R: Files + AllocGlobal>(
+/// The folder of a file of this path, `.` where its path has none.
+fn folder_of(path: &str) -> &str {
+    match path.rsplit_once('/') {
+        Some(("", _)) => "/",
+        Some((folder, _)) => folder,
+        None => ".",
+    }
+}
+
+/// Whether the permissions of a folder forbid its owner, who is this user, or all others to write there.
+fn is_closed<R: Files>(rt: &R, folder: &str) -> bool {
+    let (Ok(own), Ok(found)) = (fs::metadata(rt, "/proc/self"), fs::metadata(rt, folder)) else {
+        return false;
+    };
+    let bits = if found.uid() == own.uid() {
+        OWNER_WRITES
+    } else {
+        OTHERS_WRITE
+    };
+    found.is_dir() && own.uid() != ROOT && found.mode() & bits == 0
+}
+
+/// What is said of a path at which nothing is: that its folder may not be written, where a file was to be made there, or from
+/// which folder the path is seen.
+fn missing_at<R: Files + Env + AllocGlobal>(
     rt: &R,
     path: &str,
+    is_made: bool,
+    error: &io::Error,
+) -> Result<String, AllocError> {
+    let alloc = rt.alloc();
+    let folder = folder_of(path);
+    if is_made && is_closed(rt, folder) {
+        return format!(in alloc; "you may not write in the folder {folder}");
+    }
+    match env::current_dir(rt) {
+        Ok(here) if !path.starts_with('/') => {
+            format!(in alloc; "{path}: {error}, seen from {}", here.as_str())
+        }
+        _ => format!(in alloc; "{path}: {error}"),
+    }
+}
+
+/// What a look at a path that was refused finds; `is_made` says whether dagrun would make a file there.
+fn reason_of_path<R: Files + Env + AllocGlobal>(
+    rt: &R,
+    path: &str,
+    is_made: bool,
 ) -> Result<Option<String>, AllocError> {
     if let Some(seen) = seen_at(rt, path)? {
         return Ok(Some(seen));
@@ -107,14 +186,24 @@ fn reason_of_path<R: Files + AllocGlobal>(
             Some(words) => Ok(Some(String::from_str(alloc, words)?)),
             None => Ok(None),
         },
+        Err(error) if error.kind() == ErrorKind::NotFound => {
+            Ok(Some(missing_at(rt, path, is_made, &error)?))
+        }
         Err(error) => Ok(Some(format!(in alloc; "{path}: {error}")?)),
     }
 }
 
-/// What the last line of the log of a DAG file says of a call that the system refused.
+/// What the last line of the log of a DAG file says of a call that the system refused; nothing where the log may be another user's.
 fn reason_in_log<R: Files + AllocGlobal>(rt: &R, dag: &str) -> Result<Option<String>, AllocError> {
     let alloc = rt.alloc();
     let path = format!(in alloc; "{dag}.log")?;
+    let here = Place {
+        folder: "",
+        top: dag,
+    };
+    if here.trusts(rt, path.as_str(), false).is_err() {
+        return Ok(None);
+    }
     let Ok(log) = read_input(rt, path.as_str(), false) else {
         return Ok(None);
     };
@@ -130,21 +219,70 @@ fn reason_in_log<R: Files + AllocGlobal>(rt: &R, dag: &str) -> Result<Option<Str
     }
 }
 
+/// Whether the file of this path is another one than that with which a round began, or can't be read.
+fn is_changed<R: Files + AllocGlobal>(rt: &R, file: &Listed) -> Result<bool, AllocError> {
+    let path = file.path.as_str();
+    match read_input(rt, path, false) {
+        Ok(bytes) => Ok(list_file(rt.alloc(), path, &bytes)?.sum != file.sum),
+        Err(_) => Ok(true),
+    }
+}
+
+/// What the last round of a DAG file was begun with, as the file beside it says; none where that may be another user's.
+fn inputs_of<R: Files + AllocGlobal>(rt: &R, dag: &str) -> Option<Inputs> {
+    let path = format!(in rt.alloc(); "{dag}.inputs").ok()?;
+    let here = Place {
+        folder: "",
+        top: dag,
+    };
+    here.trusts(rt, path.as_str(), false).ok()?;
+    let bytes = read_input(rt, path.as_str(), false).ok()?;
+    inputs_in(rt.alloc(), &bytes).ok()
+}
+
+/// Which files are changed since the last round of a DAG file began, at most five of them, and what keeps what is done; nothing
+/// where it is not known.
+fn changed_since<R: Files + AllocGlobal>(rt: &R, dag: &str) -> Result<Option<String>, AllocError> {
+    let Some(inputs) = inputs_of(rt, dag) else {
+        return Ok(None);
+    };
+    let mut text = String::from_str(rt.alloc(), "changed since the round began")?;
+    let mut count = 0usize;
+    for file in inputs.files.iter() {
+        if is_changed(rt, file)? {
+            count = count.saturating_add(1);
+            if count <= MOST_CHANGED {
+                let front = if count == 1 { ": " } else { ", " };
+                write!(text, "{front}{}", file.path.as_str())?;
+            }
+        }
+    }
+    if count == 0 {
+        return Ok(None);
+    }
+    if count > MOST_CHANGED {
+        write!(text, " and {} more", count - MOST_CHANGED)?;
+    }
+    write!(text, "; dagrun salvage {dag} keeps what is done")?;
+    Ok(Some(text))
+}
+
 /// What the system said, as far as that can still be known.
-fn reason_of<R: Files + AllocGlobal>(
+fn reason_of<R: Files + Env + AllocGlobal>(
     rt: &R,
     dag: Option<&str>,
     refusal: &Refusal<'_>,
 ) -> Result<Option<String>, AllocError> {
     match (refusal.path(), dag) {
-        (Some(path), _) => reason_of_path(rt, path),
+        (Some(path), _) => reason_of_path(rt, path, refusal.code == "X2"),
         (None, Some(dag)) if refusal.code == "J1" => reason_in_log(rt, dag),
+        (None, Some(dag)) if refusal.code == "J5" => changed_since(rt, dag),
         _ => Ok(None),
     }
 }
 
 /// What is displayed behind the line of a refusal of a request for this DAG file.
-fn hint_of<R: Files + AllocGlobal>(
+fn hint_of<R: Files + Env + AllocGlobal>(
     rt: &R,
     dag: Option<&str>,
     line: &str,
@@ -160,7 +298,7 @@ fn hint_of<R: Files + AllocGlobal>(
 }
 
 /// Displays what may help behind the line of a refusal, where standard error is a terminal.
-pub(crate) fn display_hint<R: Files + AllocGlobal, C: Console>(
+pub(crate) fn display_hint<R: Files + Env + AllocGlobal, C: Console>(
     rt: &R,
     console: &mut C,
     dag: Option<&str>,
@@ -240,8 +378,106 @@ fn worker_of<R: Files<File = File> + AllocGlobal>(
     }
 }
 
+/// The name and the state that a line of a report says of a node; none for the line of its result.
+fn node_in(line: &str) -> Option<(&str, &str)> {
+    let mut words = line.split(' ');
+    let (name, state) = (words.next()?, words.next()?);
+    if STATES.contains(&state) {
+        Some((name, state))
+    } else {
+        None
+    }
+}
+
+/// The names of the nodes that are not done by a report, at most twenty, and how many more there are; empty where all are done.
+fn undone_text(alloc: Global, report: &str) -> Result<String, AllocError> {
+    let mut text = String::new(alloc);
+    let mut count = 0usize;
+    for line in report.lines() {
+        if let Some((name, state)) = node_in(line) {
+            if state != "DONE" {
+                count = count.saturating_add(1);
+                if count <= MOST_NAMED {
+                    let front = if count == 1 { "not done: " } else { ", " };
+                    write!(text, "{front}{name} {state}")?;
+                }
+            }
+        }
+    }
+    if count > MOST_NAMED {
+        write!(text, " and {} more", count - MOST_NAMED)?;
+    }
+    if count > 0 {
+        text.push('\n')?;
+    }
+    Ok(text)
+}
+
+/// How long something took: in seconds with a tenth, and from a minute on as `m:ss` or `h:mm:ss`.
+fn span_text(alloc: Global, span: Duration) -> Result<String, AllocError> {
+    let seconds = span.as_secs();
+    if seconds < 60 {
+        return format!(in alloc; "{seconds}.{} s", span.subsec_millis() / 100);
+    }
+    let (minutes, rest) = (seconds / 60, seconds % 60);
+    let tens = if rest < 10 { "0" } else { "" };
+    if minutes < 60 {
+        return format!(in alloc; "{minutes}:{tens}{rest}");
+    }
+    let zero = if minutes % 60 < 10 { "0" } else { "" };
+    format!(in alloc; "{}:{zero}{}:{tens}{rest}", minutes / 60, minutes % 60)
+}
+
+/// What is displayed behind the report of a run of this DAG file, which took so long.
+fn ended_text(
+    alloc: Global,
+    dag: &str,
+    report: &str,
+    span: Duration,
+) -> Result<String, AllocError> {
+    let mut text = undone_text(alloc, report)?;
+    let nodes = report.lines().filter_map(|line| node_in(line)).count();
+    let (done, failed) = (count_of(report, "DONE"), count_of(report, "ERROR"));
+    write!(text, "{done} done")?;
+    if failed > 0 {
+        write!(text, ", {failed} failed")?;
+    }
+    let waiting = nodes.saturating_sub(done).saturating_sub(failed);
+    if waiting > 0 {
+        write!(text, ", {waiting} waiting")?;
+    }
+    write!(text, ", {}", span_text(alloc, span)?)?;
+    if failed > 0 {
+        write!(text, "; dagrun why {dag} says why")?;
+    }
+    text.push('\n')?;
+    Ok(text)
+}
+
+/// What is odd in the files of this DAG file; nothing of standard input, which can be read once.
+fn odd_text<R: Files<File = File> + Env + Input + AllocGlobal + Copy + Drop>(
+    rt: &R,
+    dag: &str,
+) -> Result<String, AllocError> {
+    let alloc = rt.alloc();
+    let here = SystemFolder {
+        rt,
+        seat: String::new(alloc),
+        has_input: false,
+        trusts_owner: false,
+    };
+    let wanted = Wanted {
+        hints: true,
+        condor: false,
+    };
+    match files_of(alloc, &here, dag, Reading::SubmitFilesToo) {
+        Ok(files) if dag != "-" => hints_of(rt, &files, dag, wanted),
+        _ => Ok(String::new(alloc)),
+    }
+}
+
 /// What is displayed at a terminal behind the answer to a request for this DAG file, of which this was printed.
-fn postscript_of<R: Files<File = File> + AllocGlobal>(
+fn postscript_of<R: Files<File = File> + Clock + Env + Input + AllocGlobal + Copy + Drop>(
     rt: &R,
     dag: &str,
     postscript: Postscript,
@@ -250,6 +486,11 @@ fn postscript_of<R: Files<File = File> + AllocGlobal>(
     let alloc = rt.alloc();
     match postscript {
         Postscript::Nothing => Ok(String::new(alloc)),
+        Postscript::Run { began } => {
+            let now = rt.monotonic().unwrap_or(began);
+            ended_text(alloc, dag, text, now.saturating_sub(began))
+        }
+        Postscript::Hints => odd_text(rt, dag),
         Postscript::Totals { trusts_owner } => {
             let totals = totals_of(alloc, text)?;
             let worker = worker_of(rt, dag, trusts_owner)?;
@@ -263,13 +504,10 @@ fn postscript_of<R: Files<File = File> + AllocGlobal>(
 }
 
 /// Displays that, where standard error is a terminal.
-pub(crate) fn display_postscript<R: Files<File = File> + AllocGlobal, C: Console>(
-    rt: &R,
-    console: &mut C,
-    dag: &str,
-    postscript: Postscript,
-    text: &str,
-)
+pub(crate) fn display_postscript<
+    R: Files<File = File> + Clock + Env + Input + AllocGlobal + Copy + Drop,
+    C: Console,
+>(rt: &R, console: &mut C, dag: &str, postscript: Postscript, text: &str)
     ensures warned { C.honest console.new → OnlyWarnsAtTerminal (C.shown console.old) (C.shown console.new) }
     ensures back { C.honest console.new → C.honest console.old }
 {

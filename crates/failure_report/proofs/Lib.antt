@@ -1,4 +1,5 @@
 pub mod Searching
+pub mod Following
 pub mod Holding
 pub mod Endings
 pub mod Listing

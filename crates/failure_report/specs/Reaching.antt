@@ -21,6 +21,10 @@ pub data Reaches (next : ℕ → List ℕ) (from : ℕ) : ℕ → Type 0 where
   beside : {node : ℕ} → Contains (next from) node → Reaches next from node
   behind : {between node : ℕ} → Reaches next from between → Contains (next between) node → Reaches next from node
 
+-- just those nodes are marked that are reached
+abbrev pub AreReached : (ℕ → List ℕ) → ℕ → List Bool → Type 0
+AreReached next from marks = (node : ℕ) → (slice_index_or marks node false ≡ true) ↔ Reaches next from node
+
 -- so many nodes are reached: just those are marked, and so many are
 pub record IsReachCount (next : ℕ → List ℕ) (from count : ℕ) : Type 0 where
   pub marks : List Bool

@@ -40,8 +40,6 @@ pub(crate) enum Quote {
 /// What is reported of a phase.
 #[derive(Drop)]
 pub(crate) struct Details {
-    /// Whether it is a script, whose output is never kept.
-    pub(crate) is_script: bool,
     pub(crate) command: Option<SeenCommand>,
     /// How many seconds it took, as the log says it.
     pub(crate) seconds: Option<String>,
@@ -103,45 +101,27 @@ fn push_path(text: &mut String, key: &str, path: &str) -> Result<(), AllocError>
     text.push('\n')
 }
 
-/// Why a stream that has no file is not kept.
-fn unkept(is_script: bool) -> &'static str {
-    if is_script {
-        "not kept: that of a script never is\n"
-    } else {
-        "not kept: no file is named for it\n"
-    }
-}
-
 /// Adds the line of a stream.
-fn push_stream(
-    text: &mut String,
-    key: &str,
-    path: &Option<Text>,
-    is_script: bool,
-) -> Result<(), AllocError> {
+fn push_stream(text: &mut String, key: &str, path: &Option<Text>) -> Result<(), AllocError> {
     match path {
         Some(path) => push_path(text, key, path.as_str()),
         None => {
             text.push_str(key)?;
-            text.push_str(unkept(is_script))
+            text.push_str("not kept: no file is named for it\n")
         }
     }
 }
 
 /// Adds the lines of a command.
-fn push_command(
-    text: &mut String,
-    command: &SeenCommand,
-    is_script: bool,
-) -> Result<(), AllocError> {
+fn push_command(text: &mut String, command: &SeenCommand) -> Result<(), AllocError> {
     let words = command.words.as_str();
     writeln!(text, "    command  {words}")?;
     push_path(text, "    folder   ", command.folder.as_str())?;
     if let Some(input) = &command.input {
         push_path(text, "    input    ", input.as_str())?;
     }
-    push_stream(text, "    output   ", &command.output, is_script)?;
-    push_stream(text, "    error    ", &command.error, is_script)
+    push_stream(text, "    output   ", &command.output)?;
+    push_stream(text, "    error    ", &command.error)
 }
 
 /// Adds the lines that are quoted.
@@ -175,7 +155,7 @@ fn push_quote(text: &mut String, quote: &Quote) -> Result<(), AllocError> {
 /// Want of memory.
 pub(crate) fn push_details(text: &mut String, details: &Details) -> Result<(), AllocError> {
     if let Some(command) = &details.command {
-        push_command(text, command, details.is_script)?;
+        push_command(text, command)?;
     }
     if let Some(seconds) = &details.seconds {
         text.push_str("    took     ")?;

@@ -6,6 +6,7 @@
 #![tactic(auto)]
 
 mod details;
+mod earlier;
 mod failed;
 mod heads;
 mod launches;
@@ -20,4 +21,6 @@ mod waiting;
 mod why;
 
 pub use failed::{Failure, failures};
+pub use numbers::{Named, numbers_of};
+pub use reaching::reached_from;
 pub use why::{Surroundings, Why, why_text};

@@ -312,6 +312,7 @@ fn exit_repair<R: Files + AllocGlobal>(
         }
     }
     match code {
+        124 => said(alloc, "`timeout` ends with 124 where the time is over"),
         126 => said(
             alloc,
             "a shell ends with 126 where it may not execute a program",
@@ -320,6 +321,23 @@ fn exit_repair<R: Files + AllocGlobal>(
             alloc,
             "a shell ends with 127 where it does not find a program",
         ),
+        137 => said(
+            alloc,
+            "137 is 128 and SIGKILL: what it ran was killed; where memory ran out, the kernel's log says so (dmesg)",
+        ),
+        _ => Ok(None),
+    }
+}
+
+/// What is known of a program that this signal ended.
+fn signal_repair(alloc: Global, number: u8) -> Result<Option<String>, AllocError> {
+    match number {
+        9 => said(
+            alloc,
+            "it was killed; where memory ran out, the kernel's log says so (dmesg)",
+        ),
+        24 => said(alloc, "it took more processor time than it may (ulimit -t)"),
+        25 => said(alloc, "a file grew larger than it may (ulimit -f)"),
         _ => Ok(None),
     }
 }
@@ -338,6 +356,7 @@ pub(crate) fn repair_of<R: Files<File = File> + AllocGlobal>(
         (Outcome::NoStart, Some(refused)) => refused_repair(rt, refused),
         (Outcome::NoStart, None) => command_repair(rt, command),
         (Outcome::Exit(code), _) => exit_repair(rt, command, code),
+        (Outcome::Signal(number), _) => signal_repair(rt.alloc(), number),
         _ => Ok(None),
     }
 }

@@ -8,9 +8,9 @@ use run_plan::Plan;
 use std::alloc::{AllocError, Global};
 use strsim::levenshtein;
 
-/// The number of the first name that is none of the plan's nodes, or the numbers of all.
+/// The numbers of the nodes that are named, or what is reported of the first name that is none of a node.
 #[derive(Drop)]
-pub(crate) enum Named {
+pub enum Named {
     /// The nodes of these numbers.
     Nodes(Vec<u32>),
     /// This name is none of a node; what is reported of that.
@@ -66,11 +66,12 @@ fn unknown(alloc: Global, plan: &Plan, top: &str, name: &str) -> Result<String, 
     Ok(text)
 }
 
-/// The nodes of these names, in their order.
+/// The numbers of the nodes of these names, in their order; FINAL has the number after those of all ordinary nodes. Of the
+/// first name that is none of a node, the line that reports it, with the name that is nearest to it where one is near.
 ///
 /// # Errors
 /// Want of memory.
-pub(crate) fn numbers_of(
+pub fn numbers_of(
     alloc: Global,
     plan: &Plan,
     top: &str,

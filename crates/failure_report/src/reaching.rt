@@ -1,9 +1,9 @@
-//! How many nodes are reached from one.
+//! Which nodes are reached from one, and how many.
 
 ghost use Rattle.std.specs.Prelude.{◌≡◌, ◌<◌, ◌^◌, [], false, IfOk, OnOk, length, replicate, slice_index};
 ghost use Rattle.std.specs.List.{All};
 ghost use Rattle.dag_graph.specs.Search.{IsSearch, MeetsNodes, with_met};
-ghost use Rattle.failure_report.specs.Reaching.{ListsAreBelow, IsReached, IsCountOf, nodes_in};
+ghost use Rattle.failure_report.specs.Reaching.{ListsAreBelow, IsReached, IsCountOf, AreReached, nodes_in, next_in};
 
 use std::alloc::{AllocError, Global};
 use std::marker::Model;
@@ -104,4 +104,19 @@ pub(crate) fn count_from(alloc: Global, lists: &[Vec<u32>], node: u32) -> Result
 {
     let search = search_from(alloc, lists, node)?;
     Ok(search.count() as u32)
+}
+
+/// Which nodes are reached from one, of which each one has the next ones that are in its list: a mark for each list.
+///
+/// # Errors
+/// Want of memory.
+pub fn reached_from(alloc: Global, lists: &[Vec<u32>], node: u32) -> Result<Vec<bool>, AllocError>
+    requires node { node < length lists.now }
+    requires below { ListsAreBelow (length lists.now) (nodes_in lists.now) }
+    ensures many { IfOk result (λ marks. length marks.items ≡ length lists.now) }
+    // Just those are marked that are reached.
+    ensures are { IfOk result (λ marks. AreReached (next_in (nodes_in lists.now)) node marks.items) }
+{
+    let search = search_from(alloc, lists, node)?;
+    Ok(search.met)
 }

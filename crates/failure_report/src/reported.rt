@@ -5,11 +5,13 @@ ghost use Rattle.run_plan_node.specs.Commands.{starts_child};
 ghost use Rattle.failure_report.specs.Reported.{IsFailureBlock};
 
 use crate::details::{Details, Quote, SeenCommand, push_details, seen_command};
+use crate::earlier::push_earlier;
 use crate::failed::Failure;
 use crate::heads::{phase_words, push_ending, push_head};
 use crate::looking::{quote_of, repair_of};
 use crate::notes::{LogNotes, PhaseNotes, Refused};
 use crate::quotes::push_all_shown;
+use dag_reader::Text;
 use log_lines::unquoted;
 use node_machine::{Ended, Key, Outcome, Phase};
 use run_plan_node::{NodeSpec, PhaseFacts};
@@ -92,6 +94,25 @@ impl<'l> Run<'_, '_, 'l> {
         }
     }
 
+    /// The same with the file that keeps what a script has printed, where the log names it.
+    fn seen_at(&self, alloc: Global, story: &Story) -> Result<Option<SeenCommand>, AllocError> {
+        let Some(command) = self.command_of(alloc, story)? else {
+            return Ok(None);
+        };
+        let notes = self.notes_of(&story.key);
+        match notes.and_then(|notes| notes.errors) {
+            Some(path) if story.key.phase != Phase::Job => {
+                let path = unquoted(alloc, path)?;
+                Ok(Some(SeenCommand {
+                    output: Some(Text::new(alloc, path.as_str())?),
+                    error: Some(Text::new(alloc, path.as_str())?),
+                    ..command
+                }))
+            }
+            _ => Ok(Some(command)),
+        }
+    }
+
     /// Why a phase that ended so was not started, where the log says it.
     fn refused_at(&self, story: &Story) -> Option<Refused<'l>> {
         match story.outcome {
@@ -156,11 +177,10 @@ pub(crate) fn push_story<R: Files<File = File> + AllocGlobal>(
     story: &Story,
 ) -> Result<(), AllocError> {
     let alloc = rt.alloc();
-    let Some(command) = run.command_of(alloc, story)? else {
+    let Some(command) = run.seen_at(alloc, story)? else {
         return Ok(());
     };
     let details = Details {
-        is_script: story.key.phase != Phase::Job,
         seconds: copy_of(alloc, run.seconds_at(story))?,
         repair: repair_at(rt, run, story, &command)?,
         quote: quote_at(rt, story, &command)?,
@@ -285,6 +305,8 @@ fn rest_of<R: Files<File = File> + AllocGlobal>(
     if let Some(before) = before_post(story) {
         push_before(rt, &mut text, run, &before)?;
     }
+    let earlier = run.notes.earlier.as_slice();
+    push_earlier(rt.alloc(), &mut text, earlier, story.key.node)?;
     Ok(text)
 }
 

@@ -91,7 +91,7 @@ static RUNNING: [Fault; 8] = [
     Fault {
         code: "X2",
         name: "FileRefused",
-        when: "a table of outcomes, standard input, a folder or a rescue file that can't be read; a journal that `status` and `audit` can't read or `run` can't rename; a lock that can't be made, or is held; a launcher that is not found",
+        when: "a table of outcomes, standard input, a folder or a rescue file that can't be read; a journal that `status` and `audit` can't read or `run` can't rename; a lock that can't be made, or is held; a launcher that is not found; a file beside the DAG file that is no regular one or may be another user's",
         detail: "PATH",
         example: "    $ cat x.dag
     JOB A a.sub
@@ -101,7 +101,8 @@ static RUNNING: [Fault; 8] = [
         advice: "    See that the file or folder that is named is there and that you may read it,
     and write in its folder. Where it ends with .lock, another `dagrun run`
     works on this DAG: wait for it (`fuser x.dag.lock` names it). A launcher is a
-    path, or is looked for in the folders of PATH.
+    path, or is looked for in the folders of PATH. A file beside the DAG file that
+    another user may have put there is refused, too: see --trust-owner.
 ",
     },
 ];

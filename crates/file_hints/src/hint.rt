@@ -28,6 +28,11 @@ pub enum Hint {
     Unassigned(Text),
     /// The program of this path, which is not there.
     MissingProgram(Text),
+    /// The program of this path, which is not there, and one of its name in a folder of PATH.
+    Elsewhere {
+        path: Text,
+        found: Text,
+    },
     /// A folder in the place of a program.
     FolderAsProgram(Text),
     /// The program of this path, which nobody may run.
@@ -88,6 +93,10 @@ impl fmt::Display for Hint {
             Hint::MissingProgram(path) => {
                 write!(f, "{path} is not there: put it there, or mend its path")
             }
+            Hint::Elsewhere { path, found } => write!(
+                f,
+                "{path} is not there, and the folders of PATH are not searched: is {found} meant?"
+            ),
             Hint::FolderAsProgram(path) => write!(f, "{path} is a folder: name a program"),
             Hint::NotExecutable(path) => write!(f, "{path} may not be executed: chmod +x {path}"),
             Hint::CarriageReturn(path) => write!(
@@ -181,6 +190,7 @@ fn topic_of(hint: &Hint) -> &'static str
         | Hint::BelowQueue(_)
         | Hint::Unassigned(_)
         | Hint::MissingProgram(_)
+        | Hint::Elsewhere { .. }
         | Hint::FolderAsProgram(_)
         | Hint::NotExecutable(_)
         | Hint::CarriageReturn(_)

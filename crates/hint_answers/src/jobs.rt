@@ -8,7 +8,7 @@ use run_plan_node::{ChildCommand, job_command};
 use splices_flat::{FileSet, FlatDag, FlatNode, NameTable};
 use std::alloc::{AllocError, Global};
 use std::fs::File;
-use std::rt::Files;
+use std::rt::{Env, Files};
 use submit_file::{Assignment, PlacedAssignment, SubmitFault, placed_assignments};
 use vars_macros::{Attempt, MacroFault, Macros};
 
@@ -194,7 +194,7 @@ fn add_stream<R: Files<File = File> + AllocGlobal>(
 }
 
 /// Adds what is odd in the files of a job.
-fn add_command<R: Files<File = File> + AllocGlobal>(
+fn add_command<R: Files<File = File> + Env + AllocGlobal>(
     rt: &R,
     asked: &mut Asked,
     file: &JobFile,
@@ -220,7 +220,7 @@ fn add_command<R: Files<File = File> + AllocGlobal>(
 ///
 /// # Errors
 /// Want of memory.
-pub(crate) fn add_commands<R: Files<File = File> + AllocGlobal>(
+pub(crate) fn add_commands<R: Files<File = File> + Env + AllocGlobal>(
     rt: &R,
     jobs: &JobFiles,
     dag: &FlatDag,

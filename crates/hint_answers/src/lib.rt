@@ -10,4 +10,5 @@ mod outputs;
 mod scripts;
 mod told;
 
+pub use looking::{folder_of, look_at_folder, look_at_program};
 pub use told::{Wanted, hints_of};

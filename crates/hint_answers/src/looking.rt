@@ -1,11 +1,14 @@
 //! What the system says of programs and folders.
 
+use dag_reader::Text;
 use file_hints::{Hint, ProgramState, folder_hint, program_hint, state_by};
+use splices_flat::path_in;
 use std::alloc::AllocError;
+use std::env;
 use std::fs::{self, File, Metadata};
 use std::io::ErrorKind;
 use std::os::unix::fs::{FileExt, MetadataExt};
-use std::rt::Files;
+use std::rt::{Env, Files};
 
 /// How many bytes of the beginning of a program are read.
 const HEAD: usize = 256;
@@ -40,24 +43,62 @@ fn is_missing(kind: ErrorKind) -> bool {
     kind == ErrorKind::NotFound || kind == ErrorKind::NotADirectory
 }
 
+/// The path of a program of this name in the first folder of PATH that has one.
+fn found_in_path<R: Files + Env + AllocGlobal>(
+    rt: &R,
+    name: &str,
+) -> Result<Option<Text>, AllocError> {
+    let alloc = rt.alloc();
+    let Ok(folders) = env::var(rt, "PATH") else {
+        return Ok(None);
+    };
+    for folder in folders.as_str().split(':') {
+        let path = path_in(alloc, folder, name)?;
+        if let Ok(found) = fs::metadata(rt, path.as_str()) {
+            if found.is_file() && found.mode() & 0o111 != 0 {
+                return Ok(Some(path));
+            }
+        }
+    }
+    Ok(None)
+}
+
+/// What is odd in a program of this path, which is not there.
+fn missing_program<R: Files + Env + AllocGlobal>(
+    rt: &R,
+    path: &str,
+) -> Result<Option<Hint>, AllocError> {
+    let name = match path.rsplit_once('/') {
+        Some((_, name)) => name,
+        None => path,
+    };
+    match found_in_path(rt, name)? {
+        Some(found) => Ok(Some(Hint::Elsewhere {
+            path: Text::new(rt.alloc(), path)?,
+            found,
+        })),
+        None => program_hint(rt.alloc(), path, ProgramState::Missing),
+    }
+}
+
 /// What is odd in the program of this path.
 ///
 /// # Errors
 /// Want of memory.
-pub(crate) fn look_at_program<R: Files<File = File> + AllocGlobal>(
+pub fn look_at_program<R: Files<File = File> + Env + AllocGlobal>(
     rt: &R,
     path: &str,
 ) -> Result<Option<Hint>, AllocError> {
     let state = match fs::metadata(rt, path) {
         Ok(found) => state_of(rt, path, &found),
-        Err(error) if is_missing(error.kind()) => ProgramState::Missing,
+        Err(error) if is_missing(error.kind()) => return missing_program(rt, path),
         Err(_) => ProgramState::Runs,
     };
     program_hint(rt.alloc(), path, state)
 }
 
 /// The folder of the file of this path, which is empty where that is the folder of the call.
-pub(crate) fn folder_of(path: &str) -> &str {
+pub fn folder_of(path: &str) -> &str {
     match path.rsplit_once('/') {
         Some(("", _)) => "/",
         Some((folder, _)) => folder,
@@ -69,7 +110,7 @@ pub(crate) fn folder_of(path: &str) -> &str {
 ///
 /// # Errors
 /// Want of memory.
-pub(crate) fn look_at_folder<R: Files + AllocGlobal>(
+pub fn look_at_folder<R: Files + AllocGlobal>(
     rt: &R,
     path: &str,
 ) -> Result<Option<Hint>, AllocError> {

@@ -7,7 +7,7 @@ use dag_reader::{Command, Target, Word};
 use splices_flat::{FileSet, NameTable, path_in, target_line};
 use std::alloc::{AllocError, Global};
 use std::fs::File;
-use std::rt::Files;
+use std::rt::{Env, Files};
 
 /// The nodes that a DAG file declares: their names, and the folder of each.
 #[derive(Drop)]
@@ -70,7 +70,7 @@ impl<'a> Declared<'a> {
 ///
 /// # Errors
 /// Want of memory.
-pub(crate) fn add_scripts<R: Files<File = File> + AllocGlobal>(
+pub(crate) fn add_scripts<R: Files<File = File> + Env + AllocGlobal>(
     rt: &R,
     files: &FileSet,
     one: &Opened,

@@ -13,7 +13,7 @@ use splices::open_dag;
 use splices_flat::{FileSet, FlatDag, SpliceFault};
 use std::alloc::{AllocError, Global};
 use std::fs::File;
-use std::rt::Files;
+use std::rt::{Env, Files};
 
 /// What is asked for.
 #[derive(Clone, Copy, Debug, PartialEq, Eq)]
@@ -39,7 +39,7 @@ impl Wanted {
 ///
 /// # Errors
 /// Want of memory.
-pub fn hints_of<R: Files<File = File> + AllocGlobal>(
+pub fn hints_of<R: Files<File = File> + Env + AllocGlobal>(
     rt: &R,
     files: &FileSet,
     top: &str,
@@ -107,7 +107,7 @@ fn add_submitted(
 }
 
 /// Adds what the system says to be odd in programs, scripts and folders, and the files that two nodes write.
-fn add_looked_at<R: Files<File = File> + AllocGlobal>(
+fn add_looked_at<R: Files<File = File> + Env + AllocGlobal>(
     rt: &R,
     files: &FileSet,
     top: &str,

@@ -17,3 +17,4 @@ pub mod Lasts
 pub mod Phases
 pub mod Outcomes
 pub mod Scripts
+pub mod CallImages

@@ -24,7 +24,8 @@ use Rattle.job_starter_drive.specs.declared.driving.DriveFault.TheVariants as dr
 use Rattle.job_starter_drive.specs.Calls.{AllowsNoMore, Telling}
 use Rattle.job_starter_drive.specs.Causes.{IsOfRun, IsDriveFault, records_refused}
 use Rattle.job_starter_drive.specs.Drives.{most_at_once, Standing, At, drive_records, calls_of, limits_of, IsStep, ends_recorded, Goes, no_step, one_more, IsStoppedAt, end_refused}
-use Rattle.job_starter_drive.specs.Moments.{IsOlderPart, IsMore, MayHold, MayStand, ReadsBy, IsMomentFrom, IsLastFrom, AtAnyMoment, StaysAcknowledged, CountsOn}
+use Rattle.job_starter_drive.specs.Moments.{IsOlderPart, IsMore, MayHold, MayStand, IsMomentFrom, IsLastFrom, AtAnyMoment, StaysAcknowledged, CountsOn}
+use Rattle.job_starter_drive.proofs.CallImages.{ReadsBy}
 use Rattle.job_starter_drive.specs.Stretches.{IsStretch, IsCutShort}
 use Rattle.job_starter_drive.proofs.Cuts.{older-self, older-is, step-records, goes-records, goes-calls}
 use Rattle.job_starter_drive.proofs.Disks.{keeps_on, keeps_still, counts_on, counts_still}

@@ -61,11 +61,6 @@ pub data IsDriveFault {D : Type 0} (disks : Ghosts D) (before now : ℕ) (old ma
   records_refused : {fault : ManagerFault} → now ≡ before → AreRefused disks IsOfRun old manager fault
       → IsDriveFault disks before now old manager (drives.Manager fault)
 
--- the manager refused
-abbrev pub IsOfManager : DriveFault → Type 0
-IsOfManager (drives.Manager fault) = Unit {0}
-IsOfManager _ = ⊥
-
 -- memory was refused for a child or for its command
 abbrev pub IsUnspawned : DriveFault → Type 0
 IsUnspawned drives.StartMemory = Unit {0}

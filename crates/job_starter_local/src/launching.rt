@@ -9,7 +9,7 @@ use run_plan_node::ChildCommand;
 use splices_flat::path_in;
 use std::alloc::{AllocError, Global};
 
-/// What stands before the commands of jobs, and of which it doesn't.
+/// How children are started: what stands before the commands of jobs, and of which it doesn't, and whether what scripts print is kept.
 #[derive(Debug)]
 pub struct Launcher {
     /// The path of its program; none where jobs are started by themselves.
@@ -20,6 +20,13 @@ pub struct Launcher {
 
     /// The node whose job is started by itself all the same.
     pub spared: Option<u32>,
+
+    /// How many seconds it has to end by itself, where a run is stopped, once it is asked to by SIGTERM; where it is 0, it is
+    /// killed at once, as other children are.
+    pub grace: u16,
+
+    /// Whether what scripts print is kept where they fail; else it is dropped.
+    pub keeps_output: bool,
 }
 
 // Each function that lets a value go calls this; a derived drop stands in each, part by part.
@@ -29,6 +36,8 @@ impl Drop for Launcher {
             program: _,
             words: _,
             spared: _,
+            grace: _,
+            keeps_output: _,
         } = self;
     }
 }
@@ -42,7 +51,19 @@ impl Launcher {
             program: None,
             words: Texts::new(alloc),
             spared: None,
+            grace: 0,
+            keeps_output: false,
         }
+    }
+
+    /// Whether what the child of this key prints is kept: it is a script.
+    pub(crate) fn keeps(&self, key: &Key) -> bool {
+        self.keeps_output && !is_job(key.phase)
+    }
+
+    /// Whether the child of this key was started by it.
+    pub(crate) fn has_started(&self, key: &Key) -> bool {
+        self.program.is_some() && self.launches(key)
     }
 
     /// Whether it stands before the command of the child of this key: before that of a job, but of the spared
@@ -124,7 +145,7 @@ fn words_behind(
     Ok(all)
 }
 
-fn copy_of(alloc: Global, text: &Option<Text>) -> Result<Option<Text>, AllocError>
+pub(crate) fn copy_of(alloc: Global, text: &Option<Text>) -> Result<Option<Text>, AllocError>
     ensures { IfOk result (λ copy. copy ≡ text.now) }
 {
     match text {

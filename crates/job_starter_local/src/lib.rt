@@ -10,11 +10,14 @@ ghost use Rattle.sched_core.specs.Run.{is_among, without};
 ghost use Rattle.job_starter_drive.specs.Calls.{running, any_ending};
 ghost use Rattle.job_starter_local.specs.Commands.{longest_pause};
 
+mod ending;
 mod launching;
+mod scripts;
 mod starting;
 
 use child_watcher::ChildWatcher;
 use dag_reader::{Text, Texts};
+use ending::ask_launchers;
 use job_starter_drive::{
     Call, CallLog, Killed, StartFault, Started, System, are_same, key_at, no_answer, no_memory,
 };
@@ -23,6 +26,7 @@ use node_machine::{Key, Outcome};
 use round_identity::RoundIdentity;
 use run_plan::Plan;
 use run_plan_node::ChildCommand;
+use scripts::{kept_command, settle_kept};
 pub use starting::command_for;
 use starting::{Refusal, start_child};
 use std::alloc::{AllocError, Global};
@@ -127,6 +131,8 @@ pub struct LocalSystem<
     /// where the child stands for which is asked next, as long as they are asked for in turn
     next: usize,
     pause: u64,
+    /// whether the launchers were asked to end, since the run is stopped
+    asked: bool,
     faults: u64,
     // No pause is longer than the longest.
     ghost bounded: { pause ≤ 50000 },
@@ -151,6 +157,7 @@ impl<R: Processes + Files<File = File> + Clock + Drop, W: ChildWatcher + Drop> D
             looked: _,
             next: _,
             pause: _,
+            asked: _,
             faults: _,
         } = self;
     }
@@ -399,6 +406,7 @@ impl<'a, R: Processes + Files<File = File> + Clock + Drop, W: ChildWatcher + Dro
             looked: false,
             next: 0,
             pause: FIRST_PAUSE,
+            asked: false,
             faults: 0,
         })
     }
@@ -409,6 +417,33 @@ impl<'a, R: Processes + Files<File = File> + Clock + Drop, W: ChildWatcher + Dro
         ensures { result < vec_len self.now.children }
     {
         place_of(self.log.running(), key, likely)
+    }
+
+    /// The command by which a child is started, which has this command of its own, where it is another one: with the launcher before
+    /// it, or with a file for what a script prints.
+    ///
+    /// # Errors
+    /// Want of memory.
+    fn command_of(
+        &self,
+        name: &str,
+        key: &Key,
+        command: &ChildCommand,
+    ) -> Result<Option<ChildCommand>, AllocError> {
+        if self.launcher.keeps(key) {
+            let dag = self.identity.dag;
+            return kept_command(self.alloc, &self.rt, dag, name, key, command);
+        }
+        self.launcher
+            .started_by(self.alloc, self.folder.as_str(), key, command)
+    }
+
+    /// What a script has printed is kept or dropped, now that it has ended so.
+    fn settle(&self, key: &Key, outcome: Outcome) {
+        if self.launcher.keeps(key) {
+            let name = name_in(self.plan, key.node);
+            settle_kept(self.alloc, &self.rt, self.identity.dag, name, key, outcome);
+        }
     }
 
     /// A child ended with this status: it is let go, and its outcome reported.
@@ -422,6 +457,7 @@ impl<'a, R: Processes + Files<File = File> + Clock + Drop, W: ChildWatcher + Dro
         forget(&mut self.children, key);
         self.log.ended(*key, outcome);
         self.pause = FIRST_PAUSE;
+        self.settle(key, outcome);
         self.watcher.ended(key, outcome);
         outcome
     }
@@ -442,15 +478,15 @@ impl<R: Processes + Files<File = File> + Clock + Drop, W: ChildWatcher + Drop> S
         if self.log.make_room().is_err() || self.children.reserve(1).is_err() {
             return Err(no_memory(&mut self.faults));
         }
-        let folder = self.folder.as_str();
-        let Ok(launched) = self.launcher.started_by(self.alloc, folder, &key, command) else {
+        let name = name_in(self.plan, key.node);
+        let Ok(other) = self.command_of(name, &key, command) else {
             return Err(no_memory(&mut self.faults));
         };
-        let name = name_in(self.plan, key.node);
         let Ok(inherited) = self.identity.inherited(self.alloc, name, &key) else {
             return Err(no_memory(&mut self.faults));
         };
-        let started = launched.as_ref().unwrap_or(command);
+        let started = other.as_ref().unwrap_or(command);
+        let folder = self.folder.as_str();
         self.watcher.launching(&key, command);
         let (watcher, children) = (&mut self.watcher, &mut self.children);
         match start_in_time(
@@ -468,8 +504,14 @@ impl<R: Processes + Files<File = File> + Clock + Drop, W: ChildWatcher + Drop> S
             Err(refusal) if refusal.is_memory() => Err(no_memory(&mut self.faults)),
             Err(refusal) => {
                 self.log.started(key, command, Started::NotStarted);
+                self.settle(&key, Outcome::NoStart);
+                let asked = if self.launcher.keeps(&key) {
+                    command
+                } else {
+                    started
+                };
                 self.watcher
-                    .not_started(&key, started, refusal.part, &refusal.error);
+                    .not_started(&key, asked, refusal.part, &refusal.error);
                 Ok(Started::NotStarted)
             }
         }
@@ -508,7 +550,12 @@ impl<R: Processes + Files<File = File> + Clock + Drop, W: ChildWatcher + Drop> S
         self.watcher.will_record();
     }
 
+    // A child is killed where a run is stopped, which kills all: so all launchers are asked to end before the first one is killed.
     fn kill(&mut self, key: Key) -> Killed {
+        if !self.asked {
+            self.asked = true;
+            ask_launchers(self.alloc, &self.rt, self.launcher, &mut self.children);
+        }
         let place = self.place_of_child(&key, 0);
         let answer = kill_at(&mut self.children, place);
         forget(&mut self.children, &key);

@@ -1,10 +1,15 @@
-//! What a round was begun with, `x.dag.inputs`: written as it begins, and read again.
+//! What a round was begun with, written as it begins, and read again: `x.dag.inputs`, the sums of its files, and
+//! `x.dag.begun`, the files.
 #![tactic(auto)]
 
+mod begun;
+#[cfg(test)]
+mod checks;
 mod inputs;
 mod listing;
 mod reading;
 
+pub use begun::{BadBegun, Begun, begun_in, begun_text};
 pub use inputs::{Inputs, Listed, inputs_of, inputs_text, list_file};
-pub use listing::{inputs_path, write_inputs};
+pub use listing::{MOST_OF_BEGUN, begun_path, inputs_path, write_begun, write_inputs};
 pub use reading::{BadInputs, inputs_in};

@@ -4,6 +4,7 @@
 #![tactic(auto)]
 
 mod columns;
+mod doomed;
 mod failures;
 mod line;
 mod processors;
@@ -14,5 +15,6 @@ mod watcher;
 
 pub use columns::fits;
 pub use line::{Counts, ProgressLine, RunningNode, line_text};
+pub use processors::processor_count;
 pub use terminal::{Screen, Way, way_of};
 pub use watcher::{ProgressWatcher, Watched};

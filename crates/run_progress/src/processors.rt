@@ -47,7 +47,7 @@ fn allowed<R: Files + AllocGlobal>(rt: &R) -> Option<u64> {
 }
 
 /// How many processors there are for the children of this process; none where the system doesn't say it.
-pub(crate) fn processor_count<R: Files + AllocGlobal>(rt: &R) -> Option<u64> {
+pub fn processor_count<R: Files + AllocGlobal>(rt: &R) -> Option<u64> {
     match (online(rt), allowed(rt)) {
         (Some(online), Some(allowed)) => Some(online.min(allowed)),
         (online, allowed) => online.or(allowed),

@@ -185,6 +185,16 @@ impl Tally {
         Ok(tally)
     }
 
+    /// Whether the job of an ordinary node can start at once, in its first attempt.
+    pub(crate) fn has_job_ready(&self, plan: &Plan, node: u32) -> bool {
+        match self.node(node) {
+            Some(tally) if place_of(plan, node, &tally) == Place::Ready => {
+                matches!(tally.run.wants(), Some((0, Phase::Job)))
+            }
+            _ => false,
+        }
+    }
+
     /// How many nodes have come how far.
     pub(crate) fn counts(&self) -> Counts {
         self.counts

@@ -1,5 +1,6 @@
 //! Who shows how far a run is, while it learns what is done with its children.
 
+use crate::doomed::Dooms;
 use crate::failures::{Failure, failure_line, last_lines, outcome_text};
 use crate::line::{Counts, ProgressLine, RunningNode, line_text};
 use crate::processors::processor_count;
@@ -44,6 +45,8 @@ pub struct Watched<'a> {
     pub folder: &'a str,
     /// What may run at once.
     pub limits: Limits,
+    /// Whether a launcher starts the jobs: their programs need not be on this machine.
+    pub is_launched: bool,
     /// How it is shown.
     pub way: Way,
 }
@@ -90,10 +93,18 @@ fn name_in(plan: &Plan, node: u32) -> &str {
     }
 }
 
-/// The path of the file that takes the errors of a child; none where there is none, or no memory.
-fn errors_of<R: AllocGlobal>(rt: &R, command: &ChildCommand) -> Option<String> {
+/// A path as it is seen from this folder, where it lies in it.
+fn seen_from<'a>(folder: &str, path: &'a str) -> &'a str {
+    match path.strip_prefix(folder) {
+        Some(rest) => rest.strip_prefix('/').unwrap_or(path),
+        None => path,
+    }
+}
+
+/// The path of the file that takes the errors of a child, seen from this folder; none where there is none, or no memory.
+fn errors_of<R: AllocGlobal>(rt: &R, folder: &str, command: &ChildCommand) -> Option<String> {
     match &command.error {
-        Some(path) => String::from_str(rt.alloc(), path.as_str()).ok(),
+        Some(path) => String::from_str(rt.alloc(), seen_from(folder, path.as_str())).ok(),
         None => None,
     }
 }
@@ -339,7 +350,7 @@ impl<'a, R: Screen + Processes + Files<File = File> + Clock + AllocGlobal + Copy
         let child = LiveChild {
             key: *key,
             since: self.now(),
-            errors: errors_of(&self.rt, command),
+            errors: errors_of(&self.rt, self.run.folder, command),
         };
         self.live.push(child)?;
         self.redraw(false)
@@ -430,15 +441,73 @@ impl<'a, R: Screen + Processes + Files<File = File> + Clock + AllocGlobal + Copy
         self.redraw(true)
     }
 
-    /// Tells where all nodes are done from the start, by this file.
-    fn tell_done(&mut self, top: &str, rescue: Option<&str>) -> Result<(), AllocError> {
-        let all_done = match self.counts() {
-            Some(counts) => counts.total > 0 && counts.done == counts.total,
-            None => false,
-        };
-        if !all_done {
+    /// Tells how many nodes are done as the run begins, behind these words, and before those.
+    fn tell_kept(&self, counts: Counts, front: &str, back: &str) -> Result<(), AllocError> {
+        let verb = if counts.done == 1 { "is" } else { "are" };
+        let (done, total) = (counts.done, counts.total);
+        let mut line = String::new(self.rt.alloc());
+        push_shown(&mut line, front)?;
+        writeln!(line, ": {done} of {total} nodes {verb} done{back}")?;
+        self.write(line.as_str());
+        Ok(())
+    }
+
+    /// Tells by which rescue file a new round begins, and how many nodes it marks.
+    fn tell_begun(&mut self, top: &str, rescue: Option<&str>) -> Result<(), AllocError> {
+        let Some(counts) = self.counts() else {
             return Ok(());
+        };
+        if counts.total > 0 && counts.done == counts.total {
+            return self.tell_done(top, rescue);
         }
+        match rescue {
+            Some(rescue) => {
+                let front = format!(in self.rt.alloc(); "new round by {rescue}")?;
+                self.tell_kept(counts, front.as_str(), " (--autorescue 0 begins anew)")
+            }
+            None => Ok(()),
+        }
+    }
+
+    /// Tells how many nodes are done of a round that goes on.
+    fn tell_goes_on(&mut self) -> Result<(), AllocError> {
+        match self.counts() {
+            Some(counts) => self.tell_kept(counts, "goes on", ""),
+            None => Ok(()),
+        }
+    }
+
+    /// Tells which of the jobs that can start at once are certain to fail.
+    fn tell_doomed(&mut self) -> Result<(), AllocError> {
+        let alloc = self.rt.alloc();
+        let plan = self.run.plan;
+        let mut dooms = Dooms::new(alloc);
+        for node in 0..plan.count() {
+            let is_ready = match &self.tally {
+                Some(tally) => tally.has_job_ready(plan, node),
+                None => false,
+            };
+            if is_ready {
+                dooms.look(&self.rt, &self.run, node)?;
+            }
+        }
+        let text = dooms.text(alloc, plan)?;
+        if !text.is_empty() {
+            self.write(text.as_str());
+        }
+        Ok(())
+    }
+
+    /// Tells that the processes of the round can't be noted.
+    fn tell_unkept(&mut self, reason: &str) -> Result<(), AllocError> {
+        let line = format!(in self.rt.alloc();
+            "the round's processes can't be noted ({reason}): a later run may not know them\n"
+        )?;
+        self.tell(line.as_str())
+    }
+
+    /// Tells that all nodes are done from the start, by this file.
+    fn tell_done(&mut self, top: &str, rescue: Option<&str>) -> Result<(), AllocError> {
         let mut line = String::from_str(self.rt.alloc(), "all nodes are done: ")?;
         push_shown(&mut line, rescue.unwrap_or(top))?;
         line.push_str(" says so")?;
@@ -467,11 +536,27 @@ impl<
         }
     }
 
-    /// Tells where nothing is left to start in a round that begins, since all nodes are done by the rescue file of this
-    /// path, or else by the DAG file itself.
+    /// Tells how many nodes are done in a round that begins by the rescue file of this path, and where all are, by that file or
+    /// else by the DAG file itself; then which of the jobs that can start at once are certain to fail.
     pub fn begins(&mut self, top: &str, rescue: Option<&str>) {
         if let Some(progress) = &mut self.progress {
-            let _ = progress.tell_done(top, rescue);
+            let _ = progress.tell_begun(top, rescue);
+            let _ = progress.tell_doomed();
+        }
+    }
+
+    /// Tells how many nodes are done in a round that goes on; then which of the jobs that can start at once are certain to fail.
+    pub fn goes_on(&mut self) {
+        if let Some(progress) = &mut self.progress {
+            let _ = progress.tell_goes_on();
+            let _ = progress.tell_doomed();
+        }
+    }
+
+    /// Tells that the system refuses to write of the round's processes, for this reason.
+    pub fn cannot_keep(&mut self, reason: &str) {
+        if let Some(progress) = &mut self.progress {
+            let _ = progress.tell_unkept(reason);
         }
     }
 

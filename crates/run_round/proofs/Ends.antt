@@ -20,7 +20,8 @@ use Rattle.job_starter_drive.specs.Calls.{Telling}
 use Rattle.job_starter_drive.specs.Drives.{Drives, At, at_rest, IsHalted, IsStopped}
 use Rattle.job_starter_drive.specs.Spawned.{SpawnsAll, SpawnsAllButSome}
 use Rattle.job_starter_drive.specs.declared.driving.DriveFault.{DriveFault}
-use Rattle.job_starter_drive.specs.Moments.{IsOlderPart, IsMore, MayHold, MayStand, ReadsBy, IsMomentOfRun, IsLastMoment}
+use Rattle.job_starter_drive.specs.Moments.{IsOlderPart, IsMore, MayHold, MayStand, IsMomentOfRun, IsLastMoment}
+use Rattle.job_starter_drive.proofs.CallImages.{ReadsBy}
 use Rattle.job_starter_drive.proofs.Cuts.{older-self, older-is, goes-records}
 use Rattle.job_starter_drive.proofs.Images.{may-older, moment_grows, last_at}
 use Rattle.event_journal_log.specs.Crashes.{CrashesLeave}

@@ -1,4 +1,6 @@
 pub mod Records
 pub mod CutShort
 pub mod Changes
+pub mod Results
 pub mod Refusals
+pub mod NameLists

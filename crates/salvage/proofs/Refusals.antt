@@ -1,5 +1,5 @@
 -- Why a round is not salvaged.
-use Rattle.std.proofs.Common.{◌≡◌, ◌≤◌, ◌<◌, ◌&&◌, ◌⊎◌, inl, inr, not, cond, ℕ, Bool, true, false, List, [], ◌∷◌, ◌++◌, Bor, String, Vec, Global, Option, Some, None, Result, Ok, Err, IfErr, IfOk, map, length, arith, refl, sym, ap, subst, ◌∙◌}
+use Rattle.std.proofs.Common.{◌≡◌, ◌≤◌, ◌<◌, ◌&&◌, ◌⊎◌, inl, inr, not, cond, ℕ, Bool, true, false, List, [], ◌∷◌, ◌++◌, Bor, String, Vec, Global, Option, Some, None, Result, Ok, Err, IfErr, map, length, arith, refl, sym, ap, subst, ◌∙◌}
 use Rattle.std.specs.Prelude.{IsErrAnd, slice_get, slice_range, string_bytes, All}
 use Rattle.std.specs.Str.{bytes_eq}
 use Rattle.std.specs.Map.Iter.{deref_pair}
@@ -23,13 +23,15 @@ use Rattle.recovery.specs.Replay.{IsFirstForeign, IsReplayFault}
 use Rattle.recovery.proofs.Slots.{first_at, foreign_slot, groups_read}
 use Rattle.recovery_manager.specs.declared.fault.ManagerFault.TheVariants as manager
 use Rattle.dag_main_check.specs.declared.fault.RunFault.{RunFault}
-use Rattle.dag_main_check.specs.declared.fault.RunFault.TheVariants.{InManager, Memory}
+use Rattle.dag_main_check.specs.declared.fault.RunFault.TheVariants.{InManager}
 use Rattle.splices_flat.specs.FileSet.{entries_of}
 use Rattle.splices_flat.specs.declared.file_set.FileSet.{FileSet}
-use Rattle.salvage.specs.Round.{IsSame}
+use Rattle.splices_flat.specs.FileSet.{bytes_of}
+use Rattle.salvage.specs.Round.{IsUnfinishedRound, IsSame, IsSameRescue}
 use Rattle.salvage.specs.Salvaged.{IsReplayOf}
 use Rattle.dag_main_files.specs.Journals.{read_fault}
-use Rattle.salvage.specs.Refused.{IsNoNumber, IsNotCutShort, has_ended, no_such_number, IsOtherFile, IsFirstOther, IsUnsalvaged, no_records, of_other_flag, foreign_record, salvaging_had_no_memory}
+use Rattle.salvage.specs.Refused.{IsNoNumber, IsNotCutShort, has_ended, no_such_number, IsUnsalvaged, no_records, of_other_flag, foreign_record, salvaging_had_no_memory, IsUnmade, unplanned, unsalvaged, IsNotCarried, not_kept, kept_refused, not_graphed, not_replayed, other_files, other_rescue, no_plan, not_of_plan, no_new_graph, not_of_begun, IsSalvageFault, round_refused, system_refuses}
+use Rattle.salvage.specs.Others.{IsOtherFile, IsFirstOther, IsOther, other_file, other_marks}
 use Rattle.round_inputs.specs.declared.inputs.Listed.{Listed}
 use Rattle.salvage.specs.declared.fault.SalvageFault.{SalvageFault}
 use Rattle.salvage.specs.declared.fault.SalvageFault.TheVariants.{Refused, Ended}
@@ -47,10 +49,6 @@ told-as P given is (Err fault) same = subst P (sym same) is
 pub weaker-as : {A : Type 0} {Q : SalvageFault → Type 0} (P : SalvageFault → Type 0) (r : Result A SalvageFault) → IfErr r Q → ((fault : SalvageFault) → Q fault → P fault) → IfErr r P
 weaker-as P (Ok x) h more = tt
 weaker-as P (Err fault) h more = more fault h
-
-pub if-ok : {A E : Type 0} (P Q : A → Type 0) (r : Result A E) → IfOk r P → ((x : A) → P x → Q x) → IfOk r Q
-if-ok P Q (Ok x) h more = more x h
-if-ok P Q (Err e) h more = tt
 
 -- a sum that is another one
 pub differ : (sum digest hash : List ℕ) (other : Bool) → other ≡ not (bytes_eq sum digest) → other ≡ true → digest ≡ hash → sum ≡ hash → ⊥
@@ -158,3 +156,30 @@ first-other listed set yielded t u file fault all next same other = record {
   same = All-map (IsSame listed) lent_file yielded same;
   other = other;
 }
+
+-- nothing is made of a round that was cut short: by the files that are as they were, and by those that are not
+pub same-refused : (top journal digest : List ℕ) (used next : ℕ) (always_post : Bool) (listed : List Listed) (files : FileSet) (rescue : Option (List ℕ)) (fault : RunFault)
+    → IsUnfinishedRound journal digest used next always_post → All (IsSame listed) (entries_of files) → IsSameRescue listed top used rescue
+    → IsUnmade always_post (bytes_of files) top used rescue journal fault → IsSalvageFault top (Refused fault)
+same-refused top journal digest used next always_post listed files rescue fault cut same marks (unplanned cause why) =
+    round_refused _ _ _ _ _ _ cut (no_plan listed files rescue cause same marks why)
+same-refused top journal digest used next always_post listed files rescue fault cut same marks (unsalvaged plan cause is why) =
+    round_refused _ _ _ _ _ _ cut (not_of_plan listed files rescue plan cause same marks is why)
+
+pub other-refused : (top journal digest : List ℕ) (used next : ℕ) (always_post : Bool) (listed : List Listed) (files : FileSet) (fault : SalvageFault)
+    → IsUnfinishedRound journal digest used next always_post → IsOther listed top used files fault → IsSalvageFault top fault
+other-refused top journal digest used next always_post listed files fault cut (other_file cause why) =
+    round_refused _ _ _ _ _ _ cut (other_files listed files cause why)
+other-refused top journal digest used next always_post listed files fault cut (other_marks cause same why) =
+    round_refused _ _ _ _ _ _ cut (other_rescue listed files cause same why)
+
+pub change-refused : (top journal digest : List ℕ) (used next : ℕ) (always_post : Bool) (listed : List Listed) (files : FileSet) (other fault : SalvageFault)
+    → IsUnfinishedRound journal digest used next always_post → IsOther listed top used files other
+    → IsNotCarried always_post (bytes_of files) top digest journal other fault → IsSalvageFault top fault
+change-refused top journal digest used next always_post listed files other fault cut is not_kept =
+    other-refused top journal digest used next always_post listed files other cut is
+change-refused top journal digest used next always_post listed files other fault cut is (kept_refused refusal why) = system_refuses refusal why
+change-refused top journal digest used next always_post listed files other fault cut is (not_graphed refusal why) =
+    round_refused _ _ _ _ _ _ cut (no_new_graph listed files other refusal is why)
+change-refused top journal digest used next always_post listed files other fault cut is (not_replayed begun old refusal planned why) =
+    round_refused _ _ _ _ _ _ cut (not_of_begun listed files other begun old refusal is planned why)

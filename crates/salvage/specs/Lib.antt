@@ -1,4 +1,7 @@
 pub mod Round
 pub mod Salvaged
+pub mod Carried
+pub mod Others
 pub mod Faults
 pub mod Refused
+pub mod Answered

@@ -1,6 +1,5 @@
 -- Why a round is not salvaged.
-use Rattle.std.specs.Prelude.{◌≡◌, ◌≢◌, ◌<◌, ◌≤◌, ℕ, Bool, true, false, List, [], ◌∷◌, ◌++◌, Option, Some, None, Ok, Err, All}
-use Rattle.sha2.specs.Sha256.{sha256}
+use Rattle.std.specs.Prelude.{◌≡◌, ◌≢◌, ◌<◌, ◌≤◌, ℕ, Bool, true, false, List, [], Option, Some, None, Ok, Err, All}
 use Rattle.splices_flat.specs.Opening.{Files}
 use Rattle.splices_flat.specs.FileSet.{bytes_of, entries_of}
 use Rattle.splices_flat.specs.declared.file_set.FileSet.{FileSet}
@@ -23,11 +22,13 @@ use Rattle.dag_main_check.specs.Planned.{IsGraphOf, IsGraphFault, rescue_line, n
 use Rattle.dag_main_files.specs.Beside.{journal_name_of, IsFileFault}
 use Rattle.dag_main_files.specs.Journals.{IsUnread}
 use Rattle.round_inputs.specs.Inputs.{inputs_name_of, inputs_text_of}
-use Rattle.salvage.specs.Round.{IsUnfinishedRound, sum_in, IsSame, IsSameRescue}
+use Rattle.salvage.specs.Round.{IsUnfinishedRound, IsSame, IsSameRescue}
+use Rattle.salvage.specs.Others.{IsFirstOther, IsOtherRescue, IsOther}
 use Rattle.salvage.specs.Salvaged.{IsBarePlan}
+use Rattle.salvage.specs.Carried.{IsBegunPlan}
 use Rattle.round_inputs.specs.declared.inputs.Listed.{Listed}
 use Rattle.salvage.specs.declared.fault.SalvageFault.{SalvageFault}
-use Rattle.salvage.specs.declared.fault.SalvageFault.TheVariants.{Refused, NoJournal, Ended, NoInputs, BadInputs, OtherRound, Changed, NotListed}
+use Rattle.salvage.specs.declared.fault.SalvageFault.TheVariants.{Refused, NoJournal, Ended, NoInputs, BadInputs, OtherRound}
 
 -- no rescue file has one of two numbers: that of the file which a round read, 0 for none, or else that of the one which it would write
 pub data IsNoNumber (used next : ℕ) : RunFault → Type 0 where
@@ -58,29 +59,6 @@ pub data IsNoInputs (top digest : List ℕ) : SalvageFault → Type 0 where
   of_another_round : (other : List ℕ) (listed : List Listed) (bytes : List ℕ) → inputs_text_of other listed ≡ bytes → other ≢ digest →
       IsNoInputs top digest (OtherRound (inputs_name_of top))
 
--- A file of this path and these bytes is not one that the round was begun with: it is not in its list; its list has another sum for the path
--- than that of the bytes. Or memory ran out.
-pub data IsOtherFile (listed : List Listed) (file : List ℕ × List ℕ) : SalvageFault → Type 0 where
-  not_listed : sum_in listed file.0 ≡ None → IsOtherFile listed file (NotListed file.0)
-  changed : (sum : List ℕ) → sum_in listed file.0 ≡ Some sum → sum ≢ sha256 file.1 → IsOtherFile listed file (Changed file.0)
-  comparing_had_no_memory : IsOtherFile listed file (Refused Memory)
-
--- it is so of the first of some files that is not as it was when the round began
-pub record IsFirstOther (listed : List Listed) (files : List (List ℕ × List ℕ)) (fault : SalvageFault) : Type 0 where
-  pub before : List (List ℕ × List ℕ)
-  pub file : List ℕ × List ℕ
-  pub behind : List (List ℕ × List ℕ)
-  pub stand : files ≡ before ++ file ∷ behind
-  pub same : All (IsSame listed) before
-  pub other : IsOtherFile listed file fault
-
--- Why the rescue file of this number, which the round read, is not the one that it was: it is missing, and is in the list; it is another one; or
--- the system refuses it.
-pub data IsOtherRescue (listed : List Listed) (top : List ℕ) (used : ℕ) : SalvageFault → Type 0 where
-  rescue_missing : (sum : List ℕ) → used ≢ 0 → sum_in listed (rescue_name_of top used) ≡ Some sum → IsOtherRescue listed top used (Changed (rescue_name_of top used))
-  rescue_changed : (bytes : List ℕ) (fault : SalvageFault) → used ≢ 0 → IsOtherFile listed (rescue_name_of top used, bytes) fault → IsOtherRescue listed top used fault
-  rescue_refused : (fault : RunFault) → IsFileFault fault → IsOtherRescue listed top used (Refused fault)
-
 -- Why there is no plan of the files of a path and of a rescue file of this number, 0 for none: the files make no graph; or the rescue file can't
 -- be read, which is returned with its path.
 pub data IsBarePlanFault (always_post : Bool) (files : Files) (path : List ℕ) (used : ℕ) (rescue : Option (List ℕ)) : RunFault → Type 0 where
@@ -100,8 +78,26 @@ pub data IsUnsalvaged (plan : Plan) (journal : List ℕ) : RunFault → Type 0 w
   foreign_record : (slot : ℕ) → IsForeignSlot plan (replay_of journal) (groups_in journal) slot → IsUnsalvaged plan journal (InManager (manager.Foreign slot))
   salvaging_had_no_memory : IsUnsalvaged plan journal Memory
 
+-- Why nothing is made of the files of a path and of a rescue file of this number, which are as they were, and of the bytes of a journal: there is
+-- no plan, or the journal has no records of a run of it.
+pub data IsUnmade (always_post : Bool) (files : Files) (path : List ℕ) (used : ℕ) (rescue : Option (List ℕ)) (journal : List ℕ) : RunFault → Type 0 where
+  unplanned : (fault : RunFault) → IsBarePlanFault always_post files path used rescue fault → IsUnmade always_post files path used rescue journal fault
+  unsalvaged : (plan : Plan) (fault : RunFault) → IsBarePlan always_post files path rescue plan → IsUnsalvaged plan journal fault →
+      IsUnmade always_post files path used rescue journal fault
+
+-- Why nothing is made of files of a path that are not as they were, which this cause says: nothing keeps what the round of this digest was begun
+-- with, and the cause is returned; the system refuses the file that keeps it; the files as they are now make no graph; or the journal has no records
+-- of a run of the plan of the files that are kept.
+pub data IsNotCarried (always_post : Bool) (files : Files) (path digest journal : List ℕ) (other : SalvageFault) : SalvageFault → Type 0 where
+  not_kept : IsNotCarried always_post files path digest journal other other
+  kept_refused : (fault : RunFault) → IsFileFault fault → IsNotCarried always_post files path digest journal other (Refused fault)
+  not_graphed : (fault : RunFault) → IsGraphFault files path fault → IsNotCarried always_post files path digest journal other (Refused fault)
+  not_replayed : (begun : List ℕ) (old : Plan) (fault : RunFault) → IsBegunPlan always_post path digest begun old → IsUnsalvaged old journal fault →
+      IsNotCarried always_post files path digest journal other (Refused fault)
+
 -- Why a round that was cut short, with this journal, is not salvaged, the first cause first: it is not known what it was begun with; a DAG file is
--- not as it was, or else the rescue file that it read; these have no plan; the journal has no records of a run of the plan.
+-- not as it was, or else the rescue file that it read; these have no plan; the journal has no records of a run of the plan. Or one of these files
+-- is not as it was, and the DAG files make no graph now, or the journal has no records of a run of the plan of the files that are kept.
 pub data IsCutShortFault (top journal digest : List ℕ) (used : ℕ) (always_post : Bool) : SalvageFault → Type 0 where
   no_inputs : (fault : SalvageFault) → IsNoInputs top digest fault → IsCutShortFault top journal digest used always_post fault
   other_files : (listed : List Listed) (files : FileSet) (fault : SalvageFault) → IsFirstOther listed (entries_of files) fault →
@@ -113,6 +109,11 @@ pub data IsCutShortFault (top journal digest : List ℕ) (used : ℕ) (always_po
       IsCutShortFault top journal digest used always_post (Refused fault)
   not_of_plan : (listed : List Listed) (files : FileSet) (rescue : Option (List ℕ)) (plan : Plan) (fault : RunFault) → All (IsSame listed) (entries_of files) →
       IsSameRescue listed top used rescue → IsBarePlan always_post (bytes_of files) top rescue plan → IsUnsalvaged plan journal fault →
+      IsCutShortFault top journal digest used always_post (Refused fault)
+  no_new_graph : (listed : List Listed) (files : FileSet) (other : SalvageFault) (fault : RunFault) → IsOther listed top used files other →
+      IsGraphFault (bytes_of files) top fault → IsCutShortFault top journal digest used always_post (Refused fault)
+  not_of_begun : (listed : List Listed) (files : FileSet) (other : SalvageFault) (begun : List ℕ) (old : Plan) (fault : RunFault) →
+      IsOther listed top used files other → IsBegunPlan always_post top digest begun old → IsUnsalvaged old journal fault →
       IsCutShortFault top journal digest used always_post (Refused fault)
 
 -- Why no round of the DAG file of this path is salvaged: none was cut short, by its journal; or one was, and what stands beside it says why; or the

@@ -6,10 +6,9 @@ use Rattle.std.specs.List.{count_by}
 use Rattle.splices_flat.specs.Opening.{Files}
 use Rattle.splices_flat.specs.FileSet.{bytes_of, entries_of}
 use Rattle.splices_flat.specs.declared.file_set.FileSet.{FileSet}
-use Rattle.rescue_file.specs.Numbered.{rescue_name_of}
 use Rattle.dag_graph.specs.Graph.{Network}
 use Rattle.run_plan.specs.Digest.{digest_of}
-use Rattle.run_plan.specs.Plan.{Plan, count_of}
+use Rattle.run_plan.specs.Plan.{Plan}
 use Rattle.run_plan.specs.Submitted.{plan_at}
 use Rattle.node_machine.specs.declared.Record.{Record}
 use Rattle.sched_core.specs.Run.{chronological, is_lawful}
@@ -17,10 +16,6 @@ use Rattle.event_journal_log.specs.declared.fault.JournalFault.{JournalFault}
 use Rattle.event_journal_log.specs.Image.{Found, replay_of}
 use Rattle.recovery_manager.specs.Rescue.{marks_of, rescue_text_for}
 use Rattle.dag_main_check.specs.Planned.{IsGraphOf}
-use Rattle.dag_main_files.specs.Beside.{journal_name_of}
-use Rattle.dag_main_files.specs.Folder.{IsReadFrom, rescue_in}
-use Rattle.round_inputs.specs.Inputs.{inputs_name_of, inputs_text_of}
-use Rattle.dag_main_check.specs.Warnings.{warning_lines}
 use Rattle.salvage.specs.Round.{IsUnfinishedRound, IsSame, IsSameRescue}
 use Rattle.round_inputs.specs.declared.inputs.Listed.{Listed}
 use Rattle.salvage.specs.declared.here.Change.{Change}
@@ -86,37 +81,3 @@ pub record IsReadRound (path journal digest : List ℕ) (used next : ℕ) (alway
   pub is_same : IsSameRescue listed path used rescue
   pub planned : IsBarePlan always_post (bytes_of files) path rescue plan
   pub salvaged : IsSalvaged plan journal rescue_text done
-
--- That is what these files say that are held: the journal, the list of the files that the round was begun with, these files, and the rescue file.
-pub record IsHeldRound (holds : Files) (path journal digest : List ℕ) (used : ℕ) (listed : List Listed) (files : FileSet) (rescue : Option (List ℕ)) : Type 0 where
-  pub journal_is : holds (journal_name_of path) ≡ Some journal
-  pub listed_are : holds (inputs_name_of path) ≡ Some (inputs_text_of digest listed)
-  pub read : IsReadFrom holds path files
-  pub rescue_is : rescue ≡ rescue_in holds path used
-
--- What `salvage` answers of the DAG file of this path: how many nodes are done in a round that was cut short, the name of the rescue file that
--- marks them, and what is changed.
-pub record IsSalvageOf (path text warnings : List ℕ) (status : ℕ) : Type 0 where
-  pub journal : List ℕ
-  pub digest : List ℕ
-  pub used : ℕ
-  pub next : ℕ
-  pub always_post : Bool
-  pub listed : List Listed
-  pub files : FileSet
-  pub rescue : Option (List ℕ)
-  pub plan : Plan
-  pub rescue_text : List ℕ
-  pub done : ℕ
-  pub read : IsReadRound path journal digest used next always_post listed files rescue plan rescue_text done
-  pub changes : List ℕ
-  pub are_changes : AreChanges any_change listed changes
-  pub text_is : text ≡ report_line done (count_of plan) (rescue_name_of path next) ++ changes
-  pub warnings_are : warnings ≡ warning_lines plan.graph.dag.warnings
-  pub status_is : status ≡ 0
-
--- the same where these files are held: all of it is said by them
-pub record IsSalvageFrom (holds : Files) (path text warnings : List ℕ) (status : ℕ) : Type 0 where
-  pub of_round : IsSalvageOf path text warnings status
-  pub held : IsHeldRound holds path of_round.journal of_round.digest of_round.used of_round.listed of_round.files of_round.rescue
-  pub changes_held : AreChanges (IsChangeFrom holds) of_round.listed of_round.changes

@@ -2,20 +2,22 @@
 
 ghost use Rattle.std.specs.Str.{bytes_eq};
 ghost use Rattle.sha2.specs.Sha256.{sha256};
-ghost use Rattle.std.specs.Prelude.{◌≡◌, ◌++◌, ◌≤◌, ℕ, List, Option, IfOk, IfErr, OnOk, string_bytes, option_map};
+ghost use Rattle.std.specs.Prelude.{◌≡◌, ◌++◌, ◌≤◌, Some, IfOk, IfErr, OnOk, string_bytes, option_map};
 ghost use Rattle.splices_flat.specs.FileSet.{bytes_of};
 ghost use Rattle.rescue_file.specs.Numbered.{IsFileNumber, rescue_name_of};
-ghost use Rattle.run_plan.specs.Plan.{count_of};
 ghost use Rattle.dag_main_check.specs.declared.fault.RunFault.TheVariants.{Memory};
-ghost use Rattle.dag_main_check.specs.Warnings.{warning_lines};
-ghost use Rattle.dag_main_files.specs.Beside.{IsFileFault};
-ghost use Rattle.splices_flat.specs.declared.file_set.FileSet.{FileSet};
-ghost use Rattle.salvage.specs.Salvaged.{IsBarePlan, IsReadRound, IsHeldRound, change_line, IsChangeFrom, any_change, AreChanges, report_line, IsSalvageOf, IsSalvageFrom};
-ghost use Rattle.salvage.specs.Refused.{IsBarePlanFault, IsSalvageFault};
+ghost use Rattle.dag_main_files.specs.Beside.{journal_name_of, IsFileFault};
+ghost use Rattle.dag_main_files.specs.Folder.{IsReadFrom};
+ghost use Rattle.round_inputs.specs.Inputs.{inputs_name_of, inputs_text_of};
+ghost use Rattle.salvage.specs.Round.{IsUnfinishedRound};
+ghost use Rattle.salvage.specs.Salvaged.{IsBarePlan, change_line, IsChangeFrom, any_change, AreChanges, report_line};
+ghost use Rattle.salvage.specs.Answered.{IsMadeOfSame, IsMadeOf, IsHeldMade, IsSalvageOf, IsSalvageFrom};
+ghost use Rattle.salvage.specs.Refused.{IsBarePlanFault, IsUnmade, IsSalvageFault};
 
+use crate::changed::{Made, made_of_changed};
 use crate::fault::SalvageFault;
 use crate::rescue::{Salvaged, salvage_text};
-use crate::rounds::{CutShort, check_files, cut_short, inputs_with, rescue_in};
+use crate::rounds::{CutShort, cut_short, inputs_with, rescue_as_it_was};
 use dag_main_check::{Answer, RunFault, graph_of, warning_text};
 use dag_main_files::{
     Folder, Place, Reading, files_of, journal_path, named, rescue_disk, rescue_path,
@@ -27,7 +29,7 @@ use run_plan::Plan;
 use sha2::{Digest, Sha256};
 use splices_flat::FileSet;
 use std::alloc::{AllocError, Global};
-use std::fs::File;
+use std::fs::{self, File};
 use std::rt::Files;
 use std::time::Clock;
 
@@ -58,6 +60,33 @@ fn plan_of_round(
             Err(named(RunFault::InPlan(fault), Some(path)))
         }
     }
+}
+
+/// What is made of a round by these files and this rescue file, which are those that it was begun with.
+///
+/// # Errors
+/// Those of `plan_of_round`, and then those of `salvage_text`.
+fn made_of_same(
+    alloc: Global,
+    top: &str,
+    files: &FileSet,
+    round: &CutShort,
+    rescue: Option<&[u8]>,
+) -> Result<Made, RunFault>
+    requires { round.now.used ≤ 999 }
+    ensures made { IfOk result (λ made. IsMadeOfSame round.now.always_post (bytes_of files.now) top.now (option_map (λ b. b.now) rescue.entry)
+        round.now.journal.items (string_bytes made.text) made.done made.total (string_bytes made.warnings)) }
+    ensures refused { IfErr result (IsUnmade round.now.always_post (bytes_of files.now) top.now round.now.used
+        (option_map (λ b. b.now) rescue.entry) round.now.journal.items) }
+{
+    let plan = plan_of_round(alloc, top, files, round, rescue)?;
+    let Salvaged { text, done } = salvage_text(alloc, &plan, round.journal.as_slice())?;
+    Ok(Made {
+        text,
+        done,
+        total: plan.count() as usize,
+        warnings: warning_text(alloc, plan.graph().flat().warnings())?,
+    })
 }
 
 /// How a file differs from what the round was begun with, if it does.
@@ -129,36 +158,29 @@ fn changes<F: Folder>(alloc: Global, folder: &F, inputs: &Inputs) -> Result<Stri
 fn report_of(
     alloc: Global,
     place: &Place<'_>,
-    plan: &Plan,
     next: u16,
-    done: usize,
+    made: &Made,
     changes: &str,
-) -> Result<Answer, RunFault>
+) -> Result<String, RunFault>
     requires { IsFileNumber next }
-    ensures text { IfOk result (λ answer. string_bytes answer.text
-        ≡ report_line done (count_of plan.now) (rescue_name_of place.now.top.now next) ++ changes.now) }
-    ensures warnings { IfOk result (λ answer. string_bytes answer.warnings ≡ warning_lines plan.now.graph.dag.warnings) }
-    ensures status { IfOk result (λ answer. answer.status ≡ 0) }
+    ensures text { IfOk result (λ text. string_bytes text
+        ≡ report_line made.now.done made.now.total (rescue_name_of place.now.top.now next) ++ changes.now) }
     ensures err { IfErr result (λ fault. fault ≡ Memory) }
 {
     let path = rescue_path(alloc, place.top, next)?;
     let name = path.as_str();
-    let total = plan.count();
+    let (done, total) = (made.done, made.total);
     let mut text = String::new(alloc);
     writeln!(text, "{done} of {total} nodes are done: {name}")?;
     text.push_str(changes)?;
-    Ok(Answer {
-        text,
-        warnings: warning_text(alloc, plan.graph().flat().warnings())?,
-        status: 0,
-    })
+    Ok(text)
 }
 
 /// Writes the rescue file of this number, under another name; it is synced and renamed.
 ///
 /// # Errors
 /// `FileRefused` with its path where the system refuses it, and `Memory`.
-fn write_rescue<R: Files<File = File> + AllocGlobal + Copy + Drop>(
+pub fn write_rescue<R: Files<File = File> + AllocGlobal + Copy + Drop>(
     rt: R,
     place: &Place<'_>,
     number: u16,
@@ -178,14 +200,46 @@ fn write_rescue<R: Files<File = File> + AllocGlobal + Copy + Drop>(
     }
 }
 
-/// A round that was cut short, once nothing of it is refused: what it is, what it was begun with, its plan
-/// and its rescue file.
+/// A round that was cut short, once nothing of it is refused: what it is, what it was begun with, and what is
+/// made of it.
 #[derive(Drop)]
 struct Found {
     round: CutShort,
     inputs: Inputs,
-    plan: Plan,
-    salvaged: Salvaged,
+    made: Made,
+}
+
+/// What is made of a round that was cut short, by these DAG files as they are now.
+///
+/// # Errors
+/// As `salvage_here` has them from the DAG files on that are not as they were.
+fn made_of_round<F: Folder>(
+    alloc: Global,
+    folder: &F,
+    top: &str,
+    inputs: &Inputs,
+    files: &FileSet,
+    round: &CutShort,
+) -> Result<Made, SalvageFault>
+    requires cut_short { IsUnfinishedRound round.now.journal.items round.now.digest round.now.used round.now.next round.now.always_post }
+    requires journal { F.honest folder.now → F.holds folder.now (journal_name_of top.now) ≡ Some round.now.journal.items }
+    requires inputs { F.honest folder.now → F.holds folder.now (inputs_name_of top.now)
+        ≡ Some (inputs_text_of round.now.digest inputs.now.files.items) }
+    requires files { F.honest folder.now → IsReadFrom (F.holds folder.now) top.now files.now }
+    ensures made { IfOk result (λ made. (is : IsMadeOf top.now round.now.next inputs.now.files.items (string_bytes made.text)
+        made.done made.total (string_bytes made.warnings))
+        × (F.honest folder.now → IsHeldMade (F.holds folder.now) top.now round.now.next inputs.now.files.items (string_bytes made.text)
+        made.done made.total (string_bytes made.warnings) is)) }
+    ensures refused { IfErr result (IsSalvageFault top.now) }
+{
+    let other = match rescue_as_it_was(alloc, folder, top, inputs, files, round.used) {
+        Ok(rescue) => return Ok(made_of_same(alloc, top, files, round, rescue.as_deref())?),
+        Err(other) => other,
+    };
+    match other.own() {
+        Ok(change) => made_of_changed(alloc, folder, top, files, round, change),
+        Err(fault) => Err(SalvageFault::Refused(fault)),
+    }
 }
 
 /// The round of a DAG file that was cut short, read under the lock.
@@ -193,26 +247,21 @@ struct Found {
 /// # Errors
 /// As `salvage_here` has them from the journal on, before anything is changed.
 fn read_round<F: Folder>(alloc: Global, folder: &F, top: &str) -> Result<Found, SalvageFault>
-    ensures read { IfOk result (λ found. (files : FileSet) × (rescue : Option (List ℕ))
-        × IsReadRound top.now found.round.journal.items found.round.digest found.round.used found.round.next
-        found.round.always_post found.inputs.files.items files rescue found.plan
-        (string_bytes found.salvaged.text) found.salvaged.done
-        × (F.honest folder.now → IsHeldRound (F.holds folder.now) top.now found.round.journal.items found.round.digest
-        found.round.used found.inputs.files.items files rescue)) }
+    ensures read { IfOk result (λ found. (is : IsMadeOf top.now found.round.next found.inputs.files.items (string_bytes found.made.text)
+        found.made.done found.made.total (string_bytes found.made.warnings))
+        × (F.honest folder.now → IsHeldMade (F.holds folder.now) top.now found.round.next found.inputs.files.items (string_bytes found.made.text)
+        found.made.done found.made.total (string_bytes found.made.warnings) is)) }
+    ensures next { IfOk result (λ found. IsFileNumber found.round.next) }
     ensures refused { IfErr result (IsSalvageFault top.now) }
 {
     let round = cut_short(alloc, folder, top)?;
     let inputs = inputs_with(alloc, folder, top, &round.digest)?;
     let files = files_of(alloc, folder, top, Reading::SplicesAlone)?;
-    check_files(alloc, &inputs, &files)?;
-    let rescue = rescue_in(alloc, folder, top, &inputs, round.used)?;
-    let plan = plan_of_round(alloc, top, &files, &round, rescue.as_deref())?;
-    let salvaged = salvage_text(alloc, &plan, round.journal.as_slice())?;
+    let made = made_of_round(alloc, folder, top, &inputs, &files, &round)?;
     Ok(Found {
         round,
         inputs,
-        plan,
-        salvaged,
+        made,
     })
 }
 
@@ -234,25 +283,42 @@ fn salvage_locked<R: Files<File = File> + AllocGlobal + Copy + Drop, F: Folder>(
     let alloc = rt.alloc();
     let found = read_round(alloc, folder, place.top)?;
     let changes = changes(alloc, folder, &found.inputs)?;
-    let (next, salvaged) = (found.round.next, &found.salvaged);
-    let answer = report_of(
-        alloc,
-        place,
-        &found.plan,
-        next,
-        salvaged.done,
-        changes.as_str(),
-    )?;
-    write_rescue(rt, place, next, salvaged.text.as_str())?;
+    let Found { round, made, .. } = found;
+    let text = report_of(alloc, place, round.next, &made, changes.as_str())?;
+    write_rescue(rt, place, round.next, made.text.as_str())?;
     place.put_journal_away(&rt)?;
-    Ok(answer)
+    let Made { warnings, .. } = made;
+    Ok(Answer {
+        text,
+        warnings,
+        status: 0,
+    })
 }
 
-/// Sees to it that the journal and the lock were put there by nobody else, where others may write into their folder.
+/// Sees to it that no folder has the name under which the journal is put away.
 ///
 /// # Errors
-/// `FileRefused` with the first that may be another user's; `Memory`.
-fn has_own_files<R: Files + AllocGlobal>(
+/// `FileRefused` with that name; `Memory`.
+fn has_no_folder<R: Files + AllocGlobal>(rt: &R, place: &Place<'_>) -> Result<(), RunFault>
+    ensures { IfErr result IsFileFault }
+{
+    let alloc = rt.alloc();
+    let old = Text::joined(alloc, place.top, ".journal.old")?;
+    match fs::symlink_metadata(rt, place.at(alloc, old.as_str())?.as_str()) {
+        Ok(found) if found.is_dir() => match String::from_str(alloc, old.as_str()) {
+            Ok(old) => Err(RunFault::FileRefused(old)),
+            Err(_) => Err(RunFault::Memory),
+        },
+        _ => Ok(()),
+    }
+}
+
+/// Sees to it that the journal and the lock were put there by nobody else, where others may write into their folder, and that the
+/// journal can be put away.
+///
+/// # Errors
+/// `FileRefused` with the first that may be another user's, or with the other name of the journal where that is a folder's; `Memory`.
+pub fn has_own_files<R: Files + AllocGlobal>(
     rt: &R,
     place: &Place<'_>,
     journal: &str,
@@ -262,26 +328,30 @@ fn has_own_files<R: Files + AllocGlobal>(
 {
     place.trusts(rt, journal, trust_owner)?;
     let lock = Text::joined(rt.alloc(), place.top, ".lock")?;
-    place.trusts(rt, lock.as_str(), trust_owner)
+    place.trusts(rt, lock.as_str(), trust_owner)?;
+    has_no_folder(rt, place)
 }
 
 /// Makes a rescue file of the last round of the DAG file of this path, which was cut short, of the files that stand
 /// in a folder. Relative paths are taken from its path, which is absolute; both are as they were for `run`.
 ///
 /// The rescue file has the number that the journal's header names as the next, and marks the nodes that are
-/// done by the journal's records: it is the one that the round would have written had it stopped there. Once it
+/// done by the journal's records: it is the one that the round would have written had it stopped there. Where a DAG file
+/// or the rescue file that the round read is not as it was, and the file beside the DAG file that keeps them is there,
+/// it marks the nodes of the DAG files as they are now whose names are those of nodes that are done. Once it
 /// is on the disk the journal is put away as `.journal.old`, so that `run` begins a round with this rescue
 /// file. The answer is how many nodes are done, and which files of the round are no longer as they were, with
 /// status 0.
 ///
 /// # Errors
 /// In this order, each before anything is changed: no journal (`NoJournal`), a journal or a lock that may be another
-/// user's (`FileRefused`, as `Place::trusts` tells it), another manager that runs the DAG
+/// user's (`FileRefused`, as `Place::trusts` tells it), a folder that has the name `.journal.old` (`FileRefused` with it), another manager that runs the DAG
 /// (`FileRefused` with the file that it has locked), a journal that the system refuses or that can't be read,
 /// a round that has ended (`Ended`), a number in the header that no rescue file has (`NotThere`), what the round
 /// was begun with (`NoInputs`, `BadInputs`, `OtherRound`), the first DAG file in the order of paths that is not
-/// as it was (`NotListed`, `Changed`), then so the rescue file that the round read, a fault of the DAG files, as
-/// that the file of a splice is missing (`InFiles`), and a record that may not follow those before it
+/// as it was (`NotListed`, `Changed`), then so the rescue file that the round read, but where the file that keeps them
+/// is there, is spelled as it is written and has the journal's digest (a file there that may be another user's is
+/// `FileRefused`), a fault of the DAG files, as that the file of a splice is missing (`InFiles`), and a record that may not follow those before it
 /// (`InManager`). Then a rescue file or a journal that the system refuses (`FileRefused`); the same call goes on
 /// from there. Want of memory may stand before any.
 pub fn salvage_here<R: Files<File = File> + Clock + AllocGlobal + Copy + Drop, F: Folder>(

@@ -33,7 +33,11 @@ pub struct Salvaged {
 ///
 /// # Errors
 /// `InManager` with the fault of the journal, and `Memory`.
-fn records_in(alloc: Global, plan: &Plan, journal: &[u8]) -> Result<Vec<Record>, RunFault>
+pub(crate) fn records_in(
+    alloc: Global,
+    plan: &Plan,
+    journal: &[u8],
+) -> Result<Vec<Record>, RunFault>
     ensures records { IfOk result (λ records. IsReplayOf (replay_of journal.now) records.items) }
     ensures refused { IfErr result (IsUnsalvaged plan.now journal.now) }
 {
@@ -49,7 +53,7 @@ fn records_in(alloc: Global, plan: &Plan, journal: &[u8]) -> Result<Vec<Record>,
 /// # Errors
 /// `InManager` with `Foreign` and the slot of the first record that may not follow those before it;
 /// `Memory`.
-fn core_of<'a>(
+pub(crate) fn core_of<'a>(
     alloc: Global,
     plan: &'a Plan,
     journal: &[u8],
@@ -71,7 +75,7 @@ fn core_of<'a>(
 }
 
 /// How many marks stand.
-fn count_marks(marks: &[bool]) -> usize
+pub(crate) fn count_marks(marks: &[bool]) -> usize
     ensures { result ≡ count_by (λ mark. mark) marks.now }
 {
     marks.iter().filter(|mark| **mark).count()

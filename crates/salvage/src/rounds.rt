@@ -7,7 +7,8 @@ ghost use Rattle.salvage.specs.Round.{IsUnfinishedRound, sum_in, IsSame, IsSameR
 ghost use Rattle.dag_main_files.specs.Beside.{journal_name_of};
 ghost use Rattle.dag_main_files.specs.Folder as held;
 ghost use Rattle.round_inputs.specs.Inputs.{inputs_name_of, inputs_text_of};
-ghost use Rattle.salvage.specs.Refused.{IsNoNumber, IsNotCutShort, IsNoRound, IsNoInputs, IsOtherFile, IsFirstOther, IsOtherRescue};
+ghost use Rattle.salvage.specs.Refused.{IsNoNumber, IsNotCutShort, IsNoRound, IsNoInputs};
+ghost use Rattle.salvage.specs.Others.{IsOtherFile, IsFirstOther, IsOtherRescue, IsOther};
 
 use crate::fault::SalvageFault;
 use dag_main_check::RunFault;
@@ -155,12 +156,7 @@ pub(crate) fn inputs_with<F: Folder>(
 ///
 /// # Errors
 /// `NotListed` where it is none of the round's files, `Changed` where it has another sum; `Memory`.
-pub(crate) fn check_file(
-    alloc: Global,
-    inputs: &Inputs,
-    path: &str,
-    bytes: &[u8],
-) -> Result<(), SalvageFault>
+fn check_file(alloc: Global, inputs: &Inputs, path: &str, bytes: &[u8]) -> Result<(), SalvageFault>
     ensures same { OnOk result (IsSame inputs.now.files.items (path.now, bytes.now)) }
     ensures refused { IfErr result (IsOtherFile inputs.now.files.items (path.now, bytes.now)) }
 {
@@ -177,11 +173,7 @@ pub(crate) fn check_file(
 ///
 /// # Errors
 /// As `check_file`, for the first of them.
-pub(crate) fn check_files(
-    alloc: Global,
-    inputs: &Inputs,
-    files: &FileSet,
-) -> Result<(), SalvageFault>
+fn check_files(alloc: Global, inputs: &Inputs, files: &FileSet) -> Result<(), SalvageFault>
     ensures same { OnOk result (All (IsSame inputs.now.files.items) (entries_of files.now)) }
     ensures refused { IfErr result (IsFirstOther inputs.now.files.items (entries_of files.now)) }
 {
@@ -203,7 +195,7 @@ fn has_file(inputs: &Inputs, path: &Text) -> bool
 /// # Errors
 /// As `check_file`; `Changed` where the file that it read is missing; a file that the system refuses to
 /// read.
-pub(crate) fn rescue_in<F: Folder>(
+fn rescue_in<F: Folder>(
     alloc: Global,
     folder: &F,
     top: &str,
@@ -230,4 +222,30 @@ pub(crate) fn rescue_in<F: Folder>(
         None if has_file(inputs, &path) => Err(SalvageFault::Changed(path)),
         None => Ok(None),
     }
+}
+
+/// The bytes of the rescue file that a round read, none where it read none, where the DAG files and it are those
+/// that the round was begun with.
+///
+/// # Errors
+/// As `check_files`, and then as `rescue_in`.
+pub(crate) fn rescue_as_it_was<F: Folder>(
+    alloc: Global,
+    folder: &F,
+    top: &str,
+    inputs: &Inputs,
+    files: &FileSet,
+    used: u16,
+) -> Result<Option<Vec<u8>>, SalvageFault>
+    requires { used ≤ 999 }
+    ensures files { IfOk result (λ bytes. All (IsSame inputs.now.files.items) (entries_of files.now)) }
+    ensures same { IfOk result (λ bytes. IsSameRescue inputs.now.files.items top.now used
+        (option_map (λ b. b.items) bytes)) }
+    // It is the one that the folder holds.
+    ensures held { F.honest folder.now → IfOk result (λ bytes.
+        option_map (λ b. b.items) bytes ≡ held.rescue_in (F.holds folder.now) top.now used) }
+    ensures refused { IfErr result (IsOther inputs.now.files.items top.now used files.now) }
+{
+    check_files(alloc, inputs, files)?;
+    rescue_in(alloc, folder, top, inputs, used)
 }

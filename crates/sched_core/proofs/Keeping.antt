@@ -11,7 +11,8 @@ use Rattle.run_plan.specs.Planned.{IsPlanned}
 use Rattle.run_plan.proofs.PlanFacts.{parents-below}
 use Rattle.sched_core.specs.declared.states.Looked.{Looked}
 use Rattle.sched_core.specs.Bound.{node_total}
-use Rattle.sched_core.specs.Core.{Shows, failed_after}
+use Rattle.sched_core.specs.Core.{Shows}
+use Rattle.sched_core.proofs.Failed.{failed_after}
 use Rattle.node_machine.proofs.Beginnings.{nil-good}
 use Rattle.throttles.specs.Throttled.{Throttled}
 use Rattle.throttles.specs.declared.Limits.{Limits}

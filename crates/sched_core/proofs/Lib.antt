@@ -35,3 +35,4 @@ mod Shares
 mod Holding
 mod Undone
 mod Turning
+pub mod Failed

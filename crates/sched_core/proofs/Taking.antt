@@ -19,7 +19,8 @@ use Rattle.run_plan.specs.Plan.{Plan, node_at, count_of, all_below}
 use Rattle.node_machine.specs.declared.Record.{Record}
 use Rattle.node_machine.specs.declared.Record.TheVariants.{Life, Launch, End, Finish}
 use Rattle.sched_core.specs.Run.{chronological, history, key_at, next, is_done, is_in_error, setting_is_met, has_abort_value, is_aborted, outstanding, is_among, is_lawful, may_follow}
-use Rattle.sched_core.specs.Core.{Shows, TakesRecord, run_at, aborted_in, has_abort_at, is_stuck_at, failed_after}
+use Rattle.sched_core.specs.Core.{Shows, TakesRecord, run_at, aborted_in, has_abort_at, is_stuck_at}
+use Rattle.sched_core.proofs.Failed.{failed_after}
 use Rattle.sched_core.specs.Commands.{failed_in, dag_status_in, newest_launch, facts_in}
 use Rattle.sched_core.specs.AttemptValues.{job_value_of, pre_value_of}
 use Rattle.sched_core.specs.Bound.{sum_below}

@@ -86,11 +86,6 @@ abbrev pub jobs_after : ℕ → Record → ℕ
 jobs_after jobs (Launch key number) = (if phase_number key.phase == 1 then 1 else 0) + jobs
 jobs_after jobs _ = jobs
 
--- the ordinary nodes in error, once a record made these of the nodes
-abbrev pub failed_after : Plan → List NodeProgress → ℕ → Record → ℕ
-failed_after plan runs failed (End key outcome) = if is_stuck_at plan runs key.node then suc failed else failed
-failed_after plan runs failed _ = failed
-
 -- a launch is of a node of the plan and of its next phase, while none runs; an ending is of one that runs,
 -- whose abort value doesn't stand there
 abbrev pub TakesRecord : Plan → List NodeProgress → Record → Type 0

@@ -74,6 +74,8 @@ fn four(alloc: Global) -> Result<Launcher, AllocError> {
         program: Some(Text::new(alloc, command.program.as_str())?),
         words: command.words.from_place(alloc, 0)?,
         spared: Some(1),
+        grace: 0,
+        keeps_output: false,
     })
 }
 

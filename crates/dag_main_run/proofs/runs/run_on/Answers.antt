@@ -27,10 +27,10 @@ returns-in_err-orphans-clause-refused g c =
     handed-on (IsStopFault _ _) c.from_residual.result c.from_residual.ensures.1
     (λ fault same. subst (IsStopFault _ _) (sym same) (not_cleared c.in_err-orphans.field-0.0 c.in_err-orphans.ensures))
 
-pub returns-in_err-keep_inputs-clause-refused : goal.returns-in_err-keep_inputs-clause-refused
-returns-in_err-keep_inputs-clause-refused g c =
-    by-fault (IsStopFault _ _) c.in_err-keep_inputs.field-0.0 (subst (IsStopFault _ _) (sym c.in_err-keep_inputs.ensures) leading_had_no_memory)
-    c.from_residual-in_err-keep_inputs.result c.from_residual-in_err-keep_inputs.ensures.1
+pub returns-in_err-left_out-clause-refused : goal.returns-in_err-left_out-clause-refused
+returns-in_err-left_out-clause-refused g c =
+    by-fault (IsStopFault _ _) c.in_err-left_out.field-0.0 (subst (IsStopFault _ _) (sym c.in_err-left_out.ensures) leading_had_no_memory)
+    c.from_residual-in_err-left_out.result c.from_residual-in_err-left_out.ensures.1
 
 pub returns-in_err-known-clause-refused : goal.returns-in_err-known-clause-refused
 returns-in_err-known-clause-refused g c = by-fault (IsStopFault _ _) Memory leading_had_no_memory c.from_residual-in_err-known.result c.from_residual-in_err-known.ensures.1

@@ -1,5 +1,6 @@
 use Rattle.std.proofs.Common.{rules, ◌≡◌, ℕ, List, Bor, IfOk, map, string_bytes, sym, subst}
 use Rattle.failure_answers.specs.Answered.{IsWhyOf, IsWhyHeld}
+use Rattle.redo.specs.Answered.{IsRedoOf, IsRedoHeld}
 use Rattle.dag_main_run.specs.Sites.{rounds_at}
 use Rattle.dag_main_args.specs.declared.request.Request.{Request}
 use Rattle.dag_main_args.specs.Requests.{asked_by}
@@ -68,6 +69,18 @@ pub returns-in-Salvage-clause-held : goal.returns-in-Salvage-clause-held
 returns-in-Salvage-clause-held g c = λ honest run.
     held-to (g.F.Folder.holds c.args.folder.now) (g.F.Folder.has c.args.folder.now) (rounds_at g.F.Journal.Disk g.F.Rescue.Disk (g.F.Site.own c.args.folder.now) (g.F.Folder.honest c.args.folder.now) (g.F.Folder.holds c.args.folder.now))
     c.args.request _ c.in-Salvage.is c.salvage_in.result (c.salvage_in.ensures.held honest) c.salvage_in.ensures.refused
+
+pub returns-in-Redo-clause-some : goal.returns-in-Redo-clause-some
+returns-in-Redo-clause-some g c = λ run.
+    let same : c.deref-in-Redo.result.now ≡ c.in-Redo.nodes.items = search rules in
+    some-to (rounds_at g.F.Journal.Disk g.F.Rescue.Disk (g.F.Site.own c.args.folder.now) (g.F.Folder.honest c.args.folder.now) (g.F.Folder.holds c.args.folder.now))
+    c.args.request _ c.in-Redo.is c.redo_here.result (subst (λ (ns : List (Bor (List ℕ))). IfOk c.redo_here.result (λ answer. IsRedoOf c.in-Redo.dag.now (map (λ (n : Bor (List ℕ)). n.now) ns) c.in-Redo.only (string_bytes answer.text) (string_bytes answer.warnings) answer.status)) same c.redo_here.ensures.redone) c.redo_here.ensures.refused
+
+pub returns-in-Redo-clause-held : goal.returns-in-Redo-clause-held
+returns-in-Redo-clause-held g c = λ honest run.
+    let same : c.deref-in-Redo.result.now ≡ c.in-Redo.nodes.items = search rules in
+    held-to (g.F.Folder.holds c.args.folder.now) (g.F.Folder.has c.args.folder.now) (rounds_at g.F.Journal.Disk g.F.Rescue.Disk (g.F.Site.own c.args.folder.now) (g.F.Folder.honest c.args.folder.now) (g.F.Folder.holds c.args.folder.now))
+    c.args.request _ c.in-Redo.is c.redo_here.result (subst (λ (ns : List (Bor (List ℕ))). IfOk c.redo_here.result (λ answer. IsRedoHeld (g.F.Folder.holds c.args.folder.now) c.in-Redo.dag.now (map (λ (n : Bor (List ℕ)). n.now) ns) c.in-Redo.only (string_bytes answer.text) (string_bytes answer.warnings) answer.status)) same (c.redo_here.ensures.held honest)) c.redo_here.ensures.refused
 
 pub returns-in-Check-clause-some : goal.returns-in-Check-clause-some
 returns-in-Check-clause-some g c = λ run.

@@ -11,14 +11,5 @@ returns-in_err-inputs g c = by-fault IsFileFault c.in_err-inputs.field-0.0 (subs
 pub returns-in_err-text : goal.returns-in_err-text
 returns-in_err-text g c = by-fault IsFileFault Memory reading_had_no_memory c.from_residual-in_err-text.result c.from_residual-in_err-text.ensures.1
 
-pub returns-in_err-disk : goal.returns-in_err-disk
-returns-in_err-disk g c = by-fault IsFileFault Memory reading_had_no_memory c.from_residual-in_err-disk.result c.from_residual-in_err-disk.ensures.1
-
-pub returns-in_err-path-in-Err : goal.returns-in_err-path-in-Err
-returns-in_err-path-in-Err g c = by-fault IsFileFault Memory reading_had_no_memory c.from_residual-in_err-path-in-Err.result c.from_residual-in_err-path-in-Err.ensures.1
-
-pub returns-in_err-from_str-in-Err : goal.returns-in_err-from_str-in-Err
-returns-in_err-from_str-in-Err g c = by-fault IsFileFault Memory reading_had_no_memory c.from_residual-in_err-from_str-in-Err.result c.from_residual-in_err-from_str-in-Err.ensures.1
-
-pub returns : goal.returns
-returns g c = file_refused c.in_ok-from_str-in-Err.field-0
+pub returns-in_err-path : goal.returns-in_err-path
+returns-in_err-path g c = by-fault IsFileFault Memory reading_had_no_memory c.from_residual-in_err-path.result c.from_residual-in_err-path.ensures.1

@@ -1,4 +1,4 @@
-use Rattle.std.proofs.Common.{List, [], Option, Some, None, ap, subst, sym}
+use Rattle.std.proofs.Common.{List, Option, Some, None, ap, subst, sym}
 use Rattle.std.specs.Option.{option_map}
 use Rattle.node_machine.specs.declared.Record.{Record}
 use Rattle.event_journal_log.specs.Image.{replay_of}

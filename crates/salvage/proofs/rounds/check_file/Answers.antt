@@ -1,7 +1,7 @@
 use Rattle.std.proofs.Common.{◌∙◌, List, ℕ, sym, subst}
 use Rattle.dag_main_check.specs.declared.fault.RunFault.TheVariants.{Memory}
 use Rattle.salvage.specs.declared.fault.SalvageFault.TheVariants.{Refused, NotListed, Changed}
-use Rattle.salvage.specs.Refused.{IsOtherFile, not_listed, changed, comparing_had_no_memory}
+use Rattle.salvage.specs.Others.{IsOtherFile, not_listed, changed, comparing_had_no_memory}
 use Rattle.salvage.proofs.Refusals.{told-as, differ}
 use Rattle.salvage.proofs.rounds.check_file.Goals as goal
 

@@ -4,7 +4,7 @@ use Rattle.std.proofs.lemmas.Map.Iter.{iter_end, rest_so_far, rest_more}
 use Rattle.std.proofs.lemmas.List.Elements.{All-nil, All-push}
 use Rattle.splices_flat.specs.FileSet.{entries_of}
 use Rattle.salvage.specs.Round.{IsSame}
-use Rattle.salvage.specs.Refused.{IsFirstOther, IsOtherFile}
+use Rattle.salvage.specs.Others.{IsFirstOther, IsOtherFile}
 use Rattle.round_inputs.proofs.Listings.{lent_file, entries_all}
 use Rattle.salvage.proofs.Refusals.{told-as, first-other}
 use Rattle.salvage.proofs.rounds.check_files.Goals as goal

@@ -4,7 +4,8 @@ use Rattle.dag_main_check.specs.declared.fault.RunFault.TheVariants.{Memory}
 use Rattle.dag_main_files.specs.Beside.{reading_had_no_memory}
 use Rattle.salvage.specs.declared.fault.SalvageFault.TheVariants.{Refused, NoJournal}
 use Rattle.salvage.specs.Refused.{IsNoRound, IsNotCutShort, has_no_journal, journal_refused, not_cut_short}
-use Rattle.salvage.proofs.Refusals.{told-as, weaker-as, if-ok}
+use Rattle.salvage.proofs.Results.{if-ok}
+use Rattle.salvage.proofs.Refusals.{told-as, weaker-as}
 use Rattle.salvage.proofs.rounds.cut_short.Goals as goal
 
 pub returns-in_err-name-clause-refused : goal.returns-in_err-name-clause-refused

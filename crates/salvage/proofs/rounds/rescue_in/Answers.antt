@@ -3,7 +3,7 @@ use Rattle.std.specs.Prelude.{is_some}
 use Rattle.std.specs.Option.{option_map}
 use Rattle.salvage.specs.Round.{sum_in}
 use Rattle.salvage.specs.declared.fault.SalvageFault.TheVariants.{Refused, Changed}
-use Rattle.salvage.specs.Refused.{IsOtherRescue, IsOtherFile, rescue_missing, rescue_changed, rescue_refused}
+use Rattle.salvage.specs.Others.{IsOtherRescue, IsOtherFile, rescue_missing, rescue_changed, rescue_refused}
 use Rattle.dag_main_files.specs.Beside.{IsFileFault, reading_had_no_memory}
 use Rattle.dag_main_files.proofs.Held.{rescue-held}
 use Rattle.salvage.proofs.Refusals.{told-as}

@@ -13,6 +13,9 @@ returns-in-BelowQueue-clause-writes g c = λ plain ok. subst (λ (hint : Hint). 
 pub returns-in-MissingProgram-clause-writes : goal.returns-in-MissingProgram-clause-writes
 returns-in-MissingProgram-clause-writes g c = λ plain ok. subst (λ (hint : Hint). HasWritten g.W.Write.write_str_gives c.args.f.now (hint_text hint) c.write-in-MissingProgram.new.self) (sym c.in-MissingProgram.is) (c.write-in-MissingProgram.ensures.writes plain ok)
 
+pub returns-in-Elsewhere-clause-writes : goal.returns-in-Elsewhere-clause-writes
+returns-in-Elsewhere-clause-writes g c = λ plain ok. subst (λ (hint : Hint). HasWritten g.W.Write.write_str_gives c.args.f.now (hint_text hint) c.write-in-Elsewhere.new.self) (sym c.in-Elsewhere.is) (c.write-in-Elsewhere.ensures.writes plain ok)
+
 pub returns-in-FolderAsProgram-clause-writes : goal.returns-in-FolderAsProgram-clause-writes
 returns-in-FolderAsProgram-clause-writes g c = λ plain ok. subst (λ (hint : Hint). HasWritten g.W.Write.write_str_gives c.args.f.now (hint_text hint) c.write-in-FolderAsProgram.new.self) (sym c.in-FolderAsProgram.is) (c.write-in-FolderAsProgram.ensures.writes plain ok)
 

@@ -2,7 +2,8 @@ use Rattle.std.proofs.Common.{◌≡◌, ◌∙◌, ◌+◌, ◌≤◌, true, su
 use Rattle.std.proofs.lemmas.List.{length-reverse, reverse-append}
 use Rattle.node_machine.specs.declared.Record.{Record}
 use Rattle.sched_core.specs.Run.{may_follow}
-use Rattle.sched_core.specs.Core.{Progress, Shows, failed_after}
+use Rattle.sched_core.specs.Core.{Progress, Shows}
+use Rattle.sched_core.proofs.Failed.{failed_after}
 use Rattle.sched_core.specs.Kept.{IsLookedFor}
 use Rattle.sched_core.specs.Looks.{stops, further_looks}
 use Rattle.sched_core.specs.States.{AreLeft}

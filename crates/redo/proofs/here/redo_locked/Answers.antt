@@ -1,0 +1,52 @@
+use Rattle.std.proofs.Common.{ℕ, List, sym, subst, string_bytes}
+use Rattle.std.proofs.lemmas.Result.{IfOk-weaker}
+use Rattle.dag_main_files.specs.Beside.{folder_not_read}
+use Rattle.dag_main_files.proofs.RunFaults.{by-fault, input-is-file}
+use Rattle.dag_main_inspect.specs.Asked.{no_last_round, not_told}
+use Rattle.dag_main_inspect.proofs.Rounds.{same-round}
+use Rattle.redo.specs.Answered.{IsFoundBy, IsRedoReport, IsRedoFault, not_answered, of_round, of_held}
+use Rattle.redo.proofs.Answers.{redone-so, unknown-so}
+use Rattle.redo.proofs.here.redo_locked.Goals as goal
+
+pub returns-in_err-round-clause-refused : goal.returns-in_err-round-clause-refused
+returns-in_err-round-clause-refused g c =
+    by-fault (IsRedoFault c.args.place.now.top.now) c.in_err-round.field-0.0 (not_answered _ (no_last_round _ c.in_err-round.ensures.refused))
+    c.from_residual.result c.from_residual.ensures.1
+
+pub returns-in_err-files-clause-refused : goal.returns-in_err-files-clause-refused
+returns-in_err-files-clause-refused g c =
+    by-fault (IsRedoFault c.args.place.now.top.now) c.in_err-files.field-0.0
+    (not_answered _ (no_last_round _ (folder_not_read _ tt (input-is-file _ _ c.in_err-files.ensures.refused))))
+    c.from_residual-in_err-files.result c.from_residual-in_err-files.ensures.1
+
+pub returns-clause-refused : goal.returns-clause-refused
+returns-clause-refused g c =
+    subst (IsRedoFault c.args.place.now.top.now) (sym c.named.ensures)
+    (not_answered _ (not_told c.in_ok-files.files _ _ c.in_ok-round.round.name c.in-Err.fault c.in-Err.ensures.refused))
+
+pub returns-in-Ok-Marked-clause-redone : goal.returns-in-Ok-Marked-clause-redone
+returns-in-Ok-Marked-clause-redone g c =
+    IfOk-weaker c.write_marked.result _ _ (λ answer r. of_round c.in_ok-files.files _ _
+    (redone-so _ _ _ _ _ _ c.in-Ok-Marked.marked _ _ _ (subst (IsFoundBy _ _ _ _ _ _) c.in-Ok-Marked.field-0-is c.in-Ok-Marked.ensures.found)
+    (subst (λ (b : List ℕ). IsRedoReport c.args.place.now.top.now b c.in-Ok-Marked.marked.redone.done c.in-Ok-Marked.marked.total (string_bytes c.in-Ok-Marked.marked.warnings) (string_bytes answer.text) (string_bytes answer.warnings) answer.status)
+    c.bytes_in.ensures r))) c.write_marked.ensures.report
+
+pub returns-in-Ok-Marked-clause-held : goal.returns-in-Ok-Marked-clause-held
+returns-in-Ok-Marked-clause-held g c = λ honest.
+    IfOk-weaker c.write_marked.result _ _ (λ answer r. of_held c.in_ok-files.files _ _ (c.in_ok-files.ensures.read honest)
+    (same-round _ _ _ _ _ _ (c.in_ok-round.ensures.round honest) c.as_deref-journal.ensures.value c.as_deref-rescue.ensures.value)
+    (redone-so _ _ _ _ _ _ c.in-Ok-Marked.marked _ _ _ (subst (IsFoundBy _ _ _ _ _ _) c.in-Ok-Marked.field-0-is c.in-Ok-Marked.ensures.found)
+    (subst (λ (b : List ℕ). IsRedoReport c.args.place.now.top.now b c.in-Ok-Marked.marked.redone.done c.in-Ok-Marked.marked.total (string_bytes c.in-Ok-Marked.marked.warnings) (string_bytes answer.text) (string_bytes answer.warnings) answer.status)
+    c.bytes_in.ensures r))) c.write_marked.ensures.report
+
+pub returns-in-Ok-Unknown-clause-redone : goal.returns-in-Ok-Unknown-clause-redone
+returns-in-Ok-Unknown-clause-redone g c =
+    of_round c.in_ok-files.files _ _ (unknown-so _ _ _ _ _ _ c.in-Ok-Unknown.line _ c.new.ensures.bytes
+    (subst (IsFoundBy _ _ _ _ _ _) c.in-Ok-Unknown.field-0-is c.in-Ok-Unknown.ensures.found))
+
+pub returns-in-Ok-Unknown-clause-held : goal.returns-in-Ok-Unknown-clause-held
+returns-in-Ok-Unknown-clause-held g c = λ honest.
+    of_held c.in_ok-files.files _ _ (c.in_ok-files.ensures.read honest)
+    (same-round _ _ _ _ _ _ (c.in_ok-round.ensures.round honest) c.as_deref-journal.ensures.value c.as_deref-rescue.ensures.value)
+    (unknown-so _ _ _ _ _ _ c.in-Ok-Unknown.line _ c.new.ensures.bytes
+    (subst (IsFoundBy _ _ _ _ _ _) c.in-Ok-Unknown.field-0-is c.in-Ok-Unknown.ensures.found))

@@ -1,0 +1,93 @@
+-- What `redo` answers, and why it is refused.
+use Rattle.std.specs.Prelude.{◌≡◌, ℕ, Bool, List, [], ◌++◌, Option, Some, IsTrue, codes, string_bytes}
+use Rattle.splices_flat.specs.Opening.{Files}
+use Rattle.splices_flat.specs.FileSet.{bytes_of, entries_of}
+use Rattle.splices_flat.specs.declared.file_set.FileSet.{FileSet}
+use Rattle.node_machine.specs.declared.Record.{Record}
+use Rattle.rescue_file.specs.Numbered.{rescue_name_of}
+use Rattle.run_plan.specs.Plan.{Plan, count_of}
+use Rattle.sched_core.specs.Run.{chronological, is_lawful}
+use Rattle.log_lines.specs.Words.{word_text}
+use Rattle.dag_main_check.specs.Planned.{IsPlanWith}
+use Rattle.dag_main_check.specs.Warnings.{warning_lines}
+use Rattle.dag_main_check.specs.declared.fault.RunFault.{RunFault}
+use Rattle.dag_main_files.specs.Beside.{IsFileFault}
+use Rattle.dag_main_files.specs.Folder.{IsReadFrom}
+use Rattle.dag_main_inspect.specs.Asked.{IsAnswerFault}
+use Rattle.dag_main_inspect.specs.LastRound.{IsLastRound}
+use Rattle.dag_main_inspect.specs.Statused.{journal_bytes, flag_by, records_in_bytes}
+use Rattle.dag_main_inspect.specs.declared.by_journal.Question.TheVariants.{Status}
+use Rattle.failure_report.specs.Named.{AreNumbers, IsUnknownName}
+use Rattle.salvage.specs.Salvaged.{report_line}
+use Rattle.redo.specs.Redone.{IsRedone}
+use Rattle.redo.specs.Numbers.{IsNextNumber}
+use Rattle.redo.specs.declared.here.Found.{Found}
+use Rattle.redo.specs.declared.here.Found.TheVariants.{Marked, Unknown}
+
+-- `dagrun: DAG has no round whose nodes are done`
+abbrev pub no_round_line : List ℕ → List ℕ
+no_round_line path = codes "dagrun: " ++ (word_text path ++ codes " has no round whose nodes are done\n")
+
+-- The rescue file of a run without these nodes, how many it marks of how many, and the warnings of the files.
+pub record IsMarkedOf (plan : Plan) (past : List Record) (only : Bool) (numbers text : List ℕ) (done total : ℕ) (warnings : List ℕ) : Type 0 where
+  pub redone : IsRedone plan past only numbers text done
+  pub total_is : total ≡ count_of plan
+  pub warnings_are : warnings ≡ warning_lines plan.graph.dag.warnings
+
+-- what is found of the nodes of these names: the rescue file without them; or what is reported of the first name that is none
+abbrev pub IsFoundOfNames : Plan → List Record → (path : List ℕ) → (names : List (List ℕ)) → (only : Bool) → Found → Type 0
+IsFoundOfNames plan past path names only (Marked marked) = (numbers : List ℕ) × AreNumbers plan names numbers
+    × IsMarkedOf plan past only numbers (string_bytes marked.redone.text) marked.redone.done marked.total (string_bytes marked.warnings)
+IsFoundOfNames plan past path names only (Unknown line) = IsUnknownName plan path names (string_bytes line)
+
+-- that is found in the plan of these files, with a rescue file or none, where the records of a journal or none are lawful
+pub record IsFoundBy (files : FileSet) (path : List ℕ) (rescue journal : Option (List ℕ)) (names : List (List ℕ)) (only : Bool) (found : Found) : Type 0 where
+  pub plan : Plan
+  pub planned : IsPlanWith (flag_by journal) (bytes_of files) (entries_of files) path rescue plan
+  pub past : List Record
+  pub are_records : records_in_bytes plan (journal_bytes journal) ≡ Some (chronological past)
+  pub lawful : IsTrue (is_lawful plan past)
+  pub found_is : IsFoundOfNames plan past path names only found
+
+-- What is printed of a rescue file that marks so many nodes of so many, of the round whose journal has these bytes: that, with its name.
+pub record IsRedoReport (path journal : List ℕ) (done total : ℕ) (file_warnings text warnings : List ℕ) (status : ℕ) : Type 0 where
+  pub number : ℕ
+  pub next : IsNextNumber journal number
+  pub text_is : text ≡ report_line done total (rescue_name_of path number)
+  pub warnings_are : warnings ≡ file_warnings
+  pub status_is : status ≡ 0
+
+-- The answer of a run of the DAG file of a path: how many nodes stay done where those of these names run again, and the name of the rescue file
+-- that marks them; or, where a name is none of a node, the line that reports it as a warning.
+pub data IsRedoAnswer (plan : Plan) (past : List Record) (path journal : List ℕ) (names : List (List ℕ)) (only : Bool) (text warnings : List ℕ) (status : ℕ) : Type 0 where
+  stays_done_so : (numbers rescue_text : List ℕ) (done : ℕ) → AreNumbers plan names numbers → IsRedone plan past only numbers rescue_text done →
+      IsRedoReport path journal done (count_of plan) (warning_lines plan.graph.dag.warnings) text warnings status →
+      IsRedoAnswer plan past path journal names only text warnings status
+  unknown_name : IsUnknownName plan path names warnings → text ≡ [] → status ≡ 125 → IsRedoAnswer plan past path journal names only text warnings status
+
+-- that is the answer of the plan of these files, with a rescue file or none, where the records of a journal or none are lawful
+pub record IsRedoFrom (files : FileSet) (path : List ℕ) (rescue journal : Option (List ℕ)) (names : List (List ℕ)) (only : Bool) (text warnings : List ℕ) (status : ℕ) : Type 0 where
+  pub plan : Plan
+  pub planned : IsPlanWith (flag_by journal) (bytes_of files) (entries_of files) path rescue plan
+  pub past : List Record
+  pub are_records : records_in_bytes plan (journal_bytes journal) ≡ Some (chronological past)
+  pub lawful : IsTrue (is_lawful plan past)
+  pub answer : IsRedoAnswer plan past path (journal_bytes journal) names only text warnings status
+
+-- That is the answer for the DAG file of a path: of some files, with a rescue file or none and a journal or none; or there is no round.
+pub data IsRedoOf (path : List ℕ) (names : List (List ℕ)) (only : Bool) (text warnings : List ℕ) (status : ℕ) : Type 0 where
+  has_no_round : text ≡ [] → warnings ≡ no_round_line path → status ≡ 125 → IsRedoOf path names only text warnings status
+  of_round : (files : FileSet) (rescue journal : Option (List ℕ)) → IsRedoFrom files path rescue journal names only text warnings status →
+      IsRedoOf path names only text warnings status
+
+-- The same where these files are held: of the DAG file and those that were read with it, the journal, and the rescue file that the journal's
+-- header names.
+pub data IsRedoHeld (holds : Files) (path : List ℕ) (names : List (List ℕ)) (only : Bool) (text warnings : List ℕ) (status : ℕ) : Type 0 where
+  held_no_round : text ≡ [] → warnings ≡ no_round_line path → status ≡ 125 → IsRedoHeld holds path names only text warnings status
+  of_held : (files : FileSet) (rescue journal : Option (List ℕ)) → IsReadFrom holds path files → IsLastRound holds path journal rescue →
+      IsRedoFrom files path rescue journal names only text warnings status → IsRedoHeld holds path names only text warnings status
+
+-- Why nothing is answered: for a cause for which `status` is refused; or the system refuses a file, or memory ran out.
+pub data IsRedoFault (path : List ℕ) : RunFault → Type 0 where
+  not_answered : (fault : RunFault) → IsAnswerFault Status path fault → IsRedoFault path fault
+  file_not_written : (fault : RunFault) → IsFileFault fault → IsRedoFault path fault

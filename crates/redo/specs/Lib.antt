@@ -1,0 +1,3 @@
+pub mod Redone
+pub mod Numbers
+pub mod Answered

@@ -1,0 +1,104 @@
+//! The number of the next rescue file.
+
+ghost use Rattle.std.specs.Prelude.{◌≡◌, ◌≤◌, ℕ, List, None, Some, IfOk, IfErr};
+ghost use Rattle.event_journal_log.specs.Image.{replay_of};
+ghost use Rattle.event_journal_log.specs.Peeks.{ReadsPeek};
+ghost use Rattle.rescue_file.specs.Numbered.{IsFileNumber};
+ghost use Rattle.dag_main_files.specs.Beside.{IsRoundFault, number_behind};
+ghost use Rattle.redo.specs.Numbers.{IsNextNumber};
+
+use dag_main_check::RunFault;
+use dag_main_files::{Folder, LAST_NUMBER, peek_in};
+use event_journal_log::Peek;
+use std::alloc::Global;
+
+/// The number of the next rescue file of a round.
+#[derive(Clone, Copy)]
+pub(crate) struct Next {
+    pub number: u16,
+    /// Whether the round was cut short.
+    pub cut_short: bool,
+}
+
+/// The number after the highest; 999 is written again.
+fn number_after(highest: u16) -> u16
+    ensures number { IsFileNumber result }
+    ensures after { result ≡ number_behind highest }
+{
+    if highest < LAST_NUMBER {
+        highest + 1
+    } else {
+        LAST_NUMBER
+    }
+}
+
+/// The number of the next rescue file of a round that was cut short, by its header.
+///
+/// # Errors
+/// `NotThere` with a number that no rescue file has.
+fn next_in_header(next: u16) -> Result<Next, RunFault>
+    ensures number { IfOk result (λ found. IsFileNumber found.number) }
+    ensures same { IfOk result (λ found. found.number ≡ next) }
+    ensures refused { IfErr result (IsRoundFault None) }
+{
+    if next < 1 || next > LAST_NUMBER {
+        return Err(RunFault::NotThere(next));
+    }
+    Ok(Next {
+        number: next,
+        cut_short: true,
+    })
+}
+
+/// The number of the next rescue file of another round: that after the highest.
+///
+/// # Errors
+/// `FileRefused` with the folder that the system refuses to list; `Memory`.
+fn next_in_folder<F: Folder>(alloc: Global, folder: &F, top: &str) -> Result<Next, RunFault>
+    ensures number { IfOk result (λ found. IsFileNumber found.number) }
+    ensures after { IfOk result (λ found. (highest : ℕ) × (highest ≤ 999) × (found.number ≡ number_behind highest)) }
+    ensures refused { IfErr result (IsRoundFault None) }
+{
+    let highest = folder.highest(alloc, top)?;
+    Ok(Next {
+        number: number_after(highest),
+        cut_short: false,
+    })
+}
+
+/// The number of the next rescue file of a round, by what its header says.
+///
+/// # Errors
+/// As `next_number` has them but for the first.
+fn next_by<F: Folder>(alloc: Global, folder: &F, top: &str, peek: &Peek) -> Result<Next, RunFault>
+    ensures number { IfOk result (λ next. IsFileNumber next.number) }
+    ensures next { IfOk result (λ next. (journal : List ℕ) → ReadsPeek (Some peek.now) (replay_of journal) → IsNextNumber journal next.number) }
+    ensures refused { IfErr result (IsRoundFault None) }
+{
+    if peek.finished {
+        return next_in_folder(alloc, folder, top);
+    }
+    next_in_header(peek.next)
+}
+
+/// The number of the next rescue file of the round whose journal has these bytes: of one that was cut short that of its header,
+/// and of another one the number after the highest.
+///
+/// # Errors
+/// A journal that can't be read (`InManager`), a number in its header that no rescue file has (`NotThere`), a folder that the
+/// system refuses to list (`FileRefused`); `Memory`.
+pub(crate) fn next_number<F: Folder>(
+    alloc: Global,
+    folder: &F,
+    top: &str,
+    journal: &[u8],
+) -> Result<Next, RunFault>
+    ensures number { IfOk result (λ next. IsFileNumber next.number) }
+    ensures next { IfOk result (λ next. IsNextNumber journal.now next.number) }
+    ensures refused { IfErr result (IsRoundFault None) }
+{
+    match peek_in(alloc, journal)? {
+        Some(peek) => next_by(alloc, folder, top, &peek),
+        None => next_in_folder(alloc, folder, top),
+    }
+}

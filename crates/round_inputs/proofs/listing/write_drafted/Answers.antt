@@ -1,0 +1,14 @@
+use Rattle.std.proofs.Common.{sym, subst}
+use Rattle.dag_main_check.specs.declared.fault.RunFault.TheVariants.{Memory}
+use Rattle.dag_main_files.specs.Beside.{IsFileFault, file_refused, reading_had_no_memory}
+use Rattle.dag_main_files.proofs.RunFaults.{by-fault}
+use Rattle.round_inputs.proofs.listing.write_drafted.Goals as goal
+
+pub returns-in_err-disk : goal.returns-in_err-disk
+returns-in_err-disk g c = by-fault IsFileFault Memory reading_had_no_memory c.from_residual.result c.from_residual.ensures.1
+
+pub returns-in_err-from_str-in-Err : goal.returns-in_err-from_str-in-Err
+returns-in_err-from_str-in-Err g c = by-fault IsFileFault Memory reading_had_no_memory c.from_residual-in_err-from_str-in-Err.result c.from_residual-in_err-from_str-in-Err.ensures.1
+
+pub returns : goal.returns
+returns g c = file_refused c.in_ok-from_str-in-Err.field-0
