@@ -1237,7 +1237,16 @@ def stat_of(process):
 
 
 def runs_still(process):
-    return os.path.exists(f"/proc/{process}/stat") and stat_of(process)[0] not in "ZX"
+    try:
+        return stat_of(process)[0] not in "ZX"
+    except (FileNotFoundError, ProcessLookupError):
+        return False
+
+
+def end_process(process):
+    """Kills a process, and waits until it has ended: on a busy machine that takes a while."""
+    os.kill(process, signal.SIGKILL)
+    wait_until(lambda: not runs_still(process), f"{process} runs")
 
 
 def wait_for_pauses(process, count):
@@ -1339,7 +1348,7 @@ def another_process_of_that_number(folder):
     """A process that has the number of a child that is gone is left alone, whatever the note of it says: it is none of the round."""
     process = left_running(folder)
     fields = folder.read("x.dag.children").decode().splitlines(keepends=True)[-1].split("\t")
-    os.kill(process, signal.SIGKILL)
+    end_process(process)
     other = subprocess.Popen(["sleep", "100"])
     try:
         began = stat_of(other.pid)[19]
