@@ -11,7 +11,7 @@ import sys
 
 HERE = os.path.dirname(os.path.abspath(__file__))
 # The values of options that take one of a few.
-VALUES = {"autorescue": ["0", "1"], "sync-output": ["0", "1"], "orphans": ["kill", "wait", "leave"], "progress": ["auto", "always", "never"]}
+VALUES = {"autorescue": ["0", "1"], "script-output": ["0", "1"], "sync-output": ["0", "1"], "orphans": ["kill", "wait", "leave"], "progress": ["auto", "always", "never"]}
 
 
 class Help:
@@ -125,7 +125,19 @@ def bash(top, helps):
     names = {told.command: [name for name, _, _ in told.arguments()] for told in helps}
     plain = [command for command, of_it in names.items() if "DAG" not in of_it and "COMMAND" not in of_it]
     of_commands = [command for command, of_it in names.items() if "COMMAND" in of_it]
+    of_codes = [command for command, of_it in names.items() if "CODE" in of_it]
+    of_nodes = [command for command, of_it in names.items() if "NODE" in of_it]
+    plain = [command for command in plain if command not in of_codes]
     return f"""# bash completion for dagrun; made by packaging/generate.py.
+
+# Offers the first words of the lines that dagrun prints, where they begin with this word. No word is expanded: names of nodes are input.
+_dagrun_first_words() {{
+    local word=$1 first rest
+    while read -r first rest; do
+        if [[ $first == "$word"* ]]; then COMPREPLY+=("$(printf %q "$first")"); fi
+    done < <("${{COMP_WORDS[0]}}" "${{@:2}}" 2>/dev/null)
+}}
+
 _dagrun() {{
     local word=${{COMP_WORDS[COMP_CWORD]}} before=${{COMP_WORDS[COMP_CWORD - 1]}} command='' options='' values='' dag='' place
     COMPREPLY=()
@@ -156,7 +168,18 @@ _dagrun() {{
             COMPREPLY=($(compgen -W '{' '.join(told.command for told in helps)}' -- "$word"))
             return
             ;;
+        {'|'.join(of_codes)})
+            _dagrun_first_words "$word" explain
+            return
+            ;;
         {'|'.join(plain)}) return ;;
+    esac
+    # After the DAG file come its nodes.
+    case $command:$dag in
+        {'|'.join(command + ':?*' for command in of_nodes)})
+            _dagrun_first_words "$word" status "$dag"
+            return
+            ;;
     esac
     # DAG files and folders, and any file where there are none, or where the DAG file stands already.
     local IFS=$'\\n'
@@ -192,12 +215,24 @@ def zsh(top, helps):
         for place, (name, needed, _) in enumerate(told.arguments(), 1):
             colons = ":" if needed else "::"
             commands = f"({' '.join(told.command for told in helps)})"
-            files = {"DAG": '_files -g "*.dag"', "OUTCOMES": "_files", "COMMAND": commands}.get(name, "")
-            lines.append(f"'{place}{colons}{name}:{files}'")
+            files = {"DAG": '_files -g "*.dag"', "OUTCOMES": "_files", "COMMAND": commands, "CODE": "_dagrun_codes", "NODE": "_dagrun_nodes"}.get(name, "")
+            lines.append(f"'*:{name}:{files}'" if name == "NODE" else f"'{place}{colons}{name}:{files}'")
         joined = " \\\n                ".join(lines)
         cases += f"        {told.command})\n            _arguments \\\n                {joined}\n            ;;\n"
     return f"""#compdef dagrun
 # zsh completion for dagrun; made by packaging/generate.py.
+_dagrun_nodes() {{
+    local -a nodes
+    nodes=(${{(f)"$(dagrun status ${{(Q)words[(r)*.dag]}} 2>/dev/null | cut -d' ' -f1)"}})
+    compadd -a nodes
+}}
+
+_dagrun_codes() {{
+    local -a codes
+    codes=(${{(f)"$(dagrun explain 2>/dev/null | cut -d' ' -f1)"}})
+    compadd -a codes
+}}
+
 _dagrun() {{
     local -a commands
     commands=(
@@ -220,11 +255,18 @@ def fish(top, helps):
     for name, text in top.parts["Commands"]:
         lines.append(f"complete -c dagrun -n __fish_use_subcommand -f -a {name} -d '{quoted_in_fish(text)}'")
     lines.append("complete -c dagrun -s h -l help -f -d 'Print help'")
+    lines.append("function __dagrun_dag\n    string match -- '*.dag' (commandline -opc)\nend")
     for told in helps:
         here = f"complete -c dagrun -n '__fish_seen_subcommand_from {told.command}'"
         for name, value, text in told.options():
             values = f" -a '{' '.join(VALUES[name])}'" if name in VALUES else ""
             lines.append(f"{here} -l {name}{' -x' if value else ''}{values} -d '{quoted_in_fish(text)}'")
+        names = [name for name, _, _ in told.arguments()]
+        if "CODE" in names:
+            lines.append(f"{here} -f -a '(dagrun explain 2>/dev/null | string replace -r \" .*\" \"\")'")
+        if "NODE" in names:
+            behind = f"complete -c dagrun -n '__fish_seen_subcommand_from {told.command}; and count (__dagrun_dag) >/dev/null'"
+            lines.append(f"{behind} -f -a '(dagrun status (__dagrun_dag)[1] 2>/dev/null | string replace -r \" .*\" \"\")'")
     return "\n".join(lines) + "\n"
 
 

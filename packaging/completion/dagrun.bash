@@ -1,4 +1,13 @@
 # bash completion for dagrun; made by packaging/generate.py.
+
+# Offers the first words of the lines that dagrun prints, where they begin with this word. No word is expanded: names of nodes are input.
+_dagrun_first_words() {
+    local word=$1 first rest
+    while read -r first rest; do
+        if [[ $first == "$word"* ]]; then COMPREPLY+=("$(printf %q "$first")"); fi
+    done < <("${COMP_WORDS[0]}" "${@:2}" 2>/dev/null)
+}
+
 _dagrun() {
     local word=${COMP_WORDS[COMP_CWORD]} before=${COMP_WORDS[COMP_CWORD - 1]} command='' options='' values='' dag='' place
     COMPREPLY=()
@@ -14,8 +23,9 @@ _dagrun() {
         --autorescue) values='0 1' ;;
         --orphans) values='kill wait leave' ;;
         --progress) values='auto always never' ;;
+        --script-output) values='0 1' ;;
         --sync-output) values='0 1' ;;
-        --dorescuefrom|--launcher|--launcher-grace|--log-limit|--maxjobs|--maxpost|--maxpre|--script-output) return ;;
+        --dorescuefrom|--launcher|--launcher-grace|--log-limit|--maxjobs|--maxpost|--maxpre) return ;;
     esac
     if [ -n "$values" ]; then
         COMPREPLY=($(compgen -W "$values" -- "$word"))
@@ -23,7 +33,7 @@ _dagrun() {
     fi
     case $command in
         '') options='run status why times salvage redo audit check rehearse graph explain help version --help' ;;
-        run) options='--maxjobs --maxpre --maxpost --autorescue --dorescuefrom --always-run-post --sync-output --script-output --log-limit --launcher --launcher-final --launcher-grace --orphans --progress --resume --trust-owner --help' ;;
+        run) options='--maxjobs --maxpre --maxpost --autorescue --dorescuefrom --always-run-post --stop-at-first-error --sync-output --script-output --log-limit --launcher --launcher-final --launcher-grace --orphans --progress --resume --trust-owner --help' ;;
         status) options='--trust-owner --help' ;;
         why) options='--trust-owner --help' ;;
         times) options='--svg --trust-owner --help' ;;
@@ -46,7 +56,18 @@ _dagrun() {
             COMPREPLY=($(compgen -W 'run status why times salvage redo audit check rehearse graph explain help version' -- "$word"))
             return
             ;;
-        explain|version) return ;;
+        explain)
+            _dagrun_first_words "$word" explain
+            return
+            ;;
+        version) return ;;
+    esac
+    # After the DAG file come its nodes.
+    case $command:$dag in
+        why:?*|redo:?*)
+            _dagrun_first_words "$word" status "$dag"
+            return
+            ;;
     esac
     # DAG files and folders, and any file where there are none, or where the DAG file stands already.
     local IFS=$'\n'

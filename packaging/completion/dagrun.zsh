@@ -1,5 +1,17 @@
 #compdef dagrun
 # zsh completion for dagrun; made by packaging/generate.py.
+_dagrun_nodes() {
+    local -a nodes
+    nodes=(${(f)"$(dagrun status ${(Q)words[(r)*.dag]} 2>/dev/null | cut -d' ' -f1)"})
+    compadd -a nodes
+}
+
+_dagrun_codes() {
+    local -a codes
+    codes=(${(f)"$(dagrun explain 2>/dev/null | cut -d' ' -f1)"})
+    compadd -a codes
+}
+
 _dagrun() {
     local -a commands
     commands=(
@@ -33,8 +45,9 @@ _dagrun() {
                 '--autorescue=[0\: a new round reads no rescue file]:0 or 1:(0 1)' \
                 '--dorescuefrom=[Begins a new round by the rescue file of this number; those of higher numbers are renamed to .old]:N:' \
                 '--always-run-post[POST scripts run behind PRE scripts that failed, too, and decide]' \
+                '--stop-at-first-error[Launches nothing more once a node has failed for good, and stops when what runs has ended; run goes on]' \
                 '--sync-output=[0\: the files of output and error are not brought to the disk before an ending is recorded]:0 or 1:(0 1)' \
-                '--script-output=[0\: what scripts print is dropped, also where they fail]:N:' \
+                '--script-output=[0\: what scripts print is dropped, also where they fail]:0 or 1:(0 1)' \
                 '--log-limit=[How many MiB the log of a round may have; 64 where it is not given, 0 is no limit]:N:' \
                 '--launcher=[What stands before the program of each job, as "srun -n1"; it is split as arguments are]:WORDS:' \
                 '--launcher-final[It stands before the program of FINAL'\''s job, too]' \
@@ -56,7 +69,7 @@ _dagrun() {
                 '(-h --help)'{-h,--help}'[Print help]' \
                 '--trust-owner[Root goes by the journal, the rescue files and the lock of another user, and others by those of root]' \
                 '1:DAG:_files -g "*.dag"' \
-                '2::NODE:'
+                '*:NODE:_dagrun_nodes'
             ;;
         times)
             _arguments \
@@ -77,7 +90,7 @@ _dagrun() {
                 '--only[These nodes alone run again\: those that come after them stay done]' \
                 '--trust-owner[Root goes by the journal, the rescue files and the lock of another user, and others by those of root]' \
                 '1:DAG:_files -g "*.dag"' \
-                '2::NODE:'
+                '*:NODE:_dagrun_nodes'
             ;;
         audit)
             _arguments \
@@ -111,7 +124,7 @@ _dagrun() {
         explain)
             _arguments \
                 '(-h --help)'{-h,--help}'[Print help]' \
-                '1::CODE:'
+                '1::CODE:_dagrun_codes'
             ;;
         help)
             _arguments \

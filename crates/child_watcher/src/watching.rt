@@ -62,6 +62,9 @@ pub trait ChildWatcher {
 
     /// No child has ended since they were looked at: it is waited a little.
     fn waits(&mut self);
+
+    /// Whether nothing more is to be launched. It is asked before each launch, until it answers so.
+    fn halts(&mut self) -> bool;
 }
 
 /// Nobody.
@@ -92,6 +95,10 @@ impl ChildWatcher for Unwatched {
     fn killed(&mut self, _key: &Key, _answer: Killed) {}
 
     fn waits(&mut self) {}
+
+    fn halts(&mut self) -> bool {
+        false
+    }
 }
 
 impl<W: ChildWatcher> ChildWatcher for &mut W {
@@ -133,5 +140,9 @@ impl<W: ChildWatcher> ChildWatcher for &mut W {
 
     fn waits(&mut self) {
         (**self).waits();
+    }
+
+    fn halts(&mut self) -> bool {
+        (**self).halts()
     }
 }

@@ -31,6 +31,7 @@ record AsksRun (rows : List Row) (options : RunOptions) : Type 0 where
   dorescuefrom : number_asked 16 (codes "dorescuefrom") rows ≡ options.dorescuefrom
   orphans : orphan_rule_of rows ≡ options.orphans
   always_post : is_set (codes "always-run-post") rows ≡ options.always_post
+  stop_at_first_error : is_set (codes "stop-at-first-error") rows ≡ options.stop_at_first_error
   sync_output : is_on (codes "sync-output") rows ≡ options.sync_output
   script_output : is_on (codes "script-output") rows ≡ options.script_output
   log_limit : number_asked 16 (codes "log-limit") rows ≡ options.log_limit
@@ -49,6 +50,7 @@ same_options rows options plain a b = λ i. record {
   dorescuefrom = (a.dorescuefrom ∙ b.dorescuefrom) i;
   orphans = (a.orphans ∙ b.orphans) i;
   always_post = (a.always_post ∙ b.always_post) i;
+  stop_at_first_error = (a.stop_at_first_error ∙ b.stop_at_first_error) i;
   sync_output = (a.sync_output ∙ b.sync_output) i;
   script_output = (a.script_output ∙ b.script_output) i;
   log_limit = (a.log_limit ∙ b.log_limit) i;
@@ -156,6 +158,7 @@ four_only orphans progress request h = run_alone (rows_in (subcommand_of (dagrun
   dorescuefrom = refl;
   orphans = refl;
   always_post = refl;
+  stop_at_first_error = refl;
   sync_output = refl;
   script_output = refl;
   log_limit = refl;
@@ -187,6 +190,7 @@ fresh_only orphans progress request h = run_alone (rows_in (subcommand_of (dagru
   dorescuefrom = refl;
   orphans = refl;
   always_post = refl;
+  stop_at_first_error = refl;
   sync_output = refl;
   script_output = refl;
   log_limit = refl;

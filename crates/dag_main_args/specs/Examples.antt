@@ -19,6 +19,7 @@ plain_options = record {
   dorescuefrom = None;
   orphans = Kill;
   always_post = false;
+  stop_at_first_error = false;
   sync_output = true;
   script_output = true;
   log_limit = None;

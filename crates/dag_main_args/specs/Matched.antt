@@ -78,6 +78,7 @@ pub record AreOptionsOf (rows : List Row) (options : RunOptions) : Type 0 where
   pub dorescuefrom : options.dorescuefrom ≡ number_asked 16 (codes "dorescuefrom") rows
   pub orphans : options.orphans ≡ orphan_rule_of rows
   pub always_post : options.always_post ≡ is_set (codes "always-run-post") rows
+  pub stop_at_first_error : options.stop_at_first_error ≡ is_set (codes "stop-at-first-error") rows
   -- files of output and error are brought to the disk, but under `--sync-output 0`
   pub sync_output : options.sync_output ≡ is_on (codes "sync-output") rows
   -- what scripts print is kept where they fail, but under `--script-output 0`

@@ -70,7 +70,7 @@ of_dag name = command name (dag ∷ trust_owner ∷ [])
 -- what a run may be given
 abbrev pub run_rules : (is_tied : Bool) → (orphans progress : Bor (List (Bor Text))) → List Rule
 run_rules is_tied orphans progress = dag ∷ number (codes "maxjobs") ∷ number (codes "maxpre") ∷ number (codes "maxpost") ∷ switch (codes "autorescue")
-    ∷ number (codes "dorescuefrom") ∷ flag (codes "always-run-post") ∷ switch (codes "sync-output") ∷ switch (codes "script-output") ∷ number (codes "log-limit") ∷ named_text (codes "launcher")
+    ∷ number (codes "dorescuefrom") ∷ flag (codes "always-run-post") ∷ flag (codes "stop-at-first-error") ∷ switch (codes "sync-output") ∷ switch (codes "script-output") ∷ number (codes "log-limit") ∷ named_text (codes "launcher")
     ∷ flag (codes "launcher-final") ∷ number (codes "launcher-grace") ∷ choice (codes "orphans") orphans ∷ choice (codes "progress") progress
     ∷ tied_flag is_tied (codes "resume") ∷ trust_owner ∷ []
 

@@ -103,6 +103,12 @@ const ALWAYS_POST: ArgumentRow = ArgumentRow {
     help: "POST scripts run behind PRE scripts that failed, too, and decide",
 };
 
+const STOP_AT_FIRST_ERROR: ArgumentRow = ArgumentRow {
+    name: "stop-at-first-error",
+    kind: Kind::Flag,
+    help: "Launches nothing more once a node has failed for good, and stops when what runs has ended; run goes on",
+};
+
 const SYNC_OUTPUT: ArgumentRow = ArgumentRow {
     name: "sync-output",
     kind: Kind::Switch,
@@ -223,6 +229,7 @@ static COMMANDS: [CommandRow; 13] = [
             AUTORESCUE,
             DORESCUEFROM,
             ALWAYS_POST,
+            STOP_AT_FIRST_ERROR,
             SYNC_OUTPUT,
             SCRIPT_OUTPUT,
             LOG_LIMIT,

@@ -67,6 +67,8 @@ pub struct RunOptions {
     pub orphans: OrphanRule,
     /// Whether a new round runs POST scripts behind PRE scripts that failed, too.
     pub always_post: bool,
+    /// Whether nothing more is launched once a node is in error: what runs is waited for, and the run is halted.
+    pub stop_at_first_error: bool,
     /// Whether the files that take the output and the errors of a job are brought to the disk before its
     /// ending is recorded.
     pub sync_output: bool,
@@ -97,6 +99,7 @@ impl Drop for RunOptions {
             dorescuefrom: _,
             orphans: _,
             always_post: _,
+            stop_at_first_error: _,
             sync_output: _,
             script_output: _,
             log_limit: _,
@@ -335,6 +338,7 @@ fn options_of(alloc: Global, found: &ArgMatches<'_>) -> Result<RunOptions, Words
         dorescuefrom: number_of(found, "dorescuefrom"),
         orphans: orphan_rule_of(found),
         always_post: is_set(found, "always-run-post"),
+        stop_at_first_error: is_set(found, "stop-at-first-error"),
         sync_output: is_on(found, "sync-output"),
         script_output: is_on(found, "script-output"),
         log_limit: number_of(found, "log-limit"),

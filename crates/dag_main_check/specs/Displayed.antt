@@ -10,7 +10,7 @@ use Rattle.rescue_file.specs.Displayed.{rescue_fault_name}
 use Rattle.run_plan.specs.Displayed.{plan_fault_text}
 use Rattle.recovery_manager.specs.Displayed.{manager_fault_text}
 use Rattle.dag_main_check.specs.declared.fault.RunFault.{RunFault}
-use Rattle.dag_main_check.specs.declared.fault.RunFault.TheVariants.{InFiles, Cycle, InPlan, InTable, InRescue, NotThere, Unfinished, InManager, StartMemory, WaitFault, FileRefused, Memory}
+use Rattle.dag_main_check.specs.declared.fault.RunFault.TheVariants.{InFiles, Cycle, InPlan, InTable, InRescue, NotThere, Unfinished, InManager, StartMemory, WaitFault, Halted, FileRefused, Memory}
 
 -- the line of a rescue file that a fault tells of
 abbrev pub line_in : RescueFault → Option ℕ
@@ -36,5 +36,6 @@ run_fault_text Unfinished = codes "E6 Unfinished"
 run_fault_text (InManager fault) = manager_fault_text fault
 run_fault_text StartMemory = codes "A1 StartMemory"
 run_fault_text WaitFault = codes "A2 WaitFault"
+run_fault_text (Halted asked) = codes "H1 Halted " ++ asked
 run_fault_text (FileRefused path) = codes "X2 FileRefused " ++ string_bytes path
 run_fault_text Memory = codes "X1 Memory"

@@ -17,7 +17,7 @@ use Rattle.run_plan.specs.declared.fault.PlanFault.{PlanFault}
 use Rattle.run_plan.specs.declared.fault.PlanFault.TheVariants as plans
 use Rattle.rescue_file.specs.declared.fault.RescueFault.{RescueFault}
 use Rattle.dag_main_check.specs.declared.fault.RunFault.{RunFault}
-use Rattle.dag_main_check.specs.declared.fault.RunFault.TheVariants.{InFiles, Cycle, InPlan, InTable, InRescue, NotThere, Unfinished, InManager, StartMemory, WaitFault, FileRefused, Memory}
+use Rattle.dag_main_check.specs.declared.fault.RunFault.TheVariants.{InFiles, Cycle, InPlan, InTable, InRescue, NotThere, Unfinished, InManager, StartMemory, WaitFault, Halted, FileRefused, Memory}
 
 -- the graph of the files of a path
 pub record IsGraphOf (files : Files) (path : List ℕ) (graph : Network) : Type 0 where
@@ -90,6 +90,7 @@ in_line Unfinished = None
 in_line (InManager fault) = None
 in_line StartMemory = None
 in_line WaitFault = None
+in_line (Halted asked) = None
 in_line (FileRefused file) = None
 in_line Memory = None
 

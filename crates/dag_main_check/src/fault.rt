@@ -42,6 +42,8 @@ pub enum RunFault {
     StartMemory,
     /// The system refuses the question how a child does.
     WaitFault,
+    /// Nothing more was to be launched, and nothing runs any more: what asked for that is this file beside the DAG file, or this option.
+    Halted(Text),
     /// The system refuses the file of this path.
     FileRefused(String),
     /// Memory was refused.
@@ -81,6 +83,7 @@ impl fmt::Display for RunFault {
             RunFault::InManager(fault) => write!(f, "{fault}"),
             RunFault::StartMemory => write!(f, "A1 StartMemory"),
             RunFault::WaitFault => write!(f, "A2 WaitFault"),
+            RunFault::Halted(asked) => write!(f, "H1 Halted {asked}"),
             RunFault::FileRefused(path) => write!(f, "X2 FileRefused {path}"),
             RunFault::Memory => write!(f, "X1 Memory"),
         }

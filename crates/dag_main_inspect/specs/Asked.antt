@@ -10,7 +10,7 @@ use Rattle.dag_main_inspect.specs.Drawn.{IsDrawnOf, IsDrawnFault}
 use Rattle.dag_main_check.specs.declared.fault.RunFault.{RunFault}
 use Rattle.dag_main_files.specs.Beside.{IsRoundFault}
 use Rattle.dag_main_files.specs.Folder.{IsReadFrom}
-use Rattle.dag_main_inspect.specs.LastRound.{IsLastRound}
+use Rattle.dag_main_inspect.specs.LastRound.{IsLastRound, used_by, used_name}
 use Rattle.dag_main_inspect.specs.declared.by_journal.Question.{Question}
 use Rattle.dag_main_inspect.specs.declared.by_journal.Question.TheVariants.{Status, Audit, Graph}
 
@@ -50,3 +50,11 @@ pub data IsAnswerFault (question : Question) (path : List ℕ) : RunFault → Ty
   not_told : (files : FileSet) (rescue journal name : Option (List ℕ)) (fault : RunFault) →
       IsNotAnswered question (bytes_of files) (entries_of files) path rescue journal fault →
       IsAnswerFault question path (named_by (in_line fault) name fault)
+
+-- Why there is no answer where these files are held: it is not known which round is the last one, or memory runs out as the files are read. Or
+-- what they and the journal that is held say is refused, the fault of a line of the rescue file returned with that file's name.
+pub data IsAnswerFaultHeld (holds : Files) (question : Question) (path : List ℕ) : RunFault → Type 0 where
+  held_no_last_round : (fault : RunFault) → IsRoundFault None fault → IsAnswerFaultHeld holds question path fault
+  held_not_told : (files : FileSet) (rescue journal : Option (List ℕ)) (fault : RunFault) → IsReadFrom holds path files →
+      IsLastRound holds path journal rescue → IsNotAnswered question (bytes_of files) (entries_of files) path rescue journal fault →
+      IsAnswerFaultHeld holds question path (named_by (in_line fault) (used_name path (used_by journal)) fault)

@@ -14,7 +14,7 @@ use Rattle.dag_main_check.specs.Planned.{IsGraphFault, IsPlanOf, IsPlanWith, IsP
 use Rattle.dag_main_check.specs.ByPlan.{IsAnswerByPlan}
 use Rattle.dag_main_check.specs.Warnings.{warning_lines}
 use Rattle.dag_main_check.specs.declared.fault.RunFault.{RunFault}
-use Rattle.dag_main_check.specs.declared.fault.RunFault.TheVariants.{InFiles, Cycle, InPlan, InTable, InRescue, NotThere, Unfinished, InManager, StartMemory, WaitFault, FileRefused, Memory}
+use Rattle.dag_main_check.specs.declared.fault.RunFault.TheVariants.{InFiles, Cycle, InPlan, InTable, InRescue, NotThere, Unfinished, InManager, StartMemory, WaitFault, Halted, FileRefused, Memory}
 use Rattle.dag_main_inspect.specs.Statused.{flag_by, records_in_bytes, IsRecordsFault}
 
 -- The picture of a plan that has a journal of these bytes: its nodes stand as the records say; or the journal is that of other files, or of a
@@ -70,6 +70,7 @@ tells_of_others Unfinished = false
 tells_of_others (InManager fault) = in_manager fault
 tells_of_others StartMemory = false
 tells_of_others WaitFault = false
+tells_of_others (Halted asked) = false
 tells_of_others (FileRefused file) = false
 tells_of_others Memory = false
 

@@ -6,7 +6,7 @@ ghost use Rattle.event_journal_log.specs.Image.{replay_of};
 ghost use Rattle.dag_main_check.specs.declared.fault.RunFault.TheVariants.{Memory};
 ghost use Rattle.dag_main_files.specs.Beside.{IsRoundFault, journal_name_of};
 ghost use Rattle.dag_main_inspect.specs.LastRound.{used_read, used_by, finished_read, has_ended_by, used_name, IsLastRound};
-ghost use Rattle.dag_main_inspect.specs.Asked.{IsAskAnswered, IsNotAnswered, IsAnswerOfRun, IsAnswerHeld, IsAnswerFault};
+ghost use Rattle.dag_main_inspect.specs.Asked.{IsAskAnswered, IsNotAnswered, IsAnswerOfRun, IsAnswerHeld, IsAnswerFault, IsAnswerFaultHeld};
 ghost use Rattle.dag_main_inspect.specs.Reported.{IsReportHere, IsReportFrom, IsNoReportFrom};
 ghost use Rattle.dag_main_inspect.specs.declared.by_journal.Question.TheVariants.{Status};
 
@@ -210,6 +210,8 @@ pub fn answer_here<F: Folder>(
     ensures held { F.honest folder.now → IfOk result (λ answer. IsAnswerHeld (F.holds folder.now) question top.now
         (string_bytes answer.text) (string_bytes answer.warnings) answer.status) }
     ensures refused { IfErr result (IsAnswerFault question top.now) }
+    // The refusal too is for what the folder holds.
+    ensures refused_held { F.honest folder.now → IfErr result (IsAnswerFaultHeld (F.holds folder.now) question top.now) }
 {
     let round = last_round(alloc, folder, top)?;
     let files = files_of(alloc, folder, top, Reading::SubmitFilesToo)?;
@@ -238,6 +240,8 @@ pub fn report_here<F: Folder>(
         IsReportFrom (F.holds folder.now) top.now (string_bytes answer.text) (string_bytes answer.warnings) answer.status)) }
     ensures none { F.honest folder.now → IfOk result (λ answer. IfNone answer (IsNoReportFrom (F.holds folder.now) top.now)) }
     ensures refused { IfErr result (IsAnswerFault Status top.now) }
+    // The refusal too is for what the folder holds.
+    ensures refused_held { F.honest folder.now → IfErr result (IsAnswerFaultHeld (F.holds folder.now) Status top.now) }
 {
     let round = last_round(alloc, folder, top)?;
     let Some(journal) = round.journal.as_deref() else {

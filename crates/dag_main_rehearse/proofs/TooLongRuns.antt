@@ -20,7 +20,7 @@ use Rattle.job_starter_drive.specs.declared.Call.{Call}
 use Rattle.job_starter_drive.specs.Calls.{Telling}
 use Rattle.job_starter_drive.specs.declared.driving.DriveFault.{DriveFault}
 use Rattle.job_starter_drive.specs.declared.driving.DriveFault.TheVariants as drives
-use Rattle.job_starter_drive.specs.Causes.{AreRefused, IsOfRun, IsDriveFault, no_memory_for_child, no_ending_logged, no_memory_for_command, no_memory_for_round, records_refused}
+use Rattle.job_starter_drive.specs.Causes.{AreRefused, IsOfRun, IsDriveFault, no_memory_for_child, no_ending_logged, no_memory_for_command, no_memory_for_round, run_halted, records_refused}
 use Rattle.run_round.specs.Causes.{IsEndOf, IsSealFault, text_had_no_memory, rescue_failed, rescue_had_no_room, IsRunToEndFault, stopped, not_sealed, end_refused, no_memory_for_report}
 use Rattle.dag_main_check.specs.declared.fault.RunFault.{RunFault}
 use Rattle.dag_main_check.specs.declared.fault.RunFault.TheVariants.{InManager, Memory}
@@ -64,6 +64,7 @@ abbrev pub StopMeans : Type 0 → DriveFault → Type 0
 StopMeans P (drives.Manager fault) = FullMeans P fault
 StopMeans P drives.StartMemory = Unit {0}
 StopMeans P drives.WaitFault = Unit {0}
+StopMeans P drives.Halted = Unit {0}
 StopMeans P drives.Memory = Unit {0}
 
 seal-full : {R : Type 0} (P : Type 0) (disks : Ghosts R) (plan : Plan) (past : List Record) (disk left : R) (fault : ManagerFault)
@@ -104,6 +105,7 @@ module _ {D : Type 0} (disks : Ghosts D) where
   drive-full before now old manager _ begun limit count (no_memory_for_child rises) = tt
   drive-full before now old manager _ begun limit count (no_ending_logged rises) = tt
   drive-full before now old manager _ begun limit count (no_memory_for_command still) = tt
+  drive-full before now old manager _ begun limit count (run_halted still) = tt
   drive-full before now old manager _ begun limit count (no_memory_for_round still) = tt
   drive-full before now old manager _ begun limit count (records_refused {fault = fault} still r) = refused-full IsOfRun old manager fault begun limit count r
 

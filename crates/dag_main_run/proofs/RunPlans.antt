@@ -44,13 +44,14 @@ answer-of rounds path options files graph round plan is_graph is_round planned (
     run-of rounds path options files graph round plan is_graph is_round planned (string_bytes answer.text) (string_bytes answer.warnings) answer.status led notes
 answer-of rounds path options files graph round plan is_graph is_round planned (Err fault) led notes = tt
 
-abbrev pub planned-for : (path : List ℕ) (options : RunOptions) (files : FileSet) (graph : Network) (round : Round) (plan : Plan) → IsGraphOf (bytes_of files) path graph
-    → IsRoundBy options.autorescue options.dorescuefrom options.always_post round → IsPlannedRun files graph round plan → IsPlannedFor path options
-planned-for path options files graph round plan is_graph is_round planned = record {
+abbrev pub planned-for : (IsRead : FileSet → Type 0) (IsRound : Round → Type 0) (path : List ℕ) (files : FileSet) (graph : Network) (round : Round) (plan : Plan) → IsRead files
+    → IsGraphOf (bytes_of files) path graph → IsRound round → IsPlannedRun files graph round plan → IsPlannedFor IsRead IsRound path
+planned-for IsRead IsRound path files graph round plan read is_graph is_round planned = record {
   files = files;
   graph = graph;
   round = round;
   plan = plan;
+  read = read;
   is_graph = is_graph;
   is_round = is_round;
   planned = planned;

@@ -25,7 +25,7 @@ use Rattle.dag_main_files.specs.Beside.{journal_name_of, HasJournal, IsRoundFoun
 use Rattle.dag_main_files.specs.Folder.{read_at, journal_in}
 use Rattle.dag_main_check.specs.declared.fault.RunFault.{RunFault}
 use Rattle.job_starter_drive.specs.Calls.{Telling, any_ending, running}
-use Rattle.dag_main_run.specs.Sites.{start_with, start_by, bytes_found, journal_found, Own, IsAtSite, IsRoundLedAt, IsRoundStoppedAt, stop_of}
+use Rattle.dag_main_run.specs.Sites.{start_with, start_by, bytes_found, journal_found, Own, IsAtSite, IsRoundLedAt, IsRoundStoppedAt, IsReturned}
 
 -- no bytes are of no journal
 nothing-read : replay_of [] ≡ Ok None
@@ -96,7 +96,7 @@ module _ {D R : Type 0} (disks : Ghosts D) (rescues : Ghosts R) (own : Own D R) 
     led = subst (λ (s : Start). IsRoundRun disks rescues plan s limits any_ending [] calls journal left rescue text status rest) same led;
   }
 
-  pub stopped-at : AreOwn → (start : Start) → start ≡ start_by round → (left : D) (rest : Option R) (cause : DriveFault) (fault : RunFault) → fault ≡ stop_of cause
+  pub stopped-at : AreOwn → (start : Start) → start ≡ start_by round → (left : D) (rest : Option R) (cause : DriveFault) (fault : RunFault) → IsReturned top cause fault
       → (calls : List Call) × (before : ℕ) × (now : ℕ) × own.answered calls before now × (running calls ≡ [])
       × IsRoundRefusal disks rescues before now plan 16777216 start limits any_ending [] calls journal left rescue rest cause
       → IsRoundStoppedAt disks rescues own Honest holds top limits plan round fault

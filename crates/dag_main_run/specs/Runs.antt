@@ -91,25 +91,39 @@ pub data IsHeldFault (options : RunOptions) (IsDeaf : Type 0) (Stopped : RunFaul
   another_was_at_work : (fault : RunFault) → IsFileFault fault → IsHeldFault options IsDeaf Stopped fault
   not_led : (fault : RunFault) → IsStopFault IsDeaf Stopped fault → IsHeldFault options IsDeaf Stopped fault
 
--- the plan of the round that the options ask for
-pub record IsPlannedFor (path : List ℕ) (options : RunOptions) : Type 0 where
+-- The plan of the round that the options ask for, by what is known of the files that were read and of the round.
+pub record IsPlannedFor (IsRead : FileSet → Type 0) (IsRound : Round → Type 0) (path : List ℕ) : Type 0 where
   pub files : FileSet
   pub graph : Network
   pub round : Round
   pub plan : Plan
+  pub read : IsRead files
   pub is_graph : IsGraphOf (bytes_of files) path graph
-  pub is_round : IsRoundBy options.autorescue options.dorescuefrom options.always_post round
+  pub is_round : IsRound round
   pub planned : IsPlannedRun files graph round plan
 
--- Why `run` is refused, the first cause first. Each is met where those before it are not: the files make no graph; it is not known which
--- round this is, or what its rescue file says; the round has no plan; there is no launcher as it is asked for; a name beside the DAG file
--- would be too long; another manager is at work, or the lock is refused; under the lock the round is another one, or is not led to its end.
-pub data IsRunFault (rounds : Rounds) (path : List ℕ) (options : RunOptions) : RunFault → Type 0 where
-  no_graph : (files : FileSet) (fault : RunFault) → IsGraphFault (bytes_of files) path fault → IsRunFault rounds path options fault
-  not_found : (files : FileSet) (graph : Network) (fault : RunFault) → IsGraphOf (bytes_of files) path graph → IsFirstRunFault path options fault → IsRunFault rounds path options fault
-  no_plan : (files : FileSet) (graph : Network) (fault : RunFault) → IsGraphOf (bytes_of files) path graph → IsRoundPlanFault files path graph fault → IsRunFault rounds path options fault
-  no_launcher : (fault : RunFault) → IsPlannedFor path options → IsLauncherFault options.launcher fault → IsRunFault rounds path options fault
-  no_room : (fault : RunFault) → IsPlannedFor path options → IsRoomFault path fault → IsRunFault rounds path options fault
-  not_alone : (fault : RunFault) → IsPlannedFor path options → IsFileFault fault → IsRunFault rounds path options fault
-  not_held : (planned : IsPlannedFor path options) (fault : RunFault) → IsHeldFault options rounds.is_deaf (rounds.stopped path options.limits planned.plan planned.round) fault → IsRunFault rounds path options fault
-  no_memory : IsRunFault rounds path options Memory
+-- Why `run` is refused, the first cause first, by what is known of the files that were read and of the round. Each is met where those before it
+-- are not: the files make no graph; it is not known which round this is, or what its rescue file says; the round has no plan; there is no
+-- launcher as it is asked for; a name beside the DAG file would be too long; another manager is at work, or the lock is refused; under the lock
+-- the round is another one, or is not led to its end.
+pub data IsRunFaultWhere (IsRead : FileSet → Type 0) (IsRound : Round → Type 0) (rounds : Rounds) (path : List ℕ) (options : RunOptions) : RunFault → Type 0 where
+  no_graph : (files : FileSet) (fault : RunFault) → IsRead files → IsGraphFault (bytes_of files) path fault → IsRunFaultWhere IsRead IsRound rounds path options fault
+  not_found : (files : FileSet) (graph : Network) (fault : RunFault) → IsRead files → IsGraphOf (bytes_of files) path graph → IsFirstRunFault path options fault →
+      IsRunFaultWhere IsRead IsRound rounds path options fault
+  no_plan : (files : FileSet) (graph : Network) (fault : RunFault) → IsRead files → IsGraphOf (bytes_of files) path graph → IsRoundPlanFault files path graph fault →
+      IsRunFaultWhere IsRead IsRound rounds path options fault
+  no_launcher : (fault : RunFault) → IsPlannedFor IsRead IsRound path → IsLauncherFault options.launcher fault → IsRunFaultWhere IsRead IsRound rounds path options fault
+  no_room : (fault : RunFault) → IsPlannedFor IsRead IsRound path → IsRoomFault path fault → IsRunFaultWhere IsRead IsRound rounds path options fault
+  not_alone : (fault : RunFault) → IsPlannedFor IsRead IsRound path → IsFileFault fault → IsRunFaultWhere IsRead IsRound rounds path options fault
+  not_held : (planned : IsPlannedFor IsRead IsRound path) (fault : RunFault) →
+      IsHeldFault options rounds.is_deaf (rounds.stopped path options.limits planned.plan planned.round) fault → IsRunFaultWhere IsRead IsRound rounds path options fault
+  no_memory : IsRunFaultWhere IsRead IsRound rounds path options Memory
+
+-- of some files, and a round that the options ask for
+abbrev pub IsRunFault : Rounds → (path : List ℕ) → RunOptions → RunFault → Type 0
+IsRunFault rounds path options = IsRunFaultWhere (λ files. Unit {0}) (IsRoundBy options.autorescue options.dorescuefrom options.always_post) rounds path options
+
+-- Where these files are held and these paths are there: of files that are held, and the round that the journal and the rescue files make of it.
+abbrev pub IsRunFaultFrom : Files → (List ℕ → Bool) → Rounds → (path : List ℕ) → RunOptions → RunFault → Type 0
+IsRunFaultFrom holds has rounds path options =
+    IsRunFaultWhere (IsReadFrom holds path) (IsRoundFrom holds has path options.autorescue options.dorescuefrom options.always_post) rounds path options

@@ -1,5 +1,5 @@
 -- Where a round is led: the disks of its journal and of its rescue file, and its children.
-use Rattle.std.specs.Prelude.{◌≡◌, ℕ, List, [], Option, Some, None}
+use Rattle.std.specs.Prelude.{◌≡◌, ◌⊎◌, ◌++◌, ℕ, List, [], Option, Some, None, codes}
 use Rattle.event_journal_log.specs.declared.disk.Disk.{Ghosts}
 use Rattle.splices_flat.specs.Opening.{Files}
 use Rattle.splices_flat.specs.Paths.{join}
@@ -8,6 +8,7 @@ use Rattle.event_journal.specs.declared.file.FileDisk.{FileDisk}
 use Rattle.event_journal.specs.Files.{file_path}
 use Rattle.throttles.specs.declared.Limits.{Limits}
 use Rattle.run_plan.specs.Plan.{Plan}
+use Rattle.recovery_manager.specs.declared.fault.ManagerFault.{ManagerFault}
 use Rattle.recovery_manager.specs.declared.fault.ManagerFault.TheVariants as faults
 use Rattle.job_starter_drive.specs.declared.Call.{Call}
 use Rattle.job_starter_drive.specs.Calls.{any_ending, running}
@@ -22,7 +23,7 @@ use Rattle.dag_main_files.specs.declared.rounds.Journaled.TheVariants as journal
 use Rattle.dag_main_files.specs.declared.rounds.Round.{Round}
 use Rattle.dag_main_files.specs.Beside.{journal_name_of}
 use Rattle.dag_main_check.specs.declared.fault.RunFault.{RunFault}
-use Rattle.dag_main_check.specs.declared.fault.RunFault.TheVariants.{InManager, StartMemory, WaitFault, Memory}
+use Rattle.dag_main_check.specs.declared.fault.RunFault.TheVariants.{InManager, StartMemory, WaitFault, Halted, Memory}
 
 -- how the manager of a round begins, by its journal and by the numbers of its rescue files
 abbrev pub start_with : Journaled → ℕ → ℕ → Start
@@ -104,13 +105,24 @@ pub record IsRoundLedAt {D R : Type 0} (disks : Ghosts D) (rescues : Ghosts R) (
   pub at_site : IsAtSite disks rescues own Honest holds top round journal rescue calls before now
   pub led : IsRoundRun disks rescues plan (start_by round) limits any_ending [] calls journal left rescue text status rest
 
--- what is returned for the cause that stops a round
-abbrev pub stop_of : DriveFault → RunFault
-stop_of drives.Memory = Memory
-stop_of (drives.Manager faults.Memory) = Memory
-stop_of (drives.Manager fault) = InManager fault
-stop_of drives.StartMemory = StartMemory
-stop_of drives.WaitFault = WaitFault
+-- what asks for a halt: the file of the DAG file's name and `.halt`, or the option
+abbrev pub AsksToHalt : (top asked : List ℕ) → Type 0
+AsksToHalt top asked = (asked ≡ top ++ codes ".halt") ⊎ (asked ≡ codes "--stop-at-first-error")
+
+-- what is returned for the fault of a manager
+abbrev pub manager_refusal : ManagerFault → RunFault
+manager_refusal faults.Memory = Memory
+manager_refusal fault = InManager fault
+
+-- What is returned for the cause that stops a round: the fault of its manager or of its children; where it was halted, what asked for that; or
+-- memory ran out.
+pub data IsReturned (top : List ℕ) : DriveFault → RunFault → Type 0 where
+  for_memory : IsReturned top drives.Memory Memory
+  for_manager : (fault : ManagerFault) → IsReturned top (drives.Manager fault) (manager_refusal fault)
+  for_memory_of_child : IsReturned top drives.StartMemory StartMemory
+  for_wait : IsReturned top drives.WaitFault WaitFault
+  for_halt : (asked : List ℕ) → AsksToHalt top asked → IsReturned top drives.Halted (Halted asked)
+  for_halt_without_memory : IsReturned top drives.Halted Memory
 
 -- It was not led to its end there, for one of the causes of a round, and this is returned.
 pub record IsRoundStoppedAt {D R : Type 0} (disks : Ghosts D) (rescues : Ghosts R) (own : Own D R) (Honest : Type 0) (holds : Files) (top : List ℕ)
@@ -125,7 +137,7 @@ pub record IsRoundStoppedAt {D R : Type 0} (disks : Ghosts D) (rescues : Ghosts 
   pub cause : DriveFault
   pub at_site : IsAtSite disks rescues own Honest holds top round journal rescue calls before now
   pub refused : IsRoundRefusal disks rescues before now plan 16777216 (start_by round) limits any_ending [] calls journal left rescue rest cause
-  pub returned : fault ≡ stop_of cause
+  pub returned : IsReturned top cause fault
 
 -- What is said of the rounds that are led somewhere, by the path of the DAG file: of one that was led to its end, and printed this; of one that was
 -- stopped, and for which this is returned; and that it isn't told there how children end.

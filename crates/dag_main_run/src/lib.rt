@@ -3,6 +3,7 @@
 #![tactic(auto)]
 
 mod beginning;
+mod halting;
 mod launching;
 mod progress;
 mod rounds;

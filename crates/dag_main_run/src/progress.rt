@@ -1,5 +1,6 @@
 //! How it is shown how far a run is.
 
+use crate::halting::HaltWatcher;
 use child_watcher::{ChildWatcher, CommandPart, Killed};
 use dag_main_args::RunOptions;
 use dag_main_check::RunFault;
@@ -19,7 +20,7 @@ use std::rt::Files;
 use std::time::Clock;
 
 /// The records of the earlier managers of a round of this plan; none where they can't be read, of which the manager tells.
-fn records_before<R: Files + AllocGlobal>(
+pub(crate) fn records_before<R: Files + AllocGlobal>(
     rt: &R,
     place: &Place<'_>,
     plan: &Plan,
@@ -81,11 +82,12 @@ pub(crate) fn progress_of<
     progress
 }
 
-/// Who is informed of the children of a round: first its log, then who shows how far it is.
+/// Who is informed of the children of a round: first its log, then who shows how far it is, then who looks whether it is to be halted.
 #[derive(Drop)]
 pub(crate) struct RoundWatcher<'a, R: Files<File = File> + Clock + AllocGlobal + Drop> {
     pub(crate) log: RunWatcher<'a, R>,
     pub(crate) progress: ProgressWatcher<'a, R>,
+    pub(crate) halt: HaltWatcher<'a, R>,
 }
 
 impl<
@@ -107,6 +109,7 @@ impl<
             self.progress.cannot_keep(reason.as_str());
         }
         self.progress.launched(key, process, command);
+        self.halt.launched(key);
     }
 
     fn held(&mut self, key: &Key, error: &io::Error) {
@@ -123,11 +126,13 @@ impl<
     ) {
         self.log.not_started(key, command, part, error);
         self.progress.not_started(key, command, part, error);
+        self.halt.not_started(key);
     }
 
     fn ended(&mut self, key: &Key, outcome: Outcome) {
         self.log.ended(key, outcome);
         self.progress.ended(key, outcome);
+        self.halt.ended(key, outcome);
     }
 
     fn will_record(&mut self) {
@@ -143,5 +148,13 @@ impl<
     fn waits(&mut self) {
         self.log.waits();
         self.progress.waits();
+    }
+
+    fn halts(&mut self) -> bool {
+        if !self.halt.halts() {
+            return false;
+        }
+        self.progress.halts_now();
+        true
     }
 }

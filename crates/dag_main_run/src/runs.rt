@@ -7,13 +7,14 @@ ghost use Rattle.dag_main_check.specs.Planned.{IsPlanBy};
 ghost use Rattle.dag_main_files.specs.Beside.{IsRoundBy, IsRescueOf, HasJournal};
 ghost use Rattle.dag_main_files.specs.Folder.{IsRoundFrom, journal_in, rescue_in};
 ghost use Rattle.dag_main_check.specs.Warnings.{warning_lines};
-ghost use Rattle.dag_main_run.specs.Sites.{start_by, journal_found, stop_of, rounds_at, IsRoundLedAt, IsRoundStoppedAt};
-ghost use Rattle.dag_main_run.specs.Runs.{IsPlannedRun, IsRunOf, IsRunFrom, IsFindingFault, IsLockedFault, IsFirstRunFault, IsRoundPlanFault, IsStopFault, IsHeldFault, IsRunFault};
+ghost use Rattle.dag_main_run.specs.Sites.{start_by, journal_found, rounds_at, manager_refusal, IsReturned, IsRoundLedAt, IsRoundStoppedAt};
+ghost use Rattle.dag_main_run.specs.Runs.{IsPlannedRun, IsRunOf, IsRunFrom, IsFindingFault, IsLockedFault, IsFirstRunFault, IsRoundPlanFault, IsStopFault, IsHeldFault, IsRunFault, IsRunFaultFrom};
 
 use crate::beginning::{Inputs, forget_processes, has_own_files, keep_inputs, life_of, watcher_of};
+use crate::halting::{HaltWatcher, halted};
 use crate::launching::launcher_of;
 use crate::progress::{RoundWatcher, progress_of};
-use crate::rounds::{identified, orphans_found, settled};
+use crate::rounds::{Known, identified, orphans_found, settled};
 use crate::site::Site;
 use child_watcher::ChildWatcher;
 use dag_graph::Graph;
@@ -40,10 +41,10 @@ use std::rt::Files;
 use std::time::Clock;
 use throttles::Limits;
 
-/// Why a run is stopped, and what the system said, where it refused a call of a disk.
+/// Why a round is stopped, and what the system said, where it refused a call of a disk.
 #[derive(Drop)]
 struct Stop {
-    fault: RunFault,
+    cause: DriveFault,
     reason: Option<String>,
 }
 
@@ -54,15 +55,26 @@ struct Report {
     status: Verdict,
 }
 
-/// Why a command is refused whose run was stopped.
-fn in_run(fault: DriveFault) -> RunFault
-    ensures { result ≡ stop_of fault }
+/// Why the command is refused whose manager refused.
+fn in_manager(fault: ManagerFault) -> RunFault
+    ensures { result ≡ manager_refusal fault }
 {
     match fault {
-        DriveFault::Memory | DriveFault::Manager(ManagerFault::Memory) => RunFault::Memory,
-        DriveFault::Manager(fault) => RunFault::InManager(fault),
+        ManagerFault::Memory => RunFault::Memory,
+        fault => RunFault::InManager(fault),
+    }
+}
+
+/// Why the command is refused whose round was stopped; where it was halted, by a node that failed or by the file beside the DAG file.
+fn in_run(alloc: Global, top: &str, cause: DriveFault, by_error: bool) -> RunFault
+    ensures { IsReturned top.now cause result }
+{
+    match cause {
+        DriveFault::Memory => RunFault::Memory,
+        DriveFault::Manager(fault) => in_manager(fault),
         DriveFault::StartMemory => RunFault::StartMemory,
         DriveFault::WaitFault => RunFault::WaitFault,
+        DriveFault::Halted => halted(alloc, top, by_error),
     }
 }
 
@@ -127,8 +139,8 @@ fn led_by<H: Site, W: ChildWatcher + Drop>(
     requires by_journal { H.honest site.now → HasJournal (journal_in (H.holds site.now) top.now) round.now }
     ensures led { IfOk result (λ report. IsRoundLedAt H.Journal.Disk H.Rescue.Disk (H.own site.now) (H.honest site.now) (H.holds site.now)
         top.now limits plan.now round.now (string_bytes report.text) report.status) }
-    ensures refused { IfErr result (λ stop. IsRoundStoppedAt H.Journal.Disk H.Rescue.Disk (H.own site.now) (H.honest site.now) (H.holds site.now)
-        top.now limits plan.now round.now stop.fault) }
+    ensures refused { IfErr result (λ stop. (fault : RunFault) → IsReturned top.now stop.cause fault →
+        IsRoundStoppedAt H.Journal.Disk H.Rescue.Disk (H.own site.now) (H.honest site.now) (H.holds site.now) top.now limits plan.now round.now fault) }
 {
     let (journal, rescue) = disks;
     let start = start_of(round);
@@ -139,8 +151,8 @@ fn led_by<H: Site, W: ChildWatcher + Drop>(
             text: led.text,
             status: led.status,
         }),
-        Err((journal, (rescue, fault))) => Err(Stop {
-            fault: in_run(fault),
+        Err((journal, (rescue, cause))) => Err(Stop {
+            cause,
             reason: site.reason(&journal, &rescue),
         }),
     }
@@ -154,24 +166,83 @@ fn text_in(text: &Option<String>) -> Option<&str> {
     }
 }
 
-/// Tells how a manager ended, and forgets its children.
-fn tell_end<R: Files<File = File> + Clock + AllocGlobal + Copy + Drop>(
+/// Logs that a round is stopped by this fault, and why.
+fn log_stop<R: Files<File = File> + Clock + AllocGlobal + Copy + Drop>(
+    rt: R,
+    log: &mut RunWatcher<'_, R>,
+    fault: &RunFault,
+    reason: &Option<String>,
+) {
+    if let Ok(line) = format!(in rt.alloc(); "{fault}") {
+        log.stops(line.as_str(), text_in(reason));
+    }
+}
+
+/// Forgets the processes of a manager, unless some are left.
+fn forget_children<R: Files<File = File> + Clock + AllocGlobal + Copy + Drop>(
     rt: R,
     place: &Place<'_>,
-    watcher: &mut RunWatcher<'_, R>,
-    ended: &Result<Report, Stop>,
+    log: &RunWatcher<'_, R>,
     some_left: bool,
+    has_ended: bool,
 ) {
-    match ended {
-        Ok(report) => watcher.finishes(report.text.as_str(), report.status),
-        Err(stop) => {
-            if let Ok(line) = format!(in rt.alloc(); "{}", stop.fault) {
-                watcher.stops(line.as_str(), text_in(&stop.reason));
-            }
-        }
+    if !some_left && !log.has_let_go() {
+        forget_processes(&rt, place, has_ended);
     }
-    if !some_left && !watcher.has_let_go() {
-        forget_processes(&rt, place, ended.is_ok());
+}
+
+/// Leads a round of a plan to its end on these disks, while the watcher learns of it, and answers what it prints.
+fn led_watched<
+    R: Processes + Files<File = File> + Clock + Screen + AllocGlobal + Copy + Drop,
+    H: Site,
+>(
+    rt: R,
+    site: &H,
+    place: &Place<'_>,
+    plan: &Plan,
+    round: &Round,
+    limits: Limits,
+    launcher: &Launcher,
+    known: &Known,
+    disks: (H::Journal, H::Rescue),
+    watcher: RoundWatcher<'_, R>,
+) -> Result<Report, RunFault>
+    requires journal { (H.own site.now).is_journal place.now.top.now disks.0 }
+    requires rescue { (H.own site.now).is_rescue place.now.top.now round.now.next disks.1 }
+    requires honest { H.honest site.now → H.Journal.honest disks.0 × H.Rescue.honest disks.1 }
+    requires found { H.honest site.now → H.Journal.seen disks.0 ≡ journal_found (H.holds site.now) place.now.top.now round.now }
+    requires back { H.Journal.honest disks.0 → H.honest site.now }
+    requires by_journal { H.honest site.now → HasJournal (journal_in (H.holds site.now) place.now.top.now) round.now }
+    ensures led { IfOk result (λ report. IsRoundLedAt H.Journal.Disk H.Rescue.Disk (H.own site.now) (H.honest site.now) (H.holds site.now)
+        place.now.top.now limits plan.now round.now (string_bytes report.text) report.status) }
+    ensures refused { IfErr result (IsRoundStoppedAt H.Journal.Disk H.Rescue.Disk (H.own site.now) (H.honest site.now) (H.holds site.now)
+        place.now.top.now limits plan.now round.now) }
+{
+    let mut watcher = watcher;
+    let led = led_by(
+        site,
+        place.top,
+        plan,
+        round,
+        limits,
+        launcher,
+        known.identity(),
+        disks,
+        &mut watcher,
+    );
+    watcher.progress.ends();
+    match led {
+        Ok(report) => {
+            watcher.log.finishes(report.text.as_str(), report.status);
+            forget_children(rt, place, &watcher.log, known.some_left, true);
+            Ok(report)
+        }
+        Err(stop) => {
+            let fault = in_run(rt.alloc(), place.top, stop.cause, watcher.halt.by_error);
+            log_stop(rt, &mut watcher.log, &fault, &stop.reason);
+            forget_children(rt, place, &watcher.log, known.some_left, false);
+            Err(fault)
+        }
     }
 }
 
@@ -206,28 +277,27 @@ fn run_on<R: Processes + Files<File = File> + Clock + Screen + AllocGlobal + Cop
     let journal = site.readied(place.top, journal, round, lock)?;
     let kept = settled(&rt, place, plan, round, options, orphans)?;
     let left_out = keep_inputs(rt, place, plan, round, inputs)?;
+    let halt = HaltWatcher::new(rt, place, plan, round, options)?;
     let mut log = watcher_of(rt, place, plan, round, options)?;
     let known = identified(rt, place, round, kept, &mut log)?;
     log.begins(&life_of(place, round, options, left_out));
-    let progress = progress_of(rt, place, plan, round, options);
-    let mut watcher = RoundWatcher { log, progress };
-    let ended = led_by(
+    let watcher = RoundWatcher {
+        log,
+        progress: progress_of(rt, place, plan, round, options),
+        halt,
+    };
+    led_watched(
+        rt,
         site,
-        place.top,
+        place,
         plan,
         round,
         options.limits,
         launcher,
-        known.identity(),
+        &known,
         (journal, rescue),
-        &mut watcher,
-    );
-    watcher.progress.ends();
-    tell_end(rt, place, &mut watcher.log, &ended, known.some_left);
-    match ended {
-        Ok(report) => Ok(report),
-        Err(stop) => Err(stop.fault),
-    }
+        watcher,
+    )
 }
 
 /// Runs a round of a plan on the disks of the site beside the DAG file, and answers what it prints.
@@ -453,6 +523,10 @@ pub fn run_dag<
         place.now.top.now options.now (string_bytes answer.text) (string_bytes answer.warnings) answer.status) }
     // It is refused for the first cause of the stated order, or for want of memory.
     ensures refused { ¬ (H.streams site.now) → IfErr result (IsRunFault
+        (rounds_at H.Journal.Disk H.Rescue.Disk (H.own site.now) (H.honest site.now) (H.holds site.now))
+        place.now.top.now options.now) }
+    // Where it is refused for what files say, or for the round, these are those that the folder holds.
+    ensures refused_held { ¬ (H.streams site.now) → H.honest site.now → IfErr result (IsRunFaultFrom (H.holds site.now) (H.has site.now)
         (rounds_at H.Journal.Disk H.Rescue.Disk (H.own site.now) (H.honest site.now) (H.holds site.now))
         place.now.top.now options.now) }
 {

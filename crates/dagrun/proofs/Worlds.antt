@@ -16,7 +16,7 @@ use Rattle.dag_main_files.specs.Beside.{IsRefusalOf, path_refused, refusing_had_
 use Rattle.dag_main_check.specs.declared.fault.RunFault.{RunFault}
 use Rattle.dag_main_check.specs.declared.warnings.Answer.{Answer}
 use Rattle.dag_main_run.specs.Sites.{Own, IsKnownTo, IsAtSite, IsRoundLedAt, IsRoundStoppedAt, Rounds, rounds_at, journal_found}
-use Rattle.dag_main_run.specs.Runs.{IsRunWhere, IsStopFault, not_cleared, no_endings, round_stopped, leading_had_no_memory, IsHeldFault, not_found_again, another_was_at_work, not_led, IsRunFault, no_graph, not_found, no_plan, no_launcher, no_room, not_alone, not_held, no_memory}
+use Rattle.dag_main_run.specs.Runs.{IsRunWhere, IsStopFault, not_cleared, no_endings, round_stopped, leading_had_no_memory, IsHeldFault, not_found_again, another_was_at_work, not_led, IsRunFaultWhere, no_graph, not_found, no_plan, no_launcher, no_room, not_alone, not_held, no_memory}
 use Rattle.dagrun.specs.Answered.{Said, World, files_for, is_beside, IsRunWith, led, reported_again, IsRunRefusal, not_run, not_reported, CommandContract, command_of_some, command_from, IsAnswerUnder, ComesTo, IsFolderFault, folder_refused, folder_had_no_memory, IsReply, of_command, of_no_folder, is_run}
 
 -- what a command comes to, by what is said of its answer and of its refusal
@@ -91,25 +91,27 @@ module _ (rounds known : Rounds) (told : AreToldAs rounds known) where
   held-fault options path plan round _ (another_was_at_work fault why) = another_was_at_work fault why
   held-fault options path plan round _ (not_led fault why) = not_led fault (stop-fault path options.limits plan round fault why)
 
-  run-fault : (path : List ℕ) (options : RunOptions) (fault : RunFault) → IsRunFault rounds path options fault → IsRunFault known path options fault
-  run-fault path options _ (no_graph files fault why) = no_graph files fault why
-  run-fault path options _ (not_found files graph fault is why) = not_found files graph fault is why
-  run-fault path options _ (no_plan files graph fault is why) = no_plan files graph fault is why
-  run-fault path options _ (no_launcher fault planned why) = no_launcher fault planned why
-  run-fault path options _ (no_room fault planned why) = no_room fault planned why
-  run-fault path options _ (not_alone fault planned why) = not_alone fault planned why
-  run-fault path options _ (not_held planned fault why) = not_held planned fault (held-fault options path planned.plan planned.round fault why)
-  run-fault path options _ no_memory = no_memory
+  run-fault : (IsRead : FileSet → Type 0) (IsRound : Round → Type 0) (path : List ℕ) (options : RunOptions) (fault : RunFault)
+      → IsRunFaultWhere IsRead IsRound rounds path options fault → IsRunFaultWhere IsRead IsRound known path options fault
+  run-fault IsRead IsRound path options _ (no_graph files fault read why) = no_graph files fault read why
+  run-fault IsRead IsRound path options _ (not_found files graph fault read is why) = not_found files graph fault read is why
+  run-fault IsRead IsRound path options _ (no_plan files graph fault read is why) = no_plan files graph fault read is why
+  run-fault IsRead IsRound path options _ (no_launcher fault planned why) = no_launcher fault planned why
+  run-fault IsRead IsRound path options _ (no_room fault planned why) = no_room fault planned why
+  run-fault IsRead IsRound path options _ (not_alone fault planned why) = not_alone fault planned why
+  run-fault IsRead IsRound path options _ (not_held planned fault why) = not_held planned fault (held-fault options path planned.plan planned.round fault why)
+  run-fault IsRead IsRound path options _ no_memory = no_memory
 
-  run-refusal : (NotTold : RunFault → Type 0) (NoReport : Type 0) (path : List ℕ) (options : RunOptions) (fault : RunFault)
-      → IsRunRefusal (IsRunFault rounds path options) NotTold NoReport options fault → IsRunRefusal (IsRunFault known path options) NotTold NoReport options fault
-  run-refusal NotTold NoReport path options _ (not_run fault none why) = not_run fault none (run-fault path options fault why)
-  run-refusal NotTold NoReport path options _ (not_reported fault asked why) = not_reported fault asked why
+  run-refusal : (IsRead : FileSet → Type 0) (IsRound : Round → Type 0) (NotTold : RunFault → Type 0) (NoReport : Type 0) (path : List ℕ) (options : RunOptions) (fault : RunFault)
+      → IsRunRefusal (IsRunFaultWhere IsRead IsRound rounds path options) NotTold NoReport options fault
+      → IsRunRefusal (IsRunFaultWhere IsRead IsRound known path options) NotTold NoReport options fault
+  run-refusal IsRead IsRound NotTold NoReport path options _ (not_run fault none why) = not_run fault none (run-fault IsRead IsRound path options fault why)
+  run-refusal IsRead IsRound NotTold NoReport path options _ (not_reported fault asked why) = not_reported fault asked why
 
   pub told-some : (asked : Asked) (r : Result Answer RunFault) → ComesTo (command_of_some rounds asked) r → ComesTo (command_of_some known asked) r
   told-some (checks path hinted) r is = is
   told-some (runs path options) (Ok answer) is = run-with _ _ _ _ _ path options _ _ _ is
-  told-some (runs path options) (Err fault) is = run-refusal _ _ path options fault is
+  told-some (runs path options) (Err fault) is = run-refusal _ _ _ _ path options fault is
   told-some (tells_status path owned) r is = is
   told-some (audits path owned) r is = is
   told-some (rehearses path outcomes limits always_post) r is = is
@@ -124,7 +126,7 @@ module _ (rounds known : Rounds) (told : AreToldAs rounds known) where
       → ComesTo (command_from holds has known asked) r
   told-from holds has (checks path hinted) r is = is
   told-from holds has (runs path options) (Ok answer) is = run-with _ _ _ _ _ path options _ _ _ is
-  told-from holds has (runs path options) (Err fault) is = run-refusal _ _ path options fault is
+  told-from holds has (runs path options) (Err fault) is = run-refusal _ _ _ _ path options fault is
   told-from holds has (tells_status path owned) r is = is
   told-from holds has (audits path owned) r is = is
   told-from holds has (rehearses path outcomes limits always_post) r is = is
@@ -171,7 +173,7 @@ unbeside-from holds has there rounds known (draws path owned) isnt r is = is
 unbeside-from holds has there rounds known (asks_why path nodes owned) isnt r is = is
 unbeside-from holds has there rounds known (times path svg owned) isnt r is = is
 unbeside-from holds has there rounds known (salvages path owned) isnt r is = is
-unbeside-from holds has there rounds known (redoes path nodes only owned) isnt r is = is
+unbeside-from holds has there rounds known (redoes path nodes only owned) isnt r is = absurd (false≢true (sym isnt))
 unbeside-from holds has there rounds known (shows page) isnt r is = is
 
 -- a reply by what is read alone

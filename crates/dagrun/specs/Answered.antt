@@ -2,32 +2,35 @@
 use Rattle.std.specs.Global.{Global}
 use Rattle.std.specs.Prelude.{◌≡◌, String, ◌<◌, ◌≤◌, ℕ, Bool, true, false, List, [], ◌++◌, Option, Some, None, Result, Ok, Err, codes, length, is_some, string_bytes, IfSome}
 use Rattle.splices_flat.specs.Opening.{Files}
+use Rattle.splices_flat.specs.FileSet.{bytes_of}
+use Rattle.splices_flat.specs.declared.file_set.FileSet.{FileSet}
 use Rattle.throttles.specs.declared.Limits.{Limits}
 use Rattle.dag_main_args.specs.declared.request.Request.{Request}
 use Rattle.dag_main_args.specs.Answered.{IsAskedFor, IsRefused}
 use Rattle.dag_main_args.specs.Requests.{Asked, asked_by, checks, runs, tells_status, audits, rehearses, draws, asks_why, times, salvages, redoes, shows, no_limits, limits_in, AreLimits}
 use Rattle.dag_main_args.specs.declared.request.RunOptions.{RunOptions}
 use Rattle.dag_main_files.specs.Beside.{IsRefusalOf}
+use Rattle.dag_main_files.specs.Folder.{IsReadFrom}
 use Rattle.dag_main_check.specs.Checked.{IsCheckOf}
 use Rattle.dag_main_rehearse.specs.Rehearsed.{IsRehearsalOf}
-use Rattle.folder_answers.specs.Answered.{IsCheckOfSome, IsCheckRefusal, IsRehearsalOfSome, IsRehearsalRefusal}
+use Rattle.folder_answers.specs.Answered.{IsCheckOfSome, IsCheckRefusal, IsCheckRefusalFrom, IsRehearsalOfSome, IsRehearsalRefusal, IsRehearsalRefusalFrom}
 use Rattle.dag_main_check.specs.declared.fault.RunFault.{RunFault}
 use Rattle.dag_main_check.specs.declared.fault.RunFault.TheVariants.{FileRefused, Memory}
 use Rattle.dag_main_check.specs.declared.warnings.Answer.{Answer}
 use Rattle.answer_console.specs.Display.{Streams, OnlyWarns, OnlyWarnsAtTerminal, IsDisplayedAs, IsExitStatusOf}
 use Rattle.dag_main_run.specs.Sites.{Rounds}
-use Rattle.dag_main_run.specs.Runs.{IsRunOf, IsRunFrom, IsRunFault}
-use Rattle.dag_main_inspect.specs.Asked.{IsAnswerOfRun, IsAnswerHeld, IsAnswerFault}
+use Rattle.dag_main_run.specs.Runs.{IsRunOf, IsRunFrom, IsRunFault, IsRunFaultFrom}
+use Rattle.dag_main_inspect.specs.Asked.{IsAnswerOfRun, IsAnswerHeld, IsAnswerFault, IsAnswerFaultHeld}
 use Rattle.dag_main_inspect.specs.Reported.{IsReportHere, IsReportFrom, IsNoReportFrom}
-use Rattle.run_times.specs.Answered.{IsTimesOf, IsTimesFrom, IsTimesFault}
+use Rattle.run_times.specs.Answered.{IsTimesOf, IsTimesFrom, IsTimesFault, IsTimesFaultHeld}
 use Rattle.dag_main_inspect.specs.declared.by_journal.Question.TheVariants.{Status, Audit, Graph}
 use Rattle.salvage.specs.Answered.{IsSalvageOf, IsSalvageFrom}
 use Rattle.salvage.specs.Faults.{fault_text}
 use Rattle.salvage.specs.declared.fault.SalvageFault.{SalvageFault}
 use Rattle.salvage.specs.Refused.{IsSalvageFault}
 use Rattle.salvage.specs.declared.fault.SalvageFault.TheVariants.{Refused}
-use Rattle.failure_answers.specs.Answered.{IsWhyOf, IsWhyHeld}
-use Rattle.redo.specs.Answered.{IsRedoOf, IsRedoHeld, IsRedoFault}
+use Rattle.failure_answers.specs.Answered.{IsWhyOf, IsWhyHeld, IsWhyFaultHeld}
+use Rattle.redo.specs.Answered.{IsRedoOf, IsRedoHeld, IsRedoFault, IsRedoFaultHeld}
 
 -- what is said of the text, the warnings and the status of an answer
 abbrev pub Said : Type 1
@@ -106,6 +109,12 @@ pub data IsRehearsalRefusalWith (Refused : Option (List ℕ) → RunFault → Ty
   table_refused : (path : List ℕ) (fault : RunFault) → outcomes ≡ Some path → IsRefusalOf path fault → IsRehearsalRefusalWith Refused outcomes fault
   not_rehearsed : (table : Option (List ℕ)) (fault : RunFault) → is_some table ≡ is_some outcomes → Refused table fault → IsRehearsalRefusalWith Refused outcomes fault
 
+-- Why a check is refused where these files are held: for what they say; or, where hints are asked for, for what the files say that were read once
+-- for both.
+pub data IsCheckRefusalHeld (holds : Files) (path : List ℕ) : RunFault → Type 0 where
+  of_held_files : (fault : RunFault) → IsCheckRefusalFrom holds path fault → IsCheckRefusalHeld holds path fault
+  of_files_read_once : (files : FileSet) (fault : RunFault) → IsReadFrom holds path files → IsCheckRefusalFrom (bytes_of files) path fault → IsCheckRefusalHeld holds path fault
+
 -- What is said of a command: of the text that it prints, its warnings and its exit status; and of why it is refused.
 pub record CommandContract : Type 1 where
   pub answers : Said
@@ -136,22 +145,22 @@ command_of_some rounds (shows page) = record { answers = IsPage page; refused = 
 
 -- The same where these files are held and these paths are there: of the files that are held.
 abbrev pub command_from : Files → (List ℕ → Bool) → Rounds → Asked → CommandContract
-command_from holds has rounds (checks path hinted) = record { answers = IsCheckWith (IsCheckOf holds path) hinted; refused = IsCheckRefusal path }
+command_from holds has rounds (checks path hinted) = record { answers = IsCheckWith (IsCheckOf holds path) hinted; refused = IsCheckRefusalHeld holds path }
 command_from holds has rounds (runs path options) = record {
   answers = IsRunWith (IsRunFrom holds has rounds path options) (IsReportFrom holds path) (IsNoReportFrom holds path) options;
-  refused = IsRunRefusal (IsRunFault rounds path options) (IsAnswerFault Status path) (IsNoReportFrom holds path) options;
+  refused = IsRunRefusal (IsRunFaultFrom holds has rounds path options) (IsAnswerFaultHeld holds Status path) (IsNoReportFrom holds path) options;
 }
-command_from holds has rounds (tells_status path trust_owner) = record { answers = IsAnswerHeld holds Status path; refused = IsAnswerFault Status path }
-command_from holds has rounds (audits path trust_owner) = record { answers = IsAnswerHeld holds Audit path; refused = IsAnswerFault Audit path }
+command_from holds has rounds (tells_status path trust_owner) = record { answers = IsAnswerHeld holds Status path; refused = IsAnswerFaultHeld holds Status path }
+command_from holds has rounds (audits path trust_owner) = record { answers = IsAnswerHeld holds Audit path; refused = IsAnswerFaultHeld holds Audit path }
 command_from holds has rounds (rehearses path outcomes limits always_post) = record {
   answers = IsRehearsalWith (λ table. IsRehearsalOf always_post holds path table limits) outcomes;
-  refused = IsRehearsalRefusalWith (IsRehearsalRefusal path) outcomes;
+  refused = IsRehearsalRefusalWith (IsRehearsalRefusalFrom holds path) outcomes;
 }
-command_from holds has rounds (draws path trust_owner) = record { answers = IsAnswerHeld holds Graph path; refused = IsAnswerFault Graph path }
-command_from holds has rounds (asks_why path nodes trust_owner) = record { answers = IsWhyHeld holds path nodes; refused = IsAnswerFault Status path }
-command_from holds has rounds (times path svg trust_owner) = record { answers = IsTimesFrom holds path svg; refused = IsTimesFault path }
+command_from holds has rounds (draws path trust_owner) = record { answers = IsAnswerHeld holds Graph path; refused = IsAnswerFaultHeld holds Graph path }
+command_from holds has rounds (asks_why path nodes trust_owner) = record { answers = IsWhyHeld holds path nodes; refused = IsWhyFaultHeld holds path }
+command_from holds has rounds (times path svg trust_owner) = record { answers = IsTimesFrom holds path svg; refused = IsTimesFaultHeld holds path }
 command_from holds has rounds (salvages path trust_owner) = record { answers = IsSalvageWith (IsSalvageFrom holds path) path; refused = λ fault. IsSalvageFault path (Refused fault) }
-command_from holds has rounds (redoes path nodes only trust_owner) = record { answers = IsRedoHeld holds path nodes only; refused = IsRedoFault path }
+command_from holds has rounds (redoes path nodes only trust_owner) = record { answers = IsRedoHeld holds has path nodes only; refused = IsRedoFaultHeld holds path }
 command_from holds has rounds (shows page) = record { answers = IsPage page; refused = λ fault. ⊥ }
 
 -- what is said of the answer of a command

@@ -6,14 +6,14 @@ ghost use Rattle.dag_main_args.specs.Requests.{asked_by, checks, runs};
 ghost use Rattle.dag_main_files.specs.Beside.{IsRefusalOf};
 ghost use Rattle.dag_main_check.specs.Checked.{IsCheckOf};
 ghost use Rattle.dag_main_rehearse.specs.Rehearsed.{IsRehearsalOf};
-ghost use Rattle.folder_answers.specs.Answered.{IsCheckOfSome, IsCheckRefusal, IsRehearsalOfSome, IsRehearsalRefusal};
+ghost use Rattle.folder_answers.specs.Answered.{IsCheckOfSome, IsCheckRefusal, IsRehearsalOfSome, IsRehearsalRefusal, IsRehearsalRefusalFrom};
 ghost use Rattle.dag_main_check.specs.declared.fault.RunFault.TheVariants.{Memory};
 ghost use Rattle.salvage.specs.Faults.{fault_text};
 ghost use Rattle.salvage.specs.Answered.{IsSalvageOf, IsSalvageFrom};
 ghost use Rattle.salvage.specs.Refused.{IsSalvageFault};
 ghost use Rattle.salvage.specs.declared.fault.SalvageFault.TheVariants.{Refused};
 ghost use Rattle.dag_main_run.specs.Sites.{rounds_at};
-ghost use Rattle.dagrun.specs.Answered.{is_run, command_of_some, command_from, ComesTo, IsPage, IsCheckWith, IsRehearsalWith, IsRehearsalRefusalWith, IsSalvageWith, AreHints};
+ghost use Rattle.dagrun.specs.Answered.{is_run, command_of_some, command_from, ComesTo, IsPage, IsCheckWith, IsCheckRefusalHeld, IsRehearsalWith, IsRehearsalRefusalWith, IsSalvageWith, AreHints};
 
 use answer_console::Console;
 use dag_main_args::{Request, RunOptions};
@@ -204,6 +204,7 @@ fn check<R: Files<File = File> + Screen + AllocGlobal, C: Console, F: Folder>(
     ensures held { F.honest folder.now → IfOk result (λ answer. IsCheckWith (IsCheckOf (F.holds folder.now) dag.now) (wanted.hints || wanted.condor)
         (string_bytes answer.text) (string_bytes answer.warnings) answer.status) }
     ensures refused { IfErr result (IsCheckRefusal dag.now) }
+    ensures refused_held { F.honest folder.now → IfErr result (IsCheckRefusalHeld (F.holds folder.now) dag.now) }
     ensures hinted { C.honest console.new → AreHints (checks dag.now (wanted.hints || wanted.condor)) result (C.shown console.old) (C.shown console.new) }
     ensures back { C.honest console.new → C.honest console.old }
 {
@@ -228,6 +229,7 @@ fn check_with_hints<R: Files<File = File> + Screen + AllocGlobal, C: Console, F:
     ensures held { F.honest folder.now → IfOk result (λ answer. IsCheckWith (IsCheckOf (F.holds folder.now) dag.now) true
         (string_bytes answer.text) (string_bytes answer.warnings) answer.status) }
     ensures refused { IfErr result (IsCheckRefusal dag.now) }
+    ensures refused_held { F.honest folder.now → IfErr result (IsCheckRefusalHeld (F.holds folder.now) dag.now) }
     ensures hinted { C.honest console.new → AreHints (checks dag.now true) result (C.shown console.old) (C.shown console.new) }
     ensures back { C.honest console.new → C.honest console.old }
 {
@@ -272,6 +274,8 @@ fn rehearse<R: Files + AllocGlobal, F: Folder>(
     ensures held { F.honest folder.now → IfOk result (λ answer. IsRehearsalWith (λ table. IsRehearsalOf always_post (F.holds folder.now) dag.now table limits)
         (option_map (λ t. t.now) outcomes.entry) (string_bytes answer.text) (string_bytes answer.warnings) answer.status) }
     ensures refused { IfErr result (IsRehearsalRefusalWith (IsRehearsalRefusal dag.now) (option_map (λ t. t.now) outcomes.entry)) }
+    ensures refused_held { F.honest folder.now → IfErr result (IsRehearsalRefusalWith (IsRehearsalRefusalFrom (F.holds folder.now) dag.now)
+        (option_map (λ t. t.now) outcomes.entry)) }
 {
     let table = outcomes_of(rt, outcomes)?;
     rehearse_here(

@@ -4,7 +4,7 @@ ghost use Rattle.answer_console.specs.Display.{OnlyWarnsAtTerminal};
 
 use crate::answers::REFUSED;
 use answer_console::Console;
-use dag_main_files::{Place, Reading, SystemFolder, files_of, read_input};
+use dag_main_files::{Folder, Place, Reading, SystemFolder, files_of, read_input};
 use hint_answers::{Wanted, hints_of};
 use log_lines::{read_line, unquoted, whole_lines};
 use refusal_hints::{Evidence, Refusal, hint_text};
@@ -35,6 +35,9 @@ const OTHERS_WRITE: u32 = 0o022;
 
 /// The number of root.
 const ROOT: u32 = 0;
+
+/// Who works on a DAG file where no manager does.
+const NOBODY: &str = "no manager";
 
 /// How many changed files are named.
 const MOST_CHANGED: usize = 5;
@@ -370,11 +373,36 @@ fn worker_of<R: Files<File = File> + AllocGlobal>(
         top: dag,
     };
     if !here.is_at_work(rt) {
-        return String::from_str(alloc, "no manager");
+        return String::from_str(alloc, NOBODY);
     }
     match manager_in_log(rt, &here, trusts_owner) {
         Some(process) => format!(in alloc; "process {process}"),
         None => String::from_str(alloc, "a manager"),
+    }
+}
+
+/// How to go on, where nobody works on this DAG file and its last round has not ended.
+fn going_on_text<R: Files<File = File> + Input + AllocGlobal + Copy + Drop>(
+    rt: &R,
+    dag: &str,
+    trusts_owner: bool,
+    worker: &str,
+) -> Result<String, AllocError> {
+    let alloc = rt.alloc();
+    let here = SystemFolder {
+        rt,
+        seat: String::new(alloc),
+        has_input: false,
+        trusts_owner,
+    };
+    if worker != NOBODY {
+        return Ok(String::new(alloc));
+    }
+    match here.journal(alloc, dag) {
+        Ok(Some(peek)) if !peek.finished => format!(in alloc;
+            "; the round was cut short: dagrun run {dag} goes on"
+        ),
+        _ => Ok(String::new(alloc)),
     }
 }
 
@@ -494,11 +522,13 @@ fn postscript_of<R: Files<File = File> + Clock + Env + Input + AllocGlobal + Cop
         Postscript::Totals { trusts_owner } => {
             let totals = totals_of(alloc, text)?;
             let worker = worker_of(rt, dag, trusts_owner)?;
-            format!(in alloc; "{totals}; {worker} works on them\n")
+            let further = going_on_text(rt, dag, trusts_owner, worker.as_str())?;
+            format!(in alloc; "{totals}; {worker} works on them{further}\n")
         }
         Postscript::Worker { trusts_owner } => {
             let worker = worker_of(rt, dag, trusts_owner)?;
-            format!(in alloc; "{worker} works on {dag}\n")
+            let further = going_on_text(rt, dag, trusts_owner, worker.as_str())?;
+            format!(in alloc; "{worker} works on {dag}{further}\n")
         }
     }
 }

@@ -8,8 +8,12 @@ use Rattle.run_plan.specs.Plan.{Plan}
 use Rattle.sched_core.specs.Run.{chronological, is_lawful}
 use Rattle.dag_main_check.specs.Planned.{IsPlanWith}
 use Rattle.dag_main_check.specs.Warnings.{warning_lines}
+use Rattle.dag_main_check.specs.declared.fault.RunFault.{RunFault}
+use Rattle.dag_main_files.specs.Beside.{IsFileFault}
 use Rattle.dag_main_files.specs.Folder.{IsReadFrom}
+use Rattle.dag_main_inspect.specs.Asked.{IsAnswerFaultHeld}
 use Rattle.dag_main_inspect.specs.LastRound.{IsLastRound}
+use Rattle.dag_main_inspect.specs.declared.by_journal.Question.TheVariants.{Status}
 use Rattle.dag_main_inspect.specs.Statused.{journal_bytes, flag_by, records_in_bytes}
 use Rattle.failure_report.specs.Reported.{HasAllFailed}
 use Rattle.failure_report.specs.Named.{HasNamed, IsUnknownName}
@@ -47,3 +51,9 @@ pub record IsWhyHeld (holds : Files) (path : List ℕ) (names : List (List ℕ))
   pub read : IsReadFrom holds path files
   pub beside : IsLastRound holds path journal rescue
   pub answered : IsWhyFrom files path rescue journal names text warnings status
+
+-- Why `why` gives no answer where these files are held: for a cause for which `status` is refused; or the log may be another user's, or memory
+-- runs out before it is known whose it is.
+pub data IsWhyFaultHeld (holds : Files) (path : List ℕ) : RunFault → Type 0 where
+  held_no_status : (fault : RunFault) → IsAnswerFaultHeld holds Status path fault → IsWhyFaultHeld holds path fault
+  held_log_refused : (fault : RunFault) → IsFileFault fault → IsWhyFaultHeld holds path fault

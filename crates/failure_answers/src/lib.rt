@@ -8,7 +8,7 @@ ghost use Rattle.dag_main_files.specs.Beside.{IsFileFault};
 ghost use Rattle.dag_main_inspect.specs.Asked.{IsAnswerFault};
 ghost use Rattle.dag_main_inspect.specs.Statused.{IsStatusFault};
 ghost use Rattle.dag_main_inspect.specs.declared.by_journal.Question.TheVariants.{Status};
-ghost use Rattle.failure_answers.specs.Answered.{IsAnswerOf, IsWhyFrom, IsWhyOf, IsWhyHeld};
+ghost use Rattle.failure_answers.specs.Answered.{IsAnswerOf, IsWhyFrom, IsWhyOf, IsWhyHeld, IsWhyFaultHeld};
 
 use dag_main_check::{Answer, RunFault, warning_text};
 use dag_main_files::{Folder, Place, Reading, files_of, named};
@@ -154,6 +154,8 @@ pub fn why_here<R: Files<File = File> + AllocGlobal, F: Folder>(
         IsWhyHeld (F.holds folder.now) place.now.top.now (map (λ n. n.now) names.now)
         (string_bytes answer.text) (string_bytes answer.warnings) answer.status) }
     ensures refused { IfErr result (IsAnswerFault Status place.now.top.now) }
+    // The refusal too is for what the folder holds.
+    ensures refused_held { F.honest folder.now → IfErr result (IsWhyFaultHeld (F.holds folder.now) place.now.top.now) }
 {
     let alloc = rt.alloc();
     let round = last_round(alloc, folder, place.top)?;

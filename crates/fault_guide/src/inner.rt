@@ -108,7 +108,7 @@ pub(crate) fn of_files() -> &'static [Fault] {
     &OF_FILES
 }
 
-static OF_PARTS: [Fault; 11] = [
+static OF_PARTS: [Fault; 10] = [
     Fault {
         code: "N2",
         name: "NotRunning",
@@ -161,15 +161,6 @@ static OF_PARTS: [Fault; 11] = [
         detail: "",
         example: "",
         advice: "    It is told as X1.
-",
-    },
-    Fault {
-        code: "H1",
-        name: "Full",
-        when: "a phase is started over a limit",
-        detail: "",
-        example: "",
-        advice: "    It is a fault within the program, and no command tells it.
 ",
     },
     Fault {

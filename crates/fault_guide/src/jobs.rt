@@ -115,7 +115,8 @@ static JOBS: [Fault; 13] = [
     dagrun: V2 Loop A
 ",
         advice: "    Give one of the macros another name: `path = $(path):/more` does not add to
-    what path was before.
+    what path was before. The macros are those of the node's VARS lines and of its
+    submit file.
 ",
     },
     Fault {
@@ -153,10 +154,12 @@ static JOBS: [Fault; 13] = [
     $ dagrun check x.dag
     dagrun: V4 BadQuote A
 ",
-        advice: "    Write the environment in new style, between double quotes and parted by
-    blanks: environment = \"HOME=/tmp LANG=C\". Within the quotes a word with
-    blanks stands between single quotes, a single quote is '' and a double quote
-    \"\".
+        advice: "    In arguments between double quotes a single quote begins a group: write ''
+    for one within such a group, as in arguments = \"'it''s fine'\". Without
+    double quotes around all of them a ' is a plain one. Write the environment in
+    new style, between double quotes and with blanks in between:
+    environment = \"HOME=/tmp LANG=C\". Within the quotes a word with blanks is
+    between single quotes, a single quote is '' and a double quote \"\".
 ",
     },
     Fault {
@@ -188,8 +191,10 @@ static JOBS: [Fault; 13] = [
     $ dagrun check x.dag
     dagrun: P1 MissingFile work/a.sub
 ",
-        advice: "    See that the file is there and may be read. Its path is taken from the
-    node's folder: the DIR of its JOB line, seen from the folder of its splice.
+        advice: "    See that the file is there and may be read. A relative path is taken from
+    the folder in which dagrun is called, then the DIR of each SPLICE line on the
+    way to the node, and then the DIR of its JOB line. Where the file is beside
+    the DAG file, call dagrun in that folder.
 ",
     },
     Fault {
@@ -206,7 +211,8 @@ static JOBS: [Fault; 13] = [
     dagrun: P4 NoExecutable A
 ",
         advice: "    Write a line `executable = program` above `queue`; where the program is a
-    macro, assign it.
+    macro, assign it. A name that is spelled otherwise is a macro of your own:
+    `dagrun check --hints` says which one may be meant.
 ",
     },
     Fault {

@@ -167,10 +167,9 @@ static ROUNDS: [Fault; 21] = [
 ",
         advice: "    A round goes on only with the files that it began with: the DAG file, its
     splices, the submit files and the rescue file that it read. Which of them was
-    changed `sha256sum -c x.dag.inputs` says: put it back. Where it is a submit
-    file that is to stay as it is now, call `dagrun salvage x.dag`, which makes a
-    rescue file of what is done, and then `dagrun run x.dag`, which starts the
-    rest. A round that has ended is no hindrance: `dagrun run` begins a new one.
+    changed `sha256sum -c x.dag.inputs` says: put it back. Where it is to stay as
+    it is now, call `dagrun salvage x.dag`, which makes a rescue file of what is
+    done, and then `dagrun run x.dag`, which starts the rest. A round that has ended is no hindrance: `dagrun run` begins a new one.
     To give up one that was cut short, remove x.dag.journal: then nodes that were
     done in it run again.
 ",
@@ -285,9 +284,10 @@ static ROUNDS: [Fault; 21] = [
         when: "`salvage`: the DAG file, a splice or the rescue file that was read is not as it was when the round began",
         detail: "PATH",
         example: "",
-        advice: "    What is done is known by the nodes of that file alone: put it back and call
-    `dagrun salvage` again. Once it has made the rescue file the DAG may be changed:
-    that file names the nodes that are done.
+        advice: "    Put the file back and call `dagrun salvage` again. Where x.dag.begun keeps
+    what the round began with, salvage works after any change: here that file is
+    missing, or is of another round. Once the rescue file is made the DAG may be
+    changed: that file names the nodes that are done.
 ",
     },
     Fault {
@@ -297,7 +297,9 @@ static ROUNDS: [Fault; 21] = [
         detail: "PATH",
         example: "",
         advice: "    Call `dagrun salvage` in the folder in which `run` was called, and with the
-    same path; a rescue file that came by later is to be moved away.
+    same path. Move a rescue file away that came later. Where x.dag.begun keeps
+    what the round began with, salvage works after any change: here that file is
+    missing, or is of another round.
 ",
     },
 ];

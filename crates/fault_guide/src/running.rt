@@ -2,7 +2,7 @@
 
 use crate::guide::Fault;
 
-static RUNNING: [Fault; 8] = [
+static RUNNING: [Fault; 9] = [
     Fault {
         code: "A1",
         name: "StartMemory",
@@ -76,6 +76,26 @@ static RUNNING: [Fault; 8] = [
 ",
         advice: "    Nothing: how far nodes came in a run that a node aborted depends on when it
     did, so an audit stands for none. `dagrun status` says where they stand.
+",
+    },
+    Fault {
+        code: "H1",
+        name: "Halted",
+        when: "`run`: nothing more was to be launched, and what ran has ended",
+        detail: "PATH",
+        example: "    $ cat x.dag
+    JOB A a.sub
+    $ cat a.sub
+    executable = /bin/true
+    queue
+    $ touch x.dag.halt
+    $ dagrun run x.dag
+    dagrun: H1 Halted x.dag.halt
+",
+        advice: "    Remove the file that is named, and call `dagrun run` again, which goes on:
+    what ended is recorded, and nothing was killed. Where --stop-at-first-error
+    is named, a node failed for good: `dagrun why` says how, and `dagrun run`
+    without the option runs what does not wait for it.
 ",
     },
     Fault {

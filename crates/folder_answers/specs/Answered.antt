@@ -64,3 +64,9 @@ IsRehearsalOfSome always_post path table limits text warnings status =
 pub data IsRehearsalRefusal (path : List ℕ) (table : Option (List ℕ)) : RunFault → Type 0 where
   input_not_read : (fault : RunFault) → IsInputFault path fault → IsRehearsalRefusal path table fault
   not_rehearsed : (files : FileSet) (fault : RunFault) → IsRehearsalFault (bytes_of files) path table fault → IsRehearsalRefusal path table fault
+
+-- The same where these files are held: for what those that were read and the table say.
+pub data IsRehearsalRefusalFrom (holds : Files) (path : List ℕ) (table : Option (List ℕ)) : RunFault → Type 0 where
+  held_input_not_read : (fault : RunFault) → IsInputFault path fault → IsRehearsalRefusalFrom holds path table fault
+  held_not_rehearsed : (files : FileSet) (fault : RunFault) → IsReadFrom holds path files → IsRehearsalFault (bytes_of files) path table fault →
+      IsRehearsalRefusalFrom holds path table fault

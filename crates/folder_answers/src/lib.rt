@@ -4,7 +4,7 @@
 ghost use Rattle.std.specs.Prelude.{◌≡◌, None, Some, IfOk, IfErr, string_bytes};
 ghost use Rattle.std.specs.Option.{option_map};
 ghost use Rattle.dag_main_check.specs.Checked.{IsCheckOf};
-ghost use Rattle.folder_answers.specs.Answered.{missing_in, IsCheckOfSome, IsCheckRefusal, IsCheckRefusalFrom, IsConfirmed, IsRehearsalOfSome, IsRehearsalRefusal};
+ghost use Rattle.folder_answers.specs.Answered.{missing_in, IsCheckOfSome, IsCheckRefusal, IsCheckRefusalFrom, IsConfirmed, IsRehearsalOfSome, IsRehearsalRefusal, IsRehearsalRefusalFrom};
 ghost use Rattle.dag_main_rehearse.specs.Rehearsed.{IsRehearsalOf};
 
 use dag_main_check::{Answer, RunFault, check_text};
@@ -83,9 +83,11 @@ pub fn rehearse_here<F: Folder>(
     ensures report { IfOk result (λ answer. IsRehearsalOfSome always_post top.now (option_map (λ b. b.now) table.entry) limits
         (string_bytes answer.text) (string_bytes answer.warnings) answer.status) }
     ensures refused { IfErr result (IsRehearsalRefusal top.now (option_map (λ b. b.now) table.entry)) }
-    // It is that of what the folder holds.
+    // It is that of what the folder holds, and the refusal too.
     ensures held { F.honest folder.now → IfOk result (λ answer. IsRehearsalOf always_post (F.holds folder.now) top.now
         (option_map (λ b. b.now) table.entry) limits (string_bytes answer.text) (string_bytes answer.warnings) answer.status) }
+    ensures refused_held { F.honest folder.now
+        → IfErr result (IsRehearsalRefusalFrom (F.holds folder.now) top.now (option_map (λ b. b.now) table.entry)) }
 {
     let files = files_of(alloc, folder, top, Reading::SplicesAlone)?;
     rehearse_text(alloc, &files, top, table, limits, always_post)

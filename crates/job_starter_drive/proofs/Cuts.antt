@@ -9,7 +9,7 @@ use Rattle.job_starter_drive.specs.declared.Call.{Call}
 use Rattle.job_starter_drive.specs.declared.Call.TheVariants as calls
 use Rattle.job_starter_drive.specs.declared.Started.TheVariants.{Running, NotStarted}
 use Rattle.job_starter_drive.specs.Calls.{snapshot_of, Telling}
-use Rattle.job_starter_drive.specs.Drives.{Standing, drive_records, calls_of, IsStep, launch_round, skip_noop, spawn_child, spawn_failed, child_exits, child_gathered, ends_recorded, kill_child, Goes, no_step, one_more, Kills, nobody, one_killed}
+use Rattle.job_starter_drive.specs.Drives.{Standing, drive_records, calls_of, IsStep, launch_round, skip_noop, spawn_child, spawn_failed, child_exits, child_gathered, ends_recorded, see_halt, kill_child, Goes, no_step, one_more, Kills, nobody, one_killed}
 use Rattle.job_starter_drive.specs.Moments.{IsOlderPart}
 use Rattle.job_starter_drive.proofs.Turns.{launched-older, added-older}
 
@@ -28,24 +28,26 @@ older-is held kept same = ([], same)
 module _ (limits : Limits) (plan : Plan) (may : Telling) where
   -- the records that stood there are kept
   pub step-records : (from to : Standing) → IsStep limits plan may from to → IsOlderPart (drive_records from) (drive_records to)
-  step-records _ _ (launch_round {past = past} {keys = keys} lawful going step round) = launched-older past keys
+  step-records _ _ (launch_round {past = past} {keys = keys} lawful going unhalted step round) = launched-older past keys
   step-records _ _ (skip_noop {past = past} quiet) = older-self past
   step-records _ _ (spawn_child {past = past} child is may_run) = older-self past
   step-records _ _ (spawn_failed {past = past} child is may_be) = older-self past
-  step-records _ _ (child_exits {past = past} step held ran may_be) = older-self past
+  step-records _ _ (child_exits {past = past} step held halt ran may_be) = older-self past
   step-records _ _ (child_gathered {past = past} gathers way held on few ran may_be) = older-self past
   step-records _ _ (ends_recorded {past = past} {end = end} {owed = owed}) = added-older past (up_to_abort plan past (ends_of (end ∷ owed)))
+  step-records _ _ (see_halt {past = past} may_halt unhalted) = older-self past
   step-records _ _ (kill_child {past = past} ran free) = older-self past
 
   -- and so are the calls that were answered
   pub step-calls : (from to : Standing) → IsStep limits plan may from to → IsOlderPart (calls_of from) (calls_of to)
-  step-calls _ _ (launch_round {call_log = call_log} lawful going step round) = older-self call_log
+  step-calls _ _ (launch_round {call_log = call_log} lawful going unhalted step round) = older-self call_log
   step-calls _ _ (skip_noop {call_log = call_log} quiet) = older-self call_log
   step-calls _ _ (spawn_child {call_log = call_log} {key = key} {command = command} child is may_run) = older-one (calls.Started key (snapshot_of command) Running) call_log
   step-calls _ _ (spawn_failed {call_log = call_log} {key = key} {command = command} child is may_be) = older-one (calls.Started key (snapshot_of command) NotStarted) call_log
-  step-calls _ _ (child_exits {call_log = call_log} {key = key} {outcome = outcome} step held ran may_be) = older-one (calls.Ended key outcome) call_log
+  step-calls _ _ (child_exits {call_log = call_log} {key = key} {outcome = outcome} step held halt ran may_be) = older-one (calls.Ended key outcome) call_log
   step-calls _ _ (child_gathered {call_log = call_log} {key = key} {outcome = outcome} gathers way held on few ran may_be) = older-one (calls.Ended key outcome) call_log
   step-calls _ _ (ends_recorded {call_log = call_log}) = older-self call_log
+  step-calls _ _ (see_halt {call_log = call_log} may_halt unhalted) = older-one calls.HaltSeen call_log
   step-calls _ _ (kill_child {call_log = call_log} {key = key} ran free) = older-one (calls.Killed key) call_log
 
   pub goes-records : (from to : Standing) → Goes limits plan may from to → IsOlderPart (drive_records from) (drive_records to)

@@ -17,7 +17,7 @@ use Rattle.job_starter_drive.specs.declared.Call.TheVariants as calls
 use Rattle.job_starter_drive.specs.declared.driving.DriveFault.{DriveFault}
 use Rattle.job_starter_drive.specs.declared.Started.TheVariants.{Running, NotStarted}
 use Rattle.job_starter_drive.specs.Calls.{snapshot_of, Telling}
-use Rattle.job_starter_drive.specs.Drives.{most_at_once, Standing, At, at_rest, drive_records, calls_of, none_aborts, IsStep, launch_round, skip_noop, spawn_child, spawn_failed, child_exits, child_gathered, ends_recorded, kill_child, Goes, no_step, one_more, Drives, Kills, nobody, one_killed, IsHalted, IsHaltedBy, IsStopped}
+use Rattle.job_starter_drive.specs.Drives.{most_at_once, Standing, At, at_rest, drive_records, calls_of, none_aborts, IsStep, launch_round, skip_noop, spawn_child, spawn_failed, child_exits, child_gathered, ends_recorded, see_halt, kill_child, Goes, no_step, one_more, Drives, Kills, nobody, one_killed, IsHalted, IsHaltedBy, IsStopped}
 use Rattle.job_starter_drive.specs.Moments.{IsOlderPart}
 use Rattle.job_starter_drive.specs.Reported.{endings_in, IsSubsequence, nothing, passed_over, taken, RecordsEach, RecordsEachButNewest}
 use Rattle.job_starter_drive.proofs.Turns.{launched-older, added-older}
@@ -162,7 +162,7 @@ module _ (limits : Limits) (plan : Plan) (may : Telling) (past : List Record) (c
           }
 
   step-keeps : (from to : Standing) → IsStep limits plan may from to → Keeps plan past call_log from → Keeps plan past call_log to
-  step-keeps _ _ (launch_round {past = now} {call_log = log} {keys = keys} lawful going step round) k =
+  step-keeps _ _ (launch_round {past = now} {call_log = log} {keys = keys} lawful going unhalted step round) k =
       grown (At now log [] []) (At (launched now keys) log keys []) k (none-owed plan now [] k.newest k.owes) refl (launched-older now keys)
   step-keeps _ _ (skip_noop {past = now} {call_log = log} {key = key} {keys = keys} {owed = owed} quiet) k =
       grown (At now log (key ∷ keys) owed) (At now log keys (owed ++ (key, Exit 0) ∷ [])) k (none-yet plan now key keys owed k.newest k.owes) refl ([], refl)
@@ -171,10 +171,12 @@ module _ (limits : Limits) (plan : Plan) (may : Telling) (past : List Record) (c
   step-keeps _ _ (spawn_failed {past = now} {call_log = log} {key = key} {keys = keys} {owed = owed} {command = command} child is may_be) k =
       grown (At now log (key ∷ keys) owed) (At now (calls.Started key (snapshot_of command) NotStarted ∷ log) keys (owed ++ (key, NoStart) ∷ [])) k
       (none-yet plan now key keys owed k.newest k.owes) refl ([], refl)
-  step-keeps _ _ (child_exits {past = now} {call_log = log} {key = key} {outcome = outcome} step held ran may_be) k = met-more now log [] key outcome refl (omega arith) k
+  step-keeps _ _ (child_exits {past = now} {call_log = log} {key = key} {outcome = outcome} step held halt ran may_be) k = met-more now log [] key outcome refl (omega arith) k
   step-keeps _ _ (child_gathered {past = now} {call_log = log} {end = end} {owed = owed} {key = key} {outcome = outcome} gathers way held on few ran may_be) k =
       met-more now log (end ∷ owed) key outcome on (omega (arith, few)) k
   step-keeps _ _ (ends_recorded {past = now} {call_log = log} {end = end} {owed = owed}) k = met-recorded now log (end ∷ owed) k
+  step-keeps _ _ (see_halt {past = now} {call_log = log} may_halt unhalted) k =
+      grown (At now log [] []) (At now (calls.HaltSeen ∷ log) [] []) k (none-owed plan now [] k.newest k.owes) refl ([], refl)
   step-keeps _ _ (kill_child {past = now} {call_log = log} {key = key} ran free) k =
       grown (At now log [] []) (At now (calls.Killed key ∷ log) [] []) k (none-owed plan now [] k.newest k.owes) refl ([], refl)
 

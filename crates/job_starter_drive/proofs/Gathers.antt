@@ -8,13 +8,13 @@ use Rattle.run_plan.specs.Plan.{Plan}
 use Rattle.node_machine.specs.declared.Record.{Record}
 use Rattle.node_machine.specs.declared.Record.TheVariants.{End}
 use Rattle.sched_core.specs.Run.{is_among, is_lawful, is_open, may_follow, outstanding}
-use Rattle.sched_core.specs.Ahead.{NothingToStart, added, ends_of}
+use Rattle.sched_core.specs.Ahead.{added, ends_of}
 use Rattle.sched_core.specs.Looks.{stops}
 use Rattle.sched_core.proofs.Ended.{goes_on, behind, stops-behind}
 use Rattle.job_starter_drive.specs.declared.Call.{Call}
 use Rattle.job_starter_drive.specs.declared.Call.TheVariants as calls
 use Rattle.job_starter_drive.specs.Calls.{running, Telling, AllowsNoMore, IsReportedEnding}
-use Rattle.job_starter_drive.specs.Drives.{most_at_once, Standing, At, at_rest, AreInStep, AreUnderWay, MayEndAll, none_aborts, IsStep, child_exits, child_gathered, Goes, no_step, one_more}
+use Rattle.job_starter_drive.specs.Drives.{most_at_once, Standing, At, at_rest, AreInStep, AreUnderWay, MayEndAll, IsHeld, none_aborts, IsStep, child_exits, child_gathered, Goes, no_step, one_more}
 use Rattle.job_starter_drive.proofs.Steps.{end-may-follow}
 use Rattle.job_starter_drive.proofs.Turns.{end-kept}
 use Rattle.job_starter_drive.proofs.Walks.{goes-then}
@@ -56,22 +56,18 @@ aborts-there plan past owed end lawful going ends all none =
 
 module _ (limits : Limits) (plan : Plan) (may : Telling) (past : List Record) (call_log : List Call) where
   pub gather-step : (owed : List (Key × Outcome)) (key : Key) (outcome : Outcome) → 0 < length owed → may.gathers → AreUnderWay plan past call_log [] owed
-      → NothingToStart limits plan past → none_aborts plan past owed ≡ true → length owed < most_at_once → is_among key (running call_log) ≡ true
+      → IsHeld limits plan past call_log → none_aborts plan past owed ≡ true → length owed < most_at_once → is_among key (running call_log) ≡ true
       → may.may_be call_log key outcome
       → IsStep limits plan may (At past call_log [] owed) (At past (calls.Ended key outcome ∷ call_log) [] (owed ++ (key, outcome) ∷ []))
   gather-step [] key outcome some gathers way held on few ran may_be = absurd (omega (arith, some))
   gather-step (end ∷ owed) key outcome some gathers way held on few ran may_be = child_gathered gathers way held on few ran may_be
 
-pub allows-then : (may may' may'' : Telling) → AllowsNoMore may may' → AllowsNoMore may' may'' → AllowsNoMore may may''
-allows-then may may' may'' first second =
-    ((λ call_log key outcome is. first.0 call_log key outcome (second.0 call_log key outcome is)), (λ is. first.1 (second.1 is)))
-
 -- a child was waited for, and others that had ended were gathered
 pub ended-goes : (limits : Limits) (plan : Plan) (may may' : Telling) → AllowsNoMore may may' → (past : List Record) (call_log first_log later_log : List Call) (end : Key × Outcome)
-    (one owed : List (Key × Outcome)) → AreInStep plan past call_log → NothingToStart limits plan past → IsReportedEnding may call_log first_log end → one ≡ end ∷ []
+    (one owed : List (Key × Outcome)) → AreInStep plan past call_log → IsHeld limits plan past call_log → IsReportedEnding may call_log first_log end → one ≡ end ∷ []
     → Goes limits plan may' (At past first_log [] one) (At past later_log [] owed) → Goes limits plan may (at_rest past call_log) (At past later_log [] owed)
 ended-goes limits plan may may' allows past call_log first_log later_log end one owed step held answer is more =
     goes-then limits plan may may' allows (at_rest past call_log) (At past first_log [] one) (At past later_log [] owed)
     (subst (λ (o : List (Key × Outcome)). Goes limits plan may (at_rest past call_log) (At past first_log [] o)) (sym is)
     (subst (λ (l : List Call). Goes limits plan may (at_rest past call_log) (At past l [] (end ∷ []))) (sym answer.entry)
-    (one_more no_step (child_exits step held answer.ran answer.may_be)))) more
+    (one_more no_step (child_exits step held answer.halt answer.ran answer.may_be)))) more

@@ -24,7 +24,7 @@ use Rattle.job_starter_drive.specs.declared.driving.DriveFault.{DriveFault}
 use Rattle.job_starter_drive.proofs.Phases.{noop-quiet}
 use Rattle.job_starter_drive.proofs.Turns.{launched-onto, launch-all}
 use Rattle.job_starter_drive.specs.Calls.{snapshot_of, Telling}
-use Rattle.job_starter_drive.specs.Drives.{most_at_once, Standing, At, at_rest, drive_records, calls_of, IsCommandIn, IsStep, launch_round, skip_noop, spawn_child, spawn_failed, child_exits, child_gathered, ends_recorded, kill_child, Goes, no_step, one_more, Drives, Kills, nobody, one_killed, IsHalted, IsHaltedBy, IsStopped}
+use Rattle.job_starter_drive.specs.Drives.{most_at_once, Standing, At, at_rest, drive_records, calls_of, IsCommandIn, IsStep, launch_round, skip_noop, spawn_child, spawn_failed, child_exits, child_gathered, ends_recorded, see_halt, kill_child, Goes, no_step, one_more, Drives, Kills, nobody, one_killed, IsHalted, IsHaltedBy, IsStopped}
 use Rattle.job_starter_drive.specs.Spawned.{spawned, SpawnsAll, SpawnsAllButSome}
 
 -- a phase and its command, by what the records say
@@ -103,7 +103,7 @@ module _ (limits : Limits) (plan : Plan) (may : Telling) (past : List Record) (c
   }
 
   step-hands : (from to : Standing) → IsStep limits plan may from to → Hands plan past call_log from → Hands plan past call_log to
-  step-hands _ _ (launch_round {past = before} {keys = keys} lawful going step round) h = record {
+  step-hands _ _ (launch_round {past = before} {keys = keys} lawful going unhalted step round) h = record {
     own = h.own;
     are = h.are;
     commands =
@@ -123,10 +123,11 @@ module _ (limits : Limits) (plan : Plan) (may : Telling) (past : List Record) (c
       spawned-first later_log now key keys owed owed command Running child is h
   step-hands _ _ (spawn_failed {past = now} {call_log = later_log} {key = key} {keys = keys} {owed = owed} {command = command} child is may_be) h =
       spawned-first later_log now key keys owed (owed ++ (key, NoStart) ∷ []) command NotStarted child is h
-  step-hands _ _ (child_exits step held ran may_be) h = record { own = h.own; are = h.are; commands = h.commands; few = h.few }
+  step-hands _ _ (child_exits step held halt ran may_be) h = record { own = h.own; are = h.are; commands = h.commands; few = h.few }
   step-hands _ _ (child_gathered gathers way held on few ran may_be) h = record { own = h.own; are = h.are; commands = h.commands; few = h.few }
   step-hands _ _ (ends_recorded {past = now} {end = end} {owed = owed}) h =
       record { own = h.own; are = h.are; commands = ended-commands plan now (end ∷ owed) ∙ h.commands; few = h.few }
+  step-hands _ _ (see_halt may_halt unhalted) h = record { own = h.own; are = h.are; commands = h.commands; few = h.few }
   step-hands _ _ (kill_child ran free) h = record { own = h.own; are = h.are; commands = h.commands; few = h.few }
 
   goes-hands : (to : Standing) → Goes limits plan may (at_rest past call_log) to → Hands plan past call_log to

@@ -51,4 +51,5 @@ module _ (limits : Limits) (plan : Plan) (may : Telling) (past : List Record) (c
       of-unhanded (drives.Manager f) is_one = absurd is_one
       of-unhanded drives.StartMemory is_one = child_refused child
       of-unhanded drives.WaitFault is_one = absurd is_one
+      of-unhanded drives.Halted is_one = absurd is_one
       of-unhanded drives.Memory is_one = command_refused child

@@ -14,7 +14,7 @@ use Rattle.sched_core.specs.Lives.{HasOutcomesOf}
 use Rattle.sched_core.specs.Looks.{stops}
 use Rattle.job_starter_drive.specs.declared.Call.{Call}
 use Rattle.job_starter_drive.specs.Calls.{Telling}
-use Rattle.job_starter_drive.specs.Drives.{Standing, At, at_rest, IsStep, launch_round, skip_noop, spawn_child, spawn_failed, child_exits, child_gathered, ends_recorded, kill_child, Goes, no_step, one_more, Drives}
+use Rattle.job_starter_drive.specs.Drives.{Standing, At, at_rest, IsStep, launch_round, skip_noop, spawn_child, spawn_failed, child_exits, child_gathered, ends_recorded, see_halt, kill_child, Goes, no_step, one_more, Drives}
 
 module _ (limits : Limits) (plan : Plan) (may : Telling) (table : Table)
     (tells : (calls : List Call) (key : Key) (outcome : Outcome) → may.may_be calls key outcome → table key.node key.attempt key.phase ≡ outcome) where
@@ -46,14 +46,15 @@ module _ (limits : Limits) (plan : Plan) (may : Telling) (table : Table)
       go false later = later
 
   step-outcomes : (from to : Standing) → IsStep limits plan may from to → Has from → Has to
-  step-outcomes _ _ (launch_round {past = past} {keys = keys} lawful going step round) has = (has-launched past keys has.0, tt)
+  step-outcomes _ _ (launch_round {past = past} {keys = keys} lawful going unhalted step round) has = (has-launched past keys has.0, tt)
   step-outcomes _ _ (skip_noop {key = key} {owed = owed} noop) has = (has.0, owes-more owed key (Exit 0) has.1 (λ no. absurd (false≢true (sym no ∙ noop))))
   step-outcomes _ _ (spawn_child child command may_run) has = has
   step-outcomes _ _ (spawn_failed {call_log = call_log} {key = key} {owed = owed} child command may_be) has = (has.0, owes-more owed key NoStart has.1 (λ no. tells call_log key NoStart may_be))
-  step-outcomes _ _ (child_exits {call_log = call_log} {key = key} {outcome = outcome} step held ran may_be) has = (has.0, (λ no. tells call_log key outcome may_be, tt))
+  step-outcomes _ _ (child_exits {call_log = call_log} {key = key} {outcome = outcome} step held halt ran may_be) has = (has.0, (λ no. tells call_log key outcome may_be, tt))
   step-outcomes _ _ (child_gathered {call_log = call_log} {end = end} {owed = owed} {key = key} {outcome = outcome} gathers way held on few ran may_be) has =
       (has.0, owes-more (end ∷ owed) key outcome has.1 (λ no. tells call_log key outcome may_be))
   step-outcomes _ _ (ends_recorded {past = past} {end = end} {owed = owed}) has = (has-ended past (end ∷ owed) has.0 has.1, tt)
+  step-outcomes _ _ (see_halt may_halt unhalted) has = has
   step-outcomes _ _ (kill_child ran free) has = has
 
   goes-outcomes : (from to : Standing) → Goes limits plan may from to → Has from → Has to

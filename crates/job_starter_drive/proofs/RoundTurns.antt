@@ -10,9 +10,10 @@ use Rattle.node_machine.specs.declared.Record.{Record}
 use Rattle.sched_core.specs.Run.{is_open, is_lawful, is_aborted}
 use Rattle.sched_core.specs.Ahead.{launched, added, up_to_abort, ends_of}
 use Rattle.job_starter_drive.specs.declared.Call.{Call}
-use Rattle.job_starter_drive.specs.Calls.{running}
+use Rattle.job_starter_drive.specs.Calls.{running, AsksForHalt, Telling}
 use Rattle.job_starter_drive.specs.Drives.{AreInStep, AreUnderWay, IsRoundOf, IsTurn, is_aborted_between}
 use Rattle.job_starter_drive.proofs.Turns.{launch-all, end-all}
+use Rattle.job_starter_drive.proofs.Walks.{step-asked}
 use Rattle.job_starter_drive.proofs.Ways.{starting}
 
 -- what is owed is recorded
@@ -66,6 +67,16 @@ turn-still plan past after last going step abort_free =
       empty = λ stop. absurd (false≢true (sym none ∙ stop));
       stays = λ was. abort_free ∙ was;
     }
+
+-- so it is where the starter was asked for a halt behind it
+pub turn-asked : (may : Telling) (plan : Plan) (past after : List Record) (last later_log : List Call) → AsksForHalt may last later_log → IsTurn plan past after last → IsTurn plan past after later_log
+turn-asked may plan past after last later_log asked turn = record {
+  going = turn.going;
+  in_step = λ on. step-asked may plan after last later_log asked (turn.in_step on);
+  at_last = turn.at_last;
+  empty = turn.empty;
+  stays = turn.stays;
+}
 
 -- where a turn didn't abort the run, it is aborted as it was
 pub turn-abort_free : (plan : Plan) (past after : List Record) (last : List Call) → IsTurn plan past after last → is_aborted_between plan past after ≡ false → is_aborted plan after ≡ is_aborted plan past

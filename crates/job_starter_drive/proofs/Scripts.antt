@@ -17,9 +17,9 @@ use Rattle.sched_core.specs.Ahead.{launch_of, launched, AreChosen, NothingToStar
 use Rattle.sched_core.specs.Choices.{IsChoice}
 use Rattle.sched_core.proofs.Best.{choice-one}
 use Rattle.job_starter_drive.specs.declared.Call.{Call}
-use Rattle.job_starter_drive.specs.Calls.{oldest}
+use Rattle.job_starter_drive.specs.Calls.{MightHalt, oldest}
 use Rattle.job_starter_drive.specs.Scripts.{scripted_outcome, IsScripted}
-use Rattle.job_starter_drive.specs.Drives.{most_at_once, Standing, At, at_rest, IsRoundOf, IsStep, launch_round, skip_noop, spawn_child, spawn_failed, child_exits, child_gathered, ends_recorded, kill_child, Goes, no_step, one_more, Drives}
+use Rattle.job_starter_drive.specs.Drives.{most_at_once, Standing, At, at_rest, IsRoundOf, IsHeld, IsStep, launch_round, skip_noop, spawn_child, spawn_failed, child_exits, child_gathered, ends_recorded, see_halt, kill_child, Goes, no_step, one_more, Drives}
 use Rattle.job_starter_drive.proofs.Phases.{noop-quiet}
 use Rattle.job_starter_drive.proofs.Walks.{no_child}
 
@@ -113,16 +113,22 @@ module _ (limits : Limits) (plan : Plan) (table : List Entry) where
   next-none past _ verdict chosen (next_ends {key = key} held first) =
       let bad : None ≡ Some key = sym (ap oldest (no_child (outstanding plan past) chosen.1)) ∙ first in absurd cc
 
+  -- no halt was seen, so the limits let nothing in
+  nothing-starts : (past : List Record) (call_log : List Call) → IsHeld limits plan past call_log → MightHalt (IsScripted plan table []) call_log → NothingToStart limits plan past
+  nothing-starts past call_log (inl held) halt = held
+  nothing-starts past call_log (inr seen) halt = absurd (halt seen)
+
   step-chain : (start : Place) (from to : Standing) → Chain start (place_of from) → IsStep limits plan (IsScripted plan table []) from to → Chain start (place_of to)
-  step-chain start _ _ c (launch_round lawful going step round) = more c (next_launches round)
+  step-chain start _ _ c (launch_round lawful going unhalted step round) = more c (next_launches round)
   step-chain start _ _ c (skip_noop noop) = more c (next_passes noop)
   step-chain start _ _ c (spawn_child child command run) = more c (next_starts child (λ is. run.1 (run.2.by_table ∙ is)))
   step-chain start _ _ c (spawn_failed child command may_be) = more c (next_fails child (sym may_be.by_table))
-  step-chain start _ _ c (child_exits {past = past} {key = key} {outcome = outcome} s held ran may_be) =
+  step-chain start _ _ c (child_exits {past = past} {call_log = call_log} {key = key} {outcome = outcome} s held halt ran may_be) =
       subst (λ (o : Outcome). Chain start (Here past [] ((key, o) ∷ []))) (sym may_be.by_table)
-      (more c (next_ends held (ap oldest (sym s.same) ∙ may_be.oldest_first refl ran)))
+      (more c (next_ends (nothing-starts past call_log held halt) (ap oldest (sym s.same) ∙ may_be.oldest_first refl ran)))
   step-chain start _ _ c (child_gathered gathers way held on few ran may_be) = absurd gathers
   step-chain start _ _ c ends_recorded = more c next_settles
+  step-chain start _ _ c (see_halt may_halt unhalted) = absurd may_halt
   step-chain start _ _ c (kill_child ran free) = c
 
   chain-of : (from to : Standing) → Goes limits plan (IsScripted plan table []) from to → Chain (place_of from) (place_of to)

@@ -1,7 +1,8 @@
 -- What a record makes of a run, and why it is refused.
-use Rattle.std.proofs.Common.{None, arith, ◌≡◌, ℕ, zero, suc, drop, ◌≤◌, ◌<◌, length, Bool, true, false, not, ◌&&◌, ◌||◌, ◌==◌, List, [], ◌∷◌, Option, Some, Result, Ok, Err, IfErr, OnOk, refl, sym, ap, ◌∙◌, subst, eq-eqb}
+use Rattle.std.proofs.Common.{None, arith, ◌≡◌, ℕ, zero, suc, drop, ◌≤◌, ◌<◌, length, Bool, true, false, not, ◌&&◌, ◌||◌, ◌==◌, List, [], ◌∷◌, Option, Some, Result, Ok, Err, IfErr, OnOk, refl, sym, ap, ◌∙◌, subst, eq-eqb, reverse}
 use Rattle.std.specs.List.{list_all}
 use Rattle.std.proofs.lemmas.Bool.{and_parts, and_from, false≢true, not-true}
+use Rattle.std.proofs.lemmas.List.{length-reverse}
 use Rattle.event_journal_log.specs.declared.disk.Disk.{Ghosts}
 use Rattle.node_machine.specs.declared.Key.{Key}
 use Rattle.node_machine.specs.declared.Phase.{Phase}
@@ -29,10 +30,13 @@ use Rattle.sched_core.proofs.Turns.{turn-allowed}
 use Rattle.event_journal_log.specs.Disk.{IsOneMore}
 use Rattle.recovery_manager.specs.declared.fault.ManagerFault.{ManagerFault}
 use Rattle.recovery_manager.specs.Managed.{Managed, is_begun, KeepsDisk}
+use Rattle.job_starter_drive.specs.declared.Call.{Call}
 use Rattle.job_starter_drive.specs.declared.driving.DriveFault.{DriveFault}
+use Rattle.job_starter_drive.specs.Calls.{running}
+use Rattle.job_starter_drive.specs.Drives.{AreInStep}
 use Rattle.job_starter_drive.specs.Moments.{CountsOn}
 use Rattle.job_starter_drive.proofs.Disks.{keeps_on, counts_on}
-use Rattle.job_starter_drive.specs.Causes.{IsOfRun, AreRefused, IsDriveFault, no_memory_for_child, no_ending_logged, no_memory_for_command, no_memory_for_round, records_refused}
+use Rattle.job_starter_drive.specs.Causes.{IsOfRun, AreRefused, IsDriveFault, no_memory_for_child, no_ending_logged, no_memory_for_command, no_memory_for_round, records_refused, run_halted}
 
 -- an ending of what is outstanding is lawful
 pub end-may-follow : (plan : Plan) (past : List Record) (key : Key) (outcome : Outcome)
@@ -123,6 +127,7 @@ fault-before disks earlier before now old mid manager _ same keeps counts (no_me
 fault-before disks earlier before now old mid manager _ same keeps counts (no_ending_logged more) = no_ending_logged (subst (λ (count : ℕ). IsOneMore count now) same more)
 fault-before disks earlier before now old mid manager _ same keeps counts (no_memory_for_command still) = no_memory_for_command (still ∙ same)
 fault-before disks earlier before now old mid manager _ same keeps counts (no_memory_for_round still) = no_memory_for_round (still ∙ same)
+fault-before disks earlier before now old mid manager _ same keeps counts (run_halted still) = run_halted (still ∙ same)
 fault-before disks earlier before now old mid manager _ same keeps counts (records_refused {fault = fault} still refused) =
     records_refused (still ∙ same) (refused-since disks IsOfRun old mid manager fault keeps counts refused)
 
@@ -184,3 +189,14 @@ some-there (key ∷ keys) some = refl
 pub none-there : (keys : List Key) → length keys ≡ 0 → is_nothing keys ≡ true
 none-there [] none = refl
 none-there (key ∷ keys) none = absurd (omega (arith, none))
+
+-- who runs is what is outstanding
+pub nobody-runs : (plan : Plan) (past : List Record) (call_log : List Call) (keys : List Key) → reverse keys ≡ running call_log → length keys ≡ 0
+    → AreInStep plan past call_log → is_nothing (outstanding plan past) ≡ true
+nobody-runs plan past call_log [] is none step = ap is_nothing (sym step.same ∙ sym is)
+nobody-runs plan past call_log (key ∷ keys) is none step = absurd (omega (arith, none))
+
+pub somebody-runs : (plan : Plan) (past : List Record) (call_log : List Call) (keys : List Key) → reverse keys ≡ running call_log → 0 < length keys
+    → AreInStep plan past call_log → is_nothing (outstanding plan past) ≡ false
+somebody-runs plan past call_log keys is some step =
+    let size = length-reverse keys in ap is_nothing (sym step.same ∙ sym is) ∙ some-there (reverse keys) (omega (arith, size, some))

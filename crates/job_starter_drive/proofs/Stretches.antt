@@ -21,9 +21,9 @@ use Rattle.recovery_manager.specs.Managed.{Managed, plan_of, past_of, disk_of, R
 use Rattle.job_starter_drive.specs.declared.Call.{Call}
 use Rattle.job_starter_drive.specs.declared.driving.DriveFault.{DriveFault}
 use Rattle.job_starter_drive.specs.declared.driving.DriveFault.TheVariants as drives
-use Rattle.job_starter_drive.specs.Calls.{AllowsNoMore, Telling}
+use Rattle.job_starter_drive.specs.Calls.{AllowsNoMore, AsksForHalt, Telling}
 use Rattle.job_starter_drive.specs.Causes.{IsOfRun, IsDriveFault, records_refused}
-use Rattle.job_starter_drive.specs.Drives.{most_at_once, Standing, At, drive_records, calls_of, limits_of, IsStep, ends_recorded, Goes, no_step, one_more, IsStoppedAt, end_refused}
+use Rattle.job_starter_drive.specs.Drives.{most_at_once, Standing, At, at_rest, drive_records, calls_of, limits_of, IsStep, ends_recorded, Goes, no_step, one_more, IsStoppedAt, end_refused}
 use Rattle.job_starter_drive.specs.Moments.{IsOlderPart, IsMore, MayHold, MayStand, IsMomentFrom, IsLastFrom, AtAnyMoment, StaysAcknowledged, CountsOn}
 use Rattle.job_starter_drive.proofs.CallImages.{ReadsBy}
 use Rattle.job_starter_drive.specs.Stretches.{IsStretch, IsCutShort}
@@ -31,7 +31,7 @@ use Rattle.job_starter_drive.proofs.Cuts.{older-self, older-is, step-records, go
 use Rattle.job_starter_drive.proofs.Disks.{keeps_on, keeps_still, counts_on, counts_still}
 use Rattle.job_starter_drive.proofs.Images.{still, standing_call, refused_call, refused_stays, on_unless, may-older, more-added, moment_at, last_at, moment_grows, moment_on, last_on, at_end, at_ease}
 use Rattle.job_starter_drive.proofs.Steps.{fault-before}
-use Rattle.job_starter_drive.proofs.Walks.{goes-then}
+use Rattle.job_starter_drive.proofs.Walks.{allows-self, allows-then, goes-asked, goes-then}
 
 -- a disk, and what holds of every disk
 module _ {D : Type 0} (disks : Ghosts D) where
@@ -75,7 +75,7 @@ module _ {D : Type 0} (disks : Ghosts D) where
       disk = keeps_on disks old mid new first.disk second.disk;
       counts = counts_on old mid new first.counts second.counts;
       unrefused = second.unrefused ∙ first.unrefused;
-      allows_no_more = ((λ call_log key outcome is. first.allows_no_more.0 call_log key outcome (second.allows_no_more.0 call_log key outcome is)), (λ is. first.allows_no_more.1 (second.allows_no_more.1 is)));
+      allows_no_more = allows-then may may' may'' first.allows_no_more second.allows_no_more;
     }
 
     -- and one that was cut short
@@ -104,7 +104,7 @@ module _ {D : Type 0} (disks : Ghosts D) where
       disk = keeps_on disks old mid new first.disk second.disk;
       later = (let later = second.later in let same = first.unrefused in omega (arith, later, same));
       refused = fault-before disks before between now old mid new fault first.unrefused first.disk first.counts second.refused;
-      allows_no_more = ((λ call_log key outcome is. first.allows_no_more.0 call_log key outcome (second.allows_no_more.0 call_log key outcome is)), (λ is. first.allows_no_more.1 (second.allows_no_more.1 is)));
+      allows_no_more = allows-then may may' may'' first.allows_no_more second.allows_no_more;
     }
 
   -- by the limits and the plan that the manager has then
@@ -149,6 +149,13 @@ module _ {D : Type 0} (disks : Ghosts D) where
       unrefused = same;
       allows_no_more = allows_no_more;
     }
+
+    -- the starter was asked for a halt
+    pub stretch-asked : (past : List Record) (call_log later_log : List Call) → past_of manager ≡ past → from ≡ at_rest past call_log → AsksForHalt may call_log later_log → now ≡ before
+        → Stretch limits plan may may' before now manager manager from (at_rest past later_log)
+    stretch-asked past call_log later_log here is asked same =
+        stretch-still (at_rest past later_log) here
+        (subst (λ (s : Standing). Goes limits plan may s (at_rest past later_log)) (sym is) (goes-asked limits plan may past call_log later_log asked)) same
 
     -- a fault by which nothing is written
     pub cut-still : (keys : List Key) (owed : List (Key × Outcome)) (last : List Call) (fault : DriveFault) → Goes limits plan may from (At (past_of manager) last keys owed)
@@ -214,7 +221,7 @@ module _ {D : Type 0} (disks : Ghosts D) where
       disk = disk;
       counts = counts;
       unrefused = refl;
-      allows_no_more = ((λ call_log key outcome is. is), (λ is. is));
+      allows_no_more = allows-self may;
     }
 
     -- it was refused
@@ -251,7 +258,7 @@ module _ {D : Type 0} (disks : Ghosts D) where
         lawful = (λ j. may_follow_all (plan_is j) (kept j) entries) ∙ follows;
         cause = why;
       });
-      allows_no_more = ((λ call_log key outcome is_told. is_told), (λ is_told. is_told));
+      allows_no_more = allows-self may;
     }
       where
         more : IsMore (past_of new) (drive_records to)

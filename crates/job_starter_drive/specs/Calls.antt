@@ -1,5 +1,5 @@
 -- The calls of a starter that were answered, the newest first, and the children that run.
-use Rattle.std.specs.Prelude.{◌≡◌, ◌≢◌, List, [], ◌∷◌, Option, Some, None, IsTrue}
+use Rattle.std.specs.Prelude.{◌≡◌, ◌≢◌, Bool, true, false, List, [], ◌∷◌, Option, Some, None, IsTrue, IsFalse}
 use Rattle.std.specs.declared.snapshot.Snapshot.{Snapshot}
 use Rattle.node_machine.specs.declared.Key.{Key}
 use Rattle.node_machine.specs.declared.Outcome.{Outcome}
@@ -26,30 +26,49 @@ running [] = []
 running (calls.Started key command answer ∷ call_log) = with_started key answer (running call_log)
 running (calls.Ended key outcome ∷ call_log) = without key (running call_log)
 running (calls.Killed key ∷ call_log) = without key (running call_log)
+running (calls.HaltSeen ∷ call_log) = running call_log
 
--- What a starter may report: which endings of the child of a key, after these calls; and whether it hands out endings that are at hand,
--- one after another, before any is recorded.
+-- it was answered that nothing more is to be launched
+abbrev pub is_halt_seen : List Call → Bool
+is_halt_seen [] = false
+is_halt_seen (calls.HaltSeen ∷ call_log) = true
+is_halt_seen (_ ∷ call_log) = is_halt_seen call_log
+
+-- What a starter may report: which endings of the child of a key, after these calls; whether it hands out endings that are at hand,
+-- one after another, before any is recorded; and whether it may answer that nothing more is to be launched.
 pub record Telling : Type 1 where
   pub may_be : List Call → Key → Outcome → Type 0
   pub gathers : Type 0
+  pub may_halt : Type 0
 
--- children may come to any ending, and those at hand may be gathered
+-- children may come to any ending, those at hand may be gathered, and the run may be halted
 abbrev pub any_ending : Telling
-any_ending = record { may_be = λ call_log key outcome. Unit {0}; gathers = Unit {0} }
+any_ending = record { may_be = λ call_log key outcome. Unit {0}; gathers = Unit {0}; may_halt = Unit {0} }
 
 -- What may be told now might have been told before.
 abbrev pub AllowsNoMore : Telling → Telling → Type 0
 AllowsNoMore old new =
     ((call_log : List Call) (key : Key) (outcome : Outcome) → new.may_be call_log key outcome → old.may_be call_log key outcome)
     × (new.gathers → old.gathers)
+    × (new.may_halt → old.may_halt)
+
+-- where a halt was seen, it might have been
+abbrev pub MightHalt : Telling → List Call → Type 0
+MightHalt may call_log = IsTrue (is_halt_seen call_log) → may.may_halt
+
+-- It is asked whether nothing more is to be launched, and the answer is what these calls say then: as before, or that it is seen now.
+pub data AsksForHalt (may : Telling) (call_log : List Call) : List Call → Type 0 where
+  as_before : AsksForHalt may call_log call_log
+  seen_now : may.may_halt → IsFalse (is_halt_seen call_log) → AsksForHalt may call_log (calls.HaltSeen ∷ call_log)
 
 -- An answer that the child of a key came to this end, be it waited for or at hand: the child ran, it may have come to this end, and of
--- all calls this one is the newest.
+-- all calls this one is the newest. A halt that was seen before it might have been.
 pub record IsReportedEnding (may : Telling) (call_log later_log : List Call) (ended : Key × Outcome) : Type 0 where
   pub entry : later_log ≡ calls.Ended ended.0 ended.1 ∷ call_log
   pub ran : IsTrue (is_among ended.0 (running call_log))
   pub may_be : may.may_be call_log ended.0 ended.1
   pub possible : IsTrue (is_possible ended.1)
+  pub halt : MightHalt may call_log
 
 -- A child that runs may come to another ending than that it did not start.
 abbrev pub MayRun : Telling → List Call → Key → Type 0

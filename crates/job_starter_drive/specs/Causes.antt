@@ -52,7 +52,8 @@ pub record AreRefused {D : Type 0} (disks : Ghosts D) (is_own : Record → Type 
   pub cause : IsUnwritten disks entries then_was.journal manager.journal fault
 
 -- Why a run is stopped, by the starter's counts of refusals and by the manager that was there and that is left: the starter refused,
--- once; or, where it refused nothing, there was no memory for a command or for the list of a round, or the manager refused records.
+-- once; or, where it refused nothing, there was no memory for a command or for the list of a round, the manager refused records, or the run
+-- was halted.
 pub data IsDriveFault {D : Type 0} (disks : Ghosts D) (before now : ℕ) (old manager : Managed D) : DriveFault → Type 0 where
   no_memory_for_child : IsOneMore before now → IsDriveFault disks before now old manager drives.StartMemory
   no_ending_logged : IsOneMore before now → IsDriveFault disks before now old manager drives.WaitFault
@@ -60,6 +61,7 @@ pub data IsDriveFault {D : Type 0} (disks : Ghosts D) (before now : ℕ) (old ma
   no_memory_for_round : now ≡ before → IsDriveFault disks before now old manager (drives.Manager faults.Memory)
   records_refused : {fault : ManagerFault} → now ≡ before → AreRefused disks IsOfRun old manager fault
       → IsDriveFault disks before now old manager (drives.Manager fault)
+  run_halted : now ≡ before → IsDriveFault disks before now old manager drives.Halted
 
 -- memory was refused for a child or for its command
 abbrev pub IsUnspawned : DriveFault → Type 0
@@ -67,3 +69,4 @@ IsUnspawned drives.StartMemory = Unit {0}
 IsUnspawned drives.Memory = Unit {0}
 IsUnspawned drives.WaitFault = ⊥
 IsUnspawned (drives.Manager fault) = ⊥
+IsUnspawned drives.Halted = ⊥

@@ -29,7 +29,7 @@ use Rattle.job_starter_drive.specs.declared.Started.{Started}
 use Rattle.job_starter_drive.specs.declared.Started.TheVariants.{Running, NotStarted}
 use Rattle.job_starter_drive.specs.declared.driving.DriveFault.{DriveFault}
 use Rattle.job_starter_drive.specs.declared.driving.DriveFault.TheVariants as drives
-use Rattle.job_starter_drive.specs.Calls.{running, snapshot_of, MayRun, Telling}
+use Rattle.job_starter_drive.specs.Calls.{running, is_halt_seen, snapshot_of, MayRun, MightHalt, Telling}
 
 -- the limits that a manager keeps to
 abbrev pub limits_of : {D : Type 0} → Managed D → Limits
@@ -112,15 +112,19 @@ abbrev pub none_aborts : Plan → List Record → List (Key × Outcome) → Bool
 none_aborts plan past [] = true
 none_aborts plan past (end ∷ owed) = not (stops plan past (End end.0 end.1)) && none_aborts plan (End end.0 end.1 ∷ past) owed
 
--- One step of a run. A round is launched, while the run goes on and the children that run are the outstanding phases. Of its phases the
--- first is handed over with its command, and its child starts, or doesn't: then its end with NoStart is owed; the job of a NOOP is not
--- handed over, and its end with Exit 0 is owed. Once all are handed over, what is owed is recorded together, up to the first that aborts
--- the run. Where nothing may be launched, a child is reported to have ended, which is owed then. Further endings that are at hand are
--- gathered after it, 64 in all, where none before them aborts the run and by the records before all of them nothing may be launched.
--- Or a child is killed whose phase is not outstanding.
+-- nothing is launched: the limits let nothing in, or a halt was seen
+abbrev pub IsHeld : Limits → Plan → List Record → List Call → Type 0
+IsHeld limits plan past call_log = NothingToStart limits plan past ⊎ IsTrue (is_halt_seen call_log)
+
+-- One step of a run. A round is launched, while the run goes on, no halt was seen and the children that run are the outstanding phases. Of
+-- its phases the first is handed over with its command, and its child starts, or doesn't: then its end with NoStart is owed; the job of a
+-- NOOP is not handed over, and its end with Exit 0 is owed. Once all are handed over, what is owed is recorded together, up to the first
+-- that aborts the run. Where nothing is launched, a child is reported to have ended, which is owed then. Further endings that are at hand
+-- are gathered after it, 64 in all, where none before them aborts the run and by the records before all of them nothing may be launched.
+-- Or a halt is seen, from where on nothing is launched. Or a child is killed whose phase is not outstanding.
 pub data IsStep (limits : Limits) (plan : Plan) (may : Telling) : Standing → Standing → Type 0 where
   launch_round : {past : List Record} {call_log : List Call} {keys : List Key} → IsTrue (is_lawful plan past) → IsTrue (is_open past)
-      → AreInStep plan past call_log → IsRoundOf limits plan past keys
+      → IsFalse (is_halt_seen call_log) → AreInStep plan past call_log → IsRoundOf limits plan past keys
       → IsStep limits plan may (At past call_log [] []) (At (launched past keys) call_log keys [])
   skip_noop : {past : List Record} {call_log : List Call} {key : Key} {keys : List Key} {owed : List (Key × Outcome)}
       → IsTrue (is_noop_job (node_at plan key.node).course key.phase)
@@ -132,16 +136,18 @@ pub data IsStep (limits : Limits) (plan : Plan) (may : Telling) : Standing → S
       → IsTrue (starts_child (node_at plan key.node) key.phase) → IsCommandIn plan past key command → may.may_be call_log key NoStart
       → IsStep limits plan may (At past call_log (key ∷ keys) owed)
       (At past (calls.Started key (snapshot_of command) NotStarted ∷ call_log) keys (owed ++ (key, NoStart) ∷ []))
-  child_exits : {past : List Record} {call_log : List Call} {key : Key} {outcome : Outcome} → AreInStep plan past call_log → NothingToStart limits plan past
-      → IsTrue (is_among key (running call_log)) → may.may_be call_log key outcome
+  child_exits : {past : List Record} {call_log : List Call} {key : Key} {outcome : Outcome} → AreInStep plan past call_log → IsHeld limits plan past call_log
+      → MightHalt may call_log → IsTrue (is_among key (running call_log)) → may.may_be call_log key outcome
       → IsStep limits plan may (At past call_log [] []) (At past (calls.Ended key outcome ∷ call_log) [] ((key, outcome) ∷ []))
   child_gathered : {past : List Record} {call_log : List Call} {end : Key × Outcome} {owed : List (Key × Outcome)} {key : Key} {outcome : Outcome}
-      → may.gathers → AreUnderWay plan past call_log [] (end ∷ owed) → NothingToStart limits plan past
+      → may.gathers → AreUnderWay plan past call_log [] (end ∷ owed) → IsHeld limits plan past call_log
       → IsTrue (none_aborts plan past (end ∷ owed)) → length (end ∷ owed) < most_at_once
       → IsTrue (is_among key (running call_log)) → may.may_be call_log key outcome
       → IsStep limits plan may (At past call_log [] (end ∷ owed)) (At past (calls.Ended key outcome ∷ call_log) [] ((end ∷ owed) ++ (key, outcome) ∷ []))
   ends_recorded : {past : List Record} {call_log : List Call} {end : Key × Outcome} {owed : List (Key × Outcome)}
       → IsStep limits plan may (At past call_log [] (end ∷ owed)) (At (added past (up_to_abort plan past (ends_of (end ∷ owed)))) call_log [] [])
+  see_halt : {past : List Record} {call_log : List Call} → may.may_halt → IsFalse (is_halt_seen call_log)
+      → IsStep limits plan may (At past call_log [] []) (At past (calls.HaltSeen ∷ call_log) [] [])
   kill_child : {past : List Record} {call_log : List Call} {key : Key} → IsTrue (is_among key (running call_log)) → IsFalse (is_among key (outstanding plan past))
       → IsStep limits plan may (At past call_log [] []) (At past (calls.Killed key ∷ call_log) [] [])
 
@@ -161,8 +167,8 @@ final_verdict _ = None
 
 -- Where each fault stops a run. Memory was refused for a child, or for its command: it and those behind it in its round are launched
 -- and not handed over. Memory was refused for the list of a round, or, as the call began, for that of the endings that will be owed:
--- nothing is launched or waited for. Where no ending was reported, nothing more may be launched and some phase is outstanding. The manager
--- refused to record a round, or what is owed.
+-- nothing is launched or waited for. Where no ending was reported, nothing is launched and some phase is outstanding. The manager
+-- refused to record a round, or what is owed. A halt was seen, and no phase is outstanding.
 pub data IsStoppedAt (limits : Limits) (plan : Plan) : DriveFault → Standing → Type 0 where
   child_refused : {past : List Record} {call_log : List Call} {key : Key} {keys : List Key} {owed : List (Key × Outcome)}
       → IsTrue (starts_child (node_at plan key.node) key.phase) → IsStoppedAt limits plan drives.StartMemory (At past call_log (key ∷ keys) owed)
@@ -174,14 +180,17 @@ pub data IsStoppedAt (limits : Limits) (plan : Plan) : DriveFault → Standing �
       → IsStoppedAt limits plan (drives.Manager fault) (At past call_log [] [])
   end_refused : {past : List Record} {call_log : List Call} {end : Key × Outcome} {owed : List (Key × Outcome)} {fault : ManagerFault}
       → IsStoppedAt limits plan (drives.Manager fault) (At past call_log [] (end ∷ owed))
-  none_told : {past : List Record} {call_log : List Call} → NothingToStart limits plan past → IsFalse (is_nothing (outstanding plan past))
+  none_told : {past : List Record} {call_log : List Call} → IsHeld limits plan past call_log → IsFalse (is_nothing (outstanding plan past))
       → IsStoppedAt limits plan drives.WaitFault (At past call_log [] [])
+  halted : {past : List Record} {call_log : List Call} → IsTrue (is_halt_seen call_log) → IsTrue (is_nothing (outstanding plan past))
+      → IsStoppedAt limits plan drives.Halted (At past call_log [] [])
 
--- children were to be started; none ended and none was killed
+-- children were to be started, and a halt may have been seen; none ended and none was killed
 pub data Starts (call_log : List Call) : List Call → Type 0 where
   none_started : Starts call_log call_log
   one_start : {later_log : List Call} {key : Key} {command : Snapshot ChildCommand} {answer : Started} → Starts call_log later_log
       → Starts call_log (calls.Started key command answer ∷ later_log)
+  one_halt : {later_log : List Call} → Starts call_log later_log → Starts call_log (calls.HaltSeen ∷ later_log)
 
 -- running children are killed one after another
 pub data Kills (call_log : List Call) : List Call → Type 0 where
@@ -193,9 +202,9 @@ abbrev pub AbortsAtLast : Plan → List Record → Type 0
 AbortsAtLast plan [] = ⊥
 AbortsAtLast plan (newest ∷ past) = IsFalse (is_aborted plan past) × IsTrue (is_aborted plan (newest ∷ past))
 
--- nothing more is to be launched; or the newest record aborted the run, which was not aborted before
-abbrev pub IsLaunched : Limits → Plan → List Record → List Record → Type 0
-IsLaunched limits plan before past = NothingToStart limits plan past ⊎ (IsFalse (is_aborted plan before) × AbortsAtLast plan past)
+-- nothing more is launched; or the newest record aborted the run, which was not aborted before
+abbrev pub IsLaunched : Limits → Plan → List Record → List Record → List Call → Type 0
+IsLaunched limits plan before past call_log = IsHeld limits plan past call_log ⊎ (IsFalse (is_aborted plan before) × AbortsAtLast plan past)
 
 -- Behind a crash: any number of steps. Of a round phases may be launched and not handed over, and endings known and not recorded.
 pub record IsHaltedFrom (limits : Limits) (plan : Plan) (may : Telling) (from : Standing) (after : List Record) (last : List Call) : Type 0 where

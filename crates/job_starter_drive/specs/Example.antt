@@ -17,9 +17,9 @@ use Rattle.job_starter_drive.specs.Calls.{snapshot_of, Telling}
 abbrev pub unlimited : Limits
 unlimited = record { jobs = 0; pre = 0; post = 0; children = 0 }
 
--- a starter whose children exit with 0
+-- a starter whose children exit with 0, and which halts no run
 abbrev pub exits_well : Telling
-exits_well = record { may_be = λ call_log key outcome. outcome ≡ Exit 0; gathers = ⊥ }
+exits_well = record { may_be = λ call_log key outcome. outcome ≡ Exit 0; gathers = ⊥; may_halt = ⊥ }
 
 abbrev pub child_of_a : ChildCommand
 child_of_a = bare_command [] (codes "a") []

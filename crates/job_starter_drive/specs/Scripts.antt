@@ -22,6 +22,6 @@ pub record IsInScript (plan : Plan) (table : List Entry) (places : List ℕ) (ca
   pub by_table : outcome ≡ scripted_outcome plan table key
   pub oldest_first : places ≡ [] → IsTrue (is_among key (running call_log)) → oldest (running call_log) ≡ Some key
 
--- It tells one ending at a time: each is recorded before the next is told.
+-- It reports one ending at a time, each recorded before the next, and it halts no run.
 abbrev pub IsScripted : Plan → List Entry → List ℕ → Telling
-IsScripted plan table places = record { may_be = IsInScript plan table places; gathers = ⊥ }
+IsScripted plan table places = record { may_be = IsInScript plan table places; gathers = ⊥; may_halt = ⊥ }

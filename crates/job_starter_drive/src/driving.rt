@@ -3,11 +3,12 @@ ghost use Rattle.std.specs.Prelude.{◌≡◌, [], ◌∷◌, ◌≤◌, ◌<◌
 ghost use Rattle.std.specs.Vec.{vec_capacity};
 ghost use Rattle.sched_core.specs.Run.{is_aborted, is_over, is_open, is_nothing, outstanding, may_follow, table_of};
 ghost use Rattle.sched_core.specs.Fate.{AreFates, shown};
+ghost use Rattle.node_machine.specs.declared.Key.{Key};
+ghost use Rattle.sched_core.specs.declared.Choice.TheVariants.{Start};
 ghost use Rattle.sched_core.specs.Choices.{IsChoice};
-ghost use Rattle.sched_core.specs.Ahead.{NothingToStart};
 ghost use Rattle.recovery_manager.specs.Managed.{plan_of, past_of, KeepsDisk};
 ghost use Rattle.job_starter_drive.specs.Calls.{running, AllowsNoMore};
-ghost use Rattle.job_starter_drive.specs.Drives.{limits_of, most_at_once, At, at_rest, Goes, AreInStep, AreUnderWay, IsNearerEnd, IsTurn, final_verdict, Drives, Kills, IsStopped};
+ghost use Rattle.job_starter_drive.specs.Drives.{limits_of, most_at_once, At, at_rest, Goes, AreInStep, AreUnderWay, IsHeld, IsNearerEnd, IsTurn, final_verdict, Drives, Kills, IsStopped};
 ghost use Rattle.job_starter_drive.specs.Causes.{IsDriveFault};
 ghost use Rattle.job_starter_drive.specs.Moments.{fault_in, IsMomentOfRun, IsLastMoment, AtAnyMoment, AtTheEnd, UnlessDiskFault, StaysAcknowledged, CountsOn};
 ghost use Rattle.job_starter_drive.specs.Stretches.{IsStretch, IsCutShort};
@@ -17,7 +18,7 @@ use crate::keys::key_at;
 use crate::records::{
     MOST_AT_ONCE, aborts_with, chosen, goes_on, is_aborted, keeps_the_law, record_reported,
 };
-use crate::rounds::{is_new, launch_round};
+use crate::rounds::{is_new, launch_rounds};
 use event_journal_log::Disk;
 use node_machine::{Key, Outcome, Record, Verdict};
 use recovery_manager::{Manager, ManagerFault};
@@ -41,6 +42,9 @@ pub enum DriveFault {
     /// Memory was refused for a command, or for a list.
     #[error("A5 Memory")]
     Memory,
+    /// The starter answered that nothing more is to be launched, and nothing runs any more.
+    #[error("H1 Halted")]
+    Halted,
 }
 
 /// How a run ended: nothing is outstanding and nothing can be launched.
@@ -76,7 +80,7 @@ fn gather<D: Disk + Drop, S: Starter>(
     requires one { owed.old.items ≡ end ∷ [] }
     requires room { most_at_once ≤ vec_capacity owed.old }
     requires going { IsTrue (is_open (past_of manager.now)) }
-    requires held { NothingToStart (limits_of manager.now) (plan_of manager.now) (past_of manager.now) }
+    requires held { IsHeld (limits_of manager.now) (plan_of manager.now) (past_of manager.now) (S.call_log starter.old) }
     requires under_way { AreUnderWay (plan_of manager.now) (past_of manager.now) (S.call_log starter.old) [] owed.old.items }
     ensures room { vec_capacity owed.old ≤ vec_capacity owed.new }
     ensures some { 0 < length owed.new.items }
@@ -109,7 +113,7 @@ fn end_some<D: Disk + Drop, S: Starter>(
     owed: &mut Vec<(Key, Outcome)>,
 ) -> Result<(), DriveFault>
     requires in_step { AreInStep (plan_of manager.old) (past_of manager.old) (S.call_log starter.old) }
-    requires held { NothingToStart (limits_of manager.old) (plan_of manager.old) (past_of manager.old) }
+    requires held { IsHeld (limits_of manager.old) (plan_of manager.old) (past_of manager.old) (S.call_log starter.old) }
     requires some { IsFalse (is_nothing (outstanding (plan_of manager.old) (past_of manager.old))) }
     requires going { IsTrue (is_open (past_of manager.old)) }
     requires room { most_at_once ≤ vec_capacity owed.old }
@@ -147,16 +151,47 @@ fn verdict_of(choice: Choice) -> Option<Verdict>
     }
 }
 
+/// Launches; or, where a halt is seen, waits until a child ends. Where none runs then, the run is halted.
+fn launch_or_hold<D: Disk + Drop, S: Starter>(
+    alloc: Global,
+    manager: &mut Manager<'_, D>,
+    starter: &mut S,
+    owed: &mut Vec<(Key, Outcome)>,
+) -> Result<(), DriveFault>
+    requires in_step { AreInStep (plan_of manager.old) (past_of manager.old) (S.call_log starter.old) }
+    requires going { IsTrue (is_open (past_of manager.old)) }
+    requires room { most_at_once ≤ vec_capacity owed.old }
+    ensures room { vec_capacity owed.old ≤ vec_capacity owed.new }
+    ensures nearer { (key : Key) → IsChoice (limits_of manager.old) (plan_of manager.old) (past_of manager.old) (Start key)
+        → OnOk result (IsNearerEnd (plan_of manager.old) (past_of manager.old) (past_of manager.new)) }
+    ensures turn { OnOk result (IsTurn (plan_of manager.old) (past_of manager.old) (past_of manager.new) (S.call_log starter.new)) }
+    ensures went { OnOk result (IsStretch D.Disk
+        (limits_of manager.old) (plan_of manager.old) (S.may_return starter.old) (S.may_return starter.new)
+        (S.faults starter.old) (S.faults starter.new) manager.old manager.new
+        (at_rest (past_of manager.old) (S.call_log starter.old)) (at_rest (past_of manager.new) (S.call_log starter.new))) }
+    ensures cut { IfErr result (IsCutShort D.Disk
+        (limits_of manager.old) (plan_of manager.old) (S.may_return starter.old) (S.may_return starter.new)
+        (S.faults starter.old) (S.faults starter.new) manager.old manager.new
+        (at_rest (past_of manager.old) (S.call_log starter.old)) (S.call_log starter.new)) }
+{
+    keeps_the_law(manager);
+    if !starter.sees_halt() {
+        return launch_rounds(alloc, manager, starter);
+    }
+    if starter.running().is_empty() {
+        return Err(DriveFault::Halted);
+    }
+    end_some(alloc, manager, starter, owed)
+}
+
 /// Does what is chosen: launches, or waits.
 fn act<D: Disk + Drop, S: Starter>(
     alloc: Global,
     manager: &mut Manager<'_, D>,
-    plan: &Plan,
     starter: &mut S,
     owed: &mut Vec<(Key, Outcome)>,
     choice: Choice,
 ) -> Result<(), DriveFault>
-    requires own { plan.now ≡ plan_of manager.old }
     requires in_step { AreInStep (plan_of manager.old) (past_of manager.old) (S.call_log starter.old) }
     requires chosen { IsChoice (limits_of manager.old) (plan_of manager.old) (past_of manager.old) choice }
     requires unending { final_verdict choice ≡ None }
@@ -175,7 +210,7 @@ fn act<D: Disk + Drop, S: Starter>(
         (at_rest (past_of manager.old) (S.call_log starter.old)) (S.call_log starter.new)) }
 {
     match choice {
-        Choice::Start(_) => launch_round(alloc, manager, plan, starter),
+        Choice::Start(_) => launch_or_hold(alloc, manager, starter, owed),
         Choice::Wait => end_some(alloc, manager, starter, owed),
         Choice::Finish(_) => unreachable!(),
     }
@@ -186,11 +221,9 @@ fn act<D: Disk + Drop, S: Starter>(
 fn turn<D: Disk + Drop, S: Starter>(
     alloc: Global,
     manager: &mut Manager<'_, D>,
-    plan: &Plan,
     starter: &mut S,
     owed: &mut Vec<(Key, Outcome)>,
 ) -> Result<Option<Verdict>, DriveFault>
-    requires own { plan.now ≡ plan_of manager.old }
     requires in_step { AreInStep (plan_of manager.old) (past_of manager.old) (S.call_log starter.old) }
     requires going { IsTrue (is_open (past_of manager.old)) }
     requires room { most_at_once ≤ vec_capacity owed.old }
@@ -217,7 +250,7 @@ fn turn<D: Disk + Drop, S: Starter>(
     if let Some(verdict) = verdict_of(choice) {
         return Ok(Some(verdict));
     }
-    if let Err(fault) = act(alloc, manager, plan, starter, owed, choice) {
+    if let Err(fault) = act(alloc, manager, starter, owed, choice) {
         return Err(fault);
     }
     if is_new(before, is_aborted(manager)) {
@@ -231,10 +264,8 @@ fn turn<D: Disk + Drop, S: Starter>(
 fn run<D: Disk + Drop, S: Starter>(
     alloc: Global,
     manager: &mut Manager<'_, D>,
-    plan: &Plan,
     starter: &mut S,
 ) -> Result<Verdict, DriveFault>
-    requires own { plan.now ≡ plan_of manager.old }
     requires in_step { AreInStep (plan_of manager.old) (past_of manager.old) (S.call_log starter.old) }
     requires going { IsTrue (is_open (past_of manager.old)) }
     ensures none_left { OnOk result (running (S.call_log starter.new) ≡ []) }
@@ -255,7 +286,7 @@ fn run<D: Disk + Drop, S: Starter>(
         return Err(DriveFault::Memory);
     };
     loop {
-        match turn(alloc, manager, plan, starter, &mut owed) {
+        match turn(alloc, manager, starter, &mut owed) {
             Ok(Some(verdict)) => return Ok(verdict),
             Ok(None) => {}
             Err(fault) => return Err(fault),
@@ -265,11 +296,11 @@ fn run<D: Disk + Drop, S: Starter>(
 
 /// Runs a plan to its end: launches what may be launched, waits where nothing can be, and records
 /// each ending as it was reported. At an abort and behind a fault each running child is killed, so that
-/// none runs when the call returns.
+/// none runs when the call returns. Once a halt is seen nothing is launched: what runs is waited for.
 ///
 /// # Errors
-/// Those of `launch_round`, and `WaitFault` where the system refuses the question or the wait. What was
-/// recorded stays; behind `StartMemory` and `Memory` the last launch is outstanding though no child
+/// Those of `launch_round`; `WaitFault` where the system refuses the question or the wait; and `Halted` where a halt was seen, nothing
+/// runs any more and something was to be launched. What was recorded stays; behind `StartMemory` and `Memory` the last launch is outstanding though no child
 /// was started, and the next life launches it again.
 pub fn drive<D: Disk + Drop, S: Starter>(
     alloc: Global,
@@ -323,8 +354,9 @@ pub fn drive<D: Disk + Drop, S: Starter>(
     ensures disk { KeepsDisk D.Disk manager.old.journal manager.new.journal }
     ensures counts { OnOk result (CountsOn manager.old manager.new) }
 {
+    let _plan = plan;
     goes_on(manager);
-    match run(alloc, manager, plan, starter) {
+    match run(alloc, manager, starter) {
         Ok(verdict) => {
             keeps_the_law(manager);
             Ok(RunEnd {

@@ -43,6 +43,8 @@ pub enum Call {
     Ended(Key, Outcome),
     /// A child was killed.
     Killed(Key),
+    /// It was asked whether nothing more is to be launched, and from there on it is so.
+    HaltSeen,
 }
 
 // Each function that lets a value go calls this; a derived drop stands in each, part by part.
@@ -52,6 +54,7 @@ impl Drop for Call {
             Call::Started(_, _, _) => {}
             Call::Ended(_, _) => {}
             Call::Killed(_) => {}
+            Call::HaltSeen => {}
         }
     }
 }

@@ -8,6 +8,7 @@ ghost use Rattle.sched_core.specs.Ahead.{NothingToStart, launched, added, up_to_
 ghost use Rattle.sched_core.specs.Choices.{IsChoice};
 ghost use Rattle.recovery_manager.specs.Managed.{plan_of, past_of};
 ghost use Rattle.recovery_manager.specs.declared.fault.ManagerFault.TheVariants.{Memory};
+ghost use Rattle.job_starter_drive.specs.Calls.{is_halt_seen};
 ghost use Rattle.job_starter_drive.specs.Drives.{limits_of, most_at_once, At, at_rest, AreInStep, MayEndAll, IsRoundOf, IsNearerEnd};
 ghost use Rattle.job_starter_drive.specs.Stretches.{IsStretch, IsCutShort};
 
@@ -98,6 +99,7 @@ pub fn record_launches<D: Disk + Drop, S: Starter>(
     keys: &[Key],
 ) -> Result<(), DriveFault>
     requires round { IsRoundOf (limits_of manager.old) (plan_of manager.old) (past_of manager.old) keys.now }
+    requires unhalted { IsFalse (is_halt_seen (S.call_log starter.now)) }
     requires going { IsTrue (is_open (past_of manager.old)) }
     requires in_step { AreInStep (plan_of manager.old) (past_of manager.old) (S.call_log starter.now) }
     ensures nearer { OnOk result (IsNearerEnd (plan_of manager.old) (past_of manager.old) (past_of manager.new)) }

@@ -1,5 +1,5 @@
 //! A round of a run: phases that are launched together, handed over one after another, and the ends that come of that at once.
-ghost use Rattle.std.specs.Prelude.{◌≡◌, [], ◌+◌, ◌≤◌, ◌<◌, ◌&&◌, not, length, drop, IsTrue, IsFalse, IfOk, IfErr, OnOk, OnErr};
+ghost use Rattle.std.specs.Prelude.{◌≡◌, ◌⊎◌, [], ◌+◌, ◌≤◌, ◌<◌, ◌&&◌, not, length, drop, IsTrue, IsFalse, IfOk, IfErr, OnOk, OnErr};
 ghost use Rattle.std.specs.Vec.{vec_capacity};
 ghost use Rattle.node_machine.specs.declared.Key.{Key};
 ghost use Rattle.node_machine.specs.declared.Outcome.TheVariants.{NoStart};
@@ -9,7 +9,7 @@ ghost use Rattle.sched_core.specs.Run.{is_among, is_aborted, is_over, is_open, o
 ghost use Rattle.sched_core.specs.Choices.{IsChoice};
 ghost use Rattle.sched_core.specs.declared.Choice.TheVariants.{Start};
 ghost use Rattle.recovery_manager.specs.Managed.{Managed, plan_of, past_of};
-ghost use Rattle.job_starter_drive.specs.Calls.{running, MayRun, AllowsNoMore};
+ghost use Rattle.job_starter_drive.specs.Calls.{running, is_halt_seen, MayRun, AllowsNoMore};
 ghost use Rattle.job_starter_drive.specs.Drives.{limits_of, At, at_rest, AreInStep, AreUnderWay, IsRoundOf, IsNearerEnd, IsSpawned, IsTurn, Starts, IsLaunched};
 ghost use Rattle.job_starter_drive.specs.Causes.{IsDriveFault, IsUnspawned};
 ghost use Rattle.job_starter_drive.specs.Stretches.{IsStretch, IsCutShort};
@@ -151,6 +151,7 @@ fn start_round<D: Disk + Drop, S: Starter>(
 ) -> Result<(), DriveFault>
     requires in_step { AreInStep (plan_of manager.old) (past_of manager.old) (S.call_log starter.old) }
     requires going { IsTrue (is_open (past_of manager.old)) }
+    requires unhalted { IsFalse (is_halt_seen (S.call_log starter.old)) }
     requires round { IsRoundOf (limits_of manager.old) (plan_of manager.old) (past_of manager.old) keys.now }
     ensures nearer { OnOk result (IsNearerEnd (plan_of manager.old) (past_of manager.old) (past_of manager.new)) }
     ensures turn { OnOk result (IsTurn (plan_of manager.old) (past_of manager.old) (past_of manager.new) (S.call_log starter.new)) }
@@ -181,9 +182,60 @@ fn start_round<D: Disk + Drop, S: Starter>(
     record_ends(alloc, manager, starter, &owed)
 }
 
-/// Launches until nothing more is to be launched, or an ending that was recorded aborts the run: as many phases together as may
-/// be, 64 at most, behind one gate of the journal; each is handed over in its order; and how those ended that no child ran for
-/// is recorded behind one gate, too. It waits for no child, and kills none.
+/// What `launch_round` does where no halt was seen: it asks for one after each round.
+pub(crate) fn launch_rounds<D: Disk + Drop, S: Starter>(
+    alloc: Global,
+    manager: &mut Manager<'_, D>,
+    starter: &mut S,
+) -> Result<(), DriveFault>
+    requires in_step { AreInStep (plan_of manager.old) (past_of manager.old) (S.call_log starter.old) }
+    requires unfinished { IsFalse (is_over (past_of manager.old)) }
+    requires unhalted { IsFalse (is_halt_seen (S.call_log starter.old)) }
+    ensures plan { plan_of manager.new ≡ plan_of manager.old }
+    ensures limits { limits_of manager.new ≡ limits_of manager.old }
+    ensures went { OnOk result (IsStretch D.Disk
+        (limits_of manager.old) (plan_of manager.old) (S.may_return starter.old) (S.may_return starter.new)
+        (S.faults starter.old) (S.faults starter.new) manager.old manager.new
+        (at_rest (past_of manager.old) (S.call_log starter.old)) (at_rest (past_of manager.new) (S.call_log starter.new))) }
+    ensures done { OnOk result (IsLaunched (limits_of manager.old) (plan_of manager.old)
+        (past_of manager.old) (past_of manager.new) (S.call_log starter.new)) }
+    ensures turn { OnOk result (IsTurn (plan_of manager.old) (past_of manager.old) (past_of manager.new) (S.call_log starter.new)) }
+    ensures nearer { (key : Key) → IsChoice (limits_of manager.old) (plan_of manager.old) (past_of manager.old) (Start key)
+        → OnOk result (IsNearerEnd (plan_of manager.old) (past_of manager.old) (past_of manager.new)) }
+    ensures cut { IfErr result (IsCutShort D.Disk
+        (limits_of manager.old) (plan_of manager.old) (S.may_return starter.old) (S.may_return starter.new)
+        (S.faults starter.old) (S.faults starter.new) manager.old manager.new
+        (at_rest (past_of manager.old) (S.call_log starter.old)) (S.call_log starter.new)) }
+    ensures waits_for_none { Starts (S.call_log starter.old) (S.call_log starter.new) }
+{
+    goes_on(manager);
+    keeps_the_law(manager);
+    loop {
+        keeps_the_law(manager);
+        let keys = match next_round(alloc, manager) {
+            Ok(keys) => keys,
+            Err(fault) => return Err(fault),
+        };
+        if keys.is_empty() {
+            return Ok(());
+        }
+        let before = is_aborted(manager);
+        if let Err(fault) = start_round(alloc, manager, starter, &keys) {
+            return Err(fault);
+        }
+        if is_new(before, is_aborted(manager)) {
+            return Ok(());
+        }
+        keeps_the_law(manager);
+        if starter.sees_halt() {
+            return Ok(());
+        }
+    }
+}
+
+/// Launches until nothing more is to be launched, an ending that was recorded aborts the run, or a halt is seen, for which the starter
+/// is asked before each round: as many phases together as may be, 64 at most, behind one gate of the journal; each is handed over in
+/// its order; and how those ended that no child ran for is recorded behind one gate, too. It waits for no child, and kills none.
 ///
 /// # Errors
 /// `StartMemory` where the starter is refused memory for a child, `Memory` where it is refused for a command or for a list: what was
@@ -205,14 +257,14 @@ pub fn launch_round<D: Disk + Drop, S: Starter>(
         (limits_of manager.old) (plan_of manager.old) (S.may_return starter.old) (S.may_return starter.new)
         (S.faults starter.old) (S.faults starter.new) manager.old manager.new
         (at_rest (past_of manager.old) (S.call_log starter.old)) (at_rest (past_of manager.new) (S.call_log starter.new))) }
-    // Nothing more is let in, or the newest record aborts the run, which was not aborted before.
+    // Nothing more is let in, a halt was seen, or the newest record aborts the run, which was not aborted before.
     ensures done { OnOk result (IsLaunched (limits_of manager.old) (plan_of manager.old)
-        (past_of manager.old) (past_of manager.new)) }
+        (past_of manager.old) (past_of manager.new) (S.call_log starter.new)) }
     // The run goes on: the children that run are the outstanding phases, or it was aborted just now.
     ensures turn { OnOk result (IsTurn (plan_of manager.old) (past_of manager.old) (past_of manager.new) (S.call_log starter.new)) }
-    // Where something was to be launched, fewer records are to come.
+    // Where something was to be launched, fewer records are to come, but for a halt.
     ensures nearer { (key : Key) → IsChoice (limits_of manager.old) (plan_of manager.old) (past_of manager.old) (Start key)
-        → OnOk result (IsNearerEnd (plan_of manager.old) (past_of manager.old) (past_of manager.new)) }
+        → OnOk result (IsNearerEnd (plan_of manager.old) (past_of manager.old) (past_of manager.new) ⊎ IsTrue (is_halt_seen (S.call_log starter.new))) }
     // Behind a fault: a stretch that this fault cut short.
     ensures cut { IfErr result (IsCutShort D.Disk
         (limits_of manager.old) (plan_of manager.old) (S.may_return starter.old) (S.may_return starter.new)
@@ -223,23 +275,10 @@ pub fn launch_round<D: Disk + Drop, S: Starter>(
     let _plan = plan;
     goes_on(manager);
     keeps_the_law(manager);
-    loop {
-        keeps_the_law(manager);
-        let keys = match next_round(alloc, manager) {
-            Ok(keys) => keys,
-            Err(fault) => return Err(fault),
-        };
-        if keys.is_empty() {
-            return Ok(());
-        }
-        let before = is_aborted(manager);
-        if let Err(fault) = start_round(alloc, manager, starter, &keys) {
-            return Err(fault);
-        }
-        if is_new(before, is_aborted(manager)) {
-            return Ok(());
-        }
+    if starter.sees_halt() {
+        return Ok(());
     }
+    launch_rounds(alloc, manager, starter)
 }
 
 /// Whether an abort came between.

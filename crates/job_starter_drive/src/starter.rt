@@ -4,7 +4,7 @@ ghost use Rattle.node_machine.specs.declared.Key.{Key};
 ghost use Rattle.node_machine.specs.declared.Outcome.{Outcome};
 ghost use Rattle.sched_core.specs.Run.{is_among};
 ghost use Rattle.job_starter_drive.specs.declared.Call.{Call};
-ghost use Rattle.job_starter_drive.specs.Calls.{running, snapshot_of, IsReportedEnding, MayRun, AllowsNoMore, Telling};
+ghost use Rattle.job_starter_drive.specs.Calls.{running, is_halt_seen, snapshot_of, AsksForHalt, IsReportedEnding, MayRun, AllowsNoMore, Telling};
 ghost use Rattle.job_starter_drive.specs.Causes.{IsStartFault, IsAskFault, IsWaitFault};
 
 use crate::{Call, Killed, StartFault, Started};
@@ -76,6 +76,14 @@ pub trait Starter {
     fn will_record(&mut self)
         ensures prepared { prepared self.new }
         ensures call_log { call_log self.new ≡ call_log self.old }
+        ensures counts { faults self.new ≡ faults self.old }
+        ensures may { AllowsNoMore (may_return self.old) (may_return self.new) };
+
+    /// Whether nothing more is to be launched, as where somebody asked for a halt. Once that was answered, it stays so, and the answer
+    /// is among the calls.
+    fn sees_halt(&mut self) -> bool
+        ensures is { result ≡ is_halt_seen (call_log self.new) }
+        ensures asked { AsksForHalt (may_return self.old) (call_log self.old) (call_log self.new) }
         ensures counts { faults self.new ≡ faults self.old }
         ensures may { AllowsNoMore (may_return self.old) (may_return self.new) };
 
@@ -174,6 +182,14 @@ pub trait System {
     fn will_record(&mut self)
         ensures prepared { prepared self.new }
         ensures call_log { call_log self.new ≡ call_log self.old }
+        ensures counts { faults self.new ≡ faults self.old }
+        ensures may { AllowsNoMore (may_return self.old) (may_return self.new) };
+
+    /// Whether nothing more is to be launched, as where somebody asked for a halt. Once that was answered, it stays so, and the answer
+    /// is among the calls.
+    fn sees_halt(&mut self) -> bool
+        ensures is { result ≡ is_halt_seen (call_log self.new) }
+        ensures asked { AsksForHalt (may_return self.old) (call_log self.old) (call_log self.new) }
         ensures counts { faults self.new ≡ faults self.old }
         ensures may { AllowsNoMore (may_return self.old) (may_return self.new) };
 

@@ -550,6 +550,16 @@ impl<R: Processes + Files<File = File> + Clock + Drop, W: ChildWatcher + Drop> S
         self.watcher.will_record();
     }
 
+    fn sees_halt(&mut self) -> bool {
+        if self.log.is_halted() {
+            return true;
+        }
+        if !self.watcher.halts() {
+            return false;
+        }
+        self.log.see_halt()
+    }
+
     // A child is killed where a run is stopped, which kills all: so all launchers are asked to end before the first one is killed.
     fn kill(&mut self, key: Key) -> Killed {
         if !self.asked {

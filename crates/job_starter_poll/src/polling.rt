@@ -91,6 +91,10 @@ impl<S: System + Drop> Starter for ProcessStarter<S> {
         self.system.will_record();
     }
 
+    fn sees_halt(&mut self) -> bool {
+        self.system.sees_halt()
+    }
+
     fn kill(&mut self, key: Key) -> Killed {
         self.system.kill(key)
     }

@@ -1,8 +1,8 @@
 //! A starter that starts nothing: a table says how each child ends.
-ghost use Rattle.std.specs.Prelude.{◌≡◌, ◌≢◌, [], ◌<◌, IsTrue};
+ghost use Rattle.std.specs.Prelude.{◌≡◌, ◌≢◌, [], ◌<◌, IsTrue, IsFalse};
 ghost use Rattle.node_machine.specs.Story.{is_possible};
 ghost use Rattle.node_machine.specs.OutcomeTable.{HasPossibleOutcomes};
-ghost use Rattle.job_starter_drive.specs.Calls.{running};
+ghost use Rattle.job_starter_drive.specs.Calls.{running, is_halt_seen};
 ghost use Rattle.job_starter_drive.specs.Scripts.{scripted_outcome, IsScripted};
 
 use job_starter_drive::{
@@ -38,6 +38,8 @@ pub struct ScriptedStarter<'a> {
     waits: u64,
     faults: u64,
     ghost possible: { HasPossibleOutcomes table.now },
+    // Nobody halts it.
+    ghost unhalted: { IsFalse (is_halt_seen log.calls) },
 }
 
 // Each function that lets a value go calls this; a derived drop stands in each, part by part.
@@ -160,6 +162,10 @@ impl<'a> Starter for ScriptedStarter<'a> {
     }
 
     fn will_record(&mut self) {}
+
+    fn sees_halt(&mut self) -> bool {
+        false
+    }
 
     fn kill(&mut self, key: Key) -> Killed {
         self.log.killed(key);

@@ -1,5 +1,5 @@
 -- What `redo` answers, and why it is refused.
-use Rattle.std.specs.Prelude.{◌≡◌, ℕ, Bool, List, [], ◌++◌, Option, Some, IsTrue, codes, string_bytes}
+use Rattle.std.specs.Prelude.{◌≡◌, ℕ, Bool, false, List, [], ◌++◌, Option, Some, IsTrue, codes, string_bytes}
 use Rattle.splices_flat.specs.Opening.{Files}
 use Rattle.splices_flat.specs.FileSet.{bytes_of, entries_of}
 use Rattle.splices_flat.specs.declared.file_set.FileSet.{FileSet}
@@ -11,9 +11,9 @@ use Rattle.log_lines.specs.Words.{word_text}
 use Rattle.dag_main_check.specs.Planned.{IsPlanWith}
 use Rattle.dag_main_check.specs.Warnings.{warning_lines}
 use Rattle.dag_main_check.specs.declared.fault.RunFault.{RunFault}
-use Rattle.dag_main_files.specs.Beside.{IsFileFault}
+use Rattle.dag_main_files.specs.Beside.{journal_name_of, IsFileFault}
 use Rattle.dag_main_files.specs.Folder.{IsReadFrom}
-use Rattle.dag_main_inspect.specs.Asked.{IsAnswerFault}
+use Rattle.dag_main_inspect.specs.Asked.{IsAnswerFault, IsAnswerFaultHeld}
 use Rattle.dag_main_inspect.specs.LastRound.{IsLastRound}
 use Rattle.dag_main_inspect.specs.Statused.{journal_bytes, flag_by, records_in_bytes}
 use Rattle.dag_main_inspect.specs.declared.by_journal.Question.TheVariants.{Status}
@@ -80,14 +80,19 @@ pub data IsRedoOf (path : List ℕ) (names : List (List ℕ)) (only : Bool) (tex
   of_round : (files : FileSet) (rescue journal : Option (List ℕ)) → IsRedoFrom files path rescue journal names only text warnings status →
       IsRedoOf path names only text warnings status
 
--- The same where these files are held: of the DAG file and those that were read with it, the journal, and the rescue file that the journal's
--- header names.
-pub data IsRedoHeld (holds : Files) (path : List ℕ) (names : List (List ℕ)) (only : Bool) (text warnings : List ℕ) (status : ℕ) : Type 0 where
-  held_no_round : text ≡ [] → warnings ≡ no_round_line path → status ≡ 125 → IsRedoHeld holds path names only text warnings status
+-- The same where these files are held and these paths are there: of the DAG file and those that were read with it, the journal, and the rescue
+-- file that the journal's header names; or there is no journal.
+pub data IsRedoHeld (holds : Files) (has : List ℕ → Bool) (path : List ℕ) (names : List (List ℕ)) (only : Bool) (text warnings : List ℕ) (status : ℕ) : Type 0 where
+  held_no_round : has (journal_name_of path) ≡ false → text ≡ [] → warnings ≡ no_round_line path → status ≡ 125 → IsRedoHeld holds has path names only text warnings status
   of_held : (files : FileSet) (rescue journal : Option (List ℕ)) → IsReadFrom holds path files → IsLastRound holds path journal rescue →
-      IsRedoFrom files path rescue journal names only text warnings status → IsRedoHeld holds path names only text warnings status
+      IsRedoFrom files path rescue journal names only text warnings status → IsRedoHeld holds has path names only text warnings status
 
 -- Why nothing is answered: for a cause for which `status` is refused; or the system refuses a file, or memory ran out.
 pub data IsRedoFault (path : List ℕ) : RunFault → Type 0 where
   not_answered : (fault : RunFault) → IsAnswerFault Status path fault → IsRedoFault path fault
   file_not_written : (fault : RunFault) → IsFileFault fault → IsRedoFault path fault
+
+-- The same where these files are held: for a cause for which `status` is refused there; or the system refuses a file, or memory ran out.
+pub data IsRedoFaultHeld (holds : Files) (path : List ℕ) : RunFault → Type 0 where
+  held_not_answered : (fault : RunFault) → IsAnswerFaultHeld holds Status path fault → IsRedoFaultHeld holds path fault
+  held_file_not_written : (fault : RunFault) → IsFileFault fault → IsRedoFaultHeld holds path fault

@@ -6,7 +6,7 @@ ghost use Rattle.rescue_file.specs.Numbered.{IsFileNumber, rescue_name_of};
 ghost use Rattle.dag_main_check.specs.declared.fault.RunFault.TheVariants.{Memory};
 ghost use Rattle.salvage.specs.Salvaged.{report_line};
 ghost use Rattle.dag_main_inspect.specs.Statused.{IsStatusFault};
-ghost use Rattle.redo.specs.Answered.{no_round_line, IsMarkedOf, IsFoundOfNames, IsFoundBy, IsRedoReport, IsRedoOf, IsRedoHeld, IsRedoFault};
+ghost use Rattle.redo.specs.Answered.{no_round_line, IsMarkedOf, IsFoundOfNames, IsFoundBy, IsRedoReport, IsRedoOf, IsRedoHeld, IsRedoFault, IsRedoFaultHeld};
 
 use crate::marks::{Redone, redone_text};
 use crate::numbers::next_number;
@@ -144,6 +144,7 @@ fn write_marked<R: Files<File = File> + AllocGlobal + Copy + Drop, F: Folder>(
     ensures report { IfOk result (λ answer. IsRedoReport place.now.top.now journal.now marked.redone.done marked.total (string_bytes marked.warnings)
         (string_bytes answer.text) (string_bytes answer.warnings) answer.status) }
     ensures refused { IfErr result (IsRedoFault place.now.top.now) }
+    ensures refused_held { F.honest folder.now → IfErr result (IsRedoFaultHeld (F.holds folder.now) place.now.top.now) }
 {
     let alloc = rt.alloc();
     let next = next_number(alloc, folder, place.top, journal)?;
@@ -179,9 +180,10 @@ fn redo_locked<R: Files<File = File> + AllocGlobal + Copy + Drop, F: Folder>(
     ensures redone { IfOk result (λ answer. IsRedoOf place.now.top.now (map (λ n. n.now) names.now) only
         (string_bytes answer.text) (string_bytes answer.warnings) answer.status) }
     ensures held { F.honest folder.now → IfOk result (λ answer.
-        IsRedoHeld (F.holds folder.now) place.now.top.now (map (λ n. n.now) names.now) only
+        IsRedoHeld (F.holds folder.now) (F.has folder.now) place.now.top.now (map (λ n. n.now) names.now) only
         (string_bytes answer.text) (string_bytes answer.warnings) answer.status) }
     ensures refused { IfErr result (IsRedoFault place.now.top.now) }
+    ensures refused_held { F.honest folder.now → IfErr result (IsRedoFaultHeld (F.holds folder.now) place.now.top.now) }
 {
     let alloc = rt.alloc();
     let round = last_round(alloc, folder, place.top)?;
@@ -257,13 +259,16 @@ pub fn redo_here<R: Files<File = File> + Clock + AllocGlobal + Copy + Drop, F: F
         (string_bytes answer.text) (string_bytes answer.warnings) answer.status) }
     // It is that of the files, the journal and the rescue file that the folder holds.
     ensures held { F.honest folder.now → IfOk result (λ answer.
-        IsRedoHeld (F.holds folder.now) place.now.top.now (map (λ n. n.now) names.now) only
+        IsRedoHeld (F.holds folder.now) (F.has folder.now) place.now.top.now (map (λ n. n.now) names.now) only
         (string_bytes answer.text) (string_bytes answer.warnings) answer.status) }
     ensures refused { IfErr result (IsRedoFault place.now.top.now) }
+    // The refusal too is for what the folder holds.
+    ensures refused_held { F.honest folder.now → IfErr result (IsRedoFaultHeld (F.holds folder.now) place.now.top.now) }
 {
     let alloc = rt.alloc();
     let journal = journal_path(alloc, place.top)?;
-    if !folder.is_there(alloc, journal.as_str())? {
+    let is_there = folder.is_there(alloc, journal.as_str())?;
+    if !is_there {
         return no_round(alloc, place.top);
     }
     has_own_files(&rt, place, journal.as_str(), trust_owner)?;

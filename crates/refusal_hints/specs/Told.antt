@@ -13,7 +13,8 @@ reason_line (Some reason) = codes "    " ++ (reason ++ codes "\n")
 -- a fault of which one wants to know at once what to write instead
 abbrev pub tells_what_to_write : List ℕ → Bool
 tells_what_to_write code =
-    bytes_eq code (codes "L3") || bytes_eq code (codes "U4") || bytes_eq code (codes "U5") || bytes_eq code (codes "V4") || bytes_eq code (codes "J5")
+    bytes_eq code (codes "L3") || bytes_eq code (codes "U4") || bytes_eq code (codes "U5") || bytes_eq code (codes "V2") || bytes_eq code (codes "V4")
+    || bytes_eq code (codes "P1") || bytes_eq code (codes "P4") || bytes_eq code (codes "J5") || bytes_eq code (codes "H1")
 
 -- what the guide says of the fault of a code: all of what to do, or where that is to be found; nothing of a fault that it doesn't have
 abbrev pub guide_text : List ℕ → Option Fault → List ℕ

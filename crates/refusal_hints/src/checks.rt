@@ -40,7 +40,7 @@ const ROWS: [Row; 5] = [
         line: "P1 MissingFile work/a.sub",
         source: b"",
         reason: Some("work/a.sub: No such file or directory"),
-        told: "    work/a.sub: No such file or directory\n    dagrun explain P1 says more\n",
+        told: "    work/a.sub: No such file or directory\n    See that the file is there and may be read. A relative path is taken from\n    the folder in which dagrun is called, then the DIR of each SPLICE line on the\n    way to the node, and then the DIR of its JOB line. Where the file is beside\n    the DAG file, call dagrun in that folder.\n",
     },
 ];
 

@@ -147,7 +147,10 @@ fn push_reason(text: &mut String, reason: Option<&str>) -> Result<(), AllocError
 fn tells_what_to_write(code: &str) -> bool
     ensures { result ≡ tells_what_to_write code.now }
 {
-    matches!(code, "L3" | "U4" | "U5" | "V4" | "J5")
+    matches!(
+        code,
+        "L3" | "U4" | "U5" | "V2" | "V4" | "P1" | "P4" | "J5" | "H1"
+    )
 }
 
 /// Adds what the guide says of a fault of this code, if there is one: all of it for those of which one wants to

@@ -5,6 +5,7 @@
 
 mod columns;
 mod doomed;
+mod errors;
 mod failures;
 mod line;
 mod processors;
@@ -14,6 +15,7 @@ mod terminal;
 mod watcher;
 
 pub use columns::fits;
+pub use errors::ErrorWatcher;
 pub use line::{Counts, ProgressLine, RunningNode, line_text};
 pub use processors::processor_count;
 pub use terminal::{Screen, Way, way_of};

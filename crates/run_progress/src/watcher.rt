@@ -498,6 +498,19 @@ impl<'a, R: Screen + Processes + Files<File = File> + Clock + AllocGlobal + Copy
         Ok(())
     }
 
+    /// Tells that a run is halted, while children of it run.
+    fn tell_halt(&mut self) -> Result<(), AllocError> {
+        let alloc = self.rt.alloc();
+        let line = match self.live.len() {
+            0 => return Ok(()),
+            1 => String::from_str(alloc, "halted: nothing more is launched; 1 still runs\n")?,
+            running => format!(in alloc;
+                "halted: nothing more is launched; {running} still run\n"
+            )?,
+        };
+        self.tell(line.as_str())
+    }
+
     /// Tells that the processes of the round can't be noted.
     fn tell_unkept(&mut self, reason: &str) -> Result<(), AllocError> {
         let line = format!(in self.rt.alloc();
@@ -560,6 +573,13 @@ impl<
         }
     }
 
+    /// Tells that the run is halted, where something runs.
+    pub fn halts_now(&mut self) {
+        if let Some(progress) = &mut self.progress {
+            let _ = progress.tell_halt();
+        }
+    }
+
     /// Takes away what is shown and does not stay.
     pub fn ends(&mut self) {
         if let Some(progress) = &mut self.progress {
@@ -616,5 +636,9 @@ impl<R: Screen + Processes + Files<File = File> + Clock + AllocGlobal + Copy + D
         if let Some(progress) = &mut self.progress {
             let _ = progress.waits();
         }
+    }
+
+    fn halts(&mut self) -> bool {
+        false
     }
 }

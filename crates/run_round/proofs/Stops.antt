@@ -16,7 +16,7 @@ use Rattle.recovery.specs.Recovery.{IsBeginFault, begin_failed, begin_had_no_roo
 use Rattle.job_starter_drive.specs.declared.Call.{Call}
 use Rattle.job_starter_drive.specs.Calls.{Telling}
 use Rattle.job_starter_drive.specs.declared.driving.DriveFault.{DriveFault}
-use Rattle.job_starter_drive.specs.Causes.{AreRefused, IsOfRun, IsDriveFault, no_memory_for_child, no_ending_logged, no_memory_for_command, no_memory_for_round, records_refused}
+use Rattle.job_starter_drive.specs.Causes.{AreRefused, IsOfRun, IsDriveFault, no_memory_for_child, no_ending_logged, no_memory_for_command, no_memory_for_round, run_halted, records_refused}
 use Rattle.run_round.specs.declared.rounds.Start.{Start}
 use Rattle.run_round.specs.declared.rounds.Start.TheVariants.{Begin, GoOn}
 use Rattle.run_round.specs.Rounds.{IsOpeningFault}
@@ -39,6 +39,7 @@ module _ {D : Type 0} (disks : Ghosts D) where
   drive-stops before now old manager _ whole (no_memory_for_child rises) = tt
   drive-stops before now old manager _ whole (no_ending_logged rises) = tt
   drive-stops before now old manager _ whole (no_memory_for_command still) = tt
+  drive-stops before now old manager _ whole (run_halted still) = tt
   drive-stops before now old manager _ whole (no_memory_for_round still) = stopped_by_memory
   drive-stops before now old manager _ whole (records_refused {fault = fault} still r) = refused-stops IsOfRun old manager fault whole r
 

@@ -42,3 +42,9 @@ pub record IsTimesFrom (holds : Files) (path : List ℕ) (svg : Bool) (text warn
 pub data IsTimesFault (path : List ℕ) : RunFault → Type 0 where
   no_graph : (files : FileSet) (fault : RunFault) → IsGraphFault (bytes_of files) path fault → IsTimesFault path fault
   no_log : (fault : RunFault) → IsFileFault fault → IsTimesFault path fault
+
+-- The same where these files are held: those that were read make no graph; or the log is missing or refused, or memory ran out.
+pub data IsTimesFaultHeld (holds : Files) (path : List ℕ) : RunFault → Type 0 where
+  held_no_graph : (files : FileSet) (fault : RunFault) → IsReadFrom holds path files → IsGraphFault (bytes_of files) path fault →
+      IsTimesFaultHeld holds path fault
+  held_no_log : (fault : RunFault) → IsFileFault fault → IsTimesFaultHeld holds path fault

@@ -2,7 +2,7 @@
 
 ghost use Rattle.std.specs.Prelude.{◌≡◌, false, Some, length, IfOk, IfErr, string_bytes};
 ghost use Rattle.dag_main_files.specs.Beside.{IsFileFault};
-ghost use Rattle.run_times.specs.Answered.{log_name_of, IsTable, IsTimesOf, IsTimesFrom, IsTimesFault};
+ghost use Rattle.run_times.specs.Answered.{log_name_of, IsTable, IsTimesOf, IsTimesFrom, IsTimesFault, IsTimesFaultHeld};
 
 use crate::critical::critical_marks;
 use crate::picture::picture_text;
@@ -33,6 +33,8 @@ pub fn times_here<F: Folder>(
     ensures held { F.honest folder.now → IfOk result (λ answer. IsTimesFrom (F.holds folder.now) top.now svg
         (string_bytes answer.text) (string_bytes answer.warnings) answer.status) }
     ensures refused { IfErr result (IsTimesFault top.now) }
+    // The refusal too is for what the folder holds.
+    ensures refused_held { F.honest folder.now → IfErr result (IsTimesFaultHeld (F.holds folder.now) top.now) }
 {
     let files = files_of(alloc, folder, top, Reading::SplicesAlone)?;
     let graph = graph_of(alloc, &files, top)?;

@@ -1,13 +1,15 @@
-use Rattle.std.proofs.Common.{◌≡◌, Result, Err, subst, sym}
+use Rattle.std.proofs.Common.{◌≡◌, Result, Ok, Err, subst, sym}
 use Rattle.std.specs.Prelude.{IfErr}
 use Rattle.dag_main_run.specs.Runs.{IsStopFault, not_cleared, no_endings, round_stopped, leading_had_no_memory}
+use Rattle.dag_main_check.specs.declared.fault.RunFault.{RunFault}
 use Rattle.dag_main_check.specs.declared.fault.RunFault.TheVariants.{Memory}
 use Rattle.dag_main_check.proofs.Refusals.{handed-on}
 use Rattle.dag_main_files.proofs.RunFaults.{by-fault}
 use Rattle.dag_main_run.proofs.runs.run_on.Goals as goal
 
-at-err : {A E : Type 0} (P : E → Type 0) (r : Result A E) (e : E) → r ≡ Err e → IfErr r P → P e
-at-err P r e is holds = subst (λ r. IfErr r P) is holds
+stopped-round : {A : Type 0} (IsDeaf : Type 0) (Stopped : RunFault → Type 0) (r : Result A RunFault) → IfErr r Stopped → IfErr r (IsStopFault IsDeaf Stopped)
+stopped-round IsDeaf Stopped (Ok led) is = is
+stopped-round IsDeaf Stopped (Err fault) is = round_stopped fault is
 
 pub returns-then-is_deaf-clause-refused : goal.returns-then-is_deaf-clause-refused
 returns-then-is_deaf-clause-refused g c = no_endings (c.is_deaf.ensures c.if-is_deaf.true)
@@ -38,5 +40,8 @@ returns-in_err-known-clause-refused g c = by-fault (IsStopFault _ _) Memory lead
 pub returns-in_err-log-clause-refused : goal.returns-in_err-log-clause-refused
 returns-in_err-log-clause-refused g c = by-fault (IsStopFault _ _) Memory leading_had_no_memory c.from_residual-in_err-log.result c.from_residual-in_err-log.ensures.1
 
+pub returns-in_err-halt-clause-refused : goal.returns-in_err-halt-clause-refused
+returns-in_err-halt-clause-refused g c = by-fault (IsStopFault _ _) Memory leading_had_no_memory c.from_residual-in_err-halt.result c.from_residual-in_err-halt.ensures.1
+
 pub returns-clause-refused : goal.returns-clause-refused
-returns-clause-refused g c = round_stopped _ (at-err _ _ _ c.in-Err.is c.led_by-ended.ensures.refused)
+returns-clause-refused g c = stopped-round _ _ c.led_watched.result c.led_watched.ensures.refused

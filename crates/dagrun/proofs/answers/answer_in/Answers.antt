@@ -16,7 +16,7 @@ returns-in-Status-clause-some g c = λ run.
 pub returns-in-Status-clause-held : goal.returns-in-Status-clause-held
 returns-in-Status-clause-held g c = λ honest run.
     held-to (g.F.Folder.holds c.args.folder.now) (g.F.Folder.has c.args.folder.now) (rounds_at g.F.Journal.Disk g.F.Rescue.Disk (g.F.Site.own c.args.folder.now) (g.F.Folder.honest c.args.folder.now) (g.F.Folder.holds c.args.folder.now))
-    c.args.request _ c.in-Status.is c.answer_here.result (c.answer_here.ensures.held honest) c.answer_here.ensures.refused
+    c.args.request _ c.in-Status.is c.answer_here.result (c.answer_here.ensures.held honest) (c.answer_here.ensures.refused_held honest)
 
 pub returns-in-Audit-clause-some : goal.returns-in-Audit-clause-some
 returns-in-Audit-clause-some g c = λ run.
@@ -26,7 +26,7 @@ returns-in-Audit-clause-some g c = λ run.
 pub returns-in-Audit-clause-held : goal.returns-in-Audit-clause-held
 returns-in-Audit-clause-held g c = λ honest run.
     held-to (g.F.Folder.holds c.args.folder.now) (g.F.Folder.has c.args.folder.now) (rounds_at g.F.Journal.Disk g.F.Rescue.Disk (g.F.Site.own c.args.folder.now) (g.F.Folder.honest c.args.folder.now) (g.F.Folder.holds c.args.folder.now))
-    c.args.request _ c.in-Audit.is c.answer_here-in-Audit.result (c.answer_here-in-Audit.ensures.held honest) c.answer_here-in-Audit.ensures.refused
+    c.args.request _ c.in-Audit.is c.answer_here-in-Audit.result (c.answer_here-in-Audit.ensures.held honest) (c.answer_here-in-Audit.ensures.refused_held honest)
 
 pub returns-in-Graph-clause-some : goal.returns-in-Graph-clause-some
 returns-in-Graph-clause-some g c = λ run.
@@ -36,7 +36,7 @@ returns-in-Graph-clause-some g c = λ run.
 pub returns-in-Graph-clause-held : goal.returns-in-Graph-clause-held
 returns-in-Graph-clause-held g c = λ honest run.
     held-to (g.F.Folder.holds c.args.folder.now) (g.F.Folder.has c.args.folder.now) (rounds_at g.F.Journal.Disk g.F.Rescue.Disk (g.F.Site.own c.args.folder.now) (g.F.Folder.honest c.args.folder.now) (g.F.Folder.holds c.args.folder.now))
-    c.args.request _ c.in-Graph.is c.answer_here-in-Graph.result (c.answer_here-in-Graph.ensures.held honest) c.answer_here-in-Graph.ensures.refused
+    c.args.request _ c.in-Graph.is c.answer_here-in-Graph.result (c.answer_here-in-Graph.ensures.held honest) (c.answer_here-in-Graph.ensures.refused_held honest)
 
 pub returns-in-Why-clause-some : goal.returns-in-Why-clause-some
 returns-in-Why-clause-some g c = λ run.
@@ -48,7 +48,7 @@ pub returns-in-Why-clause-held : goal.returns-in-Why-clause-held
 returns-in-Why-clause-held g c = λ honest run.
     let same : c.deref.result.now ≡ c.in-Why.nodes.items = search rules in
     held-to (g.F.Folder.holds c.args.folder.now) (g.F.Folder.has c.args.folder.now) (rounds_at g.F.Journal.Disk g.F.Rescue.Disk (g.F.Site.own c.args.folder.now) (g.F.Folder.honest c.args.folder.now) (g.F.Folder.holds c.args.folder.now))
-    c.args.request _ c.in-Why.is c.why_here.result (subst (λ (ns : List (Bor (List ℕ))). IfOk c.why_here.result (λ answer. IsWhyHeld (g.F.Folder.holds c.args.folder.now) c.in-Why.dag.now (map (λ (n : Bor (List ℕ)). n.now) ns) (string_bytes answer.text) (string_bytes answer.warnings) answer.status)) same (c.why_here.ensures.held honest)) c.why_here.ensures.refused
+    c.args.request _ c.in-Why.is c.why_here.result (subst (λ (ns : List (Bor (List ℕ))). IfOk c.why_here.result (λ answer. IsWhyHeld (g.F.Folder.holds c.args.folder.now) c.in-Why.dag.now (map (λ (n : Bor (List ℕ)). n.now) ns) (string_bytes answer.text) (string_bytes answer.warnings) answer.status)) same (c.why_here.ensures.held honest)) (c.why_here.ensures.refused_held honest)
 
 pub returns-in-Times-clause-some : goal.returns-in-Times-clause-some
 returns-in-Times-clause-some g c = λ run.
@@ -58,7 +58,7 @@ returns-in-Times-clause-some g c = λ run.
 pub returns-in-Times-clause-held : goal.returns-in-Times-clause-held
 returns-in-Times-clause-held g c = λ honest run.
     held-to (g.F.Folder.holds c.args.folder.now) (g.F.Folder.has c.args.folder.now) (rounds_at g.F.Journal.Disk g.F.Rescue.Disk (g.F.Site.own c.args.folder.now) (g.F.Folder.honest c.args.folder.now) (g.F.Folder.holds c.args.folder.now))
-    c.args.request _ c.in-Times.is c.times_here.result (c.times_here.ensures.held honest) c.times_here.ensures.refused
+    c.args.request _ c.in-Times.is c.times_here.result (c.times_here.ensures.held honest) (c.times_here.ensures.refused_held honest)
 
 pub returns-in-Salvage-clause-some : goal.returns-in-Salvage-clause-some
 returns-in-Salvage-clause-some g c = λ run.
@@ -80,7 +80,7 @@ pub returns-in-Redo-clause-held : goal.returns-in-Redo-clause-held
 returns-in-Redo-clause-held g c = λ honest run.
     let same : c.deref-in-Redo.result.now ≡ c.in-Redo.nodes.items = search rules in
     held-to (g.F.Folder.holds c.args.folder.now) (g.F.Folder.has c.args.folder.now) (rounds_at g.F.Journal.Disk g.F.Rescue.Disk (g.F.Site.own c.args.folder.now) (g.F.Folder.honest c.args.folder.now) (g.F.Folder.holds c.args.folder.now))
-    c.args.request _ c.in-Redo.is c.redo_here.result (subst (λ (ns : List (Bor (List ℕ))). IfOk c.redo_here.result (λ answer. IsRedoHeld (g.F.Folder.holds c.args.folder.now) c.in-Redo.dag.now (map (λ (n : Bor (List ℕ)). n.now) ns) c.in-Redo.only (string_bytes answer.text) (string_bytes answer.warnings) answer.status)) same (c.redo_here.ensures.held honest)) c.redo_here.ensures.refused
+    c.args.request _ c.in-Redo.is c.redo_here.result (subst (λ (ns : List (Bor (List ℕ))). IfOk c.redo_here.result (λ answer. IsRedoHeld (g.F.Folder.holds c.args.folder.now) (g.F.Folder.has c.args.folder.now) c.in-Redo.dag.now (map (λ (n : Bor (List ℕ)). n.now) ns) c.in-Redo.only (string_bytes answer.text) (string_bytes answer.warnings) answer.status)) same (c.redo_here.ensures.held honest)) (c.redo_here.ensures.refused_held honest)
 
 pub returns-in-Check-clause-some : goal.returns-in-Check-clause-some
 returns-in-Check-clause-some g c = λ run.
@@ -90,7 +90,7 @@ returns-in-Check-clause-some g c = λ run.
 pub returns-in-Check-clause-held : goal.returns-in-Check-clause-held
 returns-in-Check-clause-held g c = λ honest run.
     held-to (g.F.Folder.holds c.args.folder.now) (g.F.Folder.has c.args.folder.now) (rounds_at g.F.Journal.Disk g.F.Rescue.Disk (g.F.Site.own c.args.folder.now) (g.F.Folder.honest c.args.folder.now) (g.F.Folder.holds c.args.folder.now))
-    c.args.request _ c.in-Check.is c.check.result (c.check.ensures.held honest) c.check.ensures.refused
+    c.args.request _ c.in-Check.is c.check.result (c.check.ensures.held honest) (c.check.ensures.refused_held honest)
 
 pub returns-in-Rehearse-clause-some : goal.returns-in-Rehearse-clause-some
 returns-in-Rehearse-clause-some g c = λ run.
@@ -100,4 +100,4 @@ returns-in-Rehearse-clause-some g c = λ run.
 pub returns-in-Rehearse-clause-held : goal.returns-in-Rehearse-clause-held
 returns-in-Rehearse-clause-held g c = λ honest run.
     held-to (g.F.Folder.holds c.args.folder.now) (g.F.Folder.has c.args.folder.now) (rounds_at g.F.Journal.Disk g.F.Rescue.Disk (g.F.Site.own c.args.folder.now) (g.F.Folder.honest c.args.folder.now) (g.F.Folder.holds c.args.folder.now))
-    c.args.request _ c.in-Rehearse.is c.rehearse.result (c.rehearse.ensures.held honest) c.rehearse.ensures.refused
+    c.args.request _ c.in-Rehearse.is c.rehearse.result (c.rehearse.ensures.held honest) (c.rehearse.ensures.refused_held honest)

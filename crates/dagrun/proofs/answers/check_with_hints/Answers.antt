@@ -1,9 +1,10 @@
 use Rattle.std.proofs.Common.{true}
 use Rattle.splices_flat.specs.FileSet.{bytes_of}
 use Rattle.dag_main_files.proofs.RunFaults.{by-fault}
-use Rattle.folder_answers.specs.Answered.{IsCheckRefusal, check_not_read}
+use Rattle.folder_answers.specs.Answered.{IsCheckRefusal, check_not_read, held_not_read}
 use Rattle.folder_answers.proofs.Held.{checked}
 use Rattle.dag_main_args.specs.Requests.{checks}
+use Rattle.dagrun.specs.Answered.{IsCheckRefusalHeld, of_held_files, of_files_read_once}
 use Rattle.dagrun.proofs.Requests.{no-hints}
 use Rattle.dagrun.proofs.Checks.{hints_behind}
 use Rattle.dagrun.proofs.answers.check_with_hints.Goals as goal
@@ -24,3 +25,10 @@ returns-in-Ok-reply-clause-held g c = λ honest.
 
 pub returns-in_err-files-clause-hinted : goal.returns-in_err-files-clause-hinted
 returns-in_err-files-clause-hinted g c = λ honest. no-hints (checks c.args.dag.now true) c.from_residual.result (g.C.Console.shown c.args.console.now)
+
+pub returns-in_err-files-clause-refused_held : goal.returns-in_err-files-clause-refused_held
+returns-in_err-files-clause-refused_held g c = λ honest. by-fault (IsCheckRefusalHeld (g.F.Folder.holds c.args.folder.now) c.args.dag.now) c.in_err-files.field-0.0
+    (of_held_files _ (held_not_read _ c.in_err-files.ensures.refused)) c.from_residual.result c.from_residual.ensures.1
+
+pub returns-clause-refused_held : goal.returns-clause-refused_held
+returns-clause-refused_held g c = λ honest. of_files_read_once c.in_ok-files.files _ (c.in_ok-files.ensures.read honest) (c.in-Err-reply.ensures.refused_held tt)

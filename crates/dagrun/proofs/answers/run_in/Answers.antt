@@ -27,7 +27,7 @@ pub returns-then-not-options-clause-held : goal.returns-then-not-options-clause-
 returns-then-not-options-clause-held g c = λ honest unstreamed.
     comes-to (command_from (g.F.Folder.holds c.args.folder.now) (g.F.Folder.has c.args.folder.now) (rounds_at g.F.Journal.Disk g.F.Rescue.Disk (g.F.Site.own c.args.folder.now) (g.F.Folder.honest c.args.folder.now) (g.F.Folder.holds c.args.folder.now)) (runs c.args.dag.now c.args.options.now)) c.run_dag.result
     (IfOk-weaker c.run_dag.result _ _ (λ answer is. led (not-both _ _ c.if-not-options.true) is) (c.run_dag.ensures.held honest))
-    (IfErr-weaker c.run_dag.result _ _ (λ fault why. not_run fault (not-both _ _ c.if-not-options.true) why) (c.run_dag.ensures.refused unstreamed))
+    (IfErr-weaker c.run_dag.result _ _ (λ fault why. not_run fault (not-both _ _ c.if-not-options.true) why) (c.run_dag.ensures.refused_held unstreamed honest))
 
 pub returns-in_err-told-clause-some : goal.returns-in_err-told-clause-some
 returns-in_err-told-clause-some g c = λ unstreamed.
@@ -37,7 +37,7 @@ returns-in_err-told-clause-some g c = λ unstreamed.
 pub returns-in_err-told-clause-held : goal.returns-in_err-told-clause-held
 returns-in_err-told-clause-held g c = λ honest unstreamed.
     refused-to (command_from (g.F.Folder.holds c.args.folder.now) (g.F.Folder.has c.args.folder.now) (rounds_at g.F.Journal.Disk g.F.Rescue.Disk (g.F.Site.own c.args.folder.now) (g.F.Folder.honest c.args.folder.now) (g.F.Folder.holds c.args.folder.now)) (runs c.args.dag.now c.args.options.now))
-    c.in_err-told.field-0.0 (not_reported _ c.if-not-options.false c.in_err-told.ensures.refused) c.from_residual.result c.from_residual.ensures.1
+    c.in_err-told.field-0.0 (not_reported _ c.if-not-options.false (c.in_err-told.ensures.refused_held honest)) c.from_residual.result c.from_residual.ensures.1
 
 pub returns-in-Some-clause-some : goal.returns-in-Some-clause-some
 returns-in-Some-clause-some g c = λ unstreamed. reported_again c.if-not-options.false (at-some _ _ _ c.in-Some.is c.in_ok-told.ensures.report)
@@ -56,4 +56,4 @@ returns-in-None-clause-held g c = λ honest unstreamed.
     comes-to (command_from (g.F.Folder.holds c.args.folder.now) (g.F.Folder.has c.args.folder.now) (rounds_at g.F.Journal.Disk g.F.Rescue.Disk (g.F.Site.own c.args.folder.now) (g.F.Folder.honest c.args.folder.now) (g.F.Folder.holds c.args.folder.now)) (runs c.args.dag.now c.args.options.now)) c.run_dag-in-None.result
     (IfOk-weaker c.run_dag-in-None.result _ _ (λ answer is. led (λ asked. at-none _ _ c.in-None.is (c.in_ok-told.ensures.none honest)) is) (c.run_dag-in-None.ensures.held honest))
     (IfErr-weaker c.run_dag-in-None.result _ _ (λ fault why. not_run fault (λ asked. at-none _ _ c.in-None.is (c.in_ok-told.ensures.none honest)) why)
-    (c.run_dag-in-None.ensures.refused unstreamed))
+    (c.run_dag-in-None.ensures.refused_held unstreamed honest))

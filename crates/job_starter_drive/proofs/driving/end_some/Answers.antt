@@ -6,12 +6,13 @@ use Rattle.sched_core.specs.Run.{outstanding}
 use Rattle.recovery_manager.specs.Managed.{plan_of, past_of}
 use Rattle.job_starter_drive.specs.declared.Call.{Call}
 use Rattle.job_starter_drive.specs.Causes.{no_ending_logged}
-use Rattle.job_starter_drive.specs.Drives.{At, at_rest, limits_of, AreUnderWay, IsTurn, Goes, no_step, none_told}
+use Rattle.job_starter_drive.specs.Drives.{At, at_rest, limits_of, AreUnderWay, IsHeld, IsTurn, Goes, no_step, none_told}
 use Rattle.job_starter_drive.proofs.Counting.{wait-counts}
-use Rattle.job_starter_drive.proofs.Gathers.{allows-then, ended-goes}
+use Rattle.job_starter_drive.proofs.Gathers.{ended-goes}
 use Rattle.job_starter_drive.proofs.RoundTurns.{ends-turn}
 use Rattle.job_starter_drive.proofs.Steps.{on-ok, if-err, some_child}
 use Rattle.job_starter_drive.proofs.Stretches.{stretch-still, stretch-on, cut-on, cut-still}
+use Rattle.job_starter_drive.proofs.Walks.{allows-then}
 use Rattle.job_starter_drive.proofs.Ways.{way-call_log}
 use Rattle.job_starter_drive.proofs.driving.end_some.Goals as goal
 
@@ -30,9 +31,13 @@ returns-in-Err-clause-cut g c =
     cut-still g.D.Disk g.met.D.Disk.only_now limits plan (may c.args.starter.now) (may c.wait_any.new.self) (count c.args.starter.now) (count c.wait_any.new.self) old from refl refl c.keeps_the_law.ensures c.in-Err.ensures.may
     [] [] later_log _
     (subst (λ (l : List Call). Goes limits plan (may c.args.starter.now) from (at_rest past l)) (sym silent) no_step)
-    (none_told c.requires.held c.requires.some)
+    (none_told (subst (IsHeld limits plan past) (sym silent) c.requires.held) c.requires.some)
     c.in-Err.ensures.later
     (no_ending_logged (wait-counts _ _ _ c.in-Err.field-0 (λ none. some_child (outstanding plan past) c.requires.some (sym c.requires.in_step.same ∙ none)) c.in-Err.ensures.err))
+
+pub gather-requires-clause-held : goal.gather-requires-clause-held
+gather-requires-clause-held g c =
+    subst (IsHeld (limits_of c.args.manager.now) (plan_of c.args.manager.now) (past_of c.args.manager.now)) (sym c.in-Ok.ensures.ended.entry) c.requires.held
 
 pub gather-requires-clause-under_way : goal.gather-requires-clause-under_way
 gather-requires-clause-under_way g c =

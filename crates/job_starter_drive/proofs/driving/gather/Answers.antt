@@ -4,9 +4,10 @@ use Rattle.node_machine.specs.declared.Outcome.{Outcome}
 use Rattle.sched_core.specs.Run.{outstanding}
 use Rattle.recovery_manager.specs.Managed.{plan_of, past_of}
 use Rattle.job_starter_drive.specs.declared.Call.{Call}
-use Rattle.job_starter_drive.specs.Drives.{limits_of, At, AreUnderWay, MayEndAll, none_aborts, Goes, no_step, one_more}
+use Rattle.job_starter_drive.specs.Drives.{limits_of, At, AreUnderWay, IsHeld, MayEndAll, none_aborts, Goes, no_step, one_more}
 use Rattle.job_starter_drive.proofs.Gathers.{none-more, gather-step, aborts-there}
 use Rattle.job_starter_drive.proofs.Steps.{end-may-follow}
+use Rattle.job_starter_drive.proofs.Walks.{allows-self, allows-then}
 use Rattle.job_starter_drive.proofs.Ways.{way-gathered, way-follows}
 use Rattle.job_starter_drive.proofs.driving.gather.Goals as goal
 
@@ -25,10 +26,11 @@ loop-aborts-init g c =
       some = (let size = ap length c.requires.one in omega (arith, size));
       room = omega arith;
       on = λ on. ap (none_aborts plan past) c.requires.one ∙ none-more plan past [] c.args.end refl (sym c.aborts_with-aborts.ensures ∙ on);
+      held = c.requires.held;
       under_way = c.requires.under_way;
       steps = no_step;
       counts = refl;
-      may = ((λ call_log key outcome is. is), (λ is. is));
+      may = (allows-self (g.S.Starter.may_return c.args.starter.now));
     }
 
 pub aborts_with-aborts-requires-in-Some : goal.aborts_with-aborts-requires-in-Some
@@ -61,13 +63,14 @@ loop-aborts-preserved g c =
       room = search rules;
       on = λ on. ap (none_aborts plan past) more ∙ none-more plan past owed (key, outcome) none
           (aborts-there plan past owed (key, outcome) c.keeps_the_law.ensures c.requires.going i.under_way.ends way.ends none ∙ sym c.aborts_with-aborts-in-Some.ensures ∙ on);
+      held = subst (IsHeld limits plan past) (sym e.ended.entry) i.held;
       under_way = subst (λ (l : List (Key × Outcome)). AreUnderWay plan past later_log [] l) (sym more)
           (subst (λ (l : List Call). AreUnderWay plan past l [] (owed ++ (key, outcome) ∷ [])) (sym e.ended.entry) way);
       steps = subst (λ (l : List (Key × Outcome)). Goes limits plan (may c.args.starter.now) (At past (call_log c.args.starter.now) [] c.args.owed.now.items) (At past later_log [] l)) (sym more)
           (subst (λ (l : List Call). Goes limits plan (may c.args.starter.now) (At past (call_log c.args.starter.now) [] c.args.owed.now.items) (At past l [] (owed ++ (key, outcome) ∷ []))) (sym e.ended.entry)
           (one_more i.steps
-          (gather-step limits plan (may c.args.starter.now) past (call_log c.loop-aborts.starter) owed key outcome i.some (i.may.1 e.gathers) i.under_way c.requires.held
+          (gather-step limits plan (may c.args.starter.now) past (call_log c.loop-aborts.starter) owed key outcome i.some (i.may.1 e.gathers) i.under_way i.held
           none few e.ended.ran (i.may.0 (call_log c.loop-aborts.starter) key outcome e.ended.may_be))));
       counts = e.counts ∙ i.counts;
-      may = ((λ call_log key outcome is. i.may.0 call_log key outcome (e.may.0 call_log key outcome is)), (λ is. i.may.1 (e.may.1 is)));
+      may = allows-then (may c.args.starter.now) (may c.loop-aborts.starter) (may c.take_ended.new.self) i.may e.may;
     }

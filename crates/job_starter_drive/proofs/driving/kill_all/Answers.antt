@@ -1,10 +1,10 @@
 use Rattle.std.proofs.Common.{rules, ◌∙◌, refl, sym, subst}
 use Rattle.job_starter_drive.specs.Drives.{Kills, nobody, one_killed}
-use Rattle.job_starter_drive.proofs.Gathers.{allows-then}
+use Rattle.job_starter_drive.proofs.Walks.{allows-self, allows-then}
 use Rattle.job_starter_drive.proofs.driving.kill_all.Goals as goal
 
 pub loop-starter-init : goal.loop-starter-init
-loop-starter-init g c = (nobody, refl, ((λ call_log key outcome may. may), (λ is. is)))
+loop-starter-init g c = (nobody, refl, (allows-self (g.S.Starter.may_return c.args.starter.now)))
 
 pub loop-starter-preserved : goal.loop-starter-preserved
 loop-starter-preserved g c =

@@ -8,7 +8,7 @@ use Rattle.recovery_manager.specs.Managed.{plan_of, past_of}
 use Rattle.job_starter_drive.specs.Drives.{at_rest, limits_of, AreInStep, IsNearerEnd, no_step, list_refused}
 use Rattle.job_starter_drive.specs.Causes.{no_memory_for_command}
 use Rattle.job_starter_drive.proofs.Stretches.{stretch-still, stretch-on, cut-on, cut-still}
-use Rattle.job_starter_drive.proofs.Walks.{no_child}
+use Rattle.job_starter_drive.proofs.Walks.{allows-self, no_child}
 use Rattle.job_starter_drive.proofs.driving.run.Goals as goal
 
 pub returns-in_default-clause-cut : goal.returns-in_default-clause-cut
@@ -22,19 +22,16 @@ returns-in_default-clause-cut g c =
     let old = c.args.manager.now in
     let from = at_rest past (call_log c.args.starter.now) in
     cut-still g.D.Disk g.met.D.Disk.only_now limits plan (may c.args.starter.now) (may c.args.starter.now) (count c.args.starter.now) (count c.args.starter.now) old from refl refl c.keeps_the_law.ensures
-    ((λ later_log key outcome is. is), (λ is. is)) [] [] (call_log c.args.starter.now) _ no_step list_refused (omega arith) (no_memory_for_command refl)
+    (allows-self (g.S.Starter.may_return c.args.starter.now)) [] [] (call_log c.args.starter.now) _ no_step list_refused (omega arith) (no_memory_for_command refl)
 
 pub loop-verdict-init : goal.loop-verdict-init
 loop-verdict-init g c = (
   stretch-still g.D.Disk g.met.D.Disk.only_now (limits_of c.args.manager.now) (plan_of c.args.manager.now) (g.S.Starter.may_return c.args.starter.now) (g.S.Starter.may_return c.args.starter.now) (g.S.Starter.faults c.args.starter.now) (g.S.Starter.faults c.args.starter.now) c.args.manager.now
-      (at_rest (past_of c.args.manager.now) (g.S.Starter.call_log c.args.starter.now)) refl refl c.keeps_the_law.ensures ((λ later_log key outcome is. is), (λ is. is)) (at_rest (past_of c.args.manager.now) (g.S.Starter.call_log c.args.starter.now)) refl no_step refl,
+      (at_rest (past_of c.args.manager.now) (g.S.Starter.call_log c.args.starter.now)) refl refl c.keeps_the_law.ensures (allows-self (g.S.Starter.may_return c.args.starter.now)) (at_rest (past_of c.args.manager.now) (g.S.Starter.call_log c.args.starter.now)) refl no_step refl,
   c.requires.in_step,
   c.requires.going,
   search rules,
 )
-
-pub turn-requires-clause-own : goal.turn-requires-clause-own
-turn-requires-clause-own g c = c.requires.own ∙ sym c.loop-verdict.invariant.0.plan_is
 
 pub turn-requires-clause-in_step : goal.turn-requires-clause-in_step
 turn-requires-clause-in_step g c =

@@ -5,7 +5,7 @@ use Rattle.recovery_manager.specs.Managed.{plan_of, past_of}
 use Rattle.job_starter_drive.specs.Drives.{at_rest, limits_of, is_aborted_between, no_step}
 use Rattle.job_starter_drive.proofs.RoundTurns.{turn-killed}
 use Rattle.job_starter_drive.proofs.Stretches.{stretch-still, stretch-on}
-use Rattle.job_starter_drive.proofs.Walks.{goes-kills}
+use Rattle.job_starter_drive.proofs.Walks.{allows-self, goes-kills}
 use Rattle.job_starter_drive.proofs.driving.turn.Goals as goal
 
 pub returns-in-Some-clause-went : goal.returns-in-Some-clause-went
@@ -18,7 +18,7 @@ returns-in-Some-clause-went g c =
     let call_log = g.S.Starter.call_log in
     let old = c.args.manager.now in
     let from = at_rest past (call_log c.args.starter.now) in
-    stretch-still g.D.Disk g.met.D.Disk.only_now limits plan (may c.args.starter.now) (may c.args.starter.now) (count c.args.starter.now) (count c.args.starter.now) old from refl refl c.keeps_the_law.ensures ((λ later_log key outcome is. is), (λ is. is))
+    stretch-still g.D.Disk g.met.D.Disk.only_now limits plan (may c.args.starter.now) (may c.args.starter.now) (count c.args.starter.now) (count c.args.starter.now) old from refl refl c.keeps_the_law.ensures (allows-self (may c.args.starter.now))
     from refl no_step refl
 
 pub returns-then-is_new-clause-in_step : goal.returns-then-is_new-clause-in_step

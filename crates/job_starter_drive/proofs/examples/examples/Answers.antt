@@ -1,4 +1,5 @@
 use Rattle.std.proofs.Common.{arith, ◌≡◌, ◌∙◌, sym, inl, inr, ℕ, zero, suc, Bool, true, false, if◌then◌else◌, List, [], ◌∷◌, Some, None, refl}
+use Rattle.std.proofs.lemmas.Bool.{false≢true}
 use Rattle.std.specs.Int.Signed.{<ℤ_irrefl}
 use Rattle.std.proofs.Math.Nat.{lt_irrefl}
 use Rattle.node_machine.specs.declared.Key.{Key}
@@ -64,9 +65,9 @@ returns c = record {
           (one_more
           (one_more
           (one_more no_step
-          (launch_round {keys = key 0 0 Job ∷ []} refl refl (record { same = refl; children = refl }) (record { some = omega arith; few = omega arith; chosen = ((refl, never_better), tt); full = λ fewer. held })))
+          (launch_round {keys = key 0 0 Job ∷ []} refl refl refl (record { same = refl; children = refl }) (record { some = omega arith; few = omega arith; chosen = ((refl, never_better), tt); full = λ fewer. held })))
           (spawn_child {command = child_of_a} refl refl (Exit 0, exits, refl)))
-          (child_exits {key = key 0 0 Job} {outcome = Exit 0} (record { same = refl; children = refl }) held refl refl))
+          (child_exits {key = key 0 0 Job} {outcome = Exit 0} (record { same = refl; children = refl }) (inl held) (λ seen. absurd (false≢true seen)) refl refl))
           (ends_recorded {end = (key 0 0 Job, Exit 0)} {owed = []});
     };
     part = ([], refl);

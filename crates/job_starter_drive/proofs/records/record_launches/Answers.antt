@@ -26,7 +26,7 @@ returns-clause-went g c =
     stretch-recorded g.D.Disk g.met.D.Disk.only_now
     (limits_of c.args.manager.now) plan may count c.args.manager.now c.launch_batch.new.self call_log [] [] (At (launched past keys) call_log keys [])
     e.plan e.limits refl c.keeps_the_law.ensures (launch-all (limits_of c.args.manager.now) plan past keys c.keeps_the_law.ensures c.requires.going c.requires.round.chosen).lawful
-    (launch_round c.keeps_the_law.ensures c.requires.going step c.requires.round)
+    (launch_round c.keeps_the_law.ensures c.requires.going c.requires.unhalted step c.requires.round)
     e.any_moment e.broken e.keeps
     c.in-Ok.ensures.past (λ honest header was. c.in-Ok.ensures.acknowledged honest header was.reads)
     (counts_group c.args.manager.now c.launch_batch.new.self (launches_of past keys) (c.in-Ok.ensures.past ∙ launched-added past keys) c.in-Ok.ensures.used c.in-Ok.ensures.whole)
@@ -45,7 +45,7 @@ returns-in-Err-clause-cut g c =
     cut-recorded g.D.Disk g.met.D.Disk.only_now
     (limits_of c.args.manager.now) plan may count c.args.manager.now c.launch_batch.new.self call_log [] [] (At (launched past keys) call_log keys [])
     e.plan e.limits refl c.keeps_the_law.ensures all.lawful
-    (launch_round c.keeps_the_law.ensures c.requires.going step c.requires.round)
+    (launch_round c.keeps_the_law.ensures c.requires.going c.requires.unhalted step c.requires.round)
     e.any_moment e.broken e.keeps
     g.met.D.Disk.counts_now (launches_of past keys) c.in-Err.fault (launch_refused c.requires.round) c.in-Err.ensures.past_err
     (let few = c.requires.round.few in let size = length-launches past keys in omega (arith, few, size)) (launched-added past keys) (launches-own past keys)

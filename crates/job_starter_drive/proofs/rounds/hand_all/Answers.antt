@@ -6,7 +6,7 @@ use Rattle.job_starter_drive.specs.Drives.{At, limits_of, AreUnderWay, no_step, 
 use Rattle.job_starter_drive.specs.Stretches.{IsStretch}
 use Rattle.job_starter_drive.proofs.Stretches.{stretch-still, stretch-then, stretch-cut}
 use Rattle.job_starter_drive.proofs.Steps.{drop-all}
-use Rattle.job_starter_drive.proofs.Walks.{starts-then}
+use Rattle.job_starter_drive.proofs.Walks.{allows-self, starts-then}
 use Rattle.job_starter_drive.proofs.rounds.hand_all.Goals as goal
 
 pub loop-place-init : goal.loop-place-init
@@ -25,7 +25,7 @@ loop-place-init g c =
       subst (λ (l : List (Key × Outcome)). IsStretch g.D.Disk limits plan (may c.args.starter.now) (may c.args.starter.now) (count c.args.starter.now) (count c.args.starter.now) c.args.manager.now c.args.manager.now
           (At past (call_log c.args.starter.now) c.args.keys.now []) (At past (call_log c.args.starter.now) c.args.keys.now l)) (sym none)
           (stretch-still g.D.Disk g.met.D.Disk.only_now limits plan (may c.args.starter.now) (may c.args.starter.now) (count c.args.starter.now) (count c.args.starter.now) c.args.manager.now
-          (At past (call_log c.args.starter.now) c.args.keys.now []) refl refl c.keeps_the_law.ensures ((λ later_log key outcome is. is), (λ is. is)) (At past (call_log c.args.starter.now) c.args.keys.now []) refl no_step refl),
+          (At past (call_log c.args.starter.now) c.args.keys.now []) refl refl c.keeps_the_law.ensures (allows-self (g.S.Starter.may_return c.args.starter.now)) (At past (call_log c.args.starter.now) c.args.keys.now []) refl no_step refl),
       none_started,
     )
 

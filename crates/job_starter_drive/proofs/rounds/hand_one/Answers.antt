@@ -14,7 +14,7 @@ use Rattle.job_starter_drive.proofs.Hands.{pass-goes, start-goes, fail-goes, unh
 use Rattle.job_starter_drive.proofs.Phases.{quiet-noop}
 use Rattle.job_starter_drive.proofs.Steps.{running-next, running-within, running-allowed, child-ends, noop-ends}
 use Rattle.job_starter_drive.proofs.Stretches.{stretch-still, cut-still}
-use Rattle.job_starter_drive.proofs.Walks.{starts-same, starts-spawned}
+use Rattle.job_starter_drive.proofs.Walks.{allows-self, starts-same, starts-spawned}
 use Rattle.job_starter_drive.proofs.Ways.{way-outstanding, way-free, way-starts, way-owes}
 use Rattle.job_starter_drive.proofs.rounds.hand_one.Goals as goal
 
@@ -66,7 +66,7 @@ returns-then-not-starts_child-clause-went g c =
     let quiet : starts_child (node_at plan key.node) key.phase ≡ false = sym c.starts_child.ensures ∙ c.if-not-starts_child.true in
     let pushed : c.push.new.self.items ≡ owed ++ (key, Exit 0) ∷ [] = search rules in
     stretch-still g.D.Disk g.met.D.Disk.only_now (limits_of c.args.manager.now) plan (g.S.Starter.may_return c.args.starter.now) (g.S.Starter.may_return c.args.starter.now) (g.S.Starter.faults c.args.starter.now) (g.S.Starter.faults c.args.starter.now) c.args.manager.now
-    (At past call_log (drop c.args.place c.args.keys.now) owed) refl refl lawful ((λ call_log key outcome may. may), (λ is. is))
+    (At past call_log (drop c.args.place c.args.keys.now) owed) refl refl lawful (allows-self (g.S.Starter.may_return c.args.starter.now))
     (At past call_log keys c.push.new.self.items) refl
     (pass-goes (limits_of c.args.manager.now) plan (g.S.Starter.may_return c.args.starter.now) past call_log key (drop c.args.place c.args.keys.now) keys is owed
     (quiet-noop plan past key (running-next plan past lawful key among) quiet) c.push.new.self.items pushed) refl

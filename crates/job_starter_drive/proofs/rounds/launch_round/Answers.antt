@@ -1,33 +1,14 @@
-use Rattle.std.proofs.Common.{arith, rules, ◌≡◌, ◌<◌, ◌∙◌, ◌&&◌, not, inl, inr, List, [], Some, None, true, false, length, refl, sym, ap, subst}
-use Rattle.node_machine.specs.declared.Record.{Record}
-use Rattle.throttles.specs.declared.Limits.{Limits}
-use Rattle.run_plan.specs.Plan.{Plan}
-use Rattle.sched_core.specs.Run.{is_aborted}
-use Rattle.sched_core.specs.Ahead.{NothingToStart}
+use Rattle.std.proofs.Common.{◌≡◌, ◌∙◌, inl, inr, refl, sym}
 use Rattle.recovery_manager.specs.Managed.{plan_of, past_of}
-use Rattle.job_starter_drive.specs.Drives.{at_rest, limits_of, AreInStep, IsTurn, IsRoundOf, IsNearerEnd, is_aborted_between, round_refused, no_step, none_started}
-use Rattle.job_starter_drive.specs.Causes.{no_memory_for_round}
-use Rattle.job_starter_drive.specs.Stretches.{IsCutShort}
-use Rattle.job_starter_drive.proofs.RoundTurns.{turn-before, turn-still, turn-abort_free, turn-stops}
-use Rattle.job_starter_drive.proofs.Steps.{some-there, none-there}
-use Rattle.job_starter_drive.proofs.Stretches.{stretch-still, stretch-on, cut-on, cut-still}
-use Rattle.job_starter_drive.proofs.Turns.{nearer-then}
-use Rattle.job_starter_drive.proofs.Walks.{starts-then}
+use Rattle.job_starter_drive.specs.Drives.{at_rest, limits_of}
+use Rattle.job_starter_drive.proofs.RoundTurns.{turn-still}
+use Rattle.job_starter_drive.proofs.Steps.{on-ok, if-err}
+use Rattle.job_starter_drive.proofs.Stretches.{stretch-asked, stretch-then, stretch-cut}
+use Rattle.job_starter_drive.proofs.Walks.{starts-asked, starts-then, step-asked}
 use Rattle.job_starter_drive.proofs.rounds.launch_round.Goals as goal
 
-pub loop-keys-init : goal.loop-keys-init
-loop-keys-init g c = (
-  stretch-still g.D.Disk g.met.D.Disk.only_now (limits_of c.args.manager.now) (plan_of c.args.manager.now) (g.S.Starter.may_return c.args.starter.now) (g.S.Starter.may_return c.args.starter.now) (g.S.Starter.faults c.args.starter.now) (g.S.Starter.faults c.args.starter.now) c.args.manager.now
-      (at_rest (past_of c.args.manager.now) (g.S.Starter.call_log c.args.starter.now)) refl refl c.keeps_the_law.ensures ((λ later_log key outcome is. is), (λ is. is)) (at_rest (past_of c.args.manager.now) (g.S.Starter.call_log c.args.starter.now)) refl no_step refl,
-  c.requires.in_step,
-  c.goes_on.ensures,
-  refl,
-  inl refl,
-  none_started,
-)
-
-pub returns-in-Err-clause-cut : goal.returns-in-Err-clause-cut
-returns-in-Err-clause-cut g c =
+pub returns-then-sees_halt-clause-went : goal.returns-then-sees_halt-clause-went
+returns-then-sees_halt-clause-went g c =
     let plan = plan_of c.args.manager.now in
     let past = past_of c.args.manager.now in
     let limits = limits_of c.args.manager.now in
@@ -35,27 +16,16 @@ returns-in-Err-clause-cut g c =
     let count = g.S.Starter.faults in
     let call_log = g.S.Starter.call_log in
     let old = c.args.manager.now in
-    let from = at_rest past (call_log c.args.starter.now) in
-    let i = c.loop-keys.invariant in
-    let mid = c.loop-keys.manager in
-    let via = at_rest (past_of mid) (call_log c.loop-keys.starter) in
-    let round = c.in-Err.ensures.err in
-    cut-on g.D.Disk limits plan (may c.args.starter.now) (may c.loop-keys.starter) (may c.loop-keys.starter) (count c.args.starter.now) (count c.loop-keys.starter) (count c.loop-keys.starter) old mid mid from via i.0
-    (call_log c.loop-keys.starter) c.in-Err.fault (subst (IsCutShort g.D.Disk (limits_of mid) (plan_of mid) (may c.loop-keys.starter) (may c.loop-keys.starter) (count c.loop-keys.starter) (count c.loop-keys.starter) mid mid via (call_log c.loop-keys.starter)) (sym round)
-    (cut-still g.D.Disk g.met.D.Disk.only_now (limits_of mid) (plan_of mid) (may c.loop-keys.starter) (may c.loop-keys.starter) (count c.loop-keys.starter) (count c.loop-keys.starter) mid via refl refl c.keeps_the_law-in-loop-keys.ensures ((λ later_log key outcome is. is), (λ is. is))
-    [] [] (call_log c.loop-keys.starter) _ no_step round_refused (omega arith) (no_memory_for_round refl)))
+    let then = c.args.starter.now in
+    let next = c.sees_halt.new.self in
+    let a = c.sees_halt.ensures in
+    let from = at_rest past (call_log then) in
+    let via = at_rest past (call_log next) in
+    let asked = stretch-asked g.D.Disk g.met.D.Disk.only_now limits plan (may then) (may next) (count then) (count next) old from refl refl c.keeps_the_law.ensures a.may past (call_log then) (call_log next) refl refl a.asked a.counts in
+    asked
 
-pub returns-in-Err-clause-waits_for_none : goal.returns-in-Err-clause-waits_for_none
-returns-in-Err-clause-waits_for_none g c = c.loop-keys.invariant.5
-
-pub returns-then-is_empty-clause-plan : goal.returns-then-is_empty-clause-plan
-returns-then-is_empty-clause-plan g c = c.loop-keys.invariant.0.plan_is
-
-pub returns-then-is_empty-clause-limits : goal.returns-then-is_empty-clause-limits
-returns-then-is_empty-clause-limits g c = c.loop-keys.invariant.0.limits_are
-
-pub returns-then-is_empty-clause-done : goal.returns-then-is_empty-clause-done
-returns-then-is_empty-clause-done g c =
+pub returns-then-sees_halt-clause-done : goal.returns-then-sees_halt-clause-done
+returns-then-sees_halt-clause-done g c =
     let plan = plan_of c.args.manager.now in
     let past = past_of c.args.manager.now in
     let limits = limits_of c.args.manager.now in
@@ -63,16 +33,16 @@ returns-then-is_empty-clause-done g c =
     let count = g.S.Starter.faults in
     let call_log = g.S.Starter.call_log in
     let old = c.args.manager.now in
-    let from = at_rest past (call_log c.args.starter.now) in
-    let i = c.loop-keys.invariant in
-    let mid = c.loop-keys.manager in
-    let via = at_rest (past_of mid) (call_log c.loop-keys.starter) in
-    let size : length c.in-Ok.keys.items ≡ 0 = search rules in
-    let held = c.in-Ok.ensures.held (none-there c.in-Ok.keys.items size) in
-    inl (subst (λ (l : Limits). NothingToStart l plan (past_of mid)) i.0.limits_are (subst (λ (p : Plan). NothingToStart (limits_of mid) p (past_of mid)) i.0.plan_is held))
+    let then = c.args.starter.now in
+    let next = c.sees_halt.new.self in
+    let a = c.sees_halt.ensures in
+    let from = at_rest past (call_log then) in
+    let via = at_rest past (call_log next) in
+    let asked = stretch-asked g.D.Disk g.met.D.Disk.only_now limits plan (may then) (may next) (count then) (count next) old from refl refl c.keeps_the_law.ensures a.may past (call_log then) (call_log next) refl refl a.asked a.counts in
+    inl (inr (sym a.is ∙ c.if-sees_halt.true))
 
-pub returns-then-is_empty-clause-turn : goal.returns-then-is_empty-clause-turn
-returns-then-is_empty-clause-turn g c =
+pub returns-then-sees_halt-clause-turn : goal.returns-then-sees_halt-clause-turn
+returns-then-sees_halt-clause-turn g c =
     let plan = plan_of c.args.manager.now in
     let past = past_of c.args.manager.now in
     let limits = limits_of c.args.manager.now in
@@ -80,14 +50,16 @@ returns-then-is_empty-clause-turn g c =
     let count = g.S.Starter.faults in
     let call_log = g.S.Starter.call_log in
     let old = c.args.manager.now in
-    let from = at_rest past (call_log c.args.starter.now) in
-    let i = c.loop-keys.invariant in
-    let mid = c.loop-keys.manager in
-    let via = at_rest (past_of mid) (call_log c.loop-keys.starter) in
-    turn-still plan past (past_of mid) (call_log c.loop-keys.starter) i.2 i.1 i.3
+    let then = c.args.starter.now in
+    let next = c.sees_halt.new.self in
+    let a = c.sees_halt.ensures in
+    let from = at_rest past (call_log then) in
+    let via = at_rest past (call_log next) in
+    let asked = stretch-asked g.D.Disk g.met.D.Disk.only_now limits plan (may then) (may next) (count then) (count next) old from refl refl c.keeps_the_law.ensures a.may past (call_log then) (call_log next) refl refl a.asked a.counts in
+    turn-still plan past past (call_log next) c.goes_on.ensures (step-asked (may then) plan past (call_log then) (call_log next) a.asked c.requires.in_step) refl
 
-pub returns-then-is_empty-clause-nearer : goal.returns-then-is_empty-clause-nearer
-returns-then-is_empty-clause-nearer g c = λ key chosen.
+pub returns-then-sees_halt-clause-nearer : goal.returns-then-sees_halt-clause-nearer
+returns-then-sees_halt-clause-nearer g c = λ key chosen.
     let plan = plan_of c.args.manager.now in
     let past = past_of c.args.manager.now in
     let limits = limits_of c.args.manager.now in
@@ -95,23 +67,16 @@ returns-then-is_empty-clause-nearer g c = λ key chosen.
     let count = g.S.Starter.faults in
     let call_log = g.S.Starter.call_log in
     let old = c.args.manager.now in
-    let from = at_rest past (call_log c.args.starter.now) in
-    let i = c.loop-keys.invariant in
-    let mid = c.loop-keys.manager in
-    let via = at_rest (past_of mid) (call_log c.loop-keys.starter) in
-    let size : length c.in-Ok.keys.items ≡ 0 = search rules in
-    let held = c.in-Ok.ensures.held (none-there c.in-Ok.keys.items size) in
-    let here : NothingToStart limits plan (past_of mid) = subst (λ (l : Limits). NothingToStart l plan (past_of mid)) i.0.limits_are (subst (λ (p : Plan). NothingToStart (limits_of mid) p (past_of mid)) i.0.plan_is held) in
-    elim i.4 [
-      | inl same ↦ (let bad : None ≡ Some key = sym (subst (NothingToStart limits plan) same here key.node) ∙ chosen.0 in absurd cc)
-      | inr nearer ↦ nearer
-    ]
+    let then = c.args.starter.now in
+    let next = c.sees_halt.new.self in
+    let a = c.sees_halt.ensures in
+    let from = at_rest past (call_log then) in
+    let via = at_rest past (call_log next) in
+    let asked = stretch-asked g.D.Disk g.met.D.Disk.only_now limits plan (may then) (may next) (count then) (count next) old from refl refl c.keeps_the_law.ensures a.may past (call_log then) (call_log next) refl refl a.asked a.counts in
+    inr (sym a.is ∙ c.if-sees_halt.true)
 
-pub returns-then-is_empty-clause-waits_for_none : goal.returns-then-is_empty-clause-waits_for_none
-returns-then-is_empty-clause-waits_for_none g c = c.loop-keys.invariant.5
-
-pub start_round-requires-clause-in_step : goal.start_round-requires-clause-in_step
-start_round-requires-clause-in_step g c =
+pub returns-then-sees_halt-clause-waits_for_none : goal.returns-then-sees_halt-clause-waits_for_none
+returns-then-sees_halt-clause-waits_for_none g c =
     let plan = plan_of c.args.manager.now in
     let past = past_of c.args.manager.now in
     let limits = limits_of c.args.manager.now in
@@ -119,17 +84,16 @@ start_round-requires-clause-in_step g c =
     let count = g.S.Starter.faults in
     let call_log = g.S.Starter.call_log in
     let old = c.args.manager.now in
-    let from = at_rest past (call_log c.args.starter.now) in
-    let i = c.loop-keys.invariant in
-    let mid = c.loop-keys.manager in
-    let via = at_rest (past_of mid) (call_log c.loop-keys.starter) in
-    subst (λ (p : Plan). AreInStep p (past_of mid) (call_log c.loop-keys.starter)) (sym i.0.plan_is) i.1
+    let then = c.args.starter.now in
+    let next = c.sees_halt.new.self in
+    let a = c.sees_halt.ensures in
+    let from = at_rest past (call_log then) in
+    let via = at_rest past (call_log next) in
+    let asked = stretch-asked g.D.Disk g.met.D.Disk.only_now limits plan (may then) (may next) (count then) (count next) old from refl refl c.keeps_the_law.ensures a.may past (call_log then) (call_log next) refl refl a.asked a.counts in
+    starts-asked (may then) (call_log then) (call_log next) a.asked
 
-pub start_round-requires-clause-going : goal.start_round-requires-clause-going
-start_round-requires-clause-going g c = c.loop-keys.invariant.2
-
-pub start_round-requires-clause-round : goal.start_round-requires-clause-round
-start_round-requires-clause-round g c =
+pub launch_rounds-requires-clause-in_step : goal.launch_rounds-requires-clause-in_step
+launch_rounds-requires-clause-in_step g c =
     let plan = plan_of c.args.manager.now in
     let past = past_of c.args.manager.now in
     let limits = limits_of c.args.manager.now in
@@ -137,15 +101,16 @@ start_round-requires-clause-round g c =
     let count = g.S.Starter.faults in
     let call_log = g.S.Starter.call_log in
     let old = c.args.manager.now in
-    let from = at_rest past (call_log c.args.starter.now) in
-    let i = c.loop-keys.invariant in
-    let mid = c.loop-keys.manager in
-    let via = at_rest (past_of mid) (call_log c.loop-keys.starter) in
-    let size : 0 < length c.in-Ok.keys.items = search rules in
-    subst (IsRoundOf (limits_of mid) (plan_of mid) (past_of mid)) (sym c.deref.ensures.value) (c.in-Ok.ensures.round (some-there c.in-Ok.keys.items size))
+    let then = c.args.starter.now in
+    let next = c.sees_halt.new.self in
+    let a = c.sees_halt.ensures in
+    let from = at_rest past (call_log then) in
+    let via = at_rest past (call_log next) in
+    let asked = stretch-asked g.D.Disk g.met.D.Disk.only_now limits plan (may then) (may next) (count then) (count next) old from refl refl c.keeps_the_law.ensures a.may past (call_log then) (call_log next) refl refl a.asked a.counts in
+    step-asked (may then) plan past (call_log then) (call_log next) a.asked c.requires.in_step
 
-pub returns-in-Err-start_round-clause-cut : goal.returns-in-Err-start_round-clause-cut
-returns-in-Err-start_round-clause-cut g c =
+pub launch_rounds-requires-clause-unhalted : goal.launch_rounds-requires-clause-unhalted
+launch_rounds-requires-clause-unhalted g c =
     let plan = plan_of c.args.manager.now in
     let past = past_of c.args.manager.now in
     let limits = limits_of c.args.manager.now in
@@ -153,30 +118,16 @@ returns-in-Err-start_round-clause-cut g c =
     let count = g.S.Starter.faults in
     let call_log = g.S.Starter.call_log in
     let old = c.args.manager.now in
-    let from = at_rest past (call_log c.args.starter.now) in
-    let i = c.loop-keys.invariant in
-    let mid = c.loop-keys.manager in
-    let via = at_rest (past_of mid) (call_log c.loop-keys.starter) in
-    cut-on g.D.Disk limits plan (may c.args.starter.now) (may c.loop-keys.starter) (may c.start_round.new.starter) (count c.args.starter.now) (count c.loop-keys.starter) (count c.start_round.new.starter) old mid c.start_round.new.manager from via i.0
-    (call_log c.start_round.new.starter) c.in-Err-start_round.fault c.in-Err-start_round.ensures.cut
+    let then = c.args.starter.now in
+    let next = c.sees_halt.new.self in
+    let a = c.sees_halt.ensures in
+    let from = at_rest past (call_log then) in
+    let via = at_rest past (call_log next) in
+    let asked = stretch-asked g.D.Disk g.met.D.Disk.only_now limits plan (may then) (may next) (count then) (count next) old from refl refl c.keeps_the_law.ensures a.may past (call_log then) (call_log next) refl refl a.asked a.counts in
+    sym a.is ∙ c.if-sees_halt.false
 
-pub returns-in-Err-start_round-clause-plan : goal.returns-in-Err-start_round-clause-plan
-returns-in-Err-start_round-clause-plan g c = c.in-Err-start_round.ensures.cut.plan_is ∙ c.loop-keys.invariant.0.plan_is
-
-pub returns-in-Err-start_round-clause-limits : goal.returns-in-Err-start_round-clause-limits
-returns-in-Err-start_round-clause-limits g c = c.in-Err-start_round.ensures.cut.limits_are ∙ c.loop-keys.invariant.0.limits_are
-
-pub returns-in-Err-start_round-clause-waits_for_none : goal.returns-in-Err-start_round-clause-waits_for_none
-returns-in-Err-start_round-clause-waits_for_none g c = starts-then _ _ _ c.loop-keys.invariant.5 c.start_round.ensures.waits_for_none
-
-pub returns-in-Err-clause-plan : goal.returns-in-Err-clause-plan
-returns-in-Err-clause-plan g c = c.loop-keys.invariant.0.plan_is
-
-pub returns-in-Err-clause-limits : goal.returns-in-Err-clause-limits
-returns-in-Err-clause-limits g c = c.loop-keys.invariant.0.limits_are
-
-pub returns-then-is_new-clause-plan : goal.returns-then-is_new-clause-plan
-returns-then-is_new-clause-plan g c =
+pub returns-clause-went : goal.returns-clause-went
+returns-clause-went g c =
     let plan = plan_of c.args.manager.now in
     let past = past_of c.args.manager.now in
     let limits = limits_of c.args.manager.now in
@@ -184,22 +135,19 @@ returns-then-is_new-clause-plan g c =
     let count = g.S.Starter.faults in
     let call_log = g.S.Starter.call_log in
     let old = c.args.manager.now in
-    let from = at_rest past (call_log c.args.starter.now) in
-    let i = c.loop-keys.invariant in
-    let mid = c.loop-keys.manager in
-    let via = at_rest (past_of mid) (call_log c.loop-keys.starter) in
-    let new = c.start_round.new.manager in
-    let e = c.in_default.ensures in
-    let turn : IsTurn plan (past_of mid) (past_of new) (call_log c.start_round.new.starter) = subst (λ (p : Plan). IsTurn p (past_of mid) (past_of new) (call_log c.start_round.new.starter)) i.0.plan_is e.turn in
-    let nearer : IsNearerEnd plan (past_of mid) (past_of new) = subst (λ (p : Plan). IsNearerEnd p (past_of mid) (past_of new)) i.0.plan_is e.nearer in
-    let went = stretch-on g.D.Disk limits plan (may c.args.starter.now) (may c.loop-keys.starter) (may c.start_round.new.starter) (count c.args.starter.now) (count c.loop-keys.starter) (count c.start_round.new.starter) old mid new from via i.0
-    (at_rest (past_of new) (call_log c.start_round.new.starter)) e.went in
-    let before = c.is_aborted-before.ensures ∙ ap (λ (p : Plan). is_aborted p (past_of mid)) i.0.plan_is in
-    let now = c.is_aborted.ensures ∙ ap (λ (p : Plan). is_aborted p (past_of new)) went.plan_is in
-    went.plan_is
+    let then = c.args.starter.now in
+    let next = c.sees_halt.new.self in
+    let a = c.sees_halt.ensures in
+    let from = at_rest past (call_log then) in
+    let via = at_rest past (call_log next) in
+    let asked = stretch-asked g.D.Disk g.met.D.Disk.only_now limits plan (may then) (may next) (count then) (count next) old from refl refl c.keeps_the_law.ensures a.may past (call_log then) (call_log next) refl refl a.asked a.counts in
+    let last = c.launch_rounds.new.starter in
+    on-ok c.launch_rounds.result _ _
+    (stretch-then g.D.Disk limits plan (may then) (may next) (may last) (count then) (count next) (count last) old old c.launch_rounds.new.manager from via asked
+    (at_rest (past_of c.launch_rounds.new.manager) (call_log last))) c.launch_rounds.ensures.went
 
-pub returns-then-is_new-clause-limits : goal.returns-then-is_new-clause-limits
-returns-then-is_new-clause-limits g c =
+pub returns-clause-cut : goal.returns-clause-cut
+returns-clause-cut g c =
     let plan = plan_of c.args.manager.now in
     let past = past_of c.args.manager.now in
     let limits = limits_of c.args.manager.now in
@@ -207,22 +155,19 @@ returns-then-is_new-clause-limits g c =
     let count = g.S.Starter.faults in
     let call_log = g.S.Starter.call_log in
     let old = c.args.manager.now in
-    let from = at_rest past (call_log c.args.starter.now) in
-    let i = c.loop-keys.invariant in
-    let mid = c.loop-keys.manager in
-    let via = at_rest (past_of mid) (call_log c.loop-keys.starter) in
-    let new = c.start_round.new.manager in
-    let e = c.in_default.ensures in
-    let turn : IsTurn plan (past_of mid) (past_of new) (call_log c.start_round.new.starter) = subst (λ (p : Plan). IsTurn p (past_of mid) (past_of new) (call_log c.start_round.new.starter)) i.0.plan_is e.turn in
-    let nearer : IsNearerEnd plan (past_of mid) (past_of new) = subst (λ (p : Plan). IsNearerEnd p (past_of mid) (past_of new)) i.0.plan_is e.nearer in
-    let went = stretch-on g.D.Disk limits plan (may c.args.starter.now) (may c.loop-keys.starter) (may c.start_round.new.starter) (count c.args.starter.now) (count c.loop-keys.starter) (count c.start_round.new.starter) old mid new from via i.0
-    (at_rest (past_of new) (call_log c.start_round.new.starter)) e.went in
-    let before = c.is_aborted-before.ensures ∙ ap (λ (p : Plan). is_aborted p (past_of mid)) i.0.plan_is in
-    let now = c.is_aborted.ensures ∙ ap (λ (p : Plan). is_aborted p (past_of new)) went.plan_is in
-    went.limits_are
+    let then = c.args.starter.now in
+    let next = c.sees_halt.new.self in
+    let a = c.sees_halt.ensures in
+    let from = at_rest past (call_log then) in
+    let via = at_rest past (call_log next) in
+    let asked = stretch-asked g.D.Disk g.met.D.Disk.only_now limits plan (may then) (may next) (count then) (count next) old from refl refl c.keeps_the_law.ensures a.may past (call_log then) (call_log next) refl refl a.asked a.counts in
+    let last = c.launch_rounds.new.starter in
+    if-err c.launch_rounds.result _ _
+    (stretch-cut g.D.Disk limits plan (may then) (may next) (may last) (count then) (count next) (count last) old old c.launch_rounds.new.manager from via asked
+    (call_log last)) c.launch_rounds.ensures.cut
 
-pub returns-then-is_new-clause-went : goal.returns-then-is_new-clause-went
-returns-then-is_new-clause-went g c =
+pub returns-clause-nearer : goal.returns-clause-nearer
+returns-clause-nearer g c = λ key chosen.
     let plan = plan_of c.args.manager.now in
     let past = past_of c.args.manager.now in
     let limits = limits_of c.args.manager.now in
@@ -230,22 +175,16 @@ returns-then-is_new-clause-went g c =
     let count = g.S.Starter.faults in
     let call_log = g.S.Starter.call_log in
     let old = c.args.manager.now in
-    let from = at_rest past (call_log c.args.starter.now) in
-    let i = c.loop-keys.invariant in
-    let mid = c.loop-keys.manager in
-    let via = at_rest (past_of mid) (call_log c.loop-keys.starter) in
-    let new = c.start_round.new.manager in
-    let e = c.in_default.ensures in
-    let turn : IsTurn plan (past_of mid) (past_of new) (call_log c.start_round.new.starter) = subst (λ (p : Plan). IsTurn p (past_of mid) (past_of new) (call_log c.start_round.new.starter)) i.0.plan_is e.turn in
-    let nearer : IsNearerEnd plan (past_of mid) (past_of new) = subst (λ (p : Plan). IsNearerEnd p (past_of mid) (past_of new)) i.0.plan_is e.nearer in
-    let went = stretch-on g.D.Disk limits plan (may c.args.starter.now) (may c.loop-keys.starter) (may c.start_round.new.starter) (count c.args.starter.now) (count c.loop-keys.starter) (count c.start_round.new.starter) old mid new from via i.0
-    (at_rest (past_of new) (call_log c.start_round.new.starter)) e.went in
-    let before = c.is_aborted-before.ensures ∙ ap (λ (p : Plan). is_aborted p (past_of mid)) i.0.plan_is in
-    let now = c.is_aborted.ensures ∙ ap (λ (p : Plan). is_aborted p (past_of new)) went.plan_is in
-    went
+    let then = c.args.starter.now in
+    let next = c.sees_halt.new.self in
+    let a = c.sees_halt.ensures in
+    let from = at_rest past (call_log then) in
+    let via = at_rest past (call_log next) in
+    let asked = stretch-asked g.D.Disk g.met.D.Disk.only_now limits plan (may then) (may next) (count then) (count next) old from refl refl c.keeps_the_law.ensures a.may past (call_log then) (call_log next) refl refl a.asked a.counts in
+    on-ok c.launch_rounds.result _ _ inl (c.launch_rounds.ensures.nearer key chosen)
 
-pub returns-then-is_new-clause-done : goal.returns-then-is_new-clause-done
-returns-then-is_new-clause-done g c =
+pub returns-clause-waits_for_none : goal.returns-clause-waits_for_none
+returns-clause-waits_for_none g c =
     let plan = plan_of c.args.manager.now in
     let past = past_of c.args.manager.now in
     let limits = limits_of c.args.manager.now in
@@ -253,102 +192,10 @@ returns-then-is_new-clause-done g c =
     let count = g.S.Starter.faults in
     let call_log = g.S.Starter.call_log in
     let old = c.args.manager.now in
-    let from = at_rest past (call_log c.args.starter.now) in
-    let i = c.loop-keys.invariant in
-    let mid = c.loop-keys.manager in
-    let via = at_rest (past_of mid) (call_log c.loop-keys.starter) in
-    let new = c.start_round.new.manager in
-    let e = c.in_default.ensures in
-    let turn : IsTurn plan (past_of mid) (past_of new) (call_log c.start_round.new.starter) = subst (λ (p : Plan). IsTurn p (past_of mid) (past_of new) (call_log c.start_round.new.starter)) i.0.plan_is e.turn in
-    let nearer : IsNearerEnd plan (past_of mid) (past_of new) = subst (λ (p : Plan). IsNearerEnd p (past_of mid) (past_of new)) i.0.plan_is e.nearer in
-    let went = stretch-on g.D.Disk limits plan (may c.args.starter.now) (may c.loop-keys.starter) (may c.start_round.new.starter) (count c.args.starter.now) (count c.loop-keys.starter) (count c.start_round.new.starter) old mid new from via i.0
-    (at_rest (past_of new) (call_log c.start_round.new.starter)) e.went in
-    let before = c.is_aborted-before.ensures ∙ ap (λ (p : Plan). is_aborted p (past_of mid)) i.0.plan_is in
-    let now = c.is_aborted.ensures ∙ ap (λ (p : Plan). is_aborted p (past_of new)) went.plan_is in
-    let flag : is_aborted_between plan (past_of mid) (past_of new) ≡ true = (λ j. not (sym before j) && sym now j) ∙ sym c.is_new.ensures ∙ c.if-is_new.true in
-    inr (sym i.3 ∙ turn-stops plan (past_of mid) (past_of new) flag, turn.at_last flag)
-
-pub returns-then-is_new-clause-turn : goal.returns-then-is_new-clause-turn
-returns-then-is_new-clause-turn g c =
-    let plan = plan_of c.args.manager.now in
-    let past = past_of c.args.manager.now in
-    let limits = limits_of c.args.manager.now in
-    let may = g.S.Starter.may_return in
-    let count = g.S.Starter.faults in
-    let call_log = g.S.Starter.call_log in
-    let old = c.args.manager.now in
-    let from = at_rest past (call_log c.args.starter.now) in
-    let i = c.loop-keys.invariant in
-    let mid = c.loop-keys.manager in
-    let via = at_rest (past_of mid) (call_log c.loop-keys.starter) in
-    let new = c.start_round.new.manager in
-    let e = c.in_default.ensures in
-    let turn : IsTurn plan (past_of mid) (past_of new) (call_log c.start_round.new.starter) = subst (λ (p : Plan). IsTurn p (past_of mid) (past_of new) (call_log c.start_round.new.starter)) i.0.plan_is e.turn in
-    let nearer : IsNearerEnd plan (past_of mid) (past_of new) = subst (λ (p : Plan). IsNearerEnd p (past_of mid) (past_of new)) i.0.plan_is e.nearer in
-    let went = stretch-on g.D.Disk limits plan (may c.args.starter.now) (may c.loop-keys.starter) (may c.start_round.new.starter) (count c.args.starter.now) (count c.loop-keys.starter) (count c.start_round.new.starter) old mid new from via i.0
-    (at_rest (past_of new) (call_log c.start_round.new.starter)) e.went in
-    let before = c.is_aborted-before.ensures ∙ ap (λ (p : Plan). is_aborted p (past_of mid)) i.0.plan_is in
-    let now = c.is_aborted.ensures ∙ ap (λ (p : Plan). is_aborted p (past_of new)) went.plan_is in
-    turn-before plan past (past_of mid) (past_of new) (call_log c.start_round.new.starter) i.3 turn
-
-pub returns-then-is_new-clause-nearer : goal.returns-then-is_new-clause-nearer
-returns-then-is_new-clause-nearer g c = λ key chosen.
-    let plan = plan_of c.args.manager.now in
-    let past = past_of c.args.manager.now in
-    let limits = limits_of c.args.manager.now in
-    let may = g.S.Starter.may_return in
-    let count = g.S.Starter.faults in
-    let call_log = g.S.Starter.call_log in
-    let old = c.args.manager.now in
-    let from = at_rest past (call_log c.args.starter.now) in
-    let i = c.loop-keys.invariant in
-    let mid = c.loop-keys.manager in
-    let via = at_rest (past_of mid) (call_log c.loop-keys.starter) in
-    let new = c.start_round.new.manager in
-    let e = c.in_default.ensures in
-    let turn : IsTurn plan (past_of mid) (past_of new) (call_log c.start_round.new.starter) = subst (λ (p : Plan). IsTurn p (past_of mid) (past_of new) (call_log c.start_round.new.starter)) i.0.plan_is e.turn in
-    let nearer : IsNearerEnd plan (past_of mid) (past_of new) = subst (λ (p : Plan). IsNearerEnd p (past_of mid) (past_of new)) i.0.plan_is e.nearer in
-    let went = stretch-on g.D.Disk limits plan (may c.args.starter.now) (may c.loop-keys.starter) (may c.start_round.new.starter) (count c.args.starter.now) (count c.loop-keys.starter) (count c.start_round.new.starter) old mid new from via i.0
-    (at_rest (past_of new) (call_log c.start_round.new.starter)) e.went in
-    let before = c.is_aborted-before.ensures ∙ ap (λ (p : Plan). is_aborted p (past_of mid)) i.0.plan_is in
-    let now = c.is_aborted.ensures ∙ ap (λ (p : Plan). is_aborted p (past_of new)) went.plan_is in
-    elim i.4 [
-      | inl same ↦ subst (λ (l : List Record). IsNearerEnd plan l (past_of new)) same nearer
-      | inr first ↦ nearer-then plan past (past_of mid) (past_of new) first nearer
-    ]
-
-pub returns-then-is_new-clause-waits_for_none : goal.returns-then-is_new-clause-waits_for_none
-returns-then-is_new-clause-waits_for_none g c = starts-then _ _ _ c.loop-keys.invariant.5 c.start_round.ensures.waits_for_none
-
-pub loop-keys-preserved : goal.loop-keys-preserved
-loop-keys-preserved g c =
-    let plan = plan_of c.args.manager.now in
-    let past = past_of c.args.manager.now in
-    let limits = limits_of c.args.manager.now in
-    let may = g.S.Starter.may_return in
-    let count = g.S.Starter.faults in
-    let call_log = g.S.Starter.call_log in
-    let old = c.args.manager.now in
-    let from = at_rest past (call_log c.args.starter.now) in
-    let i = c.loop-keys.invariant in
-    let mid = c.loop-keys.manager in
-    let via = at_rest (past_of mid) (call_log c.loop-keys.starter) in
-    let new = c.start_round.new.manager in
-    let e = c.in_default.ensures in
-    let turn : IsTurn plan (past_of mid) (past_of new) (call_log c.start_round.new.starter) = subst (λ (p : Plan). IsTurn p (past_of mid) (past_of new) (call_log c.start_round.new.starter)) i.0.plan_is e.turn in
-    let nearer : IsNearerEnd plan (past_of mid) (past_of new) = subst (λ (p : Plan). IsNearerEnd p (past_of mid) (past_of new)) i.0.plan_is e.nearer in
-    let went = stretch-on g.D.Disk limits plan (may c.args.starter.now) (may c.loop-keys.starter) (may c.start_round.new.starter) (count c.args.starter.now) (count c.loop-keys.starter) (count c.start_round.new.starter) old mid new from via i.0
-    (at_rest (past_of new) (call_log c.start_round.new.starter)) e.went in
-    let before = c.is_aborted-before.ensures ∙ ap (λ (p : Plan). is_aborted p (past_of mid)) i.0.plan_is in
-    let now = c.is_aborted.ensures ∙ ap (λ (p : Plan). is_aborted p (past_of new)) went.plan_is in
-    let flag : is_aborted_between plan (past_of mid) (past_of new) ≡ false = (λ j. not (sym before j) && sym now j) ∙ sym c.is_new.ensures ∙ c.if-is_new.false in (
-      went,
-      turn.in_step flag,
-      turn.going,
-      turn-abort_free plan (past_of mid) (past_of new) (call_log c.start_round.new.starter) turn flag ∙ i.3,
-      inr (elim i.4 [
-        | inl same ↦ subst (λ (l : List Record). IsNearerEnd plan l (past_of new)) same nearer
-        | inr first ↦ nearer-then plan past (past_of mid) (past_of new) first nearer
-      ]),
-      starts-then _ _ _ i.5 c.start_round.ensures.waits_for_none,
-    )
+    let then = c.args.starter.now in
+    let next = c.sees_halt.new.self in
+    let a = c.sees_halt.ensures in
+    let from = at_rest past (call_log then) in
+    let via = at_rest past (call_log next) in
+    let asked = stretch-asked g.D.Disk g.met.D.Disk.only_now limits plan (may then) (may next) (count then) (count next) old from refl refl c.keeps_the_law.ensures a.may past (call_log then) (call_log next) refl refl a.asked a.counts in
+    starts-then _ _ _ (starts-asked (may then) (call_log then) (call_log next) a.asked) c.launch_rounds.ensures.waits_for_none

@@ -14,6 +14,7 @@ use Rattle.job_starter_drive.proofs.Running.{no_items}
 use Rattle.job_starter_drive.proofs.Steps.{on-ok, if-err}
 use Rattle.job_starter_drive.proofs.Stretches.{stretch-here, stretch-on, cut-on, cut-still}
 use Rattle.job_starter_drive.proofs.Turns.{nearer-then}
+use Rattle.job_starter_drive.proofs.Walks.{allows-self}
 use Rattle.job_starter_drive.proofs.Ways.{way-launched}
 use Rattle.job_starter_drive.proofs.rounds.start_round.Goals as goal
 
@@ -27,7 +28,7 @@ returns-in_default-clause-cut g c =
     let call_log = g.S.Starter.call_log c.args.starter.now in
     let old = c.args.manager.now in
     let keys = c.args.keys.now in
-    cut-still g.D.Disk g.met.D.Disk.only_now limits plan (may c.args.starter.now) (may c.args.starter.now) (count c.args.starter.now) (count c.args.starter.now) old (at_rest past call_log) refl refl c.keeps_the_law.ensures ((λ later_log key outcome is. is), (λ is. is))
+    cut-still g.D.Disk g.met.D.Disk.only_now limits plan (may c.args.starter.now) (may c.args.starter.now) (count c.args.starter.now) (count c.args.starter.now) old (at_rest past call_log) refl refl c.keeps_the_law.ensures (allows-self (may c.args.starter.now))
     [] [] call_log _ no_step list_refused (omega arith) (no_memory_for_command refl)
 
 pub returns-in_default-clause-waits_for_none : goal.returns-in_default-clause-waits_for_none

@@ -1,9 +1,9 @@
-use Rattle.std.proofs.Common.{sym, subst}
+use Rattle.std.proofs.Common.{ℕ, List, ◌∙◌, ap, sym, subst}
 use Rattle.std.proofs.lemmas.Result.{IfOk-weaker}
 use Rattle.dag_main_check.specs.declared.fault.RunFault.TheVariants.{Memory}
 use Rattle.dag_main_files.specs.Beside.{IsFileFault, reading_had_no_memory}
 use Rattle.dag_main_files.proofs.RunFaults.{by-fault, memory-alone}
-use Rattle.redo.specs.Answered.{IsRedoFault, file_not_written, has_no_round, held_no_round}
+use Rattle.redo.specs.Answered.{IsRedoFault, file_not_written, has_no_round, held_no_round, IsRedoFaultHeld, held_file_not_written}
 use Rattle.redo.proofs.here.redo_here.Goals as goal
 
 pub returns-in_err-journal-clause-refused : goal.returns-in_err-journal-clause-refused
@@ -26,11 +26,37 @@ returns-in_err-lock-clause-refused g c =
     by-fault (IsRedoFault c.args.place.now.top.now) c.in_err-lock.field-0.0 (file_not_written _ c.in_err-lock.ensures)
     c.from_residual-in_err-lock.result c.from_residual-in_err-lock.ensures.1
 
-pub returns-then-not-branch-clause-redone : goal.returns-then-not-branch-clause-redone
-returns-then-not-branch-clause-redone g c = IfOk-weaker c.no_round.result _ _ (λ answer h. has_no_round h.0 h.1 h.2) c.no_round.ensures.answer
+pub returns-then-not-is_there-clause-redone : goal.returns-then-not-is_there-clause-redone
+returns-then-not-is_there-clause-redone g c = IfOk-weaker c.no_round.result _ _ (λ answer h. has_no_round h.0 h.1 h.2) c.no_round.ensures.answer
 
-pub returns-then-not-branch-clause-held : goal.returns-then-not-branch-clause-held
-returns-then-not-branch-clause-held g c = λ honest. IfOk-weaker c.no_round.result _ _ (λ answer h. held_no_round h.0 h.1 h.2) c.no_round.ensures.answer
+pub returns-then-not-is_there-clause-held : goal.returns-then-not-is_there-clause-held
+returns-then-not-is_there-clause-held g c = λ honest.
+    let missing = ap (λ (p : List ℕ). g.F.Folder.has c.args.folder.now p) (sym (c.as_str.ensures ∙ c.in_ok-journal.ensures)) ∙ sym (c.in_ok-is_there.ensures.there honest) ∙ c.if-not-is_there.true in
+    IfOk-weaker c.no_round.result _ _ (λ answer h. held_no_round missing h.0 h.1 h.2) c.no_round.ensures.answer
 
-pub returns-then-not-branch-clause-refused : goal.returns-then-not-branch-clause-refused
-returns-then-not-branch-clause-refused g c = memory-alone (IsRedoFault c.args.place.now.top.now) (file_not_written _ reading_had_no_memory) c.no_round.result c.no_round.ensures.err
+pub returns-then-not-is_there-clause-refused : goal.returns-then-not-is_there-clause-refused
+returns-then-not-is_there-clause-refused g c = memory-alone (IsRedoFault c.args.place.now.top.now) (file_not_written _ reading_had_no_memory) c.no_round.result c.no_round.ensures.err
+
+pub returns-in_err-journal-clause-refused_held : goal.returns-in_err-journal-clause-refused_held
+returns-in_err-journal-clause-refused_held g c = λ honest.
+    by-fault (IsRedoFaultHeld (g.F.Folder.holds c.args.folder.now) c.args.place.now.top.now) Memory (held_file_not_written _ reading_had_no_memory) c.from_residual.result c.from_residual.ensures.1
+
+pub returns-in_err-is_there-clause-refused_held : goal.returns-in_err-is_there-clause-refused_held
+returns-in_err-is_there-clause-refused_held g c = λ honest.
+    by-fault (IsRedoFaultHeld (g.F.Folder.holds c.args.folder.now) c.args.place.now.top.now) c.in_err-is_there.field-0.0
+    (held_file_not_written _ (subst IsFileFault (sym c.in_err-is_there.ensures.refused) reading_had_no_memory))
+    c.from_residual-in_err-is_there.result c.from_residual-in_err-is_there.ensures.1
+
+pub returns-in_err-has_own_files-clause-refused_held : goal.returns-in_err-has_own_files-clause-refused_held
+returns-in_err-has_own_files-clause-refused_held g c = λ honest.
+    by-fault (IsRedoFaultHeld (g.F.Folder.holds c.args.folder.now) c.args.place.now.top.now) c.in_err-has_own_files.field-0.0 (held_file_not_written _ c.in_err-has_own_files.ensures)
+    c.from_residual-in_err-has_own_files.result c.from_residual-in_err-has_own_files.ensures.1
+
+pub returns-in_err-lock-clause-refused_held : goal.returns-in_err-lock-clause-refused_held
+returns-in_err-lock-clause-refused_held g c = λ honest.
+    by-fault (IsRedoFaultHeld (g.F.Folder.holds c.args.folder.now) c.args.place.now.top.now) c.in_err-lock.field-0.0 (held_file_not_written _ c.in_err-lock.ensures)
+    c.from_residual-in_err-lock.result c.from_residual-in_err-lock.ensures.1
+
+pub returns-then-not-is_there-clause-refused_held : goal.returns-then-not-is_there-clause-refused_held
+returns-then-not-is_there-clause-refused_held g c = λ honest.
+    memory-alone (IsRedoFaultHeld (g.F.Folder.holds c.args.folder.now) c.args.place.now.top.now) (held_file_not_written _ reading_had_no_memory) c.no_round.result c.no_round.ensures.err

@@ -2,9 +2,10 @@ use Rattle.std.proofs.Common.{ℕ, List, sym, subst, string_bytes}
 use Rattle.std.proofs.lemmas.Result.{IfOk-weaker}
 use Rattle.dag_main_files.specs.Beside.{folder_not_read}
 use Rattle.dag_main_files.proofs.RunFaults.{by-fault, input-is-file}
-use Rattle.dag_main_inspect.specs.Asked.{no_last_round, not_told}
-use Rattle.dag_main_inspect.proofs.Rounds.{same-round}
-use Rattle.redo.specs.Answered.{IsFoundBy, IsRedoReport, IsRedoFault, not_answered, of_round, of_held}
+use Rattle.dag_main_inspect.specs.Asked.{no_last_round, not_told, held_no_last_round}
+use Rattle.dag_main_inspect.specs.declared.by_journal.Question.TheVariants.{Status}
+use Rattle.dag_main_inspect.proofs.Rounds.{same-round, not-answered}
+use Rattle.redo.specs.Answered.{IsFoundBy, IsRedoReport, IsRedoFault, not_answered, of_round, of_held, IsRedoFaultHeld, held_not_answered}
 use Rattle.redo.proofs.Answers.{redone-so, unknown-so}
 use Rattle.redo.proofs.here.redo_locked.Goals as goal
 
@@ -22,7 +23,7 @@ returns-in_err-files-clause-refused g c =
 pub returns-clause-refused : goal.returns-clause-refused
 returns-clause-refused g c =
     subst (IsRedoFault c.args.place.now.top.now) (sym c.named.ensures)
-    (not_answered _ (not_told c.in_ok-files.files _ _ c.in_ok-round.round.name c.in-Err.fault c.in-Err.ensures.refused))
+    (not_answered _ (not_told c.in_ok-files.files _ _ _ c.in-Err.fault c.in-Err.ensures.refused))
 
 pub returns-in-Ok-Marked-clause-redone : goal.returns-in-Ok-Marked-clause-redone
 returns-in-Ok-Marked-clause-redone g c =
@@ -50,3 +51,21 @@ returns-in-Ok-Unknown-clause-held g c = λ honest.
     (same-round _ _ _ _ _ _ (c.in_ok-round.ensures.round honest) c.as_deref-journal.ensures.value c.as_deref-rescue.ensures.value)
     (unknown-so _ _ _ _ _ _ c.in-Ok-Unknown.line _ c.new.ensures.bytes
     (subst (IsFoundBy _ _ _ _ _ _) c.in-Ok-Unknown.field-0-is c.in-Ok-Unknown.ensures.found))
+
+pub returns-in_err-round-clause-refused_held : goal.returns-in_err-round-clause-refused_held
+returns-in_err-round-clause-refused_held g c = λ honest.
+    by-fault (IsRedoFaultHeld (g.F.Folder.holds c.args.folder.now) c.args.place.now.top.now) c.in_err-round.field-0.0
+    (held_not_answered _ (held_no_last_round _ c.in_err-round.ensures.refused))
+    c.from_residual.result c.from_residual.ensures.1
+
+pub returns-in_err-files-clause-refused_held : goal.returns-in_err-files-clause-refused_held
+returns-in_err-files-clause-refused_held g c = λ honest.
+    by-fault (IsRedoFaultHeld (g.F.Folder.holds c.args.folder.now) c.args.place.now.top.now) c.in_err-files.field-0.0
+    (held_not_answered _ (held_no_last_round _ (folder_not_read _ tt (input-is-file _ _ c.in_err-files.ensures.refused))))
+    c.from_residual-in_err-files.result c.from_residual-in_err-files.ensures.1
+
+pub returns-clause-refused_held : goal.returns-clause-refused_held
+returns-clause-refused_held g c = λ honest.
+    held_not_answered _ (not-answered (g.F.Folder.holds c.args.folder.now) c.args.place.now.top.now _ _ _ _ _
+    (c.in_ok-round.ensures.round honest) c.as_deref-journal.ensures.value c.as_deref-rescue.ensures.value c.in_ok-round.ensures.name
+    Status c.in_ok-files.files c.in-Err.fault _ (c.in_ok-files.ensures.read honest) c.in-Err.ensures.refused c.named.ensures)

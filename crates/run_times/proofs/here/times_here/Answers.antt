@@ -4,7 +4,7 @@ use Rattle.dag_main_files.specs.Beside.{reading_had_no_memory}
 use Rattle.dag_main_check.specs.Warnings.{warning_lines}
 use Rattle.dag_main_check.specs.declared.fault.RunFault.TheVariants.{Memory}
 use Rattle.dag_main_files.proofs.RunFaults.{by-fault, input-is-file}
-use Rattle.run_times.specs.Answered.{IsTimesFault, no_graph, no_log}
+use Rattle.run_times.specs.Answered.{IsTimesFault, no_graph, no_log, IsTimesFaultHeld, held_no_graph, held_no_log}
 use Rattle.run_times.proofs.here.times_here.Goals as goal
 
 pub returns-in_err-files-clause-refused : goal.returns-in_err-files-clause-refused
@@ -62,3 +62,35 @@ returns-clause-held g c = λ honest. record {
   log = c.in_ok-log.log.items;
   log_is = c.in_ok-log.ensures.held honest;
 }
+
+pub returns-in_err-files-clause-refused_held : goal.returns-in_err-files-clause-refused_held
+returns-in_err-files-clause-refused_held g c = λ honest.
+    by-fault (IsTimesFaultHeld (g.F.Folder.holds c.args.folder.now) c.args.top.now) c.in_err-files.field-0.0 (held_no_log _ (input-is-file _ _ c.in_err-files.ensures.refused))
+    c.from_residual.result c.from_residual.ensures.1
+
+pub returns-in_err-graph-clause-refused_held : goal.returns-in_err-graph-clause-refused_held
+returns-in_err-graph-clause-refused_held g c = λ honest.
+    by-fault (IsTimesFaultHeld (g.F.Folder.holds c.args.folder.now) c.args.top.now) c.in_err-graph.field-0.0
+    (held_no_graph c.in_ok-files.files _ (c.in_ok-files.ensures.read honest) c.in_err-graph.ensures.refused)
+    c.from_residual-in_err-graph.result c.from_residual-in_err-graph.ensures.1
+
+pub returns-in_err-log-clause-refused_held : goal.returns-in_err-log-clause-refused_held
+returns-in_err-log-clause-refused_held g c = λ honest.
+    by-fault (IsTimesFaultHeld (g.F.Folder.holds c.args.folder.now) c.args.top.now) c.in_err-log.field-0.0 (held_no_log _ c.in_err-log.ensures.refused)
+    c.from_residual-in_err-log.result c.from_residual-in_err-log.ensures.1
+
+pub returns-in_err-runs-clause-refused_held : goal.returns-in_err-runs-clause-refused_held
+returns-in_err-runs-clause-refused_held g c = λ honest.
+    by-fault (IsTimesFaultHeld (g.F.Folder.holds c.args.folder.now) c.args.top.now) Memory (held_no_log _ reading_had_no_memory) c.from_residual-in_err-runs.result c.from_residual-in_err-runs.ensures.1
+
+pub returns-in_err-marks-clause-refused_held : goal.returns-in_err-marks-clause-refused_held
+returns-in_err-marks-clause-refused_held g c = λ honest.
+    by-fault (IsTimesFaultHeld (g.F.Folder.holds c.args.folder.now) c.args.top.now) Memory (held_no_log _ reading_had_no_memory) c.from_residual-in_err-marks.result c.from_residual-in_err-marks.ensures.1
+
+pub returns-in_err-text_of-clause-refused_held : goal.returns-in_err-text_of-clause-refused_held
+returns-in_err-text_of-clause-refused_held g c = λ honest.
+    by-fault (IsTimesFaultHeld (g.F.Folder.holds c.args.folder.now) c.args.top.now) Memory (held_no_log _ reading_had_no_memory) c.from_residual-in_err-text_of.result c.from_residual-in_err-text_of.ensures.1
+
+pub returns-in_err-warning_text-clause-refused_held : goal.returns-in_err-warning_text-clause-refused_held
+returns-in_err-warning_text-clause-refused_held g c = λ honest.
+    by-fault (IsTimesFaultHeld (g.F.Folder.holds c.args.folder.now) c.args.top.now) Memory (held_no_log _ reading_had_no_memory) c.from_residual-in_err-warning_text.result c.from_residual-in_err-warning_text.ensures.1
