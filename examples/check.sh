@@ -164,7 +164,15 @@ for ((turn = 0; turn < 3000; turn++)); do
     sleep 0.1
 done
 { kill -KILL "$manager" && wait "$manager"; } 2>/dev/null
-kill -KILL "$(cat "$folder/index.works")"
+index=$(cat "$folder/index.works")
+kill -KILL "$index"
+# It goes on behind `hold` unless it has ended, which takes a while on a busy machine; Z and X are states of what has.
+for ((turn = 0; turn < 3000; turn++)); do
+    stat=
+    { read -r stat; } 2>/dev/null <"/proc/$index/stat"
+    if [[ -z $stat || ${stat##*) } == [ZX]* ]]; then break; fi
+    sleep 0.1
+done 2>/dev/null
 rm "$folder/hold"
 "$folder/nightly.sh" --resume
 told nightly_status "$?" 0

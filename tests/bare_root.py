@@ -70,7 +70,7 @@ class Root:
 
     def call(self, folder, *words):
         """What a command prints, what it tells, and its exit status, with an empty environment."""
-        done = subprocess.run(self.words(folder, *words), capture_output=True, text=True, timeout=60, env={"PATH": os.environ["PATH"]})
+        done = subprocess.run(self.words(folder, *words), capture_output=True, text=True, timeout=300, env={"PATH": os.environ["PATH"]})
         return done.stdout, done.stderr, done.returncode
 
     def dagrun(self, folder, *words):
@@ -88,11 +88,11 @@ class Root:
 
 
 def wait_for(what):
-    for _ in range(600):
+    for _ in range(6000):
         if what():
             return
         time.sleep(0.05)
-    raise AssertionError("it did not come in half a minute")
+    raise AssertionError("it did not come in five minutes")
 
 
 def is_alive(process):
@@ -160,7 +160,7 @@ def behind_a_kill(root, folder):
     wait_for(lambda: os.path.exists(f"{here}/pid"))
     same((int(root.read(folder, "pid")) != job, is_alive(job)), (True, False))
     open(f"{here}/go", "w").close()
-    said, told = again.communicate(timeout=60)
+    said, told = again.communicate(timeout=300)
     report = "A DONE attempts=1 value=0\nB DONE attempts=1 value=0\nC DONE attempts=1 value=0\n"
     same((said, told, again.returncode), (f"{report}result 0\n", "", 0))
     same([root.read(folder, f"ran.{name}") for name in "ABC"], ["ran\n", "ran\nran\n", "ran\n"])
@@ -175,7 +175,7 @@ def calls_that_are_missing(root, folder):
     missing = "statx,clone3,close_range,rseq,getrandom,openat2,pidfd_open,faccessat2,execveat,copy_file_range,membarrier"
     words = ["strace", "-f", "-qqq", "-o", "/dev/null", "-e", f"trace={missing}", "-e", f"inject={missing}:error=ENOSYS", "-e", "signal=none"]
     done = subprocess.run(
-        [*words, f"{root.path}/bin/dagrun", "run", "x.dag"], cwd=f"{root.path}/room/{folder}", capture_output=True, text=True, timeout=60
+        [*words, f"{root.path}/bin/dagrun", "run", "x.dag"], cwd=f"{root.path}/room/{folder}", capture_output=True, text=True, timeout=300
     )
     same((done.stdout, done.stderr, done.returncode), (f"{STATUS}result 1\n", "", 1))
     return None
@@ -196,7 +196,7 @@ def reason_not_to(program, must, busybox, work):
         return "there is no static busybox (Debian: apt-get install busybox-static; BUSYBOX says where one is)"
     if not shutil.which("unshare") or not shutil.which("chroot"):
         return "unshare and chroot are not there"
-    done = subprocess.run(Root(f"{work}/tried", program, busybox).words("", "/bin/true"), capture_output=True, text=True, timeout=60)
+    done = subprocess.run(Root(f"{work}/tried", program, busybox).words("", "/bin/true"), capture_output=True, text=True, timeout=300)
     return None if done.returncode == 0 else f"no root may be made here: {done.stderr.strip()}"
 
 

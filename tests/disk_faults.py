@@ -76,7 +76,7 @@ def call(program, folder, words, before=(), environment=None):
     with open(os.path.join(folder, "report"), "w") as report:
         done = subprocess.run(
             [*before, program, *words],
-            cwd=folder, stdout=report, stderr=subprocess.PIPE, text=True, timeout=60, env={**os.environ, **(environment or {})},
+            cwd=folder, stdout=report, stderr=subprocess.PIPE, text=True, timeout=300, env={**os.environ, **(environment or {})},
         )
     told = "".join(line for line in done.stderr.splitlines(True) if not line.startswith("strace: "))
     return read(folder, "report"), told, done.returncode

@@ -266,7 +266,7 @@ def laid_out(files):
 
 
 def called(program, words, stdin):
-    return subprocess.run([program, "check", *words], capture_output=True, text=True, timeout=60, input=stdin or "")
+    return subprocess.run([program, "check", *words], capture_output=True, text=True, timeout=300, input=stdin or "")
 
 
 def same(what, found, wanted):

@@ -316,7 +316,7 @@ def completed(folder, line):
     """What bash completes this line to."""
     words = re.findall(r"=|[^\s=]+", line) + ([""] if line.endswith((" ", "=")) else [])
     listed = " ".join(f"'{word}'" for word in words)
-    script = f'. {TOP}/packaging/completion/dagrun.bash; COMP_WORDS=({listed}); COMP_CWORD={len(words) - 1}; _dagrun; printf "%s\\n" "${{COMPREPLY[@]}}"'
+    script = f'PATH={os.path.dirname(SHIPPED)}:$PATH; . {TOP}/packaging/completion/dagrun.bash; COMP_WORDS=({listed}); COMP_CWORD={len(words) - 1}; _dagrun; printf "%s\\n" "${{COMPREPLY[@]}}"'
     said, told, status = call(folder, "bash", "--norc", "-c", script)
     same((told, status), ("", 0))
     return sorted(said.split("\n")[:-1]) if said != "\n" else []
@@ -344,7 +344,7 @@ def completion_of_bash(folder):
     os.mkdir(f"{folder}/below")
     same(completed(folder, "dagrun "), ["--help", "audit", "check", "explain", "graph", "help", "redo", "rehearse", "run", "salvage", "status", "times", "version", "why"])
     same(completed(folder, "dagrun r"), ["redo", "rehearse", "run"])
-    same(completed(folder, "dagrun run --"), ["--always-run-post", "--autorescue", "--dorescuefrom", "--help", "--launcher", "--launcher-final", "--launcher-grace", "--log-limit", "--maxjobs", "--maxpost", "--maxpre", "--orphans", "--progress", "--resume", "--script-output", "--sync-output", "--trust-owner"])
+    same(completed(folder, "dagrun run --"), ["--always-run-post", "--autorescue", "--dorescuefrom", "--help", "--launcher", "--launcher-final", "--launcher-grace", "--log-limit", "--maxjobs", "--maxpost", "--maxpre", "--orphans", "--progress", "--resume", "--script-output", "--stop-at-first-error", "--sync-output", "--trust-owner"])
     same(completed(folder, "dagrun rehearse --max"), ["--maxjobs", "--maxpost", "--maxpre"])
     same(completed(folder, "dagrun status --m"), [])
     same(completed(folder, "dagrun times --"), ["--help", "--svg", "--trust-owner"])
@@ -360,7 +360,18 @@ def completion_of_bash(folder):
     same(completed(folder, "dagrun status one.o"), ["one.outcomes"])
     same(completed(folder, "dagrun graph t"), ["two words.dag"])
     same(completed(folder, "dagrun help r"), ["redo", "rehearse", "run"])
-    same((completed(folder, "dagrun explain "), completed(folder, "dagrun version ")), ([], []))
+    same(completed(folder, "dagrun version "), [])
+    # The codes of faults, and after the DAG file its nodes. Names are input, of which nothing is expanded.
+    same(completed(folder, "dagrun explain H"), ["H1", "H2", "H3"])
+    same(completed(folder, "dagrun explain S1"), ["S1", "S10", "S11", "S12"])
+    write(f"{folder}/four.dag", "JOB fit a.sub\nJOB first a.sub\nJOB $(touch${{IFS}}made) a.sub\nJOB last a.sub\n")
+    write(f"{folder}/a.sub", "executable = /bin/true\nqueue\n")
+    for name in ("why", "redo"):
+        same(completed(folder, f"dagrun {name} four.dag f"), ["first", "fit"])
+        same(completed(folder, f"dagrun {name} four.dag last fi"), ["first", "fit"])
+        same(len(completed(folder, f"dagrun {name} four.dag ")), 4)
+        same(completed(folder, f"dagrun {name} f"), ["four.dag"])
+    same(os.path.exists(f"{folder}/made"), False)
     # As bash finds it: the word's own function.
     said = call(folder, "bash", "--norc", "-c", f". {TOP}/packaging/completion/dagrun.bash; complete -p dagrun")
     same(said, ("complete -F _dagrun dagrun\n", "", 0))
@@ -380,7 +391,8 @@ def completion_of_fish(folder):
 
     def fish(line):
         script = f"source {TOP}/packaging/completion/dagrun.fish; complete -C '{line}'"
-        said, told, status = call(folder, "fish", "--no-config", "-c", script, env=dict(os.environ, HOME=folder))
+        settings = dict(os.environ, HOME=folder, PATH=f"{os.path.dirname(SHIPPED)}:{os.environ['PATH']}")
+        said, told, status = call(folder, "fish", "--no-config", "-c", script, env=settings)
         same((told, status), ("", 0))
         return sorted(entry.split("\t")[0] for entry in said.splitlines())
 
@@ -388,6 +400,11 @@ def completion_of_fish(folder):
     same(fish("dagrun run --m"), ["--maxjobs", "--maxpost", "--maxpre"])
     same(fish("dagrun run --autorescue "), ["0", "1"])
     same(fish("dagrun run o"), ["one.dag"])
+    same(fish("dagrun explain S1"), ["S1", "S10", "S11", "S12"])
+    write(f"{folder}/four.dag", "JOB fit a.sub\nJOB first a.sub\nJOB last a.sub\n")
+    write(f"{folder}/a.sub", "executable = /bin/true\nqueue\n")
+    same(fish("dagrun redo four.dag f"), ["first", "fit"])
+    same(fish("dagrun why f"), ["four.dag"])
 
 
 def debian_package(folder):
@@ -423,6 +440,13 @@ def wait_for(what):
             return
         time.sleep(0.05)
     raise AssertionError("it did not come in five minutes")
+
+
+def catches_sigterm(process):
+    """Whether a process has its own answer to SIGTERM."""
+    with open(f"/proc/{process}/status") as file:
+        caught = re.search("^SigCgt:\t([0-9a-f]+)$", file.read(), re.M)[1]
+    return int(caught, 16) >> (signal.SIGTERM - 1) & 1 == 1
 
 
 def shell_job(path, script):
@@ -504,7 +528,10 @@ def stopped_by_its_number(folder):
     said, told, status = call(folder, SUBMIT, "x.dag")
     same((told, status), ("", 0))
     wait_for(lambda: os.path.exists(f"{folder}/a.works"))
-    os.kill(int(re.search("cluster ([0-9]+)", said)[1]), signal.SIGTERM)
+    script = int(re.search("cluster ([0-9]+)", said)[1])
+    # The job may be faster than the script that has started the manager.
+    wait_for(lambda: catches_sigterm(script))
+    os.kill(script, signal.SIGTERM)
     wait_for(lambda: not os.path.exists(f"{folder}/x.dag.lock"))
     same("EXITING WITH STATUS 2" in open(f"{folder}/x.dag.dagman.out").read(), True)
     same(call(folder, SHIPPED, "audit", "x.dag"), ("audit no F3 Unfinished\n", "", 1))
@@ -647,12 +674,15 @@ def nipype_goes_on_by_itself(folder):
     dag = with_nipype(folder, "leave", "0")
     wait_for(lambda: not os.path.exists(f"{dag}.lock"))
     same(result_of(folder), ["14\n"])
+    # The lock goes with the manager; the last line is written behind it.
+    wait_for(lambda: "EXITING WITH STATUS" in open(f"{dag}.dagman.out").read())
     same("EXITING WITH STATUS 0" in open(f"{dag}.dagman.out").read(), True)
 
 
 def nipype_with_a_node_that_fails(folder):
     dag = with_nipype(folder, "block", "2")
     same(result_of(folder), [])
+    wait_for(lambda: "EXITING WITH STATUS" in open(f"{dag}.dagman.out").read())
     report = open(f"{dag}.dagman.out").read()
     same(sorted(re.findall("^[0-9]+ (DONE|ERROR|NOT_READY)", report, re.M)), ["DONE", "DONE", "ERROR", "NOT_READY"])
     same("EXITING WITH STATUS 1" in report, True)

@@ -22,13 +22,17 @@ from journals import check_records, ended_in, is_finished, records_in
 SIZES = [1, 64] + [10] * 13 + [5]
 NAMES = [f"n{i}" for i in range(sum(SIZES))]
 FAILING = "n157"
-# A job that works has a file that names its process; an orphan that has ended, but that nobody asks how, works no more. The shell
-# empties that file itself: an rm that an orphan had called would outlive it, since who ends an orphan ends its process alone, and
-# might then remove the file of the job that runs in its place.
+# A job that works has a file that names its process, and when that began: its number may soon be another one's. An orphan that has
+# ended, but that nobody asks how, works no more. The shell empties that file itself: an rm that an orphan had called would outlive
+# it, since who ends an orphan ends its process alone, and might then remove the file of the job that runs in its place.
 JOB = f"""me=$DAGRUN_NODE
-if read last <works/$me 2>/dev/null && read stat </proc/$last/stat 2>/dev/null && [ "${{stat##*) }}" = "${{stat##*) [ZX]}}" ]
-then echo $me >>copies; fi
-echo $$ >works/$me
+if read last since <works/$me && read stat </proc/$last/stat; then
+    set -- ${{stat##*) }}
+    case $1 in Z | X) ;; *) [ ${{20}} != $since ] || echo $me >>copies ;; esac
+fi 2>/dev/null
+read stat </proc/$$/stat
+set -- ${{stat##*) }}
+echo $$ ${{20}} >works/$me
 echo ran >>runs/$me
 sleep 0.01
 [ $me != {FAILING} ] || exit 4
@@ -167,7 +171,7 @@ def main():
     kills = 0
     # What a process that is killed has written stays, on whatever disk; in memory a sync costs nothing.
     memory = "/dev/shm" if os.access("/dev/shm", os.W_OK) else None
-    with tempfile.TemporaryDirectory(dir=memory) as work:
+    with tempfile.TemporaryDirectory(dir=memory, ignore_cleanup_errors=True) as work:
         calm = os.path.join(work, "calm")
         os.mkdir(calm)
         make_graph(calm)
@@ -178,16 +182,18 @@ def main():
         if run.returncode != 1 or run.stderr or wanted[2] is None:
             sys.exit(f"the run that is not killed ends with {run.returncode}: {run.stderr}")
         strangers = start_strangers(os.path.join(work, "strangers"))
-        for number in range(rounds):
-            folder = os.path.join(work, f"round{number}")
-            os.mkdir(folder)
-            make_graph(folder)
-            found, killed = one_round(program, folder, max(0.05, took / 8))
-            if found != wanted:
-                sys.exit(f"round {number}: another report, status or rescue file:\n{found}\n{wanted}")
-            kills += killed
-            shutil.rmtree(folder)
-        end_strangers(strangers)
+        try:
+            for number in range(rounds):
+                folder = os.path.join(work, f"round{number}")
+                os.mkdir(folder)
+                make_graph(folder)
+                found, killed = one_round(program, folder, max(0.05, took / 8))
+                if found != wanted:
+                    sys.exit(f"round {number}: another report, status or rescue file:\n{found}\n{wanted}")
+                kills += killed
+                shutil.rmtree(folder)
+        finally:
+            end_strangers(strangers)
     print(f"{rounds} rounds, {kills} kills: nothing was lost, nothing that had ended ran again, no copy ran and no stranger was ended")
 
 

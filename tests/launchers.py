@@ -7,6 +7,7 @@ The sbatch, squeue, sacct and scancel are scripts in a folder of the row that is
 own, and its state a file. Rows wait for what they look at. Values are worked out by hand from docs/MANUAL.md, "On a cluster". Rows with an
 sshd of their own on 127.0.0.1 are skipped where there is none. The last line is 'N passed, M failed', with the skipped ones behind it."""
 import concurrent.futures
+import fcntl
 import getpass
 import os
 import shutil
@@ -19,7 +20,7 @@ import time
 
 TOP = os.path.realpath(os.path.join(os.path.dirname(__file__), ".."))
 # How many seconds it is waited for what comes at once on a machine that is not busy.
-PATIENCE = int(os.environ.get("PATIENCE", "240"))
+PATIENCE = int(os.environ.get("PATIENCE", "300"))
 # Rows at once: they wait most of the time.
 AT_ONCE = 8
 
@@ -220,7 +221,8 @@ if takes loses; then echo "Connection to $host closed by remote host." >&2; exit
 exit $status
 """
 JOB = '#!/bin/sh\necho $1 >>ran.$1\n'
-BEATS = JOB + 'echo $$ >pid.$1\nwhile [ ! -e over ]; do sleep 0.05; done\n'
+# Whoever finds the file of its number finds the number in it.
+BEATS = JOB + 'echo $$ >pid.$1.new; mv pid.$1.new pid.$1\nwhile [ ! -e over ]; do sleep 0.05; done\n'
 
 
 class Place:
@@ -243,7 +245,8 @@ class Place:
         self.settings = dict(
             os.environ, PATH=f"{self.state}/bin:{TOP}/launchers:{os.environ['PATH']}",
             DAGRUN_SLURM_POLL="0.1", DAGRUN_SLURM_WAIT="0.5", DAGRUN_SLURM_TRIES="3",
-            DAGRUN_SSH_POLL="0.1", DAGRUN_SSH_WAIT="0.5",
+            # A job that has not begun by then is started on the next host.
+            DAGRUN_SSH_POLL="0.1", DAGRUN_SSH_WAIT="10",
         )
         for name in list(self.settings):
             if name.startswith(("DAGRUN_ROUND", "DAGRUN_NODE", "DAGRUN_DAG", "DAGRUN_PHASE", "DAGRUN_ATTEMPT", "DAGRUN_LAUNCHER", "SLURM_")):
@@ -298,25 +301,39 @@ class Place:
     def states(self):
         return [fields[1] for fields in self.jobs().values()]
 
+    def is_ours(self, process):
+        """Whether a process is one of this row, or is gone: its number may be that of another one by now."""
+        try:
+            with open(f"/proc/{process}/cmdline", "rb") as words, open(f"/proc/{process}/environ", "rb") as environ:
+                return f"{self.folder}/".encode() in words.read() + b"\0" + environ.read() or not alive(process)
+        except OSError:
+            return True
+
     def sessions(self):
+        """The jobs and the sessions in which they run, or ran."""
         for number in os.listdir(os.path.join(self.state, "jobs")):
             try:
                 with open(os.path.join(self.state, "jobs", number, "session")) as file:
-                    yield int(number), int(file.read())
+                    session = int(file.read())
+                if self.is_ours(session):
+                    yield int(number), session
             except (FileNotFoundError, ValueError):
                 pass
 
     def ends(self, number, state, code="0:0"):
-        """Slurm ends a job: its processes are gone at once."""
-        with open(os.path.join(self.state, "jobs", str(number), "is")) as file:
+        """Slurm ends a job: its processes are gone at once. What plays the node may be about to say how the job ended: the lock decides who is
+        the first, as it does between that and scancel."""
+        path = os.path.join(self.state, "jobs", str(number), "is")
+        with open(path) as file:
             name = file.read().split()[0]
         for job, session in self.sessions():
             if job == number:
                 kill_session(session)
-        path = os.path.join(self.state, "jobs", str(number), "is")
-        with open(path + ".end", "w") as file:
-            file.write(f"{name} {state} {code} n1\n")
-        os.rename(path + ".end", path)
+        with open(os.path.join(self.state, "jobs", str(number), "lock"), "a") as lock:
+            fcntl.flock(lock, fcntl.LOCK_EX)
+            with open(path + ".end", "w") as file:
+                file.write(f"{name} {state} {code} n1\n")
+            os.rename(path + ".end", path)
 
     def job(self, script=JOB, more=""):
         self.write("job.sh", script, 0o755)
@@ -341,9 +358,42 @@ class Place:
     def wait_for(self, name):
         wait_until(lambda: self.there(name), f"{name} is not there")
 
-    def processes(self):
-        """The processes that the manager has noted."""
-        return [int(line.split("\t")[0]) for line in self.read("x.dag.children").splitlines() if line.split("\t")[0].isdigit()]
+    def processes(self, count=1):
+        """The processes that the manager has noted, so many: a child may be faster than the manager's note of it."""
+        def noted():
+            lines = self.read("x.dag.children").splitlines(keepends=True)
+            return [int(line.split("\t")[0]) for line in lines if line.endswith("\n") and line.split("\t")[0].isdigit()]
+
+        wait_until(lambda: len(noted()) >= count, f"{count} processes are not noted")
+        return noted()
+
+    def launchers(self):
+        """The launchers of this folder that run, and their guards."""
+        found = []
+        for process in filter(str.isdigit, os.listdir("/proc")):
+            try:
+                with open(f"/proc/{process}/cmdline", "rb") as words, open(f"/proc/{process}/environ", "rb") as environ:
+                    if any(word.endswith((b"/dagrun-slurm", b"/dagrun-ssh")) for word in words.read().split(b"\0")) and f"{self.path}/".encode() in environ.read():
+                        found.append(int(process))
+            except OSError:
+                pass
+        return [process for process in found if alive(process)]
+
+    def scripts(self):
+        """The scripts of dagrun-ssh that run, which start programs."""
+        found = []
+        for process in filter(str.isdigit, os.listdir("/proc")):
+            try:
+                with open(f"/proc/{process}/cmdline", "rb") as words:
+                    if f"{self.path}/x.dag.ssh/job.".encode() in words.read():
+                        found.append(int(process))
+            except OSError:
+                pass
+        return [process for process in found if alive(process)]
+
+    def wait_for_guards(self):
+        """Waits until no launcher and no guard runs: what they do to their jobs is done then."""
+        wait_until(lambda: not self.launchers(), "a launcher or its guard is left")
 
     def ended_lines(self):
         return [line.split("\t") for line in self.read("x.dag.slurm/ended").splitlines()]
@@ -363,14 +413,23 @@ class Place:
                     pass
 
 
+def signal_session(session, number):
+    """Sends a signal to the processes of a session that run; answers how many there are."""
+    count = 0
+    for process in filter(str.isdigit, os.listdir("/proc")):
+        try:
+            if os.getsid(int(process)) == session and alive(process):
+                count += 1
+                os.kill(int(process), number)
+        except OSError:
+            pass
+    return count
+
+
 def kill_session(session):
-    for process in os.listdir("/proc"):
-        if process.isdigit():
-            try:
-                if os.getsid(int(process)) == session:
-                    os.kill(int(process), signal.SIGKILL)
-            except OSError:
-                pass
+    """Ends all processes of a session, and those that they start meanwhile. They are stopped before, so that none sees how another one ends."""
+    signal_session(session, signal.SIGSTOP)
+    wait_until(lambda: signal_session(session, signal.SIGKILL) == 0, f"session {session} is not gone")
 
 
 def terminate_sessions(place):
@@ -569,12 +628,15 @@ def a_lost_answer_of_a_job_that_waits(place):
 
 def a_doubled_job(place):
     """Of two jobs of one key the second ends before its program runs, whichever sbatch named."""
-    place.one(JOB + "sleep 0.3\n")
+    place.one(BEATS)
     place.mode("doubles", "1")
     place.mode("holds.101")
     manager = place.start()
     place.wait_for("ran.A")
     place.unmode("holds.101")
+    # The first goes on to run until the second has ended.
+    wait_until(lambda: place.jobs()[101][1] not in ("PENDING", "RUNNING"), "the second does not end")
+    place.write("over", "")
     same(ended(manager), DONE)
     same((place.read("ran.A"), place.ended_lines()[0][3]), ("A\n", "601"))
     wait_until(lambda: not {"PENDING", "RUNNING"} & set(place.states()), "a job is left")
@@ -653,11 +715,14 @@ def a_signal_that_is_handed_on(place):
     place.wait_for("up")
     ((_, session),) = place.sessions()
     (script,) = (int(word) for word in subprocess.run(["ps", "-o", "pid=", "--ppid", str(session)], capture_output=True, text=True).stdout.split())
+    # The script closes what it has opened for its program once it knows the program's number, to which it hands signals on.
+    wait_until(lambda: not {"3", "4", "5"} & set(os.listdir(f"/proc/{script}/fd")), "the script does not wait for its program")
     os.kill(script, signal.SIGUSR1)
     place.wait_for("warned")
     program = int(place.read("up"))
     os.kill(program, signal.SIGSTOP)
-    time.sleep(0.5)
+    before = place.calls("sacct")
+    wait_until(lambda: place.calls("sacct") > before + 3, "Slurm is not asked")
     same(manager.poll(), None)
     os.kill(program, signal.SIGCONT)
     place.write("over", "")
@@ -683,7 +748,8 @@ def slurm_is_down(place):
 def a_moment_without_the_job(place):
     """squeue knows nothing of a job that runs, for a moment, as behind a new start of slurmctld: it is not lost by that."""
     place.mode("no.accounts")
-    place.settings["DAGRUN_SLURM_WAIT"] = "10"
+    # Three answers of squeue take far less.
+    place.settings["DAGRUN_SLURM_WAIT"] = str(PATIENCE)
     place.one(BEATS)
     manager = place.start()
     place.wait_for("pid.A")
@@ -736,12 +802,12 @@ def killed_with_launchers(place):
     manager = place.start()
     for name in names:
         place.wait_for(f"pid.{name}")
-    launchers = place.processes()
+    launchers = place.processes(8)
     same(len(launchers), 8)
     for process in (manager.pid, *launchers):
         os.kill(process, signal.SIGKILL)
-    # Longer than a guard waits: it must leave the jobs alone, also while nobody has waited for the dead manager.
-    time.sleep(1.8)
+    # The guards must leave the jobs alone, also while nobody has waited for the dead manager.
+    place.wait_for_guards()
     manager.communicate(timeout=PATIENCE)
     same(set(place.states()), {"RUNNING"})
     place.write("over", "")
@@ -809,7 +875,7 @@ def an_interrupt(place):
     place.wait_for("pid.A")
     os.killpg(manager.pid, signal.SIGINT)
     manager.communicate(timeout=PATIENCE)
-    time.sleep(1.5)
+    place.wait_for_guards()
     same(place.states(), ["RUNNING"])
     manager = place.start()
     place.write("over", "")
@@ -853,7 +919,7 @@ def stopped_with_the_manager(place):
     os.killpg(manager.pid, signal.SIGTERM)
     manager.communicate(timeout=PATIENCE)
     wait_until(lambda: not any(alive(process) for process in launchers), "a launcher is left")
-    time.sleep(1.5)
+    place.wait_for_guards()
     same(place.states(), ["RUNNING"])
     place.write("over", "")
     same(place.run(), DONE)
@@ -907,12 +973,15 @@ def an_abort_before_an_answer(place):
     """The launchers are killed while sbatch is at work: a job that it made then is cancelled, too."""
     place.write("x.dag", "JOB A job.sub\nJOB bad bad.sub\nABORT-DAG-ON bad 7 RETURN 9\n")
     place.job(BEATS)
-    slow = COMMON + SBATCH.replace("id=$(", 'case $name in A.*) echo >"$S/at.work"; sleep 1.2 ;; esac\nid=$(', 1)
+    slow = COMMON + SBATCH.replace("id=$(", 'case $name in A.*) echo >"$S/at.work"; while [ ! -e "$S/goes.on" ]; do sleep 0.05; done ;; esac\nid=$(', 1)
     place.script("sbatch", slow)
     place.write("bad.sub", "executable = bad.sh\nqueue\n")
     place.write("bad.sh", f"#!/bin/sh\nwhile [ ! -e '{place.state}/at.work' ]; do sleep 0.05; done\nexit 7\n", 0o755)
     same(place.run()[2], 9)
-    wait_until(lambda: len(place.jobs()) < 2 or "CANCELLED" in place.states(), f"a job is left: {place.states()}")
+    # It goes on once the launchers are killed. Where that took longer than a call of sbatch may, there is no job.
+    place.mode("goes.on")
+    wait_until(lambda: "CANCELLED" in place.states() or not place.launchers(), "nobody cancels it, and its guard does not end")
+    same(len(place.jobs()) < 2 or "CANCELLED" in place.states(), True)
 
 
 def a_killed_launcher(place):
@@ -1126,6 +1195,7 @@ def ssh_no_host(place):
     by_ssh(place, "h1", "h2")
     place.mode("down.h1")
     place.mode("down.h2")
+    place.settings["DAGRUN_SSH_WAIT"] = "0.5"
     place.one()
     same(place.run(), report("ERROR", 85))
     same(place.read("A.err").startswith("dagrun-ssh: never started: ssh: connect to host h"), True)
@@ -1146,13 +1216,15 @@ def ssh_late_start(place):
     by_ssh(place)
     place.one(JOB + "sleep 0.5\n")
     text = open(f"{place.state}/bin/ssh").read()
-    # The first call leaves what it was to do to a process that does it later, with the environment that the job finds then.
+    # The first call leaves what it was to do to a process that does it once the program has run on another host, with the environment that the job
+    # finds then.
+    place.settings["DAGRUN_SSH_WAIT"] = "5"
     late = f"""cd '{place.path}/x.dag.ssh' || exit 255
 if takes late; then
     what=$(cat)
     env=$(echo env.*)
     cp "$env" "$S/kept"
-    (sleep 1.5; cp "$S/kept" "$env"; setsid -w /bin/sh -c "$*" <<<"$what"; echo >"$S/was.late") >/dev/null 2>&1 &
+    (until [ -e '{place.path}/ran.A' ]; do sleep 0.05; done; cp "$S/kept" "$env"; setsid -w /bin/sh -c "$*" <<<"$what"; echo >"$S/was.late") >/dev/null 2>&1 &
     exit 255
 fi
 """
@@ -1160,7 +1232,7 @@ fi
     place.mode("late", "1")
     same(place.run(), DONE)
     wait_until(lambda: os.path.exists(f"{place.state}/was.late"), "it does not come")
-    time.sleep(0.5)
+    wait_until(lambda: not place.scripts(), "it does not end")
     same((place.read("ran.A"), ssh_lines(place)[0][4]), ("A\n", "h2"))
 
 
@@ -1187,10 +1259,10 @@ def ssh_killed_with_launchers(place):
         manager = place.start()
         for name in names:
             place.wait_for(f"pid.{name}")
-        for process in (manager.pid, *place.processes()):
+        for process in (manager.pid, *place.processes(4)):
             os.kill(process, signal.SIGKILL)
         manager.communicate(timeout=PATIENCE)
-        time.sleep(1.5)
+        place.wait_for_guards()
         same([name for name in names if not alive(int(place.read(f"pid.{name}")))], [])
         if late:
             manager = place.start()
@@ -1211,7 +1283,7 @@ def ssh_killed_with_launchers(place):
 def ssh_stopped(place):
     """SIGTERM to the launcher ends the job, with what it has started."""
     by_ssh(place)
-    place.one(JOB + "sleep 1000 &\necho $! >below\necho $$ >pid.$1\nwait\n")
+    place.one(JOB + "sleep 1000 &\necho $! >below\necho $$ >pid.new; mv pid.new pid.$1\nwait\n")
     manager = place.start()
     place.wait_for("pid.A")
     (launcher,) = place.processes()
@@ -1229,7 +1301,7 @@ def ssh_stopped_with_the_manager(place):
     os.killpg(manager.pid, signal.SIGTERM)
     manager.communicate(timeout=PATIENCE)
     wait_until(lambda: not any(alive(process) for process in launchers), "a launcher is left")
-    time.sleep(1.5)
+    place.wait_for_guards()
     same(alive(int(place.read("pid.A"))), True)
     place.write("over", "")
     same(place.run(), DONE)
@@ -1348,13 +1420,14 @@ def with_sshd(row):
         with open(f"{place.folder}/sshd.log", "w") as log:
             server = subprocess.Popen([sshd, "-D", "-e", "-f", f"{place.folder}/sshd_config"], stdin=subprocess.DEVNULL, stdout=log, stderr=log)
         options = f"-F /dev/null -p {port} -i {place.folder}/user -o StrictHostKeyChecking=no -o UserKnownHostsFile=/dev/null -o LogLevel=ERROR -o IdentitiesOnly=yes"
-        place.settings.update(DAGRUN_SSH=options, DAGRUN_SSH_WAIT="5")
+        place.settings.update(DAGRUN_SSH=options)
         me = f"{getpass.getuser()}@127.0.0.1"
         try:
             call = ["ssh", *options.split(), "-o", "BatchMode=yes", me, "true"]
-            end = time.monotonic() + 20
-            while subprocess.run(call, capture_output=True).returncode != 0:
-                if server.poll() is not None or time.monotonic() > end:
+            end = time.monotonic() + PATIENCE
+            while (tried_login := subprocess.run(call, capture_output=True)).returncode != 0:
+                # Until the server listens there is no connection; that nobody may log in is told at once.
+                if server.poll() is not None or b"Permission denied" in tried_login.stderr or time.monotonic() > end:
                     raise Skipped("no login on 127.0.0.1")
                 time.sleep(0.2)
             row(place, me)
@@ -1386,7 +1459,7 @@ def crash_by(place, host):
     for process in (manager.pid, *place.processes()):
         os.kill(process, signal.SIGKILL)
     manager.communicate(timeout=PATIENCE)
-    time.sleep(1.5)
+    place.wait_for_guards()
     same(alive(int(place.read("pid.A"))), True)
     manager = place.start()
     place.write("over", "")

@@ -80,7 +80,7 @@ def write(folder, name, text):
 
 
 def call(program, folder, *words):
-    done = subprocess.run([program, *words], cwd=folder, capture_output=True, text=True, timeout=60, stdin=subprocess.DEVNULL)
+    done = subprocess.run([program, *words], cwd=folder, capture_output=True, text=True, timeout=300, stdin=subprocess.DEVNULL)
     return done.stdout, done.stderr, done.returncode
 
 
@@ -188,11 +188,11 @@ CHECKS = {
 
 
 def wait_for(what):
-    for _ in range(600):
+    for _ in range(6000):
         if what():
             return
         time.sleep(0.05)
-    raise SystemExit("it did not come in half a minute")
+    raise SystemExit("it did not come in five minutes")
 
 
 def killed(program, folder, *options):

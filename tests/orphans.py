@@ -16,14 +16,14 @@ import sys
 import tempfile
 import time
 
-from runs import PATIENCE, Folder, runs_still, same, wait_until
+from runs import PATIENCE, Folder, end_process, runs_still, same, wait_until
 
 # The words of the sleeps of this script: no other process has their fraction.
 MARK = f"{os.getpid() % 100000:05d}"
 
 def length(number=0):
-    """How long a job sleeps: some hundred seconds, by which its processes are known."""
-    return f"{100 + number}.{MARK}"
+    """How long a job sleeps: longer than a row takes on a slow machine. Its processes are known by it."""
+    return f"{5000 + number}.{MARK}"
 
 
 def words_of(process):
@@ -175,8 +175,7 @@ def two_folders(folder):
     sleepers(one, "A")
     manager, _ = start_by_a_script(other, one, words=((), killing_at(one, 2)))
     wait_for_sleeping(2)
-    os.kill(manager, signal.SIGKILL)
-    wait_until(lambda: not runs_still(manager), "the manager still runs")
+    end_process(manager)
     [stranger] = [it for it in sleeping() if folder_of(it) == other.path]
     third = start(one, "x.dag")
     wait_until(lambda: orphans_in(one) and len(sleeping()) == 2, f"{sleeping()} sleep")
@@ -195,7 +194,7 @@ def another_manager_of_the_same_words(folder):
     wait_until(lambda: orphans_in(one) and len(sleeping()) == 2, f"{sleeping()} sleep")
     same((orphans_in(one), runs_still(manager), orphans_in(other)), ([("A", "JOB", "0", "done=killed")], True, []))
     kill(third)
-    os.kill(manager, signal.SIGKILL)
+    end_process(manager)
 
 
 def copied_folder(folder):
@@ -246,8 +245,7 @@ def a_refused_start(folder):
     [stranger], [child] = wait_for_sleeping(1), wait_for_sleeping(1, 1)
     wait_until(lambda: b"\tnotstarted\tB\t" in one.read("x.dag.log"), "B was not refused")
     for manager in managers:
-        os.kill(manager, signal.SIGKILL)
-    wait_until(lambda: not any(os.path.exists(f"/proc/{it}") and state_of(it)[0] not in "ZX" for it in managers), "the managers still run")
+        end_process(manager)
     third = start(one, "x.dag")
     wait_until(lambda: are_others([child], 1, 1), "A has not begun again")
     same((sleeping(), orphans_in(one)), ([stranger], [("A", "JOB", "0", "done=killed")]))
@@ -277,15 +275,18 @@ def a_number_used_again(folder):
 until grep -qs '	start	A	' x.dag.log; do sleep 0.02; done
 kill -9 $manager; wait $manager 2>/dev/null
 orphan=$(grep '	start	A	' x.dag.log | cut -f 6)
-# The manager stops as it opens the log, which is behind its look.
-strace -qqq -o /dev/null -e trace=openat -P "$PWD/x.dag.log" -e inject=openat:signal=SIGSTOP:when=1 "$1" run x.dag & tracer=$!
-until manager=$(pgrep -P $tracer) && grep -q '^State:.[Tt]' /proc/$manager/status; do sleep 0.02; done
+# The manager stops as it opens the log, which is behind its look. A program that is traced stops at each call, for a moment: so strace is asked.
+strace -qqq -o calls -e trace=openat -P "$PWD/x.dag.log" -e inject=openat:signal=SIGSTOP:when=1 "$1" run x.dag & tracer=$!
+until grep -qs 'stopped by SIGSTOP' calls; do sleep 0.02; done
+manager=$(pgrep -P $tracer)
 kill -9 $orphan
 until [ ! -e /proc/$orphan ]; do sleep 0.02; done
 until [ "$stranger" = $orphan ]; do
     echo $((orphan - 1)) > /proc/sys/kernel/ns_last_pid
     sleep {length(1)} & stranger=$!
 done
+# It has come to its sleep.
+until [ "$(tr '\\0' ' ' < /proc/$stranger/cmdline)" = 'sleep {length(1)} ' ] && grep -q '^State:.S' /proc/$stranger/status; do sleep 0.02; done
 kill -CONT $manager
 until [ "$(grep -c '	start	A	' x.dag.log)" = 2 ]; do sleep 0.02; done
 [ -e /proc/$stranger ] && grep -q '^State:.S' /proc/$stranger/status && echo spared
@@ -313,7 +314,7 @@ def wrapped(folder):
     for words in ([], ["--launcher", "env Y=2"], ["--launcher", "nice"]):
         place = inner(folder, "_".join(["d", *words]).replace(" ", "_"))
         place.write("x.dag", "".join(f"JOB {name} {name}.sub\n" for name in "ABCDEF"))
-        sleep_file(place, "A", 0, "/usr/bin/timeout", "900 sleep ")
+        sleep_file(place, "A", 0, "/usr/bin/timeout", "9000 sleep ")
         sleep_file(place, "B", 1, "/usr/bin/setsid", "sleep ")
         sleep_file(place, "C", 2, "/usr/bin/env", "X=1 sleep ")
         sleep_file(place, "D", 3, "/usr/bin/nice", "sleep ")
@@ -340,23 +341,27 @@ def two_hundred(folder):
     wait_for_sleeping(200)
     kill(second)
     same([done for *_, done in orphans_in(folder)], ["done=killed"] * 200)
-    if took > 5:
+    # It takes half a second where nothing else runs. To look at so many processes, and at those of others, takes as long as the machine is
+    # slow; that all are gone within ten seconds from the first signal on the program sees to itself: else they are told as refused.
+    if took > PATIENCE / 2:
         raise AssertionError(f"it took {took:.1f} seconds to end 200 processes")
 
 
 def some_that_can_not_be_ended(folder):
-    """Three that can't be ended are waited for together, for ten seconds in all; nothing was started."""
-    sleepers(folder, "A", "B", "C")
-    kill_after_start(folder, 3)
+    """Thirty that can't be ended are waited for together, for ten seconds in all; nothing was started."""
+    count = 30
+    sleepers(folder, *(f"n{it}" for it in range(count)))
+    kill_after_start(folder, count)
     began, before = time.monotonic(), sleeping()
     strace = ["strace", "-qqq", "-f", "-o", "/dev/null", "-e", "trace=kill", "-e", "inject=kill:error=EPERM"]
     done = subprocess.run([*strace, folder.program, "run", "x.dag"], cwd=folder.path, capture_output=True, timeout=PATIENCE)
     took = time.monotonic() - began
     same((done.stdout, done.stderr, done.returncode), (b"", b"dagrun: X2 FileRefused x.dag.children\n", 125))
-    same((sleeping(), [done for *_, done in orphans_in(folder)]), (before, ["done=refused"] * 3))
-    if not 9 < took < 25:
+    same((sleeping(), [done for *_, done in orphans_in(folder)]), (before, ["done=refused"] * count))
+    # Ten seconds each would be 300. What is above ten is the pace of the machine.
+    if not 9 < took < 150:
         raise AssertionError(f"it took {took:.1f} seconds")
-    kill(begin_again(folder, 3))
+    kill(begin_again(folder, count))
 
 
 def forged_notes(folder):

@@ -27,7 +27,7 @@ CALM = 5
 def call(folder, library, place, *words):
     """What the program prints, what it tells and its exit status, with the allocation of this place refused; 0 is none."""
     words, environment = library.around(words, place) if place else (words, {})
-    done = subprocess.run(words, cwd=folder, capture_output=True, text=True, timeout=60, env={**os.environ, **environment})
+    done = subprocess.run(words, cwd=folder, capture_output=True, text=True, timeout=300, env={**os.environ, **environment})
     return done.stdout, done.stderr, done.returncode
 
 
@@ -171,7 +171,8 @@ NESTED = {
     **{f"{folder}{name}": text for folder in ("", "z/") for name, text in (("in.dag", INNER), ("leaf.dag", "JOB L l.sub\n"))},
     **{name: SUBMIT for name in ("s.sub", "e.sub", "a.sub", "b.sub", "l.sub", "z/a.sub", "z/b.sub", "z/l.sub")},
 }
-GATE = ': > "$1"; i=0; while [ ! -e "$2" ]; do i=$((i+1)); if [ $i -gt 200 ]; then rm -f "$1"; exit 9; fi; sleep 0.05; done; exit 0\n'
+# Waits for the other one, however late that comes: 300 seconds at least.
+GATE = ': > "$1"; i=0; while [ ! -e "$2" ]; do i=$((i+1)); if [ $i -gt 6000 ]; then rm -f "$1"; exit 9; fi; sleep 0.05; done; exit 0\n'
 
 
 def done(names, state="DONE attempts=1 value=0"):

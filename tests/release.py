@@ -50,8 +50,8 @@ def same(found, wanted):
 
 
 def call(folder, *words, **settings):
-    """What a command prints, what it tells, and its exit status."""
-    done = subprocess.run(words, cwd=folder, capture_output=True, text=True, timeout=120, stdin=subprocess.DEVNULL, **settings)
+    """What a command prints, what it tells, and its exit status. One of them makes a release, and one runs all of old_journals.py."""
+    done = subprocess.run(words, cwd=folder, capture_output=True, text=True, timeout=1800, stdin=subprocess.DEVNULL, **settings)
     return done.stdout, done.stderr, done.returncode
 
 
@@ -65,11 +65,19 @@ def files_below(folder):
 
 
 def wait_for(what):
-    for _ in range(600):
+    for _ in range(6000):
         if what():
             return
         time.sleep(0.05)
-    raise AssertionError("it did not come in half a minute")
+    raise AssertionError("it did not come in five minutes")
+
+
+def runs_still(process):
+    try:
+        with open(f"/proc/{process}/stat") as file:
+            return file.read().rpartition(")")[2].split()[0] not in "ZX"
+    except (FileNotFoundError, ProcessLookupError):
+        return False
 
 
 def released(work, name, **settings):
@@ -228,7 +236,9 @@ def begun(program, folder):
     wait_for(lambda: os.path.exists(f"{folder}/job.pid") and read(folder, "job.pid").endswith(b"\n"))
     manager.send_signal(signal.SIGKILL)
     manager.wait()
-    os.kill(int(read(folder, "job.pid")), signal.SIGKILL)
+    job = int(read(folder, "job.pid"))
+    os.kill(job, signal.SIGKILL)
+    wait_for(lambda: not runs_still(job))
     open(f"{folder}/go", "w").close()
 
 

@@ -64,7 +64,7 @@ def ran(program, files, words):
                 os.makedirs(os.path.dirname(os.path.join(room, name)), exist_ok=True)
                 with open(os.path.join(room, name), "wb") as it:
                     it.write(text)
-        how = {"input": files.get("-", b""), "capture_output": True, "cwd": room, "timeout": 60}
+        how = {"input": files.get("-", b""), "capture_output": True, "cwd": room, "timeout": 300}
         done = subprocess.run([program, *words], **how)
     return done.stdout, done.stderr.decode(errors="replace"), done.returncode
 

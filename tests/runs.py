@@ -70,6 +70,18 @@ class Folder:
             preexec_fn=lambda: signal.signal(signal.SIGINT, signal.SIG_DFL),
         )
 
+    def start_stopped(self, call, paths, *words):
+        """Starts the program under strace, which stops it behind its first call of this name, of those of one of these paths if there
+        are any. Answers strace and, once it is stopped, the number of the program, which SIGCONT lets go on."""
+        traced = [word for path in paths for word in ("-P", self.at(path))]
+        inject = ["-e", f"trace={call}", *traced, "-e", f"inject={call}:signal=SIGSTOP:when=1"]
+        tracer = subprocess.Popen(
+            ["strace", "-qqq", "-o", "calls", *inject, self.program, *words], cwd=self.path, stdout=subprocess.PIPE, stderr=subprocess.PIPE)
+        # A program that is traced stops at each call, for a moment: so strace is asked, and not the system.
+        wait_until(lambda: self.there("calls") and b"stopped by SIGSTOP" in self.read("calls"), f"{words} does not stop at {call}")
+        [program] = children_of(tracer.pid)
+        return tracer, program
+
     def call(self, *words):
         """What the program prints, what it tells, and its exit status."""
         done = subprocess.run([self.program, *words], cwd=self.path, capture_output=True, timeout=PATIENCE)
@@ -248,7 +260,7 @@ def what_can_not_be_started(folder):
         same(folder.call("run", f"{number}.dag"), (report, "", 1))
 
 
-# Makes its own file and waits for another one; after so many turns, which take a twentieth of a second, it takes its own away.
+# Makes its own file and waits for another one; after so many turns, which take a twentieth of a second at least, it takes its own away.
 GATE = ': > "$1"; i=0; while [ ! -e "$2" ]; do i=$((i+1)); if [ $i -gt %d ]; then rm -f "$1"; exit 9; fi; sleep 0.05; done; exit 0\n'
 
 
@@ -281,10 +293,12 @@ def launched_until_an_abort(folder, trap, *words):
     """How many seconds an abort takes, where B, which a launcher has started with such a trap, would never leave by itself; none of it runs
     any more."""
     # The launcher starts what it is told in a process of its own, and waits for it.
-    folder.write("l.sh", f"#!/bin/sh\ntrap '{trap}' TERM\n\"$@\" & job=$!\nwhile :; do wait $job && exit 0; status=$?; [ $status -lt 128 ] && exit $status; done\n")
+    # The abort comes once B runs and B's launcher knows its process: on a busy machine the process may be the faster one.
+    folder.write("l.sh", f"#!/bin/sh\ntrap '{trap}' TERM\n\"$@\" & job=$!\n: > knows.$DAGRUN_NODE\n"
+                 "while :; do wait $job && exit 0; status=$?; [ $status -lt 128 ] && exit $status; done\n")
     os.chmod(folder.at("l.sh"), 0o755)
-    folder.shell("a", "while [ ! -e b ]; do sleep 0.02; done; exit 7\n")
-    folder.shell("b", "echo $$ > process\nmv process b\nexec sleep 100\n")
+    folder.shell("a", "while [ ! -e b ] || [ ! -e knows.B ]; do sleep 0.02; done; exit 7\n")
+    folder.shell("b", "echo $$ > process\nmv process b\nexec sleep 1000\n")
     folder.write("x.dag", "JOB A a.sub\nJOB B b.sub\nABORT-DAG-ON A 7\n")
     began = time.monotonic()
     same(folder.call("run", "--launcher", "./l.sh", *words, "x.dag"), ("A ERROR attempts=1 value=7\nB READY attempts=0 value=-\nresult 7\n", "", 7))
@@ -295,8 +309,12 @@ def launched_until_an_abort(folder, trap, *words):
 
 def an_abort_asks_launchers(folder):
     """At an abort a launcher is asked to end, and ends its job; it is waited for no longer than that takes."""
-    took = launched_until_an_abort(folder, "kill $job; : > asked; exit 0", "--launcher-grace", "60")
-    same((folder.there("asked"), runs_still(int(folder.read("b"))), took < 50), (True, False, True))
+    # Who waits for all of that time waits for longer than the row.
+    took = launched_until_an_abort(folder, "kill $job; : > asked; exit 0", "--launcher-grace", str(2 * PATIENCE))
+    # The launcher has sent its job the signal, and may be gone before the job is.
+    process = int(folder.read("b"))
+    wait_until(lambda: not runs_still(process), f"the job of the launcher runs: {process}")
+    same((folder.there("asked"), runs_still(process), took < PATIENCE), (True, False, True))
 
 
 def an_abort_kills_launchers(folder):
@@ -344,13 +362,16 @@ def streams_and_environment(folder):
 
 
 def two_wait_for_each_other(folder):
-    folder.write("gate.sh", GATE % 200)
+    # Two that run at once meet, however late the second one comes.
+    folder.write("gate.sh", GATE % (20 * PATIENCE))
     folder.write("x.dag", "JOB A a.sub\nJOB B b.sub\n")
     for one, other in ("ab", "ba"):
         folder.write(f"{one}.sub", f"executable = /bin/sh\narguments = gate.sh {one} {other}\nqueue\n")
     same(folder.call("run", "x.dag"), ("A DONE attempts=1 value=0\nB DONE attempts=1 value=0\nresult 0\n", "", 0))
     for name in ("a", "b", "x.dag.journal"):
         os.remove(folder.at(name))
+    # Two of which one runs at a time never do, however slow they are.
+    folder.write("gate.sh", GATE % 200)
     both_fail = "A ERROR attempts=1 value=9\nB ERROR attempts=1 value=9\nresult 1\n"
     folder.write("y.dag", "JOB A a.sub\nJOB B b.sub\nCATEGORY A c\nCATEGORY B c\nMAXJOBS c 1\n")
     same(folder.call("run", "y.dag"), (both_fail, "", 1))
@@ -397,7 +418,8 @@ def marks_in(folder):
 def an_abort_and_final(folder):
     folder.write("x.dag", "JOB B b.sub\nJOB A a.sub\nRETRY B 3\nABORT-DAG-ON B 7 RETURN 42\nFINAL F f.sub\nSCRIPT PRE F pre.sh $DAG_STATUS $FAILED_COUNT\n")
     folder.shell("b", "while [ ! -e begun ]; do sleep 0.02; done\nexit 7\n")
-    folder.shell("a", ": > begun\nsleep 30\n: > late\n")
+    # A takes 200 seconds at least, and leaves no long sleep behind it.
+    folder.shell("a", ": > begun\ni=0; while [ $i -lt 4000 ]; do i=$((i+1)); sleep 0.05; done\n: > late\n")
     folder.echo("f")
     folder.write("pre.sh", '#!/bin/sh\necho "$@" > told\n')
     os.chmod(folder.at("pre.sh"), 0o755)
@@ -794,12 +816,21 @@ def a_lock_for_a_moment(folder):
     """As a child has it that was being made when its manager was killed: it is tried again."""
     folder.write("x.dag", "JOB A a.sub\n")
     folder.echo("a")
+    wanted = ["A DONE attempts=1 value=0\nresult 0\n", ""]
+    if shutil.which("strace"):
+        with locked(folder) as lock:
+            # The manager stops as it has tried the lock once, which it does for a third of a second else: that may be over by now.
+            run, manager = folder.start_stopped("flock", ["x.dag.lock"], "run", "x.dag")
+            fcntl.flock(lock, fcntl.LOCK_UN)
+            os.kill(manager, signal.SIGCONT)
+            same([text.decode() for text in run.communicate(timeout=PATIENCE)], wanted)
+        return
     with locked(folder) as lock, openings(folder.at("x.dag.lock")) as opened:
         run = folder.start("run", "x.dag")
         # The manager has found it.
         os.read(opened, 4096)
         fcntl.flock(lock, fcntl.LOCK_UN)
-        same([text.decode() for text in run.communicate(timeout=PATIENCE)], ["A DONE attempts=1 value=0\nresult 0\n", ""])
+        same([text.decode() for text in run.communicate(timeout=PATIENCE)], wanted)
 
 
 def a_journal_that_is_being_written(folder):
@@ -852,7 +883,8 @@ def stopped(folder, number):
     same(first.wait(timeout=PATIENCE), -number)
     same(folder.call("status", "x.dag"), ("A DONE attempts=1 value=0\nB SUBMITTED attempts=0 value=-\n", "", 0))
     folder.write("go", "")
-    folder.wait_for("b.ended")
+    # The line, and not only the file: the next manager ends the child, if that is not gone.
+    wait_until(lambda: folder.there("b.ended") and folder.read("b.ended") == b"ended\n", "b has not ended")
     first.communicate(timeout=PATIENCE)
     same(folder.call("run", "x.dag"), ("A DONE attempts=1 value=0\nB DONE attempts=1 value=0\nresult 0\n", "", 0))
     same([folder.read(name) for name in ("a.ran", "b.begun", "b.ended")], [b"ran\n", b"begun\n" * 2, b"ended\n" * 2])
@@ -1201,14 +1233,14 @@ def what_was_refused(folder):
 def an_abort_in_the_log(folder):
     folder.write("x.dag", "JOB A a.sub\nJOB B b.sub\nABORT-DAG-ON A 7\n")
     folder.shell("a", "while [ ! -e b ]; do sleep 0.02; done; exit 7\n")
-    folder.shell("b", ": > b; exec sleep 30\n")
+    folder.shell("b", ": > b; exec sleep 1000\n")
     same(folder.call("run", "x.dag"), ("A ERROR attempts=1 value=7\nB READY attempts=0 value=-\nresult 7\n", "", 7))
     same(events_of(folder), ["life - - -", "start A JOB 0", "start B JOB 0", "end A JOB 0", "abort - - -", "killed B JOB 0", "finish - - -"])
 
 
 def left_running(folder):
     """A manager is killed while a child of it sleeps; answers the child's process. Another one would end at once."""
-    folder.shell("a", "if [ -e again ]; then exit 0; fi\necho $$ > process\nmv process begun\nexec sleep 100\n")
+    folder.shell("a", "if [ -e again ]; then exit 0; fi\necho $$ > process\nmv process begun\nexec sleep 1000\n")
     return left(folder)
 
 
@@ -1241,6 +1273,26 @@ def runs_still(process):
         return stat_of(process)[0] not in "ZX"
     except (FileNotFoundError, ProcessLookupError):
         return False
+
+
+def children_of(process):
+    found = []
+    for name in filter(str.isdigit, os.listdir("/proc")):
+        with contextlib.suppress(OSError):
+            if int(stat_of(name)[1]) == process:
+                found.append(int(name))
+    return found
+
+
+def has_open(process, path):
+    """Whether a process has a file open."""
+    with contextlib.suppress(OSError):
+        folder = f"/proc/{process}/fd"
+        for name in os.listdir(folder):
+            with contextlib.suppress(OSError):
+                if os.path.samefile(f"{folder}/{name}", path):
+                    return True
+    return False
 
 
 def end_process(process):
@@ -1305,7 +1357,7 @@ def a_child_that_was_being_started(folder, *options):
     same((runs_still(process), [line.split("\t")[0] for line in folder.read("x.dag.children").decode().splitlines()]), (True, ["manager"]))
     folder.write("again", "")
     # Others of the group are left alone: one with other words, and one with the same.
-    others = [subprocess.Popen(["sleep", "100"]), subprocess.Popen(["/bin/sh", "-c", "read word", "/bin/sh", "a.sh"], stdin=subprocess.PIPE)]
+    others = [subprocess.Popen(["sleep", "1000"]), subprocess.Popen(["/bin/sh", "-c", "read word", "/bin/sh", "a.sh"], stdin=subprocess.PIPE)]
     try:
         same(folder.call("run", "x.dag"), (ONE_DONE, "", 0))
         same((runs_still(process), orphans_in(folder), [other.poll() for other in others]), (False, ["killed"], [None, None]))
@@ -1336,7 +1388,8 @@ def an_orphan_is_left(folder):
 def an_orphan_is_waited_for(folder):
     process = left_running(folder)
     second = folder.start("run", "--orphans=wait", "x.dag")
-    folder.wait_for("x.dag.lock")
+    # It opens the log once it has looked which processes there are.
+    wait_until(lambda: has_open(second.pid, folder.at("x.dag.log")), "the second manager has not come to its log")
     wait_for_pauses(second.pid, 10)
     same((second.poll(), runs_still(process), folder.read("x.dag.log").count(b"life")), (None, True, 1))
     os.kill(process, signal.SIGTERM)
@@ -1349,7 +1402,7 @@ def another_process_of_that_number(folder):
     process = left_running(folder)
     fields = folder.read("x.dag.children").decode().splitlines(keepends=True)[-1].split("\t")
     end_process(process)
-    other = subprocess.Popen(["sleep", "100"])
+    other = subprocess.Popen(["sleep", "1000"])
     try:
         began = stat_of(other.pid)[19]
         for line in ([fields[1], fields[2]], [began, "another-boot"], [began, fields[2]]):
@@ -1395,19 +1448,28 @@ def no_process_to_be_had(folder):
     """More children than the user may have processes: they are started as others end."""
     names = [f"n{number}" for number in range(40)]
     folder.write("x.dag", "".join(f"JOB {name} a.sub\n" for name in names))
-    folder.write("a.sub", "executable = /bin/sleep\narguments = 0.3\nqueue\n")
+    # Each waits for a line, without a process of its own: those that run go on to run until one is held.
+    folder.shell("a", "read line < gate\n")
+    os.mkfifo(folder.at("gate"))
     report = "".join(f"{name} DONE attempts=1 value=0\n" for name in names) + "result 0\n"
     shutil.copy(folder.program, folder.at("program"))
     as_another = {}
     if os.getuid() == 0:
-        # The superuser has no such limit; nobody else runs as this user.
-        user = 54321
+        # The superuser has no such limit; nobody else runs as this user, not in another call of this script either.
+        user = 20000 + os.getpid() % 20000
         for path in (folder.path, *(folder.at(name) for name in os.listdir(folder.path))):
             os.chown(path, user, user)
         as_another = {"user": user, "group": user, "extra_groups": []}
     words = ["prlimit", "--nproc=12", folder.at("program"), "run", "x.dag"]
-    done = subprocess.run(words, cwd=folder.path, capture_output=True, timeout=PATIENCE, **as_another)
-    same((done.stdout.decode(), done.stderr, done.returncode), (report, b"", 0))
+    run = subprocess.Popen(words, cwd=folder.path, stdout=subprocess.PIPE, stderr=subprocess.PIPE, **as_another)
+    gate = os.open(folder.at("gate"), os.O_RDWR)
+    try:
+        wait_until(lambda: folder.there("x.dag.log") and b"\thold\t" in folder.read("x.dag.log"), "none is held")
+        os.write(gate, b"\n" * len(names))
+        text, told = run.communicate(timeout=PATIENCE)
+    finally:
+        os.close(gate)
+    same((text.decode(), told, run.returncode), (report, b"", 0))
     same("hold" in {line[0] for line in fields_of(folder)}, True)
 
 
@@ -1589,7 +1651,7 @@ def no_process(folder):
     shutil.copy(folder.program, folder.at("program"))
     as_another = {}
     if os.getuid() == 0:
-        user = 54322
+        user = 40000 + os.getpid() % 20000
         for path in (folder.path, *(folder.at(name) for name in os.listdir(folder.path))):
             os.chown(path, user, user)
         as_another = {"user": user, "group": user, "extra_groups": []}
@@ -1856,8 +1918,8 @@ def why_by_the_journal(folder):
     text = why(folder)
     # An attempt that a forged line ends once more is listed twice.
     earlier = "    earlier  attempt 1: its job ended with exit 7 after 0.000 s\n"
-    text = re.sub(r"after \d\.\d{3} s", "after 0.000 s", text)
-    same((re.sub(r"    took     \d\.\d{3} s\n", "", text), len(lines_of(text, "took"))), (bare + earlier + "        attempt 0\n" + earlier, 1))
+    text = re.sub(r"after \d+\.\d{3} s", "after 0.000 s", text)
+    same((re.sub(r"    took     \d+\.\d{3} s\n", "", text), len(lines_of(text, "took"))), (bare + earlier + "        attempt 0\n" + earlier, 1))
     # An ending that the journal has and the log has not: its child was started, and no more is known.
     folder.write("x.dag.log", end + b"exit=7\tseconds=1.5\x1b[2J\n")
     same(lines_of(why(folder), "took"), ["1.5\\x1b[2J s"])
@@ -1884,7 +1946,7 @@ def why_while_it_runs(folder):
 
 def why_behind_a_kill(folder):
     """A manager was killed: what runs is told by the journal and the log, and that it runs no more by the system."""
-    folder.shell("a", "if [ -e again ]; then exit 0; fi\necho $$ > process\nmv process begun\nexec sleep 100\n")
+    folder.shell("a", "if [ -e again ]; then exit 0; fi\necho $$ > process\nmv process begun\nexec sleep 1000\n")
     folder.write("x.dag", "JOB A a.sub\n")
     manager = folder.start("run", "x.dag")
     folder.wait_for("begun")
@@ -1907,7 +1969,7 @@ def why_behind_a_kill(folder):
 def why_aborted(folder):
     folder.write("x.dag", "JOB A a.sub\nJOB B b.sub\nJOB C b.sub\nPARENT B CHILD C\nABORT-DAG-ON A 7\nRETRY A 3\n")
     folder.shell("a", "while [ ! -e b ]; do sleep 0.02; done; exit 7\n")
-    folder.shell("b", ": > b; exec sleep 30\n")
+    folder.shell("b", ": > b; exec sleep 1000\n")
     same(folder.call("run", "x.dag")[2], 7)
     lines = why(folder).splitlines()
     same(lines[:4], ["the round was aborted by A, whose value is that of its ABORT-DAG-ON line", "",
@@ -2282,9 +2344,10 @@ def outputs_are_synced(folder):
         (("run", "x.dag"), ["a.out", "a.err", "folder", "end 0", "b.out", "end 1", "end 2"]),
         (("run", "--autorescue", "0", "--sync-output", "0", "x.dag"), ["end 0", "end 1", "end 2"]),
     ):
-        reader = subprocess.Popen(["cat", folder.at("pipe")], stdout=subprocess.DEVNULL)
+        # It is open for reading before the run begins, and holds what C writes.
+        reader = os.open(folder.at("pipe"), os.O_RDONLY | os.O_NONBLOCK)
         subprocess.run(["strace", "-y", "-e", "trace=pwrite64,fsync,fdatasync", "-e", "signal=none", "-o", "calls", folder.program, *words], cwd=folder.path, capture_output=True, timeout=PATIENCE)
-        reader.wait(timeout=PATIENCE)
+        os.close(reader)
         seen, ends = [], 0
         for line in folder.read("calls").decode(errors="replace").splitlines():
             if re.search(r'pwrite64\(\d+<[^>]*x\.dag\.journal>, "\\3', line):
@@ -2300,10 +2363,18 @@ def outputs_are_synced(folder):
 def outputs_of_endings_together(folder):
     """Endings that are seen together are recorded in one batch; before that each file of the outputs is synced once, and then each folder once."""
     folder.write("x.dag", "JOB A a.sub\nJOB B a.sub\nJOB C c.sub\nVARS A name=\"a\"\nVARS B name=\"b\"\n")
-    # A and B wait until C has stopped the manager, which goes on once all three have ended.
-    folder.write("a.sh", "until [ -e stopped ]; do sleep 0.01; done\n")
-    folder.write("c.sh", "kill -STOP $PPID\n: > stopped\n(sleep 0.5; kill -CONT $PPID) > /dev/null 2>&1 &\n")
-    folder.write("a.sub", "executable = /bin/sh\narguments = a.sh\noutput = $(name).out\nerror = $(name).err\nqueue\n")
+    # A and B wait until C has stopped the manager, which goes on once all three have ended: nobody has asked for their ends then.
+    folder.write("a.sh", "echo $$ > $1.new\nmv $1.new $1.process\nuntil [ -e stopped ]; do sleep 0.01; done\n")
+    folder.write("c.sh", """
+until [ -e a.process ] && [ -e b.process ]; do sleep 0.01; done
+kill -STOP $PPID
+: > stopped
+(
+    for process in $(cat a.process b.process) $$; do while grep -q '^State:.[^Z]' /proc/$process/status; do sleep 0.01; done; done
+    kill -CONT $PPID
+) > /dev/null 2>&1 &
+""")
+    folder.write("a.sub", "executable = /bin/sh\narguments = a.sh $(name)\noutput = $(name).out\nerror = $(name).err\nqueue\n")
     folder.write("c.sub", "executable = /bin/sh\narguments = c.sh\noutput = c.out\nerror = c.out\nqueue\n")
     words = ["strace", "-qqq", "-y", "-o", "calls", "-e", "trace=pwrite64,fsync", "-e", "signal=none", folder.program, "run", "x.dag"]
     same(subprocess.run(words, cwd=folder.path, capture_output=True, timeout=PATIENCE).returncode, 0)
@@ -2935,7 +3006,7 @@ def salvaged_with_samples_added(folder):
     folder.write("x.dag", "JOB A a.sub\nJOB B b.sub\n")
     for name in "ac":
         folder.shell(name, f"echo ran >> {name}.ran\n")
-    folder.shell("b", "echo $$ > b.process\nmv b.process b.began\nsleep 100\n")
+    folder.shell("b", "echo $$ > b.process\nmv b.process b.began\nsleep 1000\n")
     folder.echo("d")
     for names, added in (("A", "C"), ("AC", "D")):
         run = folder.start("run", "x.dag")
@@ -3259,7 +3330,7 @@ def a_kill_refused_behind_an_abort(folder):
     """A child that the system doesn't let the manager kill is let go, the log says so, and the next `run` ends it first."""
     folder.write("x.dag", "JOB A a.sub\nJOB B b.sub\nABORT-DAG-ON A 7\n")
     folder.shell("a", "[ ! -e again ] || exit 0\nwhile [ ! -e b ]; do sleep 0.02; done; exit 7\n")
-    folder.shell("b", "[ ! -e again ] || exit 0\necho $$ > process\nmv process b\nexec sleep 100\n")
+    folder.shell("b", "[ ! -e again ] || exit 0\necho $$ > process\nmv process b\nexec sleep 1000\n")
     words = ["strace", "-qqq", "-o", "/dev/null", "-e", "trace=kill", "-e", "inject=kill:error=EPERM", folder.program, "run", "x.dag"]
     done = subprocess.run(words, cwd=folder.path, stdout=subprocess.PIPE, stderr=subprocess.DEVNULL, timeout=PATIENCE)
     same((done.stdout, done.returncode), (b"A ERROR attempts=1 value=7\nB READY attempts=0 value=-\nresult 7\n", 7))
@@ -3288,12 +3359,13 @@ def another_round_before_the_lock(folder):
     """Where another manager led a whole round between a manager's look and its lock, this one is refused, and starts nothing."""
     folder.write("x.dag", "JOB A a.sub\n")
     folder.shell("a", "echo ran >> ran\n")
-    late = subprocess.Popen(
-        ["strace", "-qqq", "-o", "/dev/null", "-e", "trace=flock", "-e", "inject=flock:delay_enter=2s:when=1", folder.program, "run", "x.dag"],
-        cwd=folder.path, stdout=subprocess.PIPE, stderr=subprocess.PIPE)
-    # It has looked, and holds the lock's file open.
-    wait_until(lambda: folder.there("x.dag.lock"), "the late manager has not come to its lock")
-    same(folder.call("run", "x.dag"), ("A DONE attempts=1 value=0\nresult 0\n", "", 0))
+    # It has looked, and holds the lock's file open, which it has not locked.
+    late, manager = folder.start_stopped("openat", ["x.dag.lock"], "run", "x.dag")
+    try:
+        same(folder.there("x.dag.lock"), True)
+        same(folder.call("run", "x.dag"), ("A DONE attempts=1 value=0\nresult 0\n", "", 0))
+    finally:
+        os.kill(manager, signal.SIGCONT)
     same(late.communicate(timeout=PATIENCE), (b"", b"dagrun: X2 FileRefused x.dag.lock\n"))
     same((late.returncode, folder.read("ran")), (125, b"ran\n"))
 
@@ -3333,15 +3405,15 @@ READERS = (("status",), ("audit",), ("graph",), ("why",), ("times",), ("salvage"
 
 
 def measured(folder, *words):
-    """The exit status of a command, how many lines it tells, its seconds, and its most memory in MB."""
-    start = time.monotonic()
+    """The exit status of a command, how many lines it tells, its seconds on a processor, which are no more on a busy machine, and its most
+    memory in MB. It ends in time: one that waits for a pipe would not."""
     with open(folder.at("told"), "wb") as told:
         process = subprocess.Popen([folder.program, *words], cwd=folder.path, stdout=subprocess.DEVNULL, stderr=told)
-    # One that waits for a pipe would wait for ever.
     ended = []
     wait_until(lambda: ended.append(os.wait4(process.pid, os.WNOHANG)) or ended[-1][0], f"{words} doesn't end")
     process.returncode = os.waitstatus_to_exitcode(ended[-1][1])
-    return process.returncode, folder.read("told").count(b"\n"), time.monotonic() - start, ended[-1][2].ru_maxrss / 1000
+    used = ended[-1][2]
+    return process.returncode, folder.read("told").count(b"\n"), used.ru_utime + used.ru_stime, used.ru_maxrss / 1000
 
 
 def all_commands_over(folder, make):
@@ -3450,6 +3522,145 @@ def inputs_of_many_bytes(folder):
 
 
 NOBODY = 65534
+
+
+def gated_jobs(folder, names):
+    """Jobs that note that they run, wait until the file `go` is there, and note their end."""
+    for name in names:
+        folder.shell(name, f"echo x >>{name}.began\nuntil [ -e go ]; do sleep 0.01; done\necho x >>{name}.done\n")
+
+
+def done_lines(*names):
+    return "".join(f"{name} DONE attempts=1 value=0\n" for name in names)
+
+
+def halted(folder, run, asked="x.dag.halt"):
+    """What a run says that was halted."""
+    same(tuple(text.decode() for text in run.communicate(timeout=PATIENCE)) + (run.returncode,), ("", f"dagrun: H1 Halted {asked}\n", 125))
+
+
+def halted_while_jobs_run(folder):
+    """A halt while 16 of 24 jobs run: these end and are recorded, no other one is launched, and the next run goes on with the rest."""
+    names = [f"n{number:02}" for number in range(24)]
+    folder.write("x.dag", "".join(f"JOB {name} {name}.sub\n" for name in names))
+    gated_jobs(folder, names)
+    run = folder.start("run", "--maxjobs", "16", "x.dag")
+    wait_until(lambda: all(folder.there(f"{name}.began") for name in names[:16]), "16 jobs don't run")
+    folder.write("x.dag.halt", "")
+    folder.write("go", "")
+    halted(folder, run)
+    same([folder.there(f"{name}.done") for name in names], [True] * 16 + [False] * 8)
+    # The journal has Life, 16 launches and 16 endings, and no Finish; nobody was killed.
+    kinds = [kind for kind, *_ in records_in(folder.path)]
+    same((kinds.count(LAUNCH), kinds.count(END), len(kinds)), (16, 16, 33))
+    same(b"\tkilled\t" in folder.read("x.dag.log"), False)
+    same(folder.call("status", "x.dag")[0], done_lines(*names[:16]) + "".join(f"{name} READY attempts=0 value=-\n" for name in names[16:]))
+    # As long as the file is there, nothing is launched.
+    refused(folder, ("run", "x.dag"), "H1 Halted x.dag.halt")
+    os.remove(folder.at("x.dag.halt"))
+    same(folder.call("run", "x.dag"), (done_lines(*names) + "result 0\n", "", 0))
+    same([folder.read(f"{name}.done") for name in names], [b"x\n"] * 24)
+
+
+def halted_before_the_first_launch(folder):
+    """Nothing is launched where the file is there from the start, and the round goes on once it is gone."""
+    folder.write("x.dag", "JOB A a.sub\nJOB B b.sub\nPARENT A CHILD B\n")
+    folder.echo("a", "b")
+    folder.write("x.dag.halt", "")
+    for _ in range(2):
+        refused(folder, ("run", "x.dag"), "H1 Halted x.dag.halt")
+        same((folder.there("a.out"), folder.there("x.dag.rescue001")), (False, False))
+    same(folder.call("status", "x.dag"), ("A READY attempts=0 value=-\nB NOT_READY attempts=0 value=-\n", "", 0))
+    os.remove(folder.at("x.dag.halt"))
+    same(folder.call("run", "x.dag"), (done_lines("A", "B") + "result 0\n", "", 0))
+    same(folder.call("audit", "x.dag"), (done_lines("A", "B") + "audit ok\n", "", 0))
+
+
+def halted_and_killed(folder):
+    """A manager that is killed while it is halted: what had ended stays, what ran is launched again once the file is gone."""
+    names = ["A", "B", "C"]
+    folder.write("x.dag", "".join(f"JOB {name} {name}.sub\n" for name in names) + "JOB D D.sub\nPARENT A B C CHILD D\n")
+    gated_jobs(folder, ["A", "D"])
+    for name in "BC":
+        folder.shell(name, f"echo x >>{name}.began\nuntil [ -e late ]; do sleep 0.01; done\necho x >>{name}.done\n")
+    run = folder.start("run", "x.dag")
+    wait_until(lambda: all(folder.there(f"{name}.began") for name in names), "three jobs don't run")
+    folder.write("x.dag.halt", "")
+    folder.write("go", "")
+    folder.wait_for_launch(5)
+    run.kill()
+    run.communicate(timeout=PATIENCE)
+    refused(folder, ("run", "x.dag"), "H1 Halted x.dag.halt")
+    same([len(folder.read(f"{name}.began").split()) for name in names], [1, 1, 1])
+    os.remove(folder.at("x.dag.halt"))
+    folder.write("late", "")
+    same(folder.call("run", "x.dag"), ("".join(f"{name} DONE attempts=1 value=0\n" for name in "ABCD") + "result 0\n", "", 0))
+    same([len(folder.read(f"{name}.began").split()) for name in "ABCD"], [1, 2, 2, 1])
+    same([len(folder.read(f"{name}.done").split()) for name in "ABCD"], [1, 1, 1, 1])
+
+
+def halted_with_nothing_left(folder):
+    """A run that has nothing left to launch ends as it would without the file."""
+    folder.write("x.dag", "JOB A a.sub\nJOB B b.sub\nPARENT A CHILD B\n")
+    folder.echo("a")
+    folder.shell("b", "touch x.dag.halt\n")
+    same(folder.call("run", "x.dag"), (done_lines("A", "B") + "result 0\n", "", 0))
+
+
+def halted_at_a_script(folder):
+    """Phases are launches, too: behind a halt there is no POST script, and the next run begins with it."""
+    folder.write("x.dag", "JOB A a.sub\nSCRIPT POST A /bin/sh post.sh\n")
+    folder.shell("a", "touch x.dag.halt\n")
+    folder.write("post.sh", "echo x >>post\n")
+    refused(folder, ("run", "x.dag"), "H1 Halted x.dag.halt")
+    same(folder.there("post"), False)
+    os.remove(folder.at("x.dag.halt"))
+    same(folder.call("run", "x.dag"), (done_lines("A") + "result 0\n", "", 0))
+    same(folder.read("post"), b"x\n")
+
+
+def stopped_at_the_first_error(folder):
+    """Once a node has failed for good nothing more is launched, what runs ends, and the next run goes on with what does not wait for it."""
+    folder.write("x.dag", "JOB A a.sub\nJOB B b.sub\nJOB C c.sub\nJOB D d.sub\nPARENT A CHILD C\nPARENT B CHILD D\nRETRY A 1\n")
+    folder.shell("a", "echo x >>a.began\nexit 3\n")
+    folder.shell("b", "until [ -e go ]; do sleep 0.01; done\n")
+    folder.echo("c", "d")
+    run = folder.start("run", "--stop-at-first-error", "x.dag")
+    # Life, two launches in a batch, the ending of A, its second launch and its ending: A has failed for good.
+    folder.wait_for_launch(6)
+    folder.write("go", "")
+    halted(folder, run, "--stop-at-first-error")
+    wanted = "A ERROR attempts=2 value=3\nB DONE attempts=1 value=0\nC NOT_READY attempts=0 value=-\nD {} attempts={} value={}\n"
+    same(folder.call("status", "x.dag"), (wanted.format("READY", 0, "-"), "", 0))
+    # What failed before does not count.
+    same(folder.call("run", "--stop-at-first-error", "x.dag"), (wanted.format("DONE", 1, 0) + "result 1\n", "", 1))
+    same((folder.read("a.began"), folder.there("c.out"), folder.there("x.dag.rescue001")), (b"x\nx\n", False, True))
+
+
+def not_stopped_by_what_is_tried_again(folder):
+    """An attempt that fails and is tried again, and a POST that accepts, are no error; and a program that can't be started is one."""
+    folder.write("x.dag", "JOB A a.sub\nJOB B b.sub\nRETRY A 1\nJOB C c.sub\nSCRIPT POST C /bin/true\nPARENT A C CHILD B\n")
+    folder.shell("a", "[ -e once ] || { touch once; exit 1; }\n")
+    folder.shell("c", "exit 1\n")
+    folder.echo("b")
+    same(
+        folder.call("run", "--stop-at-first-error", "x.dag"),
+        ("A DONE attempts=2 value=0\nB DONE attempts=1 value=0\nC DONE attempts=1 value=0\nresult 0\n", "", 0),
+    )
+    folder.write("y.dag", "JOB A a.sub\nJOB B none.sub\nJOB C b.sub\nPARENT A B CHILD C\nJOB D b.sub\nPARENT A CHILD D\n")
+    folder.write("none.sub", "executable = no-such-program\nqueue\n")
+    refused(folder, ("run", "--maxjobs", "1", "--stop-at-first-error", "y.dag"), "H1 Halted --stop-at-first-error")
+
+
+def a_halt_of_another_user(folder):
+    """In a folder into which others may put files, theirs halt no run, unless root trusts them."""
+    folder.write("x.dag", "JOB A a.sub\n")
+    folder.echo("a")
+    folder.write("x.dag.halt", "")
+    os.chown(folder.at("x.dag.halt"), NOBODY, NOBODY)
+    os.chmod(folder.path, 0o777)
+    same(folder.call("run", "x.dag"), (done_lines("A") + "result 0\n", "", 0))
+    refused(folder, ("run", "--trust-owner", "x.dag"), "H1 Halted x.dag.halt")
 
 
 def files_of_other_users(folder):
@@ -3637,7 +3848,7 @@ def when_the_steps_ran(folder):
     same(names, list(dict.fromkeys(row[0] for row in rows[1:])))
     # What runs, and what was lost with its manager.
     folder.write("y.dag", "JOB A a.sub\nJOB E e.sub\nPARENT A CHILD E\n")
-    folder.shell("e", ": >begun\nexec sleep 60\n")
+    folder.shell("e", "echo $$ > process\nmv process begun\nexec sleep 1000\n")
     first = folder.start("run", "y.dag")
     folder.wait_for("begun")
     folder.wait_for_start("y.dag", "E")
@@ -3651,6 +3862,7 @@ def when_the_steps_ran(folder):
     same([line.split("\t")[5] for line in folder.call("times", "y.dag")[0].splitlines()[1:]], ["exit 0", "lost", "runs"])
     second.kill()
     second.wait(timeout=PATIENCE)
+    end_process(int(folder.read("begun")))
     # FINAL waits for all.
     folder.write("z.dag", "JOB A late.sub\nJOB D d.sub\nFINAL F d.sub\n")
     folder.shell("late", f"{until('z.dag.log', 'end', 'D')}sleep 0.05\n")
@@ -3976,6 +4188,13 @@ ROWS = [
     redone_when_cut_short,
     redone_splices_and_final,
     refusals_of_redo,
+    halted_while_jobs_run,
+    halted_before_the_first_launch,
+    halted_and_killed,
+    halted_with_nothing_left,
+    halted_at_a_script,
+    stopped_at_the_first_error,
+    not_stopped_by_what_is_tried_again,
 ]
 
 
@@ -3987,7 +4206,7 @@ def main():
     else:
         print("strace is not installed: the order in which the disk is written is not looked at, and no call of going back is cut short, and no child while it is started")
     if os.getuid() == 0:
-        rows += [files_of_other_users, told_by_files_of_other_users, salvaged_by_files_of_other_users, redone_by_files_of_other_users]
+        rows += [a_halt_of_another_user, files_of_other_users, told_by_files_of_other_users, salvaged_by_files_of_other_users, redone_by_files_of_other_users]
     else:
         print("this is not root: whose the files are that stand beside a DAG is not looked at")
     if can_mount():

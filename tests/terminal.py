@@ -6,6 +6,7 @@
 A small screen reads what comes: text, CR, LF and the erasing of the rest of a line; anything else is a fault. So a row says which lines a
 person sees, at 20, 80 and 200 columns and as the terminal is resized; that nothing stays but what is to stay; and that standard output
 and the exit status are what they are without. Values are worked out by hand from docs/MANUAL.md. The last line is 'N passed, M failed'."""
+import contextlib
 import fcntl
 import os
 import pty
@@ -24,10 +25,13 @@ import unicodedata
 
 from journals import HEADER, SLOT, slots_in
 
-# A line that says how far a run is, with its counts.
+# How many seconds it is waited for what comes at once on a machine that is not busy.
+PATIENCE = 300
+
 # The line behind a run: how many nodes are in which state, and how long it took.
 END = re.compile(r"^(\d+ done(, \d+ failed)?(, \d+ waiting)?), (\d+\.\d s|\d+:\d\d)(; dagrun why \S+ says why)?$")
 
+# A line that says how far a run is, with its counts.
 LINE = re.compile(r"^(\d+)/(\d+) done, (\d+) running( \(.*\))?, (\d+) ready, (\d+) failed  (\d+:\d\d)$")
 
 
@@ -159,6 +163,31 @@ class Told:
         return [match for match in found if match]
 
 
+def until(name):
+    """A line of shell that waits until this file is there, or the folder is no more: a row that fails makes no file."""
+    return f"until [ -e {name} ] || [ ! -e x.dag ]; do sleep 0.05; done\n"
+
+
+@contextlib.contextmanager
+def many(folder, name, count):
+    """A job that many run at once, each of which waits for a line and needs no time of a processor for it. Answers what lets so many end."""
+    folder.shell(name, "read line < gate\n", error=False)
+    os.mkfifo(folder.at("gate"))
+    gate = os.open(folder.at("gate"), os.O_RDWR)
+    try:
+        yield lambda: os.write(gate, b"\n" * count)
+    finally:
+        os.close(gate)
+
+
+def numbers(*wanted):
+    """Whether a line has these counts: done, nodes, running, ready, failed."""
+    def has(line):
+        found = LINE.match(line)
+        return bool(found) and found.group(1, 2, 3, 5, 6) == wanted
+    return has
+
+
 class Folder:
     """A folder with files, in which the program is called."""
 
@@ -192,12 +221,14 @@ class Folder:
     def call(self, *words, **how):
         """What the program prints, what it tells where that is no terminal, and its exit status."""
         environment = {**os.environ, "TERM": "xterm", **how}
-        done = subprocess.run([self.program, *words], cwd=self.path, capture_output=True, timeout=120, env=environment)
+        done = subprocess.run([self.program, *words], cwd=self.path, capture_output=True, timeout=PATIENCE, env=environment)
         return done.stdout.decode(), done.stderr.decode(), done.returncode
 
-    def on_terminal(self, *words, columns=80, resized=(), term="xterm", limit=None, killed=None, typed=None):
-        """Calls the program with standard error on a terminal. `resized`: seconds and columns; `limit`: bytes that a file may have;
-        `killed`: what is to be seen before the program is killed; `typed`: standard input is the terminal, too, on which this is typed, with no echo."""
+    def on_terminal(self, *words, columns=80, steps=(), term="xterm", limit=None, killed=None, typed=None):
+        """Calls the program with standard error on a terminal. `steps`: what is to be seen, one after the other, each a line with 0 seconds in
+        place of however many there are, or a function of a line; and then the columns of the terminal from there on, or the file that is made,
+        for which jobs may wait, or what is called: so they run until it is seen, however slow the machine is. `limit`: bytes that a file may have; `killed`: what is
+        to be seen before the program is killed; `typed`: standard input is the terminal, too, on which this is typed, with no echo."""
         ours, theirs = pty.openpty()
         if typed is not None:
             modes = termios.tcgetattr(theirs)
@@ -225,15 +256,12 @@ class Folder:
             )
             os.close(theirs)
             screen, raw = Screen(columns), b""
-            waiting = list(resized)
+            waiting, looked = list(steps), 0
             pending = b""
             while True:
-                now = time.monotonic() - began
-                assert now < 120, "the run does not end"
-                if waiting and now >= waiting[0][0]:
-                    columns = waiting.pop(0)[1]
-                    fcntl.ioctl(ours, termios.TIOCSWINSZ, struct.pack("HHHH", 24, columns, 0, 0))
-                    screen.resize(columns)
+                if time.monotonic() - began > PATIENCE:
+                    run.kill()
+                    raise AssertionError(f"the run does not end; {len(waiting)} steps are not seen; the last lines: {screen.seen[-9:]}")
                 if not select.select([ours], [], [], 0.02)[0]:
                     continue
                 try:
@@ -247,10 +275,25 @@ class Folder:
                 text = pending.decode(errors="ignore")
                 pending = pending[len(text.encode()) :]
                 screen.take(text)
+                # What does not stay, and what does.
+                lines = screen.seen[looked:] + screen.text()
+                looked = len(screen.seen)
+                while waiting and any(waiting[0][0](line) if callable(waiting[0][0]) else steady(line) == waiting[0][0] for line in lines):
+                    then = waiting.pop(0)[1]
+                    if isinstance(then, str):
+                        self.write(then, "")
+                        continue
+                    if callable(then):
+                        then()
+                        continue
+                    fcntl.ioctl(ours, termios.TIOCSWINSZ, struct.pack("HHHH", 24, then, 0, 0))
+                    screen.resize(then)
+                    # What has been read is of the width before.
+                    break
                 if killed and any(killed in line for line in screen.seen):
                     run.kill()
                     killed = None
-            status = run.wait(timeout=60)
+            status = run.wait(timeout=PATIENCE)
             took = time.monotonic() - began
             os.close(ours)
             output.seek(0)
@@ -267,10 +310,15 @@ def holds(fact, what):
         raise AssertionError(what)
 
 
-def four(folder, script="sleep 1\n"):
+# What is to be seen while the pairs of `four` run, which wait for it.
+FIRST_PAIR = "0/4 done, 2 running (A 0 s, B 0 s), 0 ready, 0 failed  0:00"
+SECOND_PAIR = "2/4 done, 2 running (C 0 s, D 0 s), 0 ready, 0 failed  0:00"
+
+
+def four(folder, first=until("first"), second="true\n"):
     """Four nodes one behind another in pairs: A and B, then C and D."""
     for name in "ABCD":
-        folder.shell(name, script)
+        folder.shell(name, first if name in "AB" else second)
     folder.write("x.dag", "JOB A A.sub\nJOB B B.sub\nJOB C C.sub\nJOB D D.sub\nPARENT A B CHILD C D\n")
 
 
@@ -282,8 +330,8 @@ ALL_DONE = "".join(f"{name} DONE attempts=1 value=0\n" for name in "ABCD") + "re
 
 def goes_on(folder):
     """At 80 columns the line has the names, from those that run longest on; nothing stays, and the report stands alone."""
-    four(folder)
-    told = folder.on_terminal("run", "x.dag")
+    four(folder, second=until("second"))
+    told = folder.on_terminal("run", "x.dag", steps=[(FIRST_PAIR, "first"), (SECOND_PAIR, "second")])
     same(told.text, ALL_DONE)
     same(told.status, 0)
     same(told.kept(), [])
@@ -295,21 +343,36 @@ def goes_on(folder):
 def counts_of_states(folder):
     """Ready are those that wait for a limit; E and F wait for their parent; failed is a node in error."""
     for name in "ABCDEF":
-        folder.shell(name, "exit 3\n" if name == "A" else "sleep 1.2\n")
+        folder.shell(name, {"A": "exit 3\n", "B": until("first"), "C": until("first")}.get(name, until("second")))
     folder.write("x.dag", "".join(f"JOB {name} {name}.sub\n" for name in "ABCDEF") + "PARENT A CHILD E\nPARENT B CHILD F\nPRIORITY A 9\n")
-    told = folder.on_terminal("run", "--maxjobs", "2", "x.dag")
-    numbers = [match.group(1, 2, 3, 5, 6) for match in told.progress()]
+    steps = [(numbers("0", "6", "2", "1", "1"), "first"), (numbers("2", "6", "2", "0", "1"), "second")]
+    told = folder.on_terminal("run", "--maxjobs", "2", "x.dag", steps=steps)
+    found = [match.group(1, 2, 3, 5, 6) for match in told.progress()]
     # A has failed, B and C run, D is ready, E and F wait for their parents.
-    holds(("0", "6", "2", "1", "1") in numbers, f"{numbers}")
+    holds(("0", "6", "2", "1", "1") in found, f"{found}")
     # B and C are done: D and F run.
-    holds(("2", "6", "2", "0", "1") in numbers, f"{numbers}")
+    holds(("2", "6", "2", "0", "1") in found, f"{found}")
     same(told.status, 1)
+
+
+def a_halt(folder):
+    """A halt is said while something runs, and stays; so does the refusal, with what to do."""
+    folder.shell("A", "touch x.dag.halt\n")
+    # B ends once A's ending is in the journal: Life, the batch of two launches, and that.
+    recorded = HEADER + 4 * SLOT + SLOT
+    folder.shell("B", f'until [ "$(stat -c %s x.dag.journal)" -gt {recorded} ]; do sleep 0.05; done\n')
+    folder.write("x.dag", "JOB A A.sub\nJOB B B.sub\nJOB C A.sub\nPARENT A B CHILD C\nJOB D A.sub\nPARENT A CHILD D\n")
+    told = folder.on_terminal("run", "x.dag")
+    same((told.text, told.status), ("", 125))
+    kept = told.kept()
+    same(kept[:2], ["halted: nothing more is launched; 1 still runs", "dagrun: H1 Halted x.dag.halt"])
+    holds(any("Remove the file that is named, and call `dagrun run` again" in line for line in kept), f"{kept}")
 
 
 def at_20_columns(folder):
     """There is no room for names, nor for all numbers: the line is cut, and is never wider than the terminal."""
     four(folder)
-    told = folder.on_terminal("run", "x.dag", columns=20)
+    told = folder.on_terminal("run", "x.dag", columns=20, steps=[("0/4 done, 2 runni..", "first")])
     same(told.text, ALL_DONE)
     same(told.kept(), [])
     same(told.screen.wrapped, 0)
@@ -320,44 +383,48 @@ def at_20_columns(folder):
 def at_200_columns(folder):
     """Forty names of nodes are too many for 199 columns: as many stand there as have room, and `..`."""
     names = [f"name_{number:02}" for number in range(40)]
-    folder.shell("j", "sleep 4\n")
     folder.write("x.dag", "".join(f"JOB {name} j.sub\n" for name in names))
-    told = folder.on_terminal("run", "--maxjobs", "60", "x.dag", columns=200)
+    # `0/40 done, 40 running` and `, 0 ready, 0 failed  0:00` take 21 and 25 columns, ` (` and `, ..)` seven: 146 of 199 are left, of which
+    # `name_00 0 s` takes 11 and each further one 13: eleven fit, as long as none of them has run for ten seconds.
+    first = "0/40 done, 40 running (" + ", ".join(f"{name} 0 s" for name in names[:11]) + ", ..), 0 ready, 0 failed  0:00"
+    with many(folder, "j", len(names)) as end_all:
+        told = folder.on_terminal("run", "--maxjobs", "60", "x.dag", columns=200, steps=[(first, end_all)])
     same(told.kept(), [])
     same(told.screen.wrapped, 0)
-    # `0/40 done, 40 running` and `, 0 ready, 0 failed  0:00` take 21 and 25 columns, ` (` and `, ..)` seven: 146 of 199 are left, of which
-    # `name_00 0 s` takes 11 and each further one 13: eleven fit.
-    first = "0/40 done, 40 running (" + ", ".join(f"{name} 0 s" for name in names[:11]) + ", ..), 0 ready, 0 failed  0:00"
     told.has_shown(first)
 
 
 def resized(folder):
-    """From 80 columns to 40 and to 120: within two seconds the line is as wide as there is room."""
+    """From 80 columns to 40 and to 120: soon the line is as wide as there is room. The jobs run until that is seen."""
     for name in ("first_of_two", "second_of_two"):
-        folder.shell(name, "sleep 8\n")
+        folder.shell(name, until("seen"))
     folder.write("x.dag", "JOB first_of_two first_of_two.sub\nJOB second_of_two second_of_two.sub\n")
-    told = folder.on_terminal("run", "x.dag", resized=[(1.0, 40), (4.0, 120)])
-    told.has_shown("0/2 done, 2 running (first_of_two 0 s, ..), 0 ready, 0 failed  0:00")
+    at_80 = "0/2 done, 2 running (first_of_two 0 s, ..), 0 ready, 0 failed  0:00"
     # 39 columns have no room for the 44 of the numbers, nor 79 for the 84 of the whole.
-    told.has_shown("0/2 done, 2 running, 0 ready, 0 faile..")
-    told.has_shown("0/2 done, 2 running (first_of_two 0 s, second_of_two 0 s), 0 ready, 0 failed  0:00")
+    at_40 = "0/2 done, 2 running, 0 ready, 0 faile.."
+    at_120 = "0/2 done, 2 running (first_of_two 0 s, second_of_two 0 s), 0 ready, 0 failed  0:00"
+    told = folder.on_terminal("run", "x.dag", steps=[(at_80, 40), (at_40, 120), (at_120, "seen")])
+    for line in (at_80, at_40, at_120):
+        told.has_shown(line)
     same(told.screen.text()[-1], "", "a line is left: ")
 
 
 def wide_names(folder):
     """Characters of two columns are counted as such, and control characters in a name are shown as what they are."""
     name = "工作流程节点"
-    folder.shell("j", "sleep 1\n")
+    folder.shell("j", until("seen"))
     folder.write("x.dag", f"JOB {name} j.sub\nJOB b\x85c j.sub\n")
-    told = folder.on_terminal("run", "x.dag", columns=90)
+    line = f"0/2 done, 2 running ({name} 0 s, b\\x85c 0 s), 0 ready, 0 failed  0:00"
+    told = folder.on_terminal("run", "x.dag", columns=90, steps=[(line, "seen")])
     same(told.screen.wrapped, 0)
-    told.has_shown(f"0/2 done, 2 running ({name} 0 s, b\\x85c 0 s), 0 ready, 0 failed  0:00")
+    told.has_shown(line)
     # 19 columns and 25 stand around ` (`, twelve of the name, ` 0 s` and `, ..)`: 67, and the last column stays free.
     for columns, shown in ((68, f" ({name} 0 s, ..)"), (67, "")):
-        for file in ("x.dag.journal", "x.dag.log"):
+        for file in ("x.dag.journal", "x.dag.log", "seen"):
             os.remove(folder.at(file))
-        told = folder.on_terminal("run", "x.dag", columns=columns)
-        told.has_shown(f"0/2 done, 2 running{shown}, 0 ready, 0 failed  0:00")
+        line = f"0/2 done, 2 running{shown}, 0 ready, 0 failed  0:00"
+        told = folder.on_terminal("run", "x.dag", columns=columns, steps=[(line, "seen")])
+        told.has_shown(line)
 
 
 # ---- what failed
@@ -366,9 +433,9 @@ def wide_names(folder):
 def a_failure_in_between(folder):
     """Each failed attempt has a line that stays; the last one has the last lines of its errors below it."""
     folder.shell("A", "echo one >&2; echo two >&2; exit 3\n")
-    folder.shell("B", "sleep 1\n")
+    folder.shell("B", until("seen"))
     folder.write("x.dag", "JOB A A.sub\nJOB B B.sub\nRETRY A 1\n")
-    told = folder.on_terminal("run", "x.dag")
+    told = folder.on_terminal("run", "x.dag", steps=[(numbers("0", "2", "1", "0", "1"), "seen")])
     same(told.kept(), [
         "A JOB, attempt 0: exit 3; errors in A.err; it is tried again",
         "A JOB, attempt 1: exit 3; errors in A.err",
@@ -377,8 +444,8 @@ def a_failure_in_between(folder):
     ])
     same(told.text, "A ERROR attempts=2 value=3\nB DONE attempts=1 value=0\nresult 1\n")
     same(told.status, 1)
-    numbers = [match.group(1, 2, 3, 5, 6) for match in told.progress()]
-    holds(("0", "2", "1", "0", "1") in numbers, f"{numbers}")
+    found = [match.group(1, 2, 3, 5, 6) for match in told.progress()]
+    holds(("0", "2", "1", "0", "1") in found, f"{found}")
 
 
 def signals_and_scripts(folder):
@@ -429,21 +496,30 @@ def ends_of_files(folder):
 # ---- where nothing is redrawn
 
 
+def plain_lines(found, wanted, took, what=""):
+    """Whether these lines were told, the first of which says how far a run is. One more such line is told each ten seconds: so long a run
+    takes on a slow machine alone."""
+    others = [line for line in found[1:] if LINE.match(line)]
+    holds(len(others) <= took // 10, f"{what}{len(others)} lines more in {took:.1f} seconds: {found}")
+    same([steady(line) for line in found[:1] + [line for line in found[1:] if line not in others]], wanted, what)
+
+
 def dumb_terminals(folder):
     """TERM=dumb, and none: plain lines and no control character."""
     four(folder)
     for term in ("dumb", None):
-        told = folder.on_terminal("run", "x.dag", term=term)
+        told = folder.on_terminal("run", "x.dag", term=term, steps=[(FIRST_PAIR, "first")])
         holds(b"\x1b" not in told.raw, f"{term}: {told.raw!r}")
-        same([steady(line) for line in told.kept()], ["0/4 done, 2 running (A 0 s, B 0 s), 0 ready, 0 failed  0:00"], f"{term}: ")
+        plain_lines(told.kept(), ["0/4 done, 2 running (A 0 s, B 0 s), 0 ready, 0 failed  0:00"], told.took, f"{term}: ")
         same(told.end(), ["4 done"], f"{term}: ")
         same(told.text, ALL_DONE)
         os.remove(folder.at("x.dag.journal"))
+        os.remove(folder.at("first"))
 
 
 def never(folder):
     """`--progress never` on a terminal writes nothing."""
-    four(folder, "exit 2\n")
+    four(folder, "exit 2\n", "exit 2\n")
     told = folder.on_terminal("run", "--progress", "never", "x.dag")
     same(told.raw, b"")
     same(told.status, 1)
@@ -454,18 +530,27 @@ def no_terminal(folder):
     four(folder)
     folder.shell("D", "echo why >&2; exit 4\n")
     wanted = ALL_DONE.replace("D DONE attempts=1 value=0\nresult 0", "D ERROR attempts=1 value=4\nresult 1")
+    folder.write("first", "")
     same(folder.call("run", "x.dag"), (wanted, "", 1))
     for name in os.listdir(folder.path):
-        if name.startswith("x.dag."):
+        if name.startswith("x.dag.") or name == "first":
             os.remove(folder.at(name))
-    text, told, status = folder.call("run", "--progress", "always", "x.dag")
-    same((text, status), (wanted, 1))
-    same(steady(told), "0/4 done, 2 running (A 0 s, B 0 s), 0 ready, 0 failed  0:00\nD JOB, attempt 0: exit 4; errors in D.err\n  | why\n")
+    began = time.monotonic()
+    run = subprocess.Popen(
+        [folder.program, "run", "--progress", "always", "x.dag"], cwd=folder.path, stdout=subprocess.PIPE, stderr=subprocess.PIPE, env={**os.environ, "TERM": "xterm"})
+    # A and B run until the first line is there, which comes at once; where it doesn't, the row ends all the same.
+    holds(select.select([run.stderr], [], [], PATIENCE)[0], "nothing is told")
+    folder.write("first", "")
+    text, told = (output.decode() for output in run.communicate(timeout=PATIENCE))
+    took = time.monotonic() - began
+    same((text, run.returncode), (wanted, 1))
+    same(told[-1:], "\n")
+    plain_lines(told.splitlines(), ["0/4 done, 2 running (A 0 s, B 0 s), 0 ready, 0 failed  0:00", "D JOB, attempt 0: exit 4; errors in D.err", "  | why"], took)
 
 
 def same_output(folder):
     """What is printed is byte for byte what is printed without."""
-    four(folder, "sleep 0.1\n")
+    four(folder, "sleep 0.1\n", "sleep 0.1\n")
     without = folder.call("run", "--progress", "never", "x.dag")
     os.remove(folder.at("x.dag.journal"))
     told = folder.on_terminal("run", "x.dag")
@@ -477,14 +562,15 @@ def same_output(folder):
 
 def an_abort(folder):
     """A node's abort ends the run: its line stays, the other one's is gone with the children that are killed."""
-    folder.shell("A", "sleep 0.5; exit 7\n")
-    folder.shell("B", "sleep 30\n")
+    folder.shell("A", until("seen") + "exit 7\n")
+    folder.shell("B", "exec sleep 1000\n")
     folder.write("x.dag", "JOB A A.sub\nJOB B B.sub\nABORT-DAG-ON A 7 RETURN 9\n")
-    told = folder.on_terminal("run", "x.dag")
+    told = folder.on_terminal("run", "x.dag", steps=[(numbers("0", "2", "2", "0", "0"), "seen")])
     same(told.kept(), ["A JOB, attempt 0: exit 7; errors in A.err"])
     same(told.end(), ["not done: A ERROR, B READY", "0 done, 1 failed, 1 waiting; dagrun why x.dag says why"])
     same(told.status, 9)
-    holds(told.took < 20, "it waited for B")
+    # B takes longer than the row may.
+    holds(told.took < PATIENCE, "it waited for B")
 
 
 def how_it_ended(folder):
@@ -605,10 +691,16 @@ def hints(folder):
     folder.write("z.dag", "JOB A away/a.sub\n")
     folder.write("q.dag", "JOB A two.sub\n")
     here = os.path.realpath(folder.path)
+    advice = [
+        "    See that the file is there and may be read. A relative path is taken from",
+        "    the folder in which dagrun is called, then the DIR of each SPLICE line on the",
+        "    way to the node, and then the DIR of its JOB line. Where the file is beside",
+        "    the DAG file, call dagrun in that folder.",
+    ]
     told = {
         "x.dag": ["dagrun: S5 UnknownNode x.dag:2:20", "    2 | PARENT Fetch CHILD Fecth", "                           ^", "    is Fetch meant?", "    dagrun explain S5 says more"],
         "y.dag": ["dagrun: L2 UnknownCommand y.dag:3:1", "    3 | JOBS B b.sub", "        ^", "    is JOB meant?", "    dagrun explain L2 says more"],
-        "z.dag": ["dagrun: P1 MissingFile away/a.sub", f"    away/a.sub: No such file or directory (os error 2), seen from {here}", "    dagrun explain P1 says more"],
+        "z.dag": ["dagrun: P1 MissingFile away/a.sub", f"    away/a.sub: No such file or directory (os error 2), seen from {here}", *advice],
         "q.dag": ["dagrun: U4 QueueCount two.sub:2", "    2 | queue 2", "    Write `queue` once, with no count, and a JOB line for each of the jobs, with", "    its number by VARS."],
         "away.dag": ["dagrun: S1 MissingFile away.dag", f"    away.dag: No such file or directory (os error 2), seen from {here}", "    dagrun explain S1 says more"],
     }
@@ -682,11 +774,11 @@ def goes_on_where_it_stood(folder):
     """A round that goes on counts what was done before."""
     for name in "ABC":
         folder.shell(name, "sleep 0.3\n")
-    folder.shell("D", "sleep 3\n")
+    folder.shell("D", until("seen"))
     folder.write("x.dag", "JOB A A.sub\nJOB B B.sub\nJOB C C.sub\nJOB D D.sub\nPARENT A CHILD B\nPARENT B CHILD C\nPARENT C CHILD D\n")
     told = folder.on_terminal("run", "x.dag", killed="3/4 done, 1 running (D ")
     same(told.status, -signal.SIGKILL)
-    told = folder.on_terminal("run", "x.dag")
+    told = folder.on_terminal("run", "x.dag", steps=[("3/4 done, 1 running (D 0 s), 0 ready, 0 failed  0:00", "seen")])
     same(told.lines()[0], "3/4 done, 1 running (D 0 s), 0 ready, 0 failed  0:00")
     same(told.text, ALL_DONE)
 
@@ -694,21 +786,22 @@ def goes_on_where_it_stood(folder):
 def noops(folder):
     """Nodes for which no child runs are counted as well."""
     folder.shell("A", "sleep 1\n")
-    folder.shell("D", "sleep 1\n")
+    folder.shell("D", until("seen"))
     folder.write("x.dag", "JOB A A.sub\nJOB B A.sub NOOP\nJOB C A.sub NOOP\nJOB D D.sub\nPARENT A CHILD B\nPARENT B CHILD C\nPARENT C CHILD D\n")
-    told = folder.on_terminal("run", "x.dag")
+    told = folder.on_terminal("run", "x.dag", steps=[("3/4 done, 1 running (D 0 s), 0 ready, 0 failed  0:00", "seen")])
     same(told.text, ALL_DONE)
     told.has_shown("3/4 done, 1 running (D 0 s), 0 ready, 0 failed  0:00")
 
 
 def a_final_node(folder):
     """FINAL counts among the nodes, and is never ready before its turn."""
-    folder.shell("A", "sleep 1\n")
-    folder.shell("F", "sleep 1\n")
+    folder.shell("A", until("first"))
+    folder.shell("F", until("second"))
     folder.write("x.dag", "JOB A A.sub\nFINAL F F.sub\n")
-    told = folder.on_terminal("run", "x.dag")
-    told.has_shown("0/2 done, 1 running (A 0 s), 0 ready, 0 failed  0:00")
-    told.has_shown("1/2 done, 1 running (F 0 s), 0 ready, 0 failed  0:00")
+    lines = ["0/2 done, 1 running (A 0 s), 0 ready, 0 failed  0:00", "1/2 done, 1 running (F 0 s), 0 ready, 0 failed  0:00"]
+    told = folder.on_terminal("run", "x.dag", steps=list(zip(lines, ("first", "second"))))
+    told.has_shown(lines[0])
+    told.has_shown(lines[1])
 
 
 # ---- what is said once
@@ -718,14 +811,15 @@ def too_many(folder):
     """More than four children a processor, and no limit: it is said once. With a limit it is not."""
     processors = len(os.sched_getaffinity(0))
     count = 4 * processors + 3
-    folder.shell("j", "sleep 3\n", error=False)
     folder.write("x.dag", "".join(f"JOB j{number} j.sub\n" for number in range(count)))
-    told = folder.on_terminal("run", "x.dag")
     word = "processor" if processors == 1 else "processors"
-    same(told.kept(), [f"{count} children run at once on {processors} {word}: --maxjobs limits them"])
-    os.remove(folder.at("x.dag.journal"))
-    told = folder.on_terminal("run", "--maxjobs", str(count), "x.dag")
-    same(told.kept(), [])
+    with many(folder, "j", count) as end_all:
+        steps = [(numbers("0", str(count), str(count), "0", "0"), end_all)]
+        told = folder.on_terminal("run", "x.dag", steps=steps)
+        same(told.kept(), [f"{count} children run at once on {processors} {word}: --maxjobs limits them"])
+        os.remove(folder.at("x.dag.journal"))
+        told = folder.on_terminal("run", "--maxjobs", str(count), "x.dag", steps=steps)
+        same(told.kept(), [])
 
 
 def all_are_done(folder):
@@ -747,7 +841,7 @@ def all_are_done(folder):
 def a_status(folder):
     """Behind a status stands how many nodes are in which state, and which process works on them, if one does."""
     folder.shell("A", "exit 1\n")
-    folder.shell("B", ": >begun\nexec sleep 60\n")
+    folder.shell("B", ": >begun\nexec sleep 1000\n")
     folder.shell("C", "exit 0\n")
     folder.write("x.dag", "JOB A A.sub\nJOB B B.sub\nJOB C C.sub\nPARENT B CHILD C\n")
     told = folder.on_terminal("status", "x.dag")
@@ -767,11 +861,12 @@ def a_status(folder):
     same((told.status, told.screen.told()[-1:]), (0, [f"process {run.pid} works on x.dag"]))
     same((told.text, "", 0), folder.call("why", "x.dag"))
     run.kill()
-    run.wait(timeout=60)
+    run.wait(timeout=PATIENCE)
     told = folder.on_terminal("status", "x.dag")
-    same(told.screen.told(), ["1 ERROR, 1 SUBMITTED, 1 NOT_READY; no manager works on them"])
+    further = "the round was cut short: dagrun run x.dag goes on"
+    same("".join(told.screen.told()), f"1 ERROR, 1 SUBMITTED, 1 NOT_READY; no manager works on them; {further}")
     told = folder.on_terminal("why", "x.dag")
-    same(told.screen.told()[-1:], ["no manager works on x.dag"])
+    same(told.screen.told()[-1:], [f"no manager works on x.dag; {further}"])
     # What the manager left running is ended by the next one.
     folder.write("B.sh", "exit 0\n")
     same(folder.call("run", "x.dag")[2], 1)
@@ -804,6 +899,7 @@ def two_thousand(folder):
 ROWS = [
     goes_on,
     counts_of_states,
+    a_halt,
     at_20_columns,
     at_200_columns,
     resized,

@@ -18,10 +18,12 @@ use std::process::Abort;
 use std::test::Fail;
 
 /// A system whose children have ended once they are asked for: the child of one node with 7, each other with 0. All endings are at hand.
+/// It halts a run once there are so many calls.
 #[derive(Drop)]
 struct EndedSystem {
     log: CallLog,
     bad: u32,
+    halts_at: Option<usize>,
     faults: u64,
 }
 
@@ -78,6 +80,16 @@ impl System for EndedSystem {
 
     fn will_record(&mut self) {}
 
+    fn sees_halt(&mut self) -> bool {
+        if self.log.is_halted() {
+            return true;
+        }
+        match self.halts_at {
+            Some(calls) if self.log.calls().len() >= calls => self.log.see_halt(),
+            _ => false,
+        }
+    }
+
     fn kill(&mut self, key: Key) -> Killed {
         self.log.killed(key);
         Killed::Ended
@@ -102,6 +114,8 @@ struct Row {
     dag: &'static str,
     // The node whose child exits with 7.
     bad: u32,
+    // After how many calls the run is halted.
+    halts_at: Option<usize>,
     // What stands behind each gate of the journal, and then how the run ended and the calls of the starter, where they are few.
     due: &'static str,
 }
@@ -110,11 +124,12 @@ static SUBMITS: [File; 1] = [("a.sub", "executable = /bin/a\nqueue\n")];
 
 const NOBODY: u32 = u32::MAX;
 
-static ROWS: [Row; 3] = [
+static ROWS: [Row; 6] = [
     // What is at hand is recorded together, and what it lets in is launched behind all of it.
     Row {
         dag: "JOB A a.sub\nJOB B a.sub\nJOB C a.sub\nJOB D a.sub\nPARENT A CHILD C\nPARENT A B CHILD D\n",
         bad: NOBODY,
+        halts_at: None,
         due: "life\nlaunch 0, launch 1\nend 0, end 1\nlaunch 2, launch 3\nend 2, end 3\nresult 0\n\
               start 0 Job\nstart 1 Job\nend 0 Job Exit(0)\nend 1 Job Exit(0)\n\
               start 2 Job\nstart 3 Job\nend 2 Job Exit(0)\nend 3 Job Exit(0)\n",
@@ -123,6 +138,7 @@ static ROWS: [Row; 3] = [
     Row {
         dag: "JOB A a.sub\nJOB B a.sub\nJOB C a.sub\n",
         bad: 1,
+        halts_at: None,
         due: "life\nlaunch 0, launch 1, launch 2\nend 0, end 1, end 2\nresult 1\n\
               start 0 Job\nstart 1 Job\nstart 2 Job\nend 0 Job Exit(0)\nend 1 Job Exit(7)\nend 2 Job Exit(0)\n",
     },
@@ -130,8 +146,30 @@ static ROWS: [Row; 3] = [
     Row {
         dag: "JOB A a.sub\nJOB B a.sub\nJOB C a.sub\nJOB D a.sub\nABORT-DAG-ON B 7 RETURN 5\n",
         bad: 1,
+        halts_at: None,
         due: "life\nlaunch 0, launch 1, launch 2, launch 3\nend 0, end 1\nresult 5 aborted\n\
               start 0 Job\nstart 1 Job\nstart 2 Job\nstart 3 Job\nend 0 Job Exit(0)\nend 1 Job Exit(7)\nkill 2 Job\nkill 3 Job\n",
+    },
+    // A run that is halted at once launches nothing.
+    Row {
+        dag: "JOB A a.sub\nJOB B a.sub\nPARENT A CHILD B\n",
+        bad: NOBODY,
+        halts_at: Some(0),
+        due: "life\nH1 Halted\nhalt\n",
+    },
+    // One that is halted later launches nothing more. What it has launched is waited for and recorded.
+    Row {
+        dag: "JOB A a.sub\nJOB B a.sub\nPARENT A CHILD B\n",
+        bad: NOBODY,
+        halts_at: Some(2),
+        due: "life\nlaunch 0\nend 0\nH1 Halted\nstart 0 Job\nend 0 Job Exit(0)\nhalt\n",
+    },
+    // One that has nothing left to launch is not asked, and ends.
+    Row {
+        dag: "JOB A a.sub\n",
+        bad: NOBODY,
+        halts_at: Some(2),
+        due: "life\nlaunch 0\nend 0\nresult 0\nstart 0 Job\nend 0 Job Exit(0)\n",
     },
 ];
 
@@ -164,17 +202,18 @@ fn add_groups(text: &mut String, journal: &[u8]) -> Result<(), Fail> {
     Ok(())
 }
 
-fn ended_system(alloc: Global, bad: u32) -> ProcessStarter<EndedSystem> {
+fn ended_system(alloc: Global, bad: u32, halts_at: Option<usize>) -> ProcessStarter<EndedSystem> {
     ProcessStarter::new(EndedSystem {
         log: CallLog::new(alloc),
         bad,
+        halts_at,
         faults: 0,
     })
 }
 
 /// What stands behind each gate, how the run ended, and the calls.
-fn shown(alloc: Global, plan: &Plan, bad: u32) -> Result<String, Fail> {
-    let mut starter = ended_system(alloc, bad);
+fn shown(alloc: Global, plan: &Plan, bad: u32, halts_at: Option<usize>) -> Result<String, Fail> {
+    let mut starter = ended_system(alloc, bad, halts_at);
     let (manager, end) = driven(alloc, plan, NO_LIMITS, &mut starter)?;
     let disk = manager.into_disk();
     let mut text = String::new(alloc);
@@ -186,7 +225,7 @@ fn shown(alloc: Global, plan: &Plan, bad: u32) -> Result<String, Fail> {
 
 fn shows(rt: &impl Abort, alloc: Global, row: &Row) -> Result<(), Fail> {
     let plan = plan_of(alloc, row.dag, &SUBMITS)?;
-    let text = shown(alloc, &plan, row.bad);
+    let text = shown(alloc, &plan, row.bad, row.halts_at);
     drop(plan);
     same(rt, text?.as_str(), row.due);
     Ok(())
@@ -227,8 +266,17 @@ fn group_sizes(alloc: Global, journal: &[u8]) -> Result<Vec<u8>, Fail> {
     Ok(sizes)
 }
 
-fn sizes_of(alloc: Global, plan: &Plan) -> Result<Vec<u8>, Fail> {
-    let mut starter = ended_system(alloc, NOBODY);
+/// How many records are behind each gate of a run of 130 jobs.
+fn sizes_of(alloc: Global, halts_at: Option<usize>) -> Result<Vec<u8>, Fail> {
+    let dag = wide(alloc, 130)?;
+    let plan = plan_of(alloc, dag.as_str(), &SUBMITS)?;
+    let sizes = sizes_by(alloc, &plan, halts_at);
+    drop(plan);
+    sizes
+}
+
+fn sizes_by(alloc: Global, plan: &Plan, halts_at: Option<usize>) -> Result<Vec<u8>, Fail> {
+    let mut starter = ended_system(alloc, NOBODY, halts_at);
     let (manager, _) = driven(alloc, plan, NO_LIMITS, &mut starter)?;
     let disk = manager.into_disk();
     group_sizes(alloc, disk.bytes())
@@ -236,12 +284,16 @@ fn sizes_of(alloc: Global, plan: &Plan) -> Result<Vec<u8>, Fail> {
 
 #[test]
 fn sixty_four_together(rt: HostRuntime) -> Result<(), Fail> {
-    let alloc = rt.alloc();
-    let dag = wide(alloc, 130)?;
-    let plan = plan_of(alloc, dag.as_str(), &SUBMITS)?;
-    let sizes = sizes_of(alloc, &plan);
-    drop(plan);
+    let sizes = sizes_of(rt.alloc(), None)?;
     // Life; the launches of 130, and their endings.
-    same(&rt, sizes?.as_slice(), [1, 64, 64, 2, 64, 64, 2].as_slice());
+    same(&rt, sizes.as_slice(), [1, 64, 64, 2, 64, 64, 2].as_slice());
+    Ok(())
+}
+
+#[test]
+fn halted_between_two_rounds(rt: HostRuntime) -> Result<(), Fail> {
+    let sizes = sizes_of(rt.alloc(), Some(64))?;
+    // The first 64 are launched, and end.
+    same(&rt, sizes.as_slice(), [1, 64, 64].as_slice());
     Ok(())
 }

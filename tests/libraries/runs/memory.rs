@@ -57,6 +57,10 @@ impl System for MemorySystem {
 
     fn will_record(&mut self) {}
 
+    fn sees_halt(&mut self) -> bool {
+        self.log.is_halted()
+    }
+
     fn kill(&mut self, key: Key) -> Killed {
         self.log.killed(key);
         Killed::Ended

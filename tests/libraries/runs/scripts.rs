@@ -198,6 +198,7 @@ fn add_call(text: &mut String, call: &Call) -> Result<(), Fail> {
         Call::Started(key, _, Started::NotStarted) => ("not started", key),
         Call::Ended(key, _) => ("end", key),
         Call::Killed(key) => ("kill", key),
+        Call::HaltSeen => return Ok(text.push_str("halt\n")?),
     };
     write!(text, "{what} {} {:?}", key.node, key.phase)?;
     if let Call::Ended(_, outcome) = call {
