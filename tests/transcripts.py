@@ -20,7 +20,7 @@ PAGES = {
     "docs/FROM_DAGMAN.md": None,
     "docs/FROM_MAKE.md": None,
     "docs/MANUAL.md": ["Stopping without killing", "Why a node failed", "A picture of the graph", "A round whose files were changed", "What a fault says", "What is odd in files"],
-    "docs/TO_HTCONDOR.md": ["What check --condor tells"],
+    "docs/TO_HTCONDOR.md": ["What check --condor reports"],
 }
 
 
