@@ -426,10 +426,34 @@ def signal_session(session, number):
     return count
 
 
+def groups_of(session):
+    """The process groups of a session in which a process runs."""
+    groups = set()
+    for process in filter(str.isdigit, os.listdir("/proc")):
+        try:
+            if os.getsid(int(process)) == session and alive(process):
+                groups.add(os.getpgid(int(process)))
+        except OSError:
+            pass
+    return groups
+
+
+def kill_groups(session):
+    """Sends SIGKILL to each process group of a session, the newest first; answers how many there are."""
+    groups = groups_of(session)
+    for group in sorted(groups, reverse=True):
+        try:
+            os.killpg(group, signal.SIGKILL)
+        except ProcessLookupError:
+            pass
+    return len(groups)
+
+
 def kill_session(session):
-    """Ends all processes of a session, and those that they start meanwhile. They are stopped before, so that none sees how another one ends."""
+    """Ends all processes of a session, and those that they start meanwhile. They are stopped before, so that none sees how another one ends; and
+    they are killed by groups, since a group that is stopped gets SIGHUP and goes on where its parent, of another group, ends first."""
     signal_session(session, signal.SIGSTOP)
-    wait_until(lambda: signal_session(session, signal.SIGKILL) == 0, f"session {session} is not gone")
+    wait_until(lambda: kill_groups(session) == 0, f"session {session} is not gone")
 
 
 def terminate_sessions(place):
