@@ -10,10 +10,12 @@ gives the whole answer, and of a journal no acknowledged record is lost. Then th
 (crates/tests_writer), which ends with another status than 0; and of CALLS (crates/tests_memory), which makes calls of the
 libraries: each refused call says so by its own fault, and made once more gives what it gives else."""
 import concurrent.futures
+import ctypes
 import functools
 import os
 import re
 import shutil
+import signal
 import subprocess
 import sys
 import tempfile
@@ -414,12 +416,17 @@ def try_part(part, program, step):
         part(Changed(work, "refuse"), work, program, step)
 
 
+def ends_with_its_parent():
+    """What tries a part is killed where whoever began it is: PR_SET_PDEATHSIG."""
+    ctypes.CDLL(None).prctl(1, signal.SIGKILL)
+
+
 def main():
     kind, *words = sys.argv[1:]
     step = int(words.pop()) if words[-1].isdigit() else 1
     parts = {"program": of_program, "libraries": of_libraries}[kind](step, *(os.path.realpath(path) for path in words))
     # Side by side: on a busy machine one after another would take all the time of the quick test.
-    with concurrent.futures.ProcessPoolExecutor(os.cpu_count()) as pool:
+    with concurrent.futures.ProcessPoolExecutor(os.cpu_count(), initializer=ends_with_its_parent) as pool:
         for tried in concurrent.futures.as_completed([pool.submit(try_part, *part) for part in parts]):
             tried.result()
 
