@@ -135,7 +135,7 @@ ROWS = [
             (
                 "dagrun run x.dag",
                 125,
-                ["dagrun: P1 MissingFile a.sub a.sub: No such file or directory (os error 2), seen from {here}", "See that the file is there"],
+                ["dagrun: P1 MissingFile a.sub a.sub: No such file or directory (os error 2), seen from {here}; it is that of A, x.dag:1", "See that the file is there"],
             ),
         ],
         "printf 'executable = /bin/true\\nqueue\\n' >{here}/a.sub",
@@ -176,7 +176,7 @@ ROWS = [
             (
                 "dagrun run x.dag",
                 125,
-                ["dagrun: V4 BadQuote A", "In arguments between double quotes a single quote begins a group", "as in arguments = \"'it''s fine'\"."],
+                ["dagrun: V4 BadQuote A A is declared at x.dag:1, with a.sub", "In arguments between double quotes a single quote begins a group", "as in arguments = \"'it''s fine'\"."],
             ),
         ],
         """sed -i "s/it's fine/'it''s fine'/" {here}/a.sub""",
@@ -290,7 +290,46 @@ ROWS = [
         ],
         "sed -i 's/nmae/name/' a.sub",
     ),
+    Row(
+        "arguments in executable",
+        {"x.dag": DAG, "a.sub": sub("executable = /bin/echo hello")},
+        [
+            ("dagrun run x.dag", 1, ["A will fail: /bin/echo hello is not there: write executable = /bin/echo and arguments = hello", WHY]),
+            ("dagrun why x.dag", 0, ["repair there is no such program: write executable = /bin/echo and arguments = hello"]),
+            ("dagrun check x.dag", 0, ["hint: a.sub:1 /bin/echo hello is not there: write executable = /bin/echo and arguments = hello"]),
+        ],
+        "sed -i 's|= /bin/echo hello|= /bin/echo\\narguments = hello|' a.sub",
+    ),
     # ---- how a job ends
+    Row(
+        "a program that crashes",
+        job("[ -e mended ] || kill -SEGV $$\n"),
+        [
+            ("dagrun run x.dag", 1, ["A JOB, attempt 0: signal 11 (SIGSEGV)", WHY]),
+            ("dagrun why x.dag", 0, ["repair it used memory that is not its own, a fault of the program: call it by hand, in a debugger (gdb)"]),
+        ],
+        "touch mended",
+    ),
+    Row(
+        "disk full at the output",
+        job("[ -e space ] || exec cat a.sh >/dev/full\n"),
+        [
+            ("dagrun run x.dag", 1, ["A JOB, attempt 0: exit 1; errors in a.err", "No space left on device", WHY]),
+            ("dagrun why x.dag", 0, ["repair a disk is full: df says which, and how full"]),
+        ],
+        "touch space",
+    ),
+    Row(
+        "timeout around dagrun",
+        {"x.dag": DAG, "a.sub": sub("executable = /bin/sh", "arguments = a.sh"), "a.sh": "[ -e short ] || exec sleep 1000\n"},
+        [
+            ("{timeout} 1 dagrun run x.dag", 124, []),
+            ("dagrun status x.dag", 0, ["1 SUBMITTED; no manager works on them; the round was cut short: dagrun run x.dag goes on"]),
+            ("dagrun why x.dag", 0, ["the round was cut short: dagrun run x.dag goes on"]),
+        ],
+        "touch short",
+        needs=("timeout",),
+    ),
     Row(
         "a job that exits with 137",
         job("[ -e smaller ] && exit 0\nsh -c 'kill -9 $$'\nexit $?\n"),
@@ -363,6 +402,16 @@ ROWS = [
             ("dagrun explain X2", 0, ["See that the file or folder that is named is there and that you may read it, and write in its folder."]),
         ],
         "chmod u+w .",
+        needs=("user",),
+    ),
+    Row(
+        "an output folder that may not be written",
+        {"x.dag": DAG, "a.sub": sub("executable = /bin/echo", "output = out/a.txt")},
+        [
+            ("mkdir -m 555 out; dagrun run x.dag", 1, ["A JOB, attempt 0: could not be started: {here}/out/a.txt: Permission denied", WHY]),
+            ("dagrun why x.dag", 0, ["repair you may not write in that folder: chmod u+w {here}/out"]),
+        ],
+        "chmod u+w {here}/out",
         needs=("user",),
     ),
     Row(

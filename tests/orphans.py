@@ -16,7 +16,7 @@ import sys
 import tempfile
 import time
 
-from runs import PATIENCE, Folder, end_process, runs_still, same, wait_until
+from runs import PATIENCE, Folder, children_of, end_process, runs_still, same, wait_until
 
 # The words of the sleeps of this script: no other process has their fraction.
 MARK = f"{os.getpid() % 100000:05d}"
@@ -329,6 +329,49 @@ def wrapped(folder):
         end_all()
 
 
+def left_on_its_way(folder, delay):
+    """A manager that is killed once it has started a child which comes to its program so many microseconds later; the child, and who holds it up.
+
+    Until then the child has the words, the program and the environment of the manager, and its lock no more."""
+    sleepers(folder, "A")
+    strace = ["strace", "-f", "-qqq", "-o", "/dev/null", "-e", "trace=execve", "-P", "/bin/sleep", "-e", f"inject=execve:delay_enter={delay}"]
+    traced = subprocess.Popen([*strace, folder.program, "run", "x.dag"], cwd=folder.path, stdout=subprocess.DEVNULL, stderr=subprocess.DEVNULL)
+    wait_until(lambda: children_of(traced.pid) and children_of(children_of(traced.pid)[0]), "no child is started")
+    [manager] = children_of(traced.pid)
+    [child] = children_of(manager)
+    same(words_of(child), words_of(manager))
+    os.kill(manager, signal.SIGKILL)
+    wait_until(lambda: not os.path.exists(f"/proc/{child}/fd/3"), "the child keeps the files of its manager")
+    return child, traced
+
+
+def started_in(folder):
+    """The numbers of the processes that the log says were started."""
+    lines = [line.split("\t") for line in folder.read("x.dag.log").decode().splitlines(True) if line.endswith("\n")]
+    return [int(line[5]) for line in lines if line[1] == "start"]
+
+
+def on_its_way(folder):
+    """A child that has not come to its program as its manager is killed is waited for, and ended, before the next manager starts another one."""
+    child, traced = left_on_its_way(folder, 1000000)
+    second = start(folder, "x.dag")
+    wait_until(lambda: started_in(folder), "the next manager starts nothing")
+    same(runs_still(child), False)
+    same((child in started_in(folder), orphans_in(folder)), (False, [("A", "JOB", "0", "done=killed")]))
+    kill(second)
+    traced.wait(timeout=PATIENCE)
+
+
+def never_there(folder):
+    """One that has not come to it after ten seconds refuses the run: it may be a copy. Nothing is started."""
+    child, traced = left_on_its_way(folder, 1000000000)
+    same(folder.call("run", "x.dag"), ("", "dagrun: X2 FileRefused /proc\n", 125))
+    same((runs_still(child), sleeping()), (True, []))
+    os.kill(child, signal.SIGKILL)
+    traced.kill()
+    traced.wait(timeout=PATIENCE)
+
+
 def two_hundred(folder):
     """Two hundred, of which the last one is not noted, are ended at once, by one call of a shell."""
     apart(folder, *(f"n{it}" for it in range(200)))
@@ -535,6 +578,8 @@ TRACED = [
     another_manager_of_the_same_words,
     moved_folder,
     adopters,
+    on_its_way,
+    never_there,
     two_hundred,
     left_and_killed,
     some_that_can_not_be_ended,

@@ -9,9 +9,13 @@ answer, or prints nothing but one line that says that memory is out (X1, A1 for 
 gives the whole answer, and of a journal no acknowledged record is lost. Then the same of a writer of a journal
 (crates/tests_writer), which ends with another status than 0; and of CALLS (crates/tests_memory), which makes calls of the
 libraries: each refused call says so by its own fault, and made once more gives what it gives else."""
+import concurrent.futures
+import ctypes
+import functools
 import os
 import re
 import shutil
+import signal
 import subprocess
 import sys
 import tempfile
@@ -332,19 +336,31 @@ def each(name, step, tried):
         sys.exit(f"{name}: no allocation was refused")
 
 
+def every(work):
+    """A copy of tests/every."""
+    return shutil.copytree(os.path.join(HERE, "every"), os.path.join(work, "every"))
+
+
 def is_due(name, found, wanted):
     if found != wanted:
         sys.exit(f"{name}: {found}, wanted {wanted}")
 
 
-def commands(library, work, program, step):
-    """The commands on tests/every."""
-    fresh, second = os.path.join(work, "fresh"), os.path.join(work, "second")
-    shutil.copytree(os.path.join(HERE, "every"), fresh)
+def reads(library, work, program, step):
+    """The commands on tests/every that change nothing."""
+    fresh = every(work)
     for words in (("check", "x.dag"), ("rehearse", "x.dag", "x.outcomes"), ("graph", "x.dag"), ("explain", "L2"), ("help", "run")):
         each(words[0], step, Reading(fresh, library, program, *words))
-    each("run", step, Running(fresh, library, work, program))
-    shutil.copytree(fresh, second)
+
+
+def first_round(library, work, program, step):
+    """`run` on tests/every."""
+    each("run", step, Running(every(work), library, work, program))
+
+
+def second_round(library, work, program, step):
+    """`run` of a second round there, and what is asked of it; then `salvage`."""
+    second = every(work)
     call(second, library, 0, program, "run", "x.dag")
     each("run of a second round", step, Running(second, library, work, program))
     call(second, library, 0, program, "run", "x.dag")
@@ -354,42 +370,65 @@ def commands(library, work, program, step):
     each("salvage", step, Salvaging(second, library, work, program))
 
 
-def rows(library, work, program, step):
-    """The commands on files of a row each."""
+def readings(library, work, program, step):
+    """The commands on files of a row each that change nothing."""
     for number, (name, (files, words, answer)) in enumerate(READINGS.items()):
         tried = Reading(made(os.path.join(work, f"reading{number}"), files), library, program, *words)
         is_due(name, tried.wanted, answer)
         each(f"{words[0]}: {name}", step, tried)
+
+
+def runs(library, work, program, step):
+    """`run` on files of a row each."""
     for number, (name, (files, answer)) in enumerate(RUNS.items()):
         tried = Running(made(os.path.join(work, f"run{number}"), files), library, work, program)
         is_due(name, tried.wanted, answer)
         each(f"run: {name}", step, tried)
 
 
-def of_program(library, work, step, program):
-    """The commands on tests/every, and on files of a row each."""
-    commands(library, work, program, step)
-    rows(library, work, program, step)
-
-
-def of_libraries(library, work, step, writer, calls):
-    """The writer of a journal, and calls of the libraries."""
+def writes(library, work, writer, step):
+    """The writer of a journal."""
     each("writer", step, Writing(work, library, writer))
-    for row in FAULTS:
-        tried = Calling(work, library, calls, row)
-        each(f"calls: {row}", step, tried)
-        if step == 1:
-            tried.none_is_due()
+
+
+def calls_of(row, library, work, calls, step):
+    """A row of calls of the libraries."""
+    tried = Calling(work, library, calls, row)
+    each(f"calls: {row}", step, tried)
+    if step == 1:
+        tried.none_is_due()
+
+
+def of_program(step, program):
+    """The commands on tests/every, and on files of a row each."""
+    return [(part, program, step) for part in (first_round, second_round, runs, readings, reads)]
+
+
+def of_libraries(step, writer, calls):
+    """The writer of a journal, and calls of the libraries."""
+    return [(writes, writer, step), *((functools.partial(calls_of, row), calls, step) for row in FAULTS)]
+
+
+def try_part(part, program, step):
+    """One part, in a folder of its own."""
+    memory = "/dev/shm" if os.access("/dev/shm", os.W_OK) else None
+    with tempfile.TemporaryDirectory(dir=memory) as work:
+        part(Changed(work, "refuse"), work, program, step)
+
+
+def ends_with_its_parent():
+    """What tries a part is killed where whoever began it is: PR_SET_PDEATHSIG."""
+    ctypes.CDLL(None).prctl(1, signal.SIGKILL)
 
 
 def main():
     kind, *words = sys.argv[1:]
     step = int(words.pop()) if words[-1].isdigit() else 1
-    paths = [os.path.realpath(path) for path in words]
-    memory = "/dev/shm" if os.access("/dev/shm", os.W_OK) else None
-    with tempfile.TemporaryDirectory(dir=memory) as work:
-        library = Changed(work, "refuse")
-        {"program": of_program, "libraries": of_libraries}[kind](library, work, step, *paths)
+    parts = {"program": of_program, "libraries": of_libraries}[kind](step, *(os.path.realpath(path) for path in words))
+    # Side by side: on a busy machine one after another would take all the time of the quick test.
+    with concurrent.futures.ProcessPoolExecutor(os.cpu_count(), initializer=ends_with_its_parent) as pool:
+        for tried in concurrent.futures.as_completed([pool.submit(try_part, *part) for part in parts]):
+            tried.result()
 
 
 if __name__ == "__main__":

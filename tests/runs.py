@@ -1842,9 +1842,12 @@ def why_waiting(folder):
               "E ERROR attempts=1 value=1\nF ERROR attempts=1 value=1\nG DONE attempts=0 value=-\nH DONE attempts=1 value=0\nI NOT_READY attempts=0 value=-\n"
               "Z ERROR attempts=1 value=1\nresult 1\n")
     same(folder.call("run", "x.dag"), (report, "", 1))
-    heads = [line for line in why(folder).splitlines() if line[:1].strip()]
+    heads = [line for line in why(folder, "--all").splitlines() if line[:1].strip()]
     ended = "ERROR: its job ended with exit 1, in attempt 1 of 1;"
     same(heads, [f"A {ended} 3 nodes wait for it", f"E {ended} 1 node waits for it", f"F {ended} 1 node waits for it", f"Z {ended} no node waits for it"])
+    # They have one cause: their jobs ended with 1, and nothing is quoted of their errors.
+    text = why(folder).splitlines()
+    same((text[0], text[-1], [line for line in text[1:] if line[:1].strip()]), (f"A {ended} 3 nodes wait for it", "    the same of 3 more: E, F, Z", []))
     same(why(folder, "B", "D", "I", "G", "H"), """B NOT_READY: waits for A (ERROR)
 
 D NOT_READY: waits for B (NOT_READY) and C (NOT_READY)
@@ -1868,11 +1871,61 @@ def why_many(folder):
     folder.shell("a", "exit 1\n")
     folder.echo("b")
     same(folder.call("run", "x.dag")[2], 1)
-    heads = [line for line in why(folder).splitlines() if line[:1].strip()]
+    heads = [line for line in why(folder, "--all").splitlines() if line[:1].strip()]
     same(heads[0], "n00 ERROR: its job ended with exit 1, in attempt 1 of 1; 39 nodes wait for it")
     same([line.split()[0] for line in heads[1:]], [f"w{number}" for number in range(10)])
+    text = why(folder).splitlines()
+    same((text[0], text[-1]), (heads[0], "    the same of 10 more: w0, w1, w2, w3, w4, w5, w6, w7, w8, w9"))
     same(why(folder, "n39"), "n39 NOT_READY: waits for n38 (NOT_READY)\n    because of n00 (ERROR)\n")
     same(why(folder, "wide"), "wide NOT_READY: waits for " + ", ".join(f"w{number} (ERROR)" for number in range(8)) + " and 2 more\n")
+
+
+def why_groups(folder):
+    """Nodes with one cause are reported once; another phase, outcome, reason or last line is another cause."""
+    here = os.path.realpath(folder.path)
+    # 26 points of a sweep that fail alike, and 21: just 20 are named. In plan order, since no node waits for any.
+    points = [f"p{number:02}" for number in range(26)] + [f"q{number:02}" for number in range(21)]
+    others = ["one", "two", "pre", "post", "gone", "away", "lost", "empty", "bare"]
+    folder.write("x.dag", "".join(f"JOB {name} {name[0]}.sub\n" for name in points) + "".join(f"JOB {name} {name}.sub\n" for name in others) + "SCRIPT PRE pre s.sh\nSCRIPT POST post s.sh\n")
+    for name, script in (("p", "echo $1 >&2; echo no disk >&2; exit 3\n"), ("q", "echo no disk >&2; exit 4\n"), ("one", "echo no disk >&2; exit 3\n"), ("two", "echo no disk. >&2; exit 3\n"),
+                         ("empty", "exit 3\n"), ("bare", "exit 3\n")):
+        folder.write(f"{name}.sh", script)
+        folder.write(f"{name}.sub", f"executable = /bin/sh\narguments = {name}.sh $(JOB)\nerror = e.$(JOB)\nqueue\n")
+    folder.write("bare.sub", "executable = /bin/sh\narguments = bare.sh\nqueue\n")
+    folder.write("s.sh", "#!/bin/sh\necho no disk\nexit 3\n")
+    os.chmod(folder.at("s.sh"), 0o755)
+    folder.echo("pre", "post")
+    for name, program in (("gone", "none.sh"), ("away", "none.sh"), ("lost", "other.sh")):
+        folder.write(f"{name}.sub", f"executable = {program}\nqueue\n")
+    same(folder.call("run", "x.dag")[2], 1)
+    text = why(folder)
+    missing = "No such file or directory (os error 2)"
+    at_once = "in attempt 1 of 1; no node waits for it"
+    same([line for line in text.splitlines() if line[:1].strip() or line.startswith("    the same")], [
+        f"p00 ERROR: its job ended with exit 3, {at_once}",
+        "    the same of 26 more: " + ", ".join(points[1:21]) + ", and 6 more",
+        f"q00 ERROR: its job ended with exit 4, {at_once}",
+        "    the same of 20 more: " + ", ".join(points[27:47]),
+        f"two ERROR: its job ended with exit 3, {at_once}",
+        f"pre ERROR: its PRE script ended with exit 3, {at_once}",
+        f"post ERROR: its POST script ended with exit 3, {at_once}",
+        f"gone ERROR: its job was not started: {here}/none.sh: {missing}, {at_once}",
+        "    the same of 1 more: away",
+        f"lost ERROR: its job was not started: {here}/other.sh: {missing}, {at_once}",
+        f"empty ERROR: its job ended with exit 3, {at_once}",
+        "    the same of 1 more: bare",
+    ])
+    # What is reported of the first is what is reported of it by itself, and the line of the others follows it.
+    for first in ("p00", "gone", "two"):
+        block = why(folder, first)
+        same(block in text, True)
+        same("the same of" in block, False)
+    same(why(folder, "p00") + "    the same of 26 more: " in text, True)
+    # Each by itself, and those that are named.
+    each = why(folder, "--all")
+    heads = [line.split()[0] for line in each.splitlines() if line[:1].strip()]
+    same((heads, "the same of" in each), (points + others, False))
+    same([line.split()[0] for line in why(folder, "p02", "p01").splitlines() if line[:1].strip()], ["p02", "p01"])
 
 
 def why_no_round(folder):
@@ -1886,6 +1939,60 @@ def why_no_round(folder):
     folder.write("a.sub", "executable = /bin/true\nqueue\n")
     refused(folder, ["why", "x.dag"], "J5 OtherInputs")
     refused(folder, ["why", "y.dag"], "S1 MissingFile y.dag")
+
+
+def as_the_round_began(folder):
+    """Whatever is changed, the last round is shown as it was; what is asked for without the option goes by the files as they are."""
+    lines = "JOB A a.sub\nJOB B b.sub\nJOB C c.sub\nPARENT A CHILD B\n"
+    folder.write("x.dag", lines)
+    folder.write("x.dag.rescue001", "DONE C\n")
+    folder.echo("a", "c")
+    folder.shell("b", "exit 3\n")
+    same(folder.call("run", "x.dag")[2], 1)
+    asked = (("status",), ("audit",), ("why",), ("why", "B"), ("graph",), ("times",))
+
+    def answers(*words):
+        return [folder.call(command, *words, "x.dag", *names) for command, *names in asked]
+
+    before = answers()
+    same(before[0], ("A DONE attempts=1 value=0\nB ERROR attempts=1 value=3\nC DONE attempts=0 value=-\n", "", 0))
+    same(answers("--as-begun"), before)
+    kept = {name: folder.read(name) for name in ("x.dag", "b.sub", "c.sub", "x.dag.rescue001")}
+    changes = (("b.sub", "executable = /bin/true\nqueue\n"), ("c.sub", None), ("x.dag", lines + "JOB D a.sub\n"), ("x.dag", "JOBB\n"), ("x.dag", None), ("x.dag.rescue001", "DONE A\n"))
+    for name, text in changes:
+        if text is None:
+            os.remove(folder.at(name))
+        else:
+            folder.write(name, text)
+        # The audit says of a file that it can read that the journal is of another one.
+        status, audit, why_all, why_one = [answer[2] for answer in answers()[:4]]
+        same((status, audit in (1, 125), why_all, why_one), (125, True, 125, 125))
+        same(answers("--as-begun"), before)
+        folder.write(name, kept[name])
+    same(answers(), before)
+
+
+def not_known_how_the_round_began(folder):
+    """It is refused, with the file that doesn't say it; and where that is of another round."""
+    folder.write("x.dag", "JOB A a.sub\n")
+    folder.echo("a")
+
+    def are_refused(fault):
+        for command in ("status", "audit", "why", "graph", "times"):
+            refused(folder, [command, "--as-begun", "x.dag"], fault)
+
+    are_refused("X2 FileRefused x.dag.journal")
+    same(folder.call("run", "x.dag")[2], 0)
+    first = folder.read("x.dag.begun")
+    folder.write("x.dag.begun", first.replace(b"JOB A", b"JOB  A"))
+    are_refused("X2 FileRefused x.dag.begun")
+    os.remove(folder.at("x.dag.begun"))
+    are_refused("X2 FileRefused x.dag.begun")
+    folder.write("x.dag", "JOB B a.sub\n")
+    same(folder.call("run", "x.dag")[2], 0)
+    same(folder.call("status", "--as-begun", "x.dag"), ("B DONE attempts=1 value=0\n", "", 0))
+    folder.write("x.dag.begun", first)
+    are_refused("J5 OtherInputs")
 
 
 def why_by_the_journal(folder):
@@ -4157,7 +4264,10 @@ ROWS = [
     what_scripts_print,
     why_waiting,
     why_many,
+    why_groups,
     why_no_round,
+    as_the_round_began,
+    not_known_how_the_round_began,
     why_by_the_journal,
     why_while_it_runs,
     why_behind_a_kill,

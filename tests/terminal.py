@@ -3,9 +3,9 @@
 
     tests/terminal.py PROGRAM [WORD]     WORD: only the rows whose name holds it
 
-A small screen reads what comes: text, CR, LF and the erasing of the rest of a line; anything else is a fault. So a row says which lines a
-person sees, at 20, 80 and 200 columns and as the terminal is resized; that nothing stays but what is to stay; and that standard output
-and the exit status are what they are without. Values are worked out by hand from docs/MANUAL.md. The last line is 'N passed, M failed'."""
+A small screen reads what comes: text, CR, LF, the erasing of the rest of a line, and red; anything else is a fault. So a row says which
+lines a person sees, at 20, 80 and 200 columns and as the terminal is resized; that nothing stays but what is to stay; and that standard
+output and the exit status are what they are without. Values are worked out by hand from docs/MANUAL.md. The last line is 'N passed, M failed'."""
 import contextlib
 import fcntl
 import os
@@ -32,7 +32,13 @@ PATIENCE = 300
 END = re.compile(r"^(\d+ done(, \d+ failed)?(, \d+ waiting)?), (\d+\.\d s|\d+:\d\d)(; dagrun why \S+ says why)?$")
 
 # A line that says how far a run is, with its counts.
-LINE = re.compile(r"^(\d+)/(\d+) done, (\d+) running( \(.*\))?, (\d+) ready, (\d+) failed  (\d+:\d\d)$")
+LINE = re.compile(
+    r"^((?P<failed>\d+) failed, )?(?P<done>\d+)/(?P<nodes>\d+) done \((?P<percent>\d+)%\), (?P<running>\d+) running( \(.*\))?, (?P<ready>\d+) ready"
+    r"  (?P<clock>\d+:\d\d)(, (?P<left>\d+:\d\d(:\d\d)?) left)?$"
+)
+
+# The escapes that are ours: the rest of a line is erased, text is red, and it is no more.
+ERASE, RED, PLAIN = "\x1b[K", "\x1b[31m", "\x1b[0m"
 
 
 def width_of(character):
@@ -51,8 +57,13 @@ class Screen:
         self.wrapped = 0
         self.seen = []
         self.rest = ""
+        # The texts that were red, and the one that is being written.
+        self.reds = []
+        self.red = None
 
     def put(self, character):
+        if self.red is not None:
+            self.red += character
         width = width_of(character)
         if width == 0:
             if self.column:
@@ -77,6 +88,18 @@ class Screen:
         assert self.column < self.columns, f"erases at the last column: {self.text()[-1]!r}"
         del self.lines[-1][self.column :]
 
+    def escape(self, escape):
+        """Reads an escape that is ours."""
+        assert (self.red is None) == (escape != PLAIN), f"{escape!r} where {self.red!r} is red"
+        if escape == ERASE:
+            self.erase()
+            self.seen.append(self.text()[-1])
+        elif escape == RED:
+            self.red = ""
+        else:
+            self.reds.append(self.red)
+            self.red = None
+
     def take(self, text):
         """Reads text; a part of an escape waits for its rest."""
         text = self.rest + text
@@ -84,14 +107,15 @@ class Screen:
         at = 0
         while at < len(text):
             if text[at] == "\x1b":
-                if len(text) - at < 3:
+                escape = next((one for one in (ERASE, RED, PLAIN) if text.startswith(one, at)), None)
+                if escape is None and any(one.startswith(text[at:]) for one in (ERASE, RED, PLAIN)):
                     self.rest = text[at:]
                     return
-                assert text[at : at + 3] == "\x1b[K", f"an escape that is none of ours: {text[at:at + 8]!r}"
-                self.erase()
-                self.seen.append(self.text()[-1])
-                at += 3
+                assert escape, f"an escape that is none of ours: {text[at:at + 8]!r}"
+                self.escape(escape)
+                at += len(escape)
                 continue
+            assert self.red is None or text[at] >= " ", f"red does not end: {self.red!r}"
             if text[at] == "\r":
                 self.column = 0
             elif text[at] == "\n":
@@ -123,7 +147,8 @@ class Screen:
 
 def steady(text):
     """A text with 0 seconds in place of however many there were."""
-    return re.sub(r"\b\d+ s\b", "0 s", re.sub(r"failed  \d+:\d\d", "failed  0:00", text))
+    text = re.sub(r"ready  \d+:\d\d", "ready  0:00", re.sub(r", \d+:\d\d left$", ", 0:00 left", text))
+    return re.sub(r"\b\d+ s\b", "0 s", text)
 
 
 class Told:
@@ -180,12 +205,40 @@ def many(folder, name, count):
         os.close(gate)
 
 
+def counts(match):
+    """The counts of a line: done, nodes, running, ready, failed."""
+    return (*match.group("done", "nodes", "running", "ready"), match.group("failed") or "0")
+
+
 def numbers(*wanted):
     """Whether a line has these counts: done, nodes, running, ready, failed."""
     def has(line):
         found = LINE.match(line)
-        return bool(found) and found.group(1, 2, 3, 5, 6) == wanted
+        return bool(found) and counts(found) == wanted
     return has
+
+
+def seconds_of(clock):
+    """The seconds of `m:ss` or `h:mm:ss`."""
+    seconds = 0
+    for part in clock.split(":"):
+        seconds = 60 * seconds + int(part)
+    return seconds
+
+
+def estimates(told, kept):
+    """Whether the lines of a run that began with so many nodes done have the percent and the time left that the manual says. Answers how many
+    of them have a time left."""
+    found = told.progress()
+    for match in found:
+        done, nodes = int(match.group("done")), int(match.group("nodes"))
+        same(int(match.group("percent")), 100 * done // nodes, f"{match.group()}: ")
+        fresh, to_do = done - kept, nodes - done
+        is_estimated = fresh > 0 and to_do > 0 and 10 * fresh >= nodes - kept
+        wanted = seconds_of(match.group("clock")) * to_do // fresh if is_estimated else None
+        left = match.group("left")
+        same(seconds_of(left) if left else None, wanted, f"{match.group()}: ")
+    return sum(1 for match in found if match.group("left"))
 
 
 class Folder:
@@ -224,11 +277,12 @@ class Folder:
         done = subprocess.run([self.program, *words], cwd=self.path, capture_output=True, timeout=PATIENCE, env=environment)
         return done.stdout.decode(), done.stderr.decode(), done.returncode
 
-    def on_terminal(self, *words, columns=80, steps=(), term="xterm", limit=None, killed=None, typed=None):
+    def on_terminal(self, *words, columns=80, steps=(), term="xterm", limit=None, killed=None, typed=None, no_color=None):
         """Calls the program with standard error on a terminal. `steps`: what is to be seen, one after the other, each a line with 0 seconds in
         place of however many there are, or a function of a line; and then the columns of the terminal from there on, or the file that is made,
-        for which jobs may wait, or what is called: so they run until it is seen, however slow the machine is. `limit`: bytes that a file may have; `killed`: what is
-        to be seen before the program is killed; `typed`: standard input is the terminal, too, on which this is typed, with no echo."""
+        for which jobs may wait, or what is called: so they run until it is seen, however slow the machine is. `limit`: bytes that a file may have; `killed`: whether a line is
+        the one that is to be seen before the program is killed; `typed`: standard input is the terminal, too, on which this is typed, with no echo; `no_color`:
+        what the variable NO_COLOR is, if it is set."""
         ours, theirs = pty.openpty()
         if typed is not None:
             modes = termios.tcgetattr(theirs)
@@ -236,9 +290,11 @@ class Folder:
             termios.tcsetattr(theirs, termios.TCSANOW, modes)
             os.write(ours, typed)
         fcntl.ioctl(theirs, termios.TIOCSWINSZ, struct.pack("HHHH", 24, columns, 0, 0))
-        environment = {name: value for name, value in os.environ.items() if name not in ("TERM", "COLUMNS")}
+        environment = {name: value for name, value in os.environ.items() if name not in ("TERM", "COLUMNS", "NO_COLOR")}
         if term is not None:
             environment["TERM"] = term
+        if no_color is not None:
+            environment["NO_COLOR"] = no_color
 
         def prepare():
             os.setsid()
@@ -290,7 +346,7 @@ class Folder:
                     screen.resize(then)
                     # What has been read is of the width before.
                     break
-                if killed and any(killed in line for line in screen.seen):
+                if killed and any(map(killed, screen.seen)):
                     run.kill()
                     killed = None
             status = run.wait(timeout=PATIENCE)
@@ -311,8 +367,8 @@ def holds(fact, what):
 
 
 # What is to be seen while the pairs of `four` run, which wait for it.
-FIRST_PAIR = "0/4 done, 2 running (A 0 s, B 0 s), 0 ready, 0 failed  0:00"
-SECOND_PAIR = "2/4 done, 2 running (C 0 s, D 0 s), 0 ready, 0 failed  0:00"
+FIRST_PAIR = "0/4 done (0%), 2 running (A 0 s, B 0 s), 0 ready  0:00"
+SECOND_PAIR = "2/4 done (50%), 2 running (C 0 s, D 0 s), 0 ready  0:00, 0:00 left"
 
 
 def four(folder, first=until("first"), second="true\n"):
@@ -335,8 +391,9 @@ def goes_on(folder):
     same(told.text, ALL_DONE)
     same(told.status, 0)
     same(told.kept(), [])
-    told.has_shown("0/4 done, 2 running (A 0 s, B 0 s), 0 ready, 0 failed  0:00")
-    told.has_shown("2/4 done, 2 running (C 0 s, D 0 s), 0 ready, 0 failed  0:00")
+    told.has_shown("0/4 done (0%), 2 running (A 0 s, B 0 s), 0 ready  0:00")
+    told.has_shown("2/4 done (50%), 2 running (C 0 s, D 0 s), 0 ready  0:00, 0:00 left")
+    same(told.screen.reds, [])
     holds(told.screen.wrapped == 0, "it is wider than the terminal")
 
 
@@ -347,12 +404,69 @@ def counts_of_states(folder):
     folder.write("x.dag", "".join(f"JOB {name} {name}.sub\n" for name in "ABCDEF") + "PARENT A CHILD E\nPARENT B CHILD F\nPRIORITY A 9\n")
     steps = [(numbers("0", "6", "2", "1", "1"), "first"), (numbers("2", "6", "2", "0", "1"), "second")]
     told = folder.on_terminal("run", "--maxjobs", "2", "x.dag", steps=steps)
-    found = [match.group(1, 2, 3, 5, 6) for match in told.progress()]
+    found = [counts(match) for match in told.progress()]
     # A has failed, B and C run, D is ready, E and F wait for their parents.
     holds(("0", "6", "2", "1", "1") in found, f"{found}")
     # B and C are done: D and F run.
     holds(("2", "6", "2", "0", "1") in found, f"{found}")
     same(told.status, 1)
+    same(set(told.screen.reds), {"1 failed"})
+
+
+def in_red(folder):
+    """How many nodes failed is red where the line has it whole, but for a NO_COLOR that is not empty."""
+    folder.shell("A", "exit 1\n", error=False)
+    folder.shell("B", until("seen"))
+    folder.write("x.dag", "JOB A A.sub\nJOB B B.sub\n")
+    whole = "1 failed, 0/2 done (0%), 1 running (B 0 s), 0 ready  0:00"
+    rows = [
+        (80, None, whole, {"1 failed"}),
+        (80, "", whole, {"1 failed"}),
+        (80, "1", whole, set()),
+        # 19 columns have room for seventeen characters and `..`, and 8 columns for six.
+        (20, None, "1 failed, 0/2 don..", {"1 failed"}),
+        (9, None, "1 fail..", set()),
+    ]
+    for columns, no_color, line, reds in rows:
+        told = folder.on_terminal("run", "x.dag", columns=columns, no_color=no_color, steps=[(line, "seen")])
+        told.has_shown(line)
+        same(set(told.screen.reds), reds, f"{columns} columns, {no_color!r}: ")
+        same(told.status, 1)
+        for name in os.listdir(folder.path):
+            if name.startswith("x.dag.") or name == "seen":
+                os.remove(folder.at(name))
+
+
+def time_left(folder):
+    """Eleven nodes one after another: of one that is done nothing is estimated, of two what the other nine take. A manager that goes on estimates by
+    what it has done itself."""
+    names = [f"n{number:02}" for number in range(11)]
+    folder.shell("j", "true\n", error=False)
+    for name in names[:4]:
+        folder.shell(name, until(f"{name}.seen"))
+    lines = [f"JOB {name} {name if name in names[:4] else 'j'}.sub\n" for name in names]
+    lines += [f"PARENT {first} CHILD {second}\n" for first, second in zip(names, names[1:])]
+    folder.write("x.dag", "".join(lines))
+
+    def later(done, seconds):
+        """Whether a line says that so many are done, after so many seconds."""
+        def has(line):
+            found = LINE.match(line)
+            return bool(found) and found.group("done") == done and seconds_of(found.group("clock")) >= seconds
+        return has
+
+    # The manager is killed at a line that comes after two seconds: 2 * 9 / 2 = 9 are left then, or more.
+    steps = [("0/11 done (0%), 1 running (n00 0 s), 0 ready  0:00", "n00.seen"), ("1/11 done (9%), 1 running (n01 0 s), 0 ready  0:00", "n01.seen")]
+    told = folder.on_terminal("run", "x.dag", steps=steps, killed=later("2", 2))
+    same(told.status, -signal.SIGKILL)
+    told.has_shown("2/11 done (18%), 1 running (n02 0 s), 0 ready  0:00, 0:00 left")
+    holds(estimates(told, 0) > 0, "nothing is estimated")
+    # Two are kept: of the nine others one is more than a tenth.
+    steps = [("2/11 done (18%), 1 running (n02 0 s), 0 ready  0:00", "n02.seen"), (later("3", 1), "n03.seen")]
+    told = folder.on_terminal("run", "x.dag", steps=steps)
+    same(told.status, 0)
+    told.has_shown("3/11 done (27%), 1 running (n03 0 s), 0 ready  0:00, 0:00 left")
+    holds(estimates(told, 2) > 0, "nothing is estimated")
 
 
 def a_halt(folder):
@@ -373,21 +487,21 @@ def a_halt(folder):
 def at_20_columns(folder):
     """There is no room for names, nor for all numbers: the line is cut, and is never wider than the terminal."""
     four(folder)
-    told = folder.on_terminal("run", "x.dag", columns=20, steps=[("0/4 done, 2 runni..", "first")])
+    told = folder.on_terminal("run", "x.dag", columns=20, steps=[("0/4 done (0%), 2 ..", "first")])
     same(told.text, ALL_DONE)
     same(told.kept(), [])
     same(told.screen.wrapped, 0)
     # 19 columns, so that the last one stays free.
-    told.has_shown("0/4 done, 2 runni..")
+    told.has_shown("0/4 done (0%), 2 ..")
 
 
 def at_200_columns(folder):
     """Forty names of nodes are too many for 199 columns: as many stand there as have room, and `..`."""
     names = [f"name_{number:02}" for number in range(40)]
     folder.write("x.dag", "".join(f"JOB {name} j.sub\n" for name in names))
-    # `0/40 done, 40 running` and `, 0 ready, 0 failed  0:00` take 21 and 25 columns, ` (` and `, ..)` seven: 146 of 199 are left, of which
+    # `0/40 done (0%), 40 running` and `, 0 ready  0:00` take 26 and 15 columns, ` (` and `, ..)` seven: 151 of 199 are left, of which
     # `name_00 0 s` takes 11 and each further one 13: eleven fit, as long as none of them has run for ten seconds.
-    first = "0/40 done, 40 running (" + ", ".join(f"{name} 0 s" for name in names[:11]) + ", ..), 0 ready, 0 failed  0:00"
+    first = "0/40 done (0%), 40 running (" + ", ".join(f"{name} 0 s" for name in names[:11]) + ", ..), 0 ready  0:00"
     with many(folder, "j", len(names)) as end_all:
         told = folder.on_terminal("run", "--maxjobs", "60", "x.dag", columns=200, steps=[(first, end_all)])
     same(told.kept(), [])
@@ -396,16 +510,16 @@ def at_200_columns(folder):
 
 
 def resized(folder):
-    """From 80 columns to 40 and to 120: soon the line is as wide as there is room. The jobs run until that is seen."""
-    for name in ("first_of_two", "second_of_two"):
+    """From 80 columns to 36 and to 120: soon the line is as wide as there is room. The jobs run until that is seen."""
+    for name in ("first_of_the_two", "second_of_the_two"):
         folder.shell(name, until("seen"))
-    folder.write("x.dag", "JOB first_of_two first_of_two.sub\nJOB second_of_two second_of_two.sub\n")
-    at_80 = "0/2 done, 2 running (first_of_two 0 s, ..), 0 ready, 0 failed  0:00"
-    # 39 columns have no room for the 44 of the numbers, nor 79 for the 84 of the whole.
-    at_40 = "0/2 done, 2 running, 0 ready, 0 faile.."
-    at_120 = "0/2 done, 2 running (first_of_two 0 s, second_of_two 0 s), 0 ready, 0 failed  0:00"
-    told = folder.on_terminal("run", "x.dag", steps=[(at_80, 40), (at_40, 120), (at_120, "seen")])
-    for line in (at_80, at_40, at_120):
+    folder.write("x.dag", "JOB first_of_the_two first_of_the_two.sub\nJOB second_of_the_two second_of_the_two.sub\n")
+    at_80 = "0/2 done (0%), 2 running (first_of_the_two 0 s, ..), 0 ready  0:00"
+    # 35 columns have no room for the 39 of the numbers, nor 79 for the 85 of the whole.
+    at_36 = "0/2 done (0%), 2 running, 0 ready.."
+    at_120 = "0/2 done (0%), 2 running (first_of_the_two 0 s, second_of_the_two 0 s), 0 ready  0:00"
+    told = folder.on_terminal("run", "x.dag", steps=[(at_80, 36), (at_36, 120), (at_120, "seen")])
+    for line in (at_80, at_36, at_120):
         told.has_shown(line)
     same(told.screen.text()[-1], "", "a line is left: ")
 
@@ -415,15 +529,15 @@ def wide_names(folder):
     name = "工作流程节点"
     folder.shell("j", until("seen"))
     folder.write("x.dag", f"JOB {name} j.sub\nJOB b\x85c j.sub\n")
-    line = f"0/2 done, 2 running ({name} 0 s, b\\x85c 0 s), 0 ready, 0 failed  0:00"
+    line = f"0/2 done (0%), 2 running ({name} 0 s, b\\x85c 0 s), 0 ready  0:00"
     told = folder.on_terminal("run", "x.dag", columns=90, steps=[(line, "seen")])
     same(told.screen.wrapped, 0)
     told.has_shown(line)
-    # 19 columns and 25 stand around ` (`, twelve of the name, ` 0 s` and `, ..)`: 67, and the last column stays free.
-    for columns, shown in ((68, f" ({name} 0 s, ..)"), (67, "")):
+    # 24 columns and 15 are around ` (`, twelve of the name, ` 0 s` and `, ..)`: 62, and the last column stays free.
+    for columns, shown in ((63, f" ({name} 0 s, ..)"), (62, "")):
         for file in ("x.dag.journal", "x.dag.log", "seen"):
             os.remove(folder.at(file))
-        line = f"0/2 done, 2 running{shown}, 0 ready, 0 failed  0:00"
+        line = f"0/2 done (0%), 2 running{shown}, 0 ready  0:00"
         told = folder.on_terminal("run", "x.dag", columns=columns, steps=[(line, "seen")])
         told.has_shown(line)
 
@@ -445,7 +559,7 @@ def a_failure_in_between(folder):
     ])
     same(told.text, "A ERROR attempts=2 value=3\nB DONE attempts=1 value=0\nresult 1\n")
     same(told.status, 1)
-    found = [match.group(1, 2, 3, 5, 6) for match in told.progress()]
+    found = [counts(match) for match in told.progress()]
     holds(("0", "2", "1", "0", "1") in found, f"{found}")
 
 
@@ -511,7 +625,7 @@ def dumb_terminals(folder):
     for term in ("dumb", None):
         told = folder.on_terminal("run", "x.dag", term=term, steps=[(FIRST_PAIR, "first")])
         holds(b"\x1b" not in told.raw, f"{term}: {told.raw!r}")
-        plain_lines(told.kept(), ["0/4 done, 2 running (A 0 s, B 0 s), 0 ready, 0 failed  0:00"], told.took, f"{term}: ")
+        plain_lines(told.kept(), ["0/4 done (0%), 2 running (A 0 s, B 0 s), 0 ready  0:00"], told.took, f"{term}: ")
         same(told.end(), ["4 done"], f"{term}: ")
         same(told.text, ALL_DONE)
         os.remove(folder.at("x.dag.journal"))
@@ -546,7 +660,7 @@ def no_terminal(folder):
     took = time.monotonic() - began
     same((text, run.returncode), (wanted, 1))
     same(told[-1:], "\n")
-    plain_lines(told.splitlines(), ["0/4 done, 2 running (A 0 s, B 0 s), 0 ready, 0 failed  0:00", "D JOB, attempt 0: exit 4; errors in D.err", "  | why"], took)
+    plain_lines(told.splitlines(), ["0/4 done (0%), 2 running (A 0 s, B 0 s), 0 ready  0:00", "D JOB, attempt 0: exit 4; errors in D.err", "  | why"], took)
 
 
 def same_output(folder):
@@ -665,8 +779,8 @@ def what_is_changed(folder):
     folder.cut("my flow.dag.journal")
     folder.write("B.sub", "executable = /bin/true\nqueue\n")
     for words in (("run",), ("status",)):
-        told = folder.on_terminal(*words, "my flow.dag", columns=120)
-        same(told.screen.told()[:2], ["dagrun: J5 OtherInputs", "    changed since the round began: B.sub; dagrun salvage my flow.dag keeps what is done"])
+        told = folder.on_terminal(*words, "my flow.dag", columns=160)
+        same(told.screen.told()[:2], ["dagrun: J5 OtherInputs", "    changed since the round began: B.sub; dagrun salvage my flow.dag keeps what is done, and --as-begun shows the round"])
 
 
 def a_refusal_in_the_middle(folder):
@@ -701,7 +815,7 @@ def hints(folder):
     told = {
         "x.dag": ["dagrun: S5 UnknownNode x.dag:2:20", "    2 | PARENT Fetch CHILD Fecth", "                           ^", "    is Fetch meant?", "    dagrun explain S5 says more"],
         "y.dag": ["dagrun: L2 UnknownCommand y.dag:3:1", "    3 | JOBS B b.sub", "        ^", "    is JOB meant?", "    dagrun explain L2 says more"],
-        "z.dag": ["dagrun: P1 MissingFile away/a.sub", f"    away/a.sub: No such file or directory (os error 2), seen from {here}", *advice],
+        "z.dag": ["dagrun: P1 MissingFile away/a.sub", f"    away/a.sub: No such file or directory (os error 2), seen from {here}; it is that of A, z.dag:1", *advice],
         "q.dag": ["dagrun: U4 QueueCount two.sub:2", "    2 | queue 2", "    Write `queue` once, with no count, and a JOB line for each of the jobs, with", "    its number by VARS."],
         "away.dag": ["dagrun: S1 MissingFile away.dag", f"    away.dag: No such file or directory (os error 2), seen from {here}", "    dagrun explain S1 says more"],
     }
@@ -777,10 +891,11 @@ def goes_on_where_it_stood(folder):
         folder.shell(name, "sleep 0.3\n")
     folder.shell("D", until("seen"))
     folder.write("x.dag", "JOB A A.sub\nJOB B B.sub\nJOB C C.sub\nJOB D D.sub\nPARENT A CHILD B\nPARENT B CHILD C\nPARENT C CHILD D\n")
-    told = folder.on_terminal("run", "x.dag", killed="3/4 done, 1 running (D ")
+    told = folder.on_terminal("run", "x.dag", killed=lambda line: "3/4 done (75%), 1 running (D " in line)
     same(told.status, -signal.SIGKILL)
-    told = folder.on_terminal("run", "x.dag", steps=[("3/4 done, 1 running (D 0 s), 0 ready, 0 failed  0:00", "seen")])
-    same(told.lines()[0], "3/4 done, 1 running (D 0 s), 0 ready, 0 failed  0:00")
+    # What earlier managers did gives no estimate.
+    told = folder.on_terminal("run", "x.dag", steps=[("3/4 done (75%), 1 running (D 0 s), 0 ready  0:00", "seen")])
+    same(told.lines()[0], "3/4 done (75%), 1 running (D 0 s), 0 ready  0:00")
     same(told.text, ALL_DONE)
 
 
@@ -789,9 +904,10 @@ def noops(folder):
     folder.shell("A", "sleep 1\n")
     folder.shell("D", until("seen"))
     folder.write("x.dag", "JOB A A.sub\nJOB B A.sub NOOP\nJOB C A.sub NOOP\nJOB D D.sub\nPARENT A CHILD B\nPARENT B CHILD C\nPARENT C CHILD D\n")
-    told = folder.on_terminal("run", "x.dag", steps=[("3/4 done, 1 running (D 0 s), 0 ready, 0 failed  0:00", "seen")])
+    line = "3/4 done (75%), 1 running (D 0 s), 0 ready  0:00, 0:00 left"
+    told = folder.on_terminal("run", "x.dag", steps=[(line, "seen")])
     same(told.text, ALL_DONE)
-    told.has_shown("3/4 done, 1 running (D 0 s), 0 ready, 0 failed  0:00")
+    told.has_shown(line)
 
 
 def a_final_node(folder):
@@ -799,7 +915,7 @@ def a_final_node(folder):
     folder.shell("A", until("first"))
     folder.shell("F", until("second"))
     folder.write("x.dag", "JOB A A.sub\nFINAL F F.sub\n")
-    lines = ["0/2 done, 1 running (A 0 s), 0 ready, 0 failed  0:00", "1/2 done, 1 running (F 0 s), 0 ready, 0 failed  0:00"]
+    lines = ["0/2 done (0%), 1 running (A 0 s), 0 ready  0:00", "1/2 done (50%), 1 running (F 0 s), 0 ready  0:00, 0:00 left"]
     told = folder.on_terminal("run", "x.dag", steps=list(zip(lines, ("first", "second"))))
     told.has_shown(lines[0])
     told.has_shown(lines[1])
@@ -892,7 +1008,7 @@ def two_thousand(folder):
             if rule == "auto":
                 redraws = told.raw.count(b"\x1b[K")
                 holds(redraws <= 10 * told.took + 2, f"{redraws} redraws in {told.took:.1f} seconds")
-                holds(told.progress()[-1].group(2) == "2000", "the total is wrong")
+                holds(told.progress()[-1].group("nodes") == "2000", "the total is wrong")
     more = 100 * (best["auto"] - best["never"]) / best["never"]
     print(f"2,000 short jobs: {best['never']:.2f} s without, {best['auto']:.2f} s with the line: {more:+.1f} %")
 
@@ -900,6 +1016,8 @@ def two_thousand(folder):
 ROWS = [
     goes_on,
     counts_of_states,
+    in_red,
+    time_left,
     a_halt,
     at_20_columns,
     at_200_columns,

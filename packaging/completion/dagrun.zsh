@@ -61,12 +61,15 @@ _dagrun() {
         status)
             _arguments \
                 '(-h --help)'{-h,--help}'[Print help]' \
+                '--as-begun[Goes by the files with which the round began, as x.dag.begun keeps them, whatever was changed since]' \
                 '--trust-owner[Root goes by the journal, the rescue files and the lock of another user, and others by those of root]' \
                 '1:DAG:_files -g "*.dag"'
             ;;
         why)
             _arguments \
                 '(-h --help)'{-h,--help}'[Print help]' \
+                '--all[Each node in error by itself; without it those with one cause are shown once]' \
+                '--as-begun[Goes by the files with which the round began, as x.dag.begun keeps them, whatever was changed since]' \
                 '--trust-owner[Root goes by the journal, the rescue files and the lock of another user, and others by those of root]' \
                 '1:DAG:_files -g "*.dag"' \
                 '*:NODE:_dagrun_nodes'
@@ -75,6 +78,7 @@ _dagrun() {
             _arguments \
                 '(-h --help)'{-h,--help}'[Print help]' \
                 '--svg[A picture of the run over time, in place of a table]' \
+                '--as-begun[Goes by the files with which the round began, as x.dag.begun keeps them, whatever was changed since]' \
                 '--trust-owner[Root goes by the journal, the rescue files and the lock of another user, and others by those of root]' \
                 '1:DAG:_files -g "*.dag"'
             ;;
@@ -95,12 +99,14 @@ _dagrun() {
         audit)
             _arguments \
                 '(-h --help)'{-h,--help}'[Print help]' \
+                '--as-begun[Goes by the files with which the round began, as x.dag.begun keeps them, whatever was changed since]' \
                 '--trust-owner[Root goes by the journal, the rescue files and the lock of another user, and others by those of root]' \
                 '1:DAG:_files -g "*.dag"'
             ;;
         check)
             _arguments \
                 '(-h --help)'{-h,--help}'[Print help]' \
+                '--all[Lists all faults of lines at once, in place of the first]' \
                 '--hints[Says on standard error, with places, what is odd in the files, and what to write instead]' \
                 '--condor[Says there, with places, what would be otherwise under condor_submit_dag]' \
                 '1:DAG:_files -g "*.dag"'
@@ -118,6 +124,7 @@ _dagrun() {
         graph)
             _arguments \
                 '(-h --help)'{-h,--help}'[Print help]' \
+                '--as-begun[Goes by the files with which the round began, as x.dag.begun keeps them, whatever was changed since]' \
                 '--trust-owner[Root goes by the journal, the rescue files and the lock of another user, and others by those of root]' \
                 '1:DAG:_files -g "*.dag"'
             ;;

@@ -65,13 +65,13 @@ same_options rows options plain a b = λ i. record {
 run_alone : (rows : List Row) (dag : Text) (plain : RunOptions) (request : Request) → IsRequestOf (codes "run") rows request → dag_path rows ≡ dag
     → AsksRun rows plain → asked_by request ≡ runs dag plain
 run_alone rows dag plain (Run path options) h is asks = ap₂ runs (h.1 ∙ is) (same_options rows options plain h.2 asks)
-run_alone rows dag plain (Check path hints condor) h is asks = absurd (differ _ _ refl h.0)
-run_alone rows dag plain (Status path owned) h is asks = absurd (differ _ _ refl h.0)
-run_alone rows dag plain (Audit path owned) h is asks = absurd (differ _ _ refl h.0)
+run_alone rows dag plain (Check path all hints condor) h is asks = absurd (differ _ _ refl h.0)
+run_alone rows dag plain (Status path begun owned) h is asks = absurd (differ _ _ refl h.0)
+run_alone rows dag plain (Audit path begun owned) h is asks = absurd (differ _ _ refl h.0)
 run_alone rows dag plain (Rehearse path outcomes limits always_post) h is asks = absurd (differ _ _ refl h.0)
-run_alone rows dag plain (Graph path owned) h is asks = absurd (differ _ _ refl h.0)
-run_alone rows dag plain (Why path nodes owned) h is asks = absurd (differ _ _ refl h.0)
-run_alone rows dag plain (Times path svg owned) h is asks = absurd (differ _ _ refl h.0)
+run_alone rows dag plain (Graph path begun owned) h is asks = absurd (differ _ _ refl h.0)
+run_alone rows dag plain (Why path nodes all begun owned) h is asks = absurd (differ _ _ refl h.0)
+run_alone rows dag plain (Times path svg begun owned) h is asks = absurd (differ _ _ refl h.0)
 run_alone rows dag plain (Salvage path owned) h is asks = absurd (differ _ _ refl h.0)
 run_alone rows dag plain (Redo path names only owned) h is asks = absurd (differ _ _ refl h.0)
 run_alone rows dag plain (Page text) (inl h) is asks = absurd (differ _ _ refl h.0)
@@ -79,20 +79,21 @@ run_alone rows dag plain (Page text) (inr (inl h)) is asks = absurd (differ _ _ 
 run_alone rows dag plain (Page text) (inr (inr h)) is asks = absurd (differ _ _ refl h.0)
 
 why_alone : (rows : List Row) (dag : Text) (nodes : List Text) (request : Request) → IsRequestOf (codes "why") rows request → dag_path rows ≡ dag
-    → nodes_asked rows ≡ nodes → trusts_owner rows ≡ false → asked_by request ≡ asks_why dag nodes false
-why_alone rows dag nodes (Why path names owned) h is asks distrusts = λ i. asks_why ((h.1 ∙ is) i) ((h.2 ∙ asks) i) ((h.3 ∙ distrusts) i)
-why_alone rows dag nodes (Run path options) h is asks distrusts = absurd (differ _ _ refl h.0)
-why_alone rows dag nodes (Check path hints condor) h is asks distrusts = absurd (differ _ _ refl h.0)
-why_alone rows dag nodes (Status path owned) h is asks distrusts = absurd (differ _ _ refl h.0)
-why_alone rows dag nodes (Audit path owned) h is asks distrusts = absurd (differ _ _ refl h.0)
-why_alone rows dag nodes (Rehearse path outcomes limits always_post) h is asks distrusts = absurd (differ _ _ refl h.0)
-why_alone rows dag nodes (Graph path owned) h is asks distrusts = absurd (differ _ _ refl h.0)
-why_alone rows dag nodes (Times path svg owned) h is asks distrusts = absurd (differ _ _ refl h.0)
-why_alone rows dag nodes (Salvage path owned) h is asks distrusts = absurd (differ _ _ refl h.0)
-why_alone rows dag nodes (Redo path names only owned) h is asks distrusts = absurd (differ _ _ refl h.0)
-why_alone rows dag nodes (Page text) (inl h) is asks distrusts = absurd (differ _ _ refl h.0)
-why_alone rows dag nodes (Page text) (inr (inl h)) is asks distrusts = absurd (differ _ _ refl h)
-why_alone rows dag nodes (Page text) (inr (inr h)) is asks distrusts = absurd (differ _ _ refl h.0)
+    → nodes_asked rows ≡ nodes → is_set (codes "all") rows ≡ false → is_set (codes "as-begun") rows ≡ false → trusts_owner rows ≡ false
+    → asked_by request ≡ asks_why dag nodes false false false
+why_alone rows dag nodes (Why path names all begun owned) h is asks grouped now distrusts = λ i. asks_why ((h.3.0 ∙ is) i) ((h.1 ∙ asks) i) ((h.2 ∙ grouped) i) ((h.3.1 ∙ now) i) ((h.3.2 ∙ distrusts) i)
+why_alone rows dag nodes (Run path options) h is asks grouped now distrusts = absurd (differ _ _ refl h.0)
+why_alone rows dag nodes (Check path all hints condor) h is asks grouped now distrusts = absurd (differ _ _ refl h.0)
+why_alone rows dag nodes (Status path begun owned) h is asks grouped now distrusts = absurd (differ _ _ refl h.0)
+why_alone rows dag nodes (Audit path begun owned) h is asks grouped now distrusts = absurd (differ _ _ refl h.0)
+why_alone rows dag nodes (Rehearse path outcomes limits always_post) h is asks grouped now distrusts = absurd (differ _ _ refl h.0)
+why_alone rows dag nodes (Graph path begun owned) h is asks grouped now distrusts = absurd (differ _ _ refl h.0)
+why_alone rows dag nodes (Times path svg begun owned) h is asks grouped now distrusts = absurd (differ _ _ refl h.0)
+why_alone rows dag nodes (Salvage path owned) h is asks grouped now distrusts = absurd (differ _ _ refl h.0)
+why_alone rows dag nodes (Redo path names only owned) h is asks grouped now distrusts = absurd (differ _ _ refl h.0)
+why_alone rows dag nodes (Page text) (inl h) is asks grouped now distrusts = absurd (differ _ _ refl h.0)
+why_alone rows dag nodes (Page text) (inr (inl h)) is asks grouped now distrusts = absurd (differ _ _ refl h)
+why_alone rows dag nodes (Page text) (inr (inr h)) is asks grouped now distrusts = absurd (differ _ _ refl h.0)
 
 rehearsal_alone : (rows : List Row) (dag : Text) (outcomes : Option Text) (plain : Limits) (post : Bool) (request : Request)
     → IsRequestOf (codes "rehearse") rows request → dag_path rows ≡ dag → first_of (codes "OUTCOMES") rows ≡ outcomes → limits_asked rows ≡ plain
@@ -100,12 +101,12 @@ rehearsal_alone : (rows : List Row) (dag : Text) (outcomes : Option Text) (plain
 rehearsal_alone rows dag outcomes plain post (Rehearse path table limits always_post) h is asks most posts = λ i.
     rehearses ((h.1 ∙ is) i) ((h.2 ∙ asks) i) ((h.3 ∙ most) i) ((h.4 ∙ posts) i)
 rehearsal_alone rows dag outcomes plain post (Run path options) h is asks most posts = absurd (differ _ _ refl h.0)
-rehearsal_alone rows dag outcomes plain post (Check path hints condor) h is asks most posts = absurd (differ _ _ refl h.0)
-rehearsal_alone rows dag outcomes plain post (Status path owned) h is asks most posts = absurd (differ _ _ refl h.0)
-rehearsal_alone rows dag outcomes plain post (Audit path owned) h is asks most posts = absurd (differ _ _ refl h.0)
-rehearsal_alone rows dag outcomes plain post (Graph path owned) h is asks most posts = absurd (differ _ _ refl h.0)
-rehearsal_alone rows dag outcomes plain post (Why path names owned) h is asks most posts = absurd (differ _ _ refl h.0)
-rehearsal_alone rows dag outcomes plain post (Times path svg owned) h is asks most posts = absurd (differ _ _ refl h.0)
+rehearsal_alone rows dag outcomes plain post (Check path all hints condor) h is asks most posts = absurd (differ _ _ refl h.0)
+rehearsal_alone rows dag outcomes plain post (Status path begun owned) h is asks most posts = absurd (differ _ _ refl h.0)
+rehearsal_alone rows dag outcomes plain post (Audit path begun owned) h is asks most posts = absurd (differ _ _ refl h.0)
+rehearsal_alone rows dag outcomes plain post (Graph path begun owned) h is asks most posts = absurd (differ _ _ refl h.0)
+rehearsal_alone rows dag outcomes plain post (Why path names all begun owned) h is asks most posts = absurd (differ _ _ refl h.0)
+rehearsal_alone rows dag outcomes plain post (Times path svg begun owned) h is asks most posts = absurd (differ _ _ refl h.0)
 rehearsal_alone rows dag outcomes plain post (Salvage path owned) h is asks most posts = absurd (differ _ _ refl h.0)
 rehearsal_alone rows dag outcomes plain post (Redo path names only owned) h is asks most posts = absurd (differ _ _ refl h.0)
 rehearsal_alone rows dag outcomes plain post (Page text) (inl h) is asks most posts = absurd (differ _ _ refl h.0)
@@ -114,13 +115,13 @@ rehearsal_alone rows dag outcomes plain post (Page text) (inr (inr h)) is asks m
 
 version_alone : (rows : List Row) (request : Request) → IsRequestOf (codes "version") rows request → asked_by request ≡ shows version_text
 version_alone rows (Run path options) h = absurd (differ _ _ refl h.0)
-version_alone rows (Check path hints condor) h = absurd (differ _ _ refl h.0)
-version_alone rows (Status path owned) h = absurd (differ _ _ refl h.0)
-version_alone rows (Audit path owned) h = absurd (differ _ _ refl h.0)
+version_alone rows (Check path all hints condor) h = absurd (differ _ _ refl h.0)
+version_alone rows (Status path begun owned) h = absurd (differ _ _ refl h.0)
+version_alone rows (Audit path begun owned) h = absurd (differ _ _ refl h.0)
 version_alone rows (Rehearse path outcomes limits always_post) h = absurd (differ _ _ refl h.0)
-version_alone rows (Graph path owned) h = absurd (differ _ _ refl h.0)
-version_alone rows (Why path names owned) h = absurd (differ _ _ refl h.0)
-version_alone rows (Times path svg owned) h = absurd (differ _ _ refl h.0)
+version_alone rows (Graph path begun owned) h = absurd (differ _ _ refl h.0)
+version_alone rows (Why path names all begun owned) h = absurd (differ _ _ refl h.0)
+version_alone rows (Times path svg begun owned) h = absurd (differ _ _ refl h.0)
 version_alone rows (Salvage path owned) h = absurd (differ _ _ refl h.0)
 version_alone rows (Redo path names only owned) h = absurd (differ _ _ refl h.0)
 version_alone rows (Page text) (inl h) = absurd (differ _ _ refl h.0)
@@ -213,12 +214,49 @@ why_taken : (orphans progress : Bor (List (Bor Text))) → takes (dagrun_app fal
 unfolding clap_on_literals
 why_taken orphans progress = refl
 
-why_only : (orphans progress : Bor (List (Bor Text))) (request : Request) → AsksFor (subcommand_of (dagrun_app false orphans progress) why_words) request
-    → asked_by request ≡ asks_why (codes "x.dag") (codes "B" ∷ codes "A" ∷ []) false
-unfolding clap_on_literals
-why_only orphans progress request h = why_alone (rows_in (subcommand_of (dagrun_app false orphans progress) why_words)) (codes "x.dag") _ request h refl refl refl
+-- what is matched to these words
+why_matched : (orphans progress : Bor (List (Bor Text))) → Option (Text × List Row)
+why_matched orphans progress = subcommand_of (dagrun_app false orphans progress) why_words
 
-pub nodes_in_order : AskForAlone why_words (asks_why (codes "x.dag") (codes "B" ∷ codes "A" ∷ []) false)
+abbrev why_rows : (orphans progress : Bor (List (Bor Text))) → List Row
+why_rows orphans progress = rows_in (why_matched orphans progress)
+
+why_found : (orphans progress : Bor (List (Bor Text))) → why_matched orphans progress ≡ Some (codes "why", why_rows orphans progress)
+unfolding clap_on_literals why_matched
+why_found orphans progress = refl
+
+why_dag : (orphans progress : Bor (List (Bor Text))) → dag_path (why_rows orphans progress) ≡ codes "x.dag"
+unfolding clap_on_literals why_matched
+why_dag orphans progress = refl
+
+why_nodes : (orphans progress : Bor (List (Bor Text))) → nodes_asked (why_rows orphans progress) ≡ codes "B" ∷ codes "A" ∷ []
+unfolding clap_on_literals why_matched
+why_nodes orphans progress = refl
+
+why_grouped : (orphans progress : Bor (List (Bor Text))) → is_set (codes "all") (why_rows orphans progress) ≡ false
+unfolding clap_on_literals why_matched
+why_grouped orphans progress = refl
+
+why_now : (orphans progress : Bor (List (Bor Text))) → is_set (codes "as-begun") (why_rows orphans progress) ≡ false
+unfolding clap_on_literals why_matched
+why_now orphans progress = refl
+
+why_distrusts : (orphans progress : Bor (List (Bor Text))) → trusts_owner (why_rows orphans progress) ≡ false
+unfolding clap_on_literals why_matched
+why_distrusts orphans progress = refl
+
+why_asks : (orphans progress : Bor (List (Bor Text))) (request : Request) → AsksFor (why_matched orphans progress) request
+    → asked_by request ≡ asks_why (codes "x.dag") (codes "B" ∷ codes "A" ∷ []) false false false
+why_asks orphans progress request h = why_alone (why_rows orphans progress) (codes "x.dag") _ request
+    (subst (λ (o : Option (Text × List Row)). AsksFor o request) (why_found orphans progress) h)
+    (why_dag orphans progress) (why_nodes orphans progress) (why_grouped orphans progress) (why_now orphans progress) (why_distrusts orphans progress)
+
+why_only : (orphans progress : Bor (List (Bor Text))) (request : Request) → AsksFor (subcommand_of (dagrun_app false orphans progress) why_words) request
+    → asked_by request ≡ asks_why (codes "x.dag") (codes "B" ∷ codes "A" ∷ []) false false false
+unfolding why_matched
+why_only orphans progress request h = why_asks orphans progress request h
+
+pub nodes_in_order : AskForAlone why_words (asks_why (codes "x.dag") (codes "B" ∷ codes "A" ∷ []) false false false)
 nodes_in_order = by_table why_words _ why_taken why_only
 
 abbrev clash_words : List Text

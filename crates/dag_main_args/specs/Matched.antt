@@ -104,7 +104,7 @@ nodes_asked rows = unwrap_or (all_of (codes "NODE") rows) []
 
 -- what `version` prints
 abbrev pub version_text : Text
-version_text = codes "dagrun 0.1.0\n"
+version_text = codes "dagrun 1.0.0\n"
 
 -- the commands whose answer is a page; with those that tell of a round by what stands beside its DAG file; and all commands
 abbrev pub page_names : List Text
@@ -124,21 +124,26 @@ abbrev pub IsPageOf : Text → List Row → Text → Type 0
 IsPageOf command rows page = ((command ≡ codes "explain") × IsExplained (first_of (codes "CODE") rows) page)
     ⊎ ((command ≡ codes "help") ⊎ ((command ≡ codes "version") × (page ≡ version_text)))
 
+-- the path of a DAG file of whose round something is told, whether by the files with which that began, and whether their owner is trusted
+abbrev pub TellsOfRound : List Row → (path : Text) → (as_begun trust_owner : Bool) → Type 0
+TellsOfRound rows path as_begun trust_owner =
+    (path ≡ dag_path rows) × (as_begun ≡ is_set (codes "as-begun") rows) × (trust_owner ≡ trusts_owner rows)
+
 -- the request that a command asks for by what was matched to it: each kind of request by one command alone
 abbrev pub IsRequestOf : Text → List Row → Request → Type 0
-IsRequestOf command rows (Check dag hints condor) = (command ≡ codes "check") × (dag.now ≡ dag_path rows)
+IsRequestOf command rows (Check dag all hints condor) = (command ≡ codes "check") × (dag.now ≡ dag_path rows) × (all ≡ is_set (codes "all") rows)
     × (hints ≡ is_set (codes "hints") rows) × (condor ≡ is_set (codes "condor") rows)
 IsRequestOf command rows (Run dag options) = (command ≡ codes "run") × (dag.now ≡ dag_path rows) × AreOptionsOf rows options
-IsRequestOf command rows (Status dag trust_owner) = (command ≡ codes "status") × (dag.now ≡ dag_path rows) × (trust_owner ≡ trusts_owner rows)
-IsRequestOf command rows (Audit dag trust_owner) = (command ≡ codes "audit") × (dag.now ≡ dag_path rows) × (trust_owner ≡ trusts_owner rows)
+IsRequestOf command rows (Status dag as_begun trust_owner) = (command ≡ codes "status") × TellsOfRound rows dag.now as_begun trust_owner
+IsRequestOf command rows (Audit dag as_begun trust_owner) = (command ≡ codes "audit") × TellsOfRound rows dag.now as_begun trust_owner
 IsRequestOf command rows (Rehearse dag outcomes limits always_post) = (command ≡ codes "rehearse") × (dag.now ≡ dag_path rows)
     × (option_map (λ t. t.now) outcomes ≡ first_of (codes "OUTCOMES") rows) × (limits ≡ limits_asked rows)
     × (always_post ≡ is_set (codes "always-run-post") rows)
-IsRequestOf command rows (Graph dag trust_owner) = (command ≡ codes "graph") × (dag.now ≡ dag_path rows) × (trust_owner ≡ trusts_owner rows)
-IsRequestOf command rows (Why dag nodes trust_owner) = (command ≡ codes "why") × (dag.now ≡ dag_path rows)
-    × (map (λ n. n.now) nodes.items ≡ nodes_asked rows) × (trust_owner ≡ trusts_owner rows)
-IsRequestOf command rows (Times dag svg trust_owner) = (command ≡ codes "times") × (dag.now ≡ dag_path rows)
-    × (svg ≡ is_set (codes "svg") rows) × (trust_owner ≡ trusts_owner rows)
+IsRequestOf command rows (Graph dag as_begun trust_owner) = (command ≡ codes "graph") × TellsOfRound rows dag.now as_begun trust_owner
+IsRequestOf command rows (Why dag nodes all as_begun trust_owner) = (command ≡ codes "why") × (map (λ n. n.now) nodes.items ≡ nodes_asked rows)
+    × (all ≡ is_set (codes "all") rows) × TellsOfRound rows dag.now as_begun trust_owner
+IsRequestOf command rows (Times dag svg as_begun trust_owner) = (command ≡ codes "times") × (svg ≡ is_set (codes "svg") rows)
+    × TellsOfRound rows dag.now as_begun trust_owner
 IsRequestOf command rows (Salvage dag trust_owner) = (command ≡ codes "salvage") × (dag.now ≡ dag_path rows) × (trust_owner ≡ trusts_owner rows)
 IsRequestOf command rows (Redo dag nodes only trust_owner) = (command ≡ codes "redo") × (dag.now ≡ dag_path rows)
     × (map (λ n. n.now) nodes.items ≡ nodes_asked rows) × (only ≡ is_set (codes "only") rows) × (trust_owner ≡ trusts_owner rows)

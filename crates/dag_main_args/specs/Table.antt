@@ -63,9 +63,12 @@ dag = needed (codes "DAG")
 abbrev pub trust_owner : Rule
 trust_owner = flag (codes "trust-owner")
 
--- a command that has no argument but these two
-abbrev pub of_dag : Text → Shape
-of_dag name = command name (dag ∷ trust_owner ∷ [])
+abbrev pub as_it_began : Rule
+as_it_began = flag (codes "as-begun")
+
+-- a command that tells of a round, and has no other argument: also whether it is by the files with which the round began
+abbrev pub of_round : Text → Shape
+of_round name = command name (dag ∷ as_it_began ∷ trust_owner ∷ [])
 
 -- what a run may be given
 abbrev pub run_rules : (is_tied : Bool) → (orphans progress : Bor (List (Bor Text))) → List Rule
@@ -82,15 +85,15 @@ rehearsal_rules = dag ∷ optional (codes "OUTCOMES") ∷ number (codes "maxjobs
 -- the commands of the program, each with what it may be given
 abbrev pub commands : (is_tied : Bool) → (orphans progress : Bor (List (Bor Text))) → List Shape
 commands is_tied orphans progress = command (codes "run") (run_rules is_tied orphans progress)
-    ∷ of_dag (codes "status")
-    ∷ command (codes "why") (dag ∷ many (codes "NODE") ∷ trust_owner ∷ [])
-    ∷ command (codes "times") (dag ∷ flag (codes "svg") ∷ trust_owner ∷ [])
-    ∷ of_dag (codes "salvage")
+    ∷ of_round (codes "status")
+    ∷ command (codes "why") (dag ∷ many (codes "NODE") ∷ flag (codes "all") ∷ as_it_began ∷ trust_owner ∷ [])
+    ∷ command (codes "times") (dag ∷ flag (codes "svg") ∷ as_it_began ∷ trust_owner ∷ [])
+    ∷ command (codes "salvage") (dag ∷ trust_owner ∷ [])
     ∷ command (codes "redo") (dag ∷ many (codes "NODE") ∷ flag (codes "only") ∷ trust_owner ∷ [])
-    ∷ of_dag (codes "audit")
-    ∷ command (codes "check") (dag ∷ flag (codes "hints") ∷ flag (codes "condor") ∷ [])
+    ∷ of_round (codes "audit")
+    ∷ command (codes "check") (dag ∷ flag (codes "all") ∷ flag (codes "hints") ∷ flag (codes "condor") ∷ [])
     ∷ command (codes "rehearse") rehearsal_rules
-    ∷ of_dag (codes "graph")
+    ∷ of_round (codes "graph")
     ∷ command (codes "explain") (optional (codes "CODE") ∷ [])
     ∷ command (codes "help") (optional (codes "COMMAND") ∷ [])
     ∷ command (codes "version") []

@@ -151,6 +151,12 @@ const TRUST_OWNER: ArgumentRow = ArgumentRow {
     help: "Root goes by the journal, the rescue files and the lock of another user, and others by those of root",
 };
 
+const AS_BEGUN: ArgumentRow = ArgumentRow {
+    name: "as-begun",
+    kind: Kind::Flag,
+    help: "Goes by the files with which the round began, as x.dag.begun keeps them, whatever was changed since",
+};
+
 const RESUME: ArgumentRow = ArgumentRow {
     name: "resume",
     kind: Kind::FlagWithout("dorescuefrom"),
@@ -205,6 +211,18 @@ const ORPHANS: ArgumentRow = ArgumentRow {
     help: "What is done with processes that a manager which was killed left running; kill where it is not given",
 };
 
+const EACH: ArgumentRow = ArgumentRow {
+    name: "all",
+    kind: Kind::Flag,
+    help: "Each node in error by itself; without it those with one cause are shown once",
+};
+
+const ALL: ArgumentRow = ArgumentRow {
+    name: "all",
+    kind: Kind::Flag,
+    help: "Lists all faults of lines at once, in place of the first",
+};
+
 const HINTS: ArgumentRow = ArgumentRow {
     name: "hints",
     kind: Kind::Flag,
@@ -251,7 +269,7 @@ static COMMANDS: [CommandRow; 13] = [
     CommandRow {
         name: "status",
         about: "Says where each node of a run stands, by its journal",
-        arguments: &[FILE, TRUST_OWNER],
+        arguments: &[FILE, AS_BEGUN, TRUST_OWNER],
         examples: "  dagrun status x.dag                 where each node stands, also while it runs
   watch dagrun status x.dag           again and again
 ",
@@ -259,15 +277,16 @@ static COMMANDS: [CommandRow; 13] = [
     CommandRow {
         name: "why",
         about: "Says why nodes are in error, and for whom others wait",
-        arguments: &[FILE, NODES, TRUST_OWNER],
+        arguments: &[FILE, NODES, EACH, AS_BEGUN, TRUST_OWNER],
         examples: "  dagrun why x.dag                    all nodes in error, those first that hold up most
+  dagrun why --all x.dag              the same, each by itself where many have one cause
   dagrun why x.dag Report             why Report is in error, or for whom it waits
 ",
     },
     CommandRow {
         name: "times",
         about: "Says when each phase of a run began and how long it took, by its log",
-        arguments: &[FILE, SVG, TRUST_OWNER],
+        arguments: &[FILE, SVG, AS_BEGUN, TRUST_OWNER],
         examples: "  dagrun times x.dag                  a table, for a spreadsheet
   dagrun times --svg x.dag > x.svg    a picture of the run over time
 ",
@@ -290,16 +309,17 @@ static COMMANDS: [CommandRow; 13] = [
     CommandRow {
         name: "audit",
         about: "Says whether a journal is that of a finished run, and what its nodes came to",
-        arguments: &[FILE, TRUST_OWNER],
+        arguments: &[FILE, AS_BEGUN, TRUST_OWNER],
         examples: "  dagrun audit x.dag                  what the journal of the last round stands for
 ",
     },
     CommandRow {
         name: "check",
         about: "Reads a DAG file with its splices, and says whether it is right",
-        arguments: &[FILE_OR_INPUT, HINTS, CONDOR],
+        arguments: &[FILE_OR_INPUT, ALL, HINTS, CONDOR],
         examples: "  dagrun check x.dag                  whether x.dag and its submit files are right
   make-dag | dagrun check -           the same of a DAG that a program writes
+  dagrun check --all x.dag            all faults of lines at once
   dagrun check --hints x.dag          also what is odd in them, as a misspelled name
   dagrun check --condor x.dag         also what would be otherwise under HTCondor
 ",
@@ -315,7 +335,7 @@ static COMMANDS: [CommandRow; 13] = [
     CommandRow {
         name: "graph",
         about: "Draws the graph of a DAG, coloured by where its nodes stand, for graphviz",
-        arguments: &[FILE, TRUST_OWNER],
+        arguments: &[FILE, AS_BEGUN, TRUST_OWNER],
         examples: "  dagrun graph x.dag | dot -Tsvg > x.svg   a picture, by graphviz
 ",
     },

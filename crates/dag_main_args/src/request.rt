@@ -21,7 +21,7 @@ use std::alloc::{AllocError, Global};
 use throttles::Limits;
 
 /// What `version` prints.
-const VERSION: &str = "dagrun 0.1.0\n";
+const VERSION: &str = "dagrun 1.0.0\n";
 
 /// No limits but that on all children.
 const NO_LIMITS: Limits = Limits {
@@ -116,10 +116,11 @@ impl Drop for RunOptions {
 /// What the words of a command line ask for.
 #[derive(Debug, Drop)]
 pub enum Request<'a> {
-    /// `check DAG`: the path of the DAG file, `-` for standard input; whether it is said what is odd in the
-    /// files, and what would be otherwise under `condor_submit_dag`.
+    /// `check DAG`: the path of the DAG file, `-` for standard input; whether all faults of lines are listed, whether it is said
+    /// what is odd in the files, and what would be otherwise under `condor_submit_dag`.
     Check {
         dag: &'a str,
+        all: bool,
         hints: bool,
         condor: bool,
     },
@@ -130,16 +131,18 @@ pub enum Request<'a> {
         options: RunOptions,
     },
 
-    /// `status DAG`: the path of the DAG file; and, as in the six below, whether the owner of the files that stand
-    /// beside it is trusted, as `RunOptions` says it.
+    /// `status DAG`: the path of the DAG file; and, as in those below that tell of a round, whether it is by the files with
+    /// which the round began, and whether the owner of the files beside the DAG file is trusted, as `RunOptions` says it.
     Status {
         dag: &'a str,
+        as_begun: bool,
         trust_owner: bool,
     },
 
     /// `audit DAG`: the path of the DAG file.
     Audit {
         dag: &'a str,
+        as_begun: bool,
         trust_owner: bool,
     },
 
@@ -156,14 +159,17 @@ pub enum Request<'a> {
     /// `graph DAG`: the path of the DAG file.
     Graph {
         dag: &'a str,
+        as_begun: bool,
         trust_owner: bool,
     },
 
     /// `why DAG [NODE ..]`: the path of the DAG file, and the names of nodes; none for all that are in
-    /// error.
+    /// error, and then whether each is shown by itself.
     Why {
         dag: &'a str,
         nodes: Vec<&'a str>,
+        all: bool,
+        as_begun: bool,
         trust_owner: bool,
     },
 
@@ -171,6 +177,7 @@ pub enum Request<'a> {
     Times {
         dag: &'a str,
         svg: bool,
+        as_begun: bool,
         trust_owner: bool,
     },
 
@@ -438,19 +445,36 @@ fn told_of_round<'a>(
     ensures refused { IfErr result (λ fault. (fault ≡ WordsFault.Memory) ⊎ AsksForNone command.now (rows_of (found_of found.now))) }
 {
     let dag = dag_of(found);
+    let all = is_set(found, "all");
+    let as_begun = is_set(found, "as-begun");
     let trust_owner = is_set(found, "trust-owner");
     match command {
-        "status" => Ok(Request::Status { dag, trust_owner }),
-        "audit" => Ok(Request::Audit { dag, trust_owner }),
-        "graph" => Ok(Request::Graph { dag, trust_owner }),
+        "status" => Ok(Request::Status {
+            dag,
+            as_begun,
+            trust_owner,
+        }),
+        "audit" => Ok(Request::Audit {
+            dag,
+            as_begun,
+            trust_owner,
+        }),
+        "graph" => Ok(Request::Graph {
+            dag,
+            as_begun,
+            trust_owner,
+        }),
         "why" => Ok(Request::Why {
             dag,
             nodes: nodes_of(alloc, found)?,
+            all,
+            as_begun,
             trust_owner,
         }),
         "times" => Ok(Request::Times {
             dag,
             svg: is_set(found, "svg"),
+            as_begun,
             trust_owner,
         }),
         "salvage" => Ok(Request::Salvage { dag, trust_owner }),
@@ -482,6 +506,7 @@ fn asked_for<'a>(
         }),
         "check" => Ok(Request::Check {
             dag: dag_of(found),
+            all: is_set(found, "all"),
             hints: is_set(found, "hints"),
             condor: is_set(found, "condor"),
         }),

@@ -1,8 +1,13 @@
 -- What `check` answers, with hints and without.
-use Rattle.std.proofs.Common.{◌≡◌, ◌⊎◌, ◌++◌, ℕ, Bool, true, List, Result, Ok, Err, IfOk, inl, inr, refl, string_bytes, sym, subst}
+use Rattle.std.proofs.Common.{◌≡◌, ◌⊎◌, ◌++◌, ℕ, Bool, true, false, List, Result, Ok, Err, IfOk, inl, inr, refl, string_bytes, sym, subst}
 use Rattle.dag_main_check.specs.declared.fault.RunFault.{RunFault}
 use Rattle.dag_main_check.specs.declared.warnings.Answer.{Answer}
-use Rattle.dagrun.specs.Answered.{Said, IsCheckWith, without_hints, with_hints}
+use Rattle.splices_flat.specs.Opening.{Files}
+use Rattle.splices_flat.specs.FileSet.{bytes_of}
+use Rattle.splices_flat.specs.declared.file_set.FileSet.{FileSet}
+use Rattle.dag_main_files.specs.Folder.{IsReadFrom}
+use Rattle.folder_answers.proofs.Held.{checked}
+use Rattle.dagrun.specs.Answered.{Said, IsCheckWith, without_hints, with_hints, checks_in, checks_from, all_of_held_files, all_of_files_read_once}
 
 -- what is said of an answer
 abbrev pub IsAnswer : Said → Bool → Answer → Type 0
@@ -10,6 +15,18 @@ IsAnswer Checked hinted answer = IsCheckWith Checked hinted (string_bytes answer
 
 abbrev pub IsPlain : Said → Answer → Type 0
 IsPlain Checked answer = Checked (string_bytes answer.text) (string_bytes answer.warnings) answer.status
+
+-- a check of the files that are held
+pub at_once : (all : Bool) (holds : Files) (path : List ℕ) (r : Result Answer RunFault) → IfOk r (IsPlain (checks_in all holds path)) → IfOk r (IsPlain (checks_from all holds path))
+at_once false holds path r is = is
+at_once true holds path (Ok answer) is = all_of_held_files is
+at_once true holds path (Err fault) is = tt
+
+-- a check of files that were read once
+pub read_once : (all : Bool) (files : FileSet) (holds : Files) (path : List ℕ) → IsReadFrom holds path files → (text warnings : List ℕ) (status : ℕ)
+    → checks_in all (bytes_of files) path text warnings status → checks_from all holds path text warnings status
+read_once false files holds path read text warnings status is = checked (bytes_of files) holds read.held path text warnings status is
+read_once true files holds path read text warnings status is = all_of_files_read_once files read is
 
 -- without hints
 pub plain_check : (Checked : Said) (hinted : Bool) (r : Result Answer RunFault) → IfOk r (IsPlain Checked) → IfOk r (IsAnswer Checked hinted)

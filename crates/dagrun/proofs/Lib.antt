@@ -1,3 +1,4 @@
+mod OfRound
 mod Requests
 mod Salvages
 mod Worlds

@@ -109,30 +109,30 @@ module _ (rounds known : Rounds) (told : AreToldAs rounds known) where
   run-refusal IsRead IsRound NotTold NoReport path options _ (not_reported fault asked why) = not_reported fault asked why
 
   pub told-some : (asked : Asked) (r : Result Answer RunFault) → ComesTo (command_of_some rounds asked) r → ComesTo (command_of_some known asked) r
-  told-some (checks path hinted) r is = is
+  told-some (checks path all hinted) r is = is
   told-some (runs path options) (Ok answer) is = run-with _ _ _ _ _ path options _ _ _ is
   told-some (runs path options) (Err fault) is = run-refusal _ _ _ _ path options fault is
-  told-some (tells_status path owned) r is = is
-  told-some (audits path owned) r is = is
+  told-some (tells_status path begun owned) r is = is
+  told-some (audits path begun owned) r is = is
   told-some (rehearses path outcomes limits always_post) r is = is
-  told-some (draws path owned) r is = is
-  told-some (asks_why path nodes owned) r is = is
-  told-some (times path svg owned) r is = is
+  told-some (draws path begun owned) r is = is
+  told-some (asks_why path nodes all begun owned) r is = is
+  told-some (times path svg begun owned) r is = is
   told-some (salvages path owned) r is = is
   told-some (redoes path nodes only owned) r is = is
   told-some (shows page) r is = is
 
   pub told-from : (holds : Files) (has : List ℕ → Bool) (asked : Asked) (r : Result Answer RunFault) → ComesTo (command_from holds has rounds asked) r
       → ComesTo (command_from holds has known asked) r
-  told-from holds has (checks path hinted) r is = is
+  told-from holds has (checks path all hinted) r is = is
   told-from holds has (runs path options) (Ok answer) is = run-with _ _ _ _ _ path options _ _ _ is
   told-from holds has (runs path options) (Err fault) is = run-refusal _ _ _ _ path options fault is
-  told-from holds has (tells_status path owned) r is = is
-  told-from holds has (audits path owned) r is = is
+  told-from holds has (tells_status path begun owned) r is = is
+  told-from holds has (audits path begun owned) r is = is
   told-from holds has (rehearses path outcomes limits always_post) r is = is
-  told-from holds has (draws path owned) r is = is
-  told-from holds has (asks_why path nodes owned) r is = is
-  told-from holds has (times path svg owned) r is = is
+  told-from holds has (draws path begun owned) r is = is
+  told-from holds has (asks_why path nodes all begun owned) r is = is
+  told-from holds has (times path svg begun owned) r is = is
   told-from holds has (salvages path owned) r is = is
   told-from holds has (redoes path nodes only owned) r is = is
   told-from holds has (shows page) r is = is
@@ -150,28 +150,28 @@ module _ (rounds known : Rounds) (told : AreToldAs rounds known) where
 -- what isn't asked of what stands beside a DAG file, is asked of no round
 pub unbeside-some : (rounds known : Rounds) (asked : Asked) → is_beside asked ≡ false → (r : Result Answer RunFault) → ComesTo (command_of_some rounds asked) r
     → ComesTo (command_of_some known asked) r
-unbeside-some rounds known (checks path hinted) isnt r is = is
+unbeside-some rounds known (checks path all hinted) isnt r is = is
 unbeside-some rounds known (runs path options) isnt r is = absurd (false≢true (sym isnt))
-unbeside-some rounds known (tells_status path owned) isnt r is = is
-unbeside-some rounds known (audits path owned) isnt r is = is
+unbeside-some rounds known (tells_status path begun owned) isnt r is = is
+unbeside-some rounds known (audits path begun owned) isnt r is = is
 unbeside-some rounds known (rehearses path outcomes limits always_post) isnt r is = is
-unbeside-some rounds known (draws path owned) isnt r is = is
-unbeside-some rounds known (asks_why path nodes owned) isnt r is = is
-unbeside-some rounds known (times path svg owned) isnt r is = is
+unbeside-some rounds known (draws path begun owned) isnt r is = is
+unbeside-some rounds known (asks_why path nodes all begun owned) isnt r is = is
+unbeside-some rounds known (times path svg begun owned) isnt r is = is
 unbeside-some rounds known (salvages path owned) isnt r is = is
 unbeside-some rounds known (redoes path nodes only owned) isnt r is = is
 unbeside-some rounds known (shows page) isnt r is = is
 
 pub unbeside-from : (holds : Files) (has there : List ℕ → Bool) (rounds known : Rounds) (asked : Asked) → is_beside asked ≡ false → (r : Result Answer RunFault)
     → ComesTo (command_from holds has rounds asked) r → ComesTo (command_from holds there known asked) r
-unbeside-from holds has there rounds known (checks path hinted) isnt r is = is
+unbeside-from holds has there rounds known (checks path all hinted) isnt r is = is
 unbeside-from holds has there rounds known (runs path options) isnt r is = absurd (false≢true (sym isnt))
-unbeside-from holds has there rounds known (tells_status path owned) isnt r is = is
-unbeside-from holds has there rounds known (audits path owned) isnt r is = is
+unbeside-from holds has there rounds known (tells_status path begun owned) isnt r is = is
+unbeside-from holds has there rounds known (audits path begun owned) isnt r is = is
 unbeside-from holds has there rounds known (rehearses path outcomes limits always_post) isnt r is = is
-unbeside-from holds has there rounds known (draws path owned) isnt r is = is
-unbeside-from holds has there rounds known (asks_why path nodes owned) isnt r is = is
-unbeside-from holds has there rounds known (times path svg owned) isnt r is = is
+unbeside-from holds has there rounds known (draws path begun owned) isnt r is = is
+unbeside-from holds has there rounds known (asks_why path nodes all begun owned) isnt r is = is
+unbeside-from holds has there rounds known (times path svg begun owned) isnt r is = is
 unbeside-from holds has there rounds known (salvages path owned) isnt r is = is
 unbeside-from holds has there rounds known (redoes path nodes only owned) isnt r is = absurd (false≢true (sym isnt))
 unbeside-from holds has there rounds known (shows page) isnt r is = is
@@ -188,14 +188,14 @@ input-reply Honest IsLost world rounds known holds has asked isnt reply same som
 
 -- no round is asked for where nothing is asked of what stands beside a DAG file
 pub unasked : {P : Type 0} (asked : Asked) → is_beside asked ≡ false → is_run asked ≡ true → P
-unasked (checks path hinted) isnt run = absurd (false≢true run)
+unasked (checks path all hinted) isnt run = absurd (false≢true run)
 unasked (runs path options) isnt run = absurd (false≢true (sym isnt))
-unasked (tells_status path owned) isnt run = absurd (false≢true run)
-unasked (audits path owned) isnt run = absurd (false≢true run)
+unasked (tells_status path begun owned) isnt run = absurd (false≢true run)
+unasked (audits path begun owned) isnt run = absurd (false≢true run)
 unasked (rehearses path outcomes limits always_post) isnt run = absurd (false≢true run)
-unasked (draws path owned) isnt run = absurd (false≢true run)
-unasked (asks_why path nodes owned) isnt run = absurd (false≢true run)
-unasked (times path svg owned) isnt run = absurd (false≢true run)
+unasked (draws path begun owned) isnt run = absurd (false≢true run)
+unasked (asks_why path nodes all begun owned) isnt run = absurd (false≢true run)
+unasked (times path svg begun owned) isnt run = absurd (false≢true run)
 unasked (salvages path owned) isnt run = absurd (false≢true run)
 unasked (redoes path nodes only owned) isnt run = absurd (false≢true run)
 unasked (shows page) isnt run = absurd (false≢true run)

@@ -13,7 +13,7 @@ use Rattle.dag_main_files.specs.Beside.{IsRefusalOf}
 use Rattle.dag_main_files.specs.Folder.{IsReadFrom}
 use Rattle.dag_main_check.specs.Checked.{IsCheckOf}
 use Rattle.dag_main_rehearse.specs.Rehearsed.{IsRehearsalOf}
-use Rattle.folder_answers.specs.Answered.{IsCheckOfSome, IsCheckRefusal, IsCheckRefusalFrom, IsRehearsalOfSome, IsRehearsalRefusal, IsRehearsalRefusalFrom}
+use Rattle.folder_answers.specs.Answered.{IsCheckOfSome, IsCheckOfAllSome, IsCheckOfAllFrom, IsCheckRefusal, IsCheckRefusalFrom, IsRehearsalOfSome, IsRehearsalRefusal, IsRehearsalRefusalFrom}
 use Rattle.dag_main_check.specs.declared.fault.RunFault.{RunFault}
 use Rattle.dag_main_check.specs.declared.fault.RunFault.TheVariants.{FileRefused, Memory}
 use Rattle.dag_main_check.specs.declared.warnings.Answer.{Answer}
@@ -23,13 +23,18 @@ use Rattle.dag_main_run.specs.Runs.{IsRunOf, IsRunFrom, IsRunFault, IsRunFaultFr
 use Rattle.dag_main_inspect.specs.Asked.{IsAnswerOfRun, IsAnswerHeld, IsAnswerFault, IsAnswerFaultHeld}
 use Rattle.dag_main_inspect.specs.Reported.{IsReportHere, IsReportFrom, IsNoReportFrom}
 use Rattle.run_times.specs.Answered.{IsTimesOf, IsTimesFrom, IsTimesFault, IsTimesFaultHeld}
+use Rattle.dag_main_inspect.specs.declared.by_journal.Question.{Question}
 use Rattle.dag_main_inspect.specs.declared.by_journal.Question.TheVariants.{Status, Audit, Graph}
 use Rattle.salvage.specs.Answered.{IsSalvageOf, IsSalvageFrom}
 use Rattle.salvage.specs.Faults.{fault_text}
 use Rattle.salvage.specs.declared.fault.SalvageFault.{SalvageFault}
 use Rattle.salvage.specs.Refused.{IsSalvageFault}
 use Rattle.salvage.specs.declared.fault.SalvageFault.TheVariants.{Refused}
+use Rattle.failure_report.specs.declared.why.Grouping.{Grouping}
+use Rattle.failure_report.specs.declared.why.Grouping.TheVariants.{ByCause, Each}
 use Rattle.failure_answers.specs.Answered.{IsWhyOf, IsWhyHeld, IsWhyFaultHeld}
+use Rattle.round_inputs.specs.declared.begun.Begun.{Begun}
+use Rattle.round_inputs.specs.AsBegun.{as_begun, IsBegunRound, IsNotBegun}
 use Rattle.redo.specs.Answered.{IsRedoOf, IsRedoHeld, IsRedoFault, IsRedoFaultHeld}
 
 -- what is said of the text, the warnings and the status of an answer
@@ -58,6 +63,25 @@ pub data IsSalvageWith (Salvaged : Said) (path : List ℕ) : (text warnings : Li
   salvaged : (text warnings : List ℕ) (status : ℕ) → Salvaged text warnings status → IsSalvageWith Salvaged path text warnings status
   not_salvaged : (fault : SalvageFault) (warnings : List ℕ) → IsSalvageFault path fault → IsWarnedCause fault warnings → IsSalvageWith Salvaged path [] warnings 125
 
+-- The faults of lines that are listed where these files are held: of the files that are; or of those that were read once, for hints too.
+pub data IsCheckOfAllHeld (holds : Files) (path text warnings : List ℕ) (status : ℕ) : Type 0 where
+  all_of_held_files : IsCheckOfAllFrom holds path text warnings status → IsCheckOfAllHeld holds path text warnings status
+  all_of_files_read_once : (files : FileSet) → IsReadFrom holds path files → IsCheckOfAllFrom (bytes_of files) path text warnings status →
+      IsCheckOfAllHeld holds path text warnings status
+
+-- What a check answers of some files, by whether all faults of lines are asked for; of these files; and where they are held.
+abbrev pub checks_some : (all : Bool) → (path : List ℕ) → Said
+checks_some false path = IsCheckOfSome path
+checks_some true path = IsCheckOfAllSome path
+
+abbrev pub checks_in : (all : Bool) → Files → (path : List ℕ) → Said
+checks_in false holds path = IsCheckOf holds path
+checks_in true holds path = IsCheckOfAllFrom holds path
+
+abbrev pub checks_from : (all : Bool) → Files → (path : List ℕ) → Said
+checks_from false holds path = IsCheckOf holds path
+checks_from true holds path = IsCheckOfAllHeld holds path
+
 -- What `check` answers; where hints are asked for, with these behind its warnings.
 pub data IsCheckWith (Checked : Said) (hinted : Bool) (text : List ℕ) : (warnings : List ℕ) → (status : ℕ) → Type 0 where
   without_hints : (warnings : List ℕ) (status : ℕ) → Checked text warnings status → IsCheckWith Checked hinted text warnings status
@@ -77,7 +101,7 @@ is_run _ = false
 
 -- it is asked for what stands beside a DAG file: `-` is a path like others
 abbrev pub is_beside : Asked → Bool
-is_beside (checks path hinted) = false
+is_beside (checks path all hinted) = false
 is_beside (rehearses path outcomes limits always_post) = false
 is_beside (shows page) = false
 is_beside _ = true
@@ -85,11 +109,11 @@ is_beside _ = true
 -- whether the owner of the files beside the DAG file is trusted
 abbrev pub is_owner_trusted : Asked → Bool
 is_owner_trusted (runs path options) = options.trust_owner
-is_owner_trusted (tells_status path trust_owner) = trust_owner
-is_owner_trusted (audits path trust_owner) = trust_owner
-is_owner_trusted (draws path trust_owner) = trust_owner
-is_owner_trusted (asks_why path nodes trust_owner) = trust_owner
-is_owner_trusted (times path svg trust_owner) = trust_owner
+is_owner_trusted (tells_status path begun trust_owner) = trust_owner
+is_owner_trusted (audits path begun trust_owner) = trust_owner
+is_owner_trusted (draws path begun trust_owner) = trust_owner
+is_owner_trusted (asks_why path nodes all begun trust_owner) = trust_owner
+is_owner_trusted (times path svg begun trust_owner) = trust_owner
 is_owner_trusted (salvages path trust_owner) = trust_owner
 is_owner_trusted (redoes path nodes only trust_owner) = trust_owner
 is_owner_trusted _ = false
@@ -115,6 +139,31 @@ pub data IsCheckRefusalHeld (holds : Files) (path : List ℕ) : RunFault → Typ
   of_held_files : (fault : RunFault) → IsCheckRefusalFrom holds path fault → IsCheckRefusalHeld holds path fault
   of_files_read_once : (files : FileSet) (fault : RunFault) → IsReadFrom holds path files → IsCheckRefusalFrom (bytes_of files) path fault → IsCheckRefusalHeld holds path fault
 
+-- This is so by the files that are held; or, where a round is to be seen as it began, by those with which the last one began, and by those that are held
+-- where it kept none.
+pub data IsByFiles (begun : Bool) (holds : Files) (path : List ℕ) (Holds : Files → Type 0) : Type 0 where
+  by_held : begun ≡ false → Holds holds → IsByFiles begun holds path Holds
+  by_begun : begun ≡ true → (kept : Begun) → IsBegunRound holds path kept → Holds (as_begun kept holds) → IsByFiles begun holds path Holds
+
+-- what is said of an answer by these files
+abbrev pub SaidByFiles : (begun : Bool) → Files → (path : List ℕ) → (Files → Said) → Said
+SaidByFiles begun holds path Answers text warnings status = IsByFiles begun holds path (λ files. Answers files text warnings status)
+
+-- Why a command is refused that tells of a round: for what these files say; or, where the round is to be seen as it began, that isn't known.
+pub data IsRefusedByFiles (begun : Bool) (holds : Files) (path : List ℕ) (Refused : Files → RunFault → Type 0) : RunFault → Type 0 where
+  refused_by_files : (fault : RunFault) → IsByFiles begun holds path (λ files. Refused files fault) → IsRefusedByFiles begun holds path Refused fault
+  not_begun_by_files : (fault : RunFault) → begun ≡ true → IsNotBegun fault → IsRefusedByFiles begun holds path Refused fault
+
+-- The same of some files.
+pub data IsRefusedBySome (begun : Bool) (Refused : RunFault → Type 0) : RunFault → Type 0 where
+  refused_by_some : (fault : RunFault) → Refused fault → IsRefusedBySome begun Refused fault
+  not_begun_by_some : (fault : RunFault) → begun ≡ true → IsNotBegun fault → IsRefusedBySome begun Refused fault
+
+-- nodes in error with one cause are shown once, or each by itself
+abbrev pub grouping_by : (all : Bool) → Grouping
+grouping_by false = ByCause
+grouping_by true = Each
+
 -- What is said of a command: of the text that it prints, its warnings and its exit status; and of why it is refused.
 pub record CommandContract : Type 1 where
   pub answers : Said
@@ -125,40 +174,53 @@ IsPage page text warnings status = (text ≡ page) × (warnings ≡ []) × (stat
 
 -- The command that a request is for, of some files of its path, where this is said of the rounds of a run.
 abbrev pub command_of_some : Rounds → Asked → CommandContract
-command_of_some rounds (checks path hinted) = record { answers = IsCheckWith (IsCheckOfSome path) hinted; refused = IsCheckRefusal path }
+command_of_some rounds (checks path all hinted) = record { answers = IsCheckWith (checks_some all path) hinted; refused = IsCheckRefusal path }
 command_of_some rounds (runs path options) = record {
   answers = IsRunWith (IsRunOf rounds path options) (IsReportHere path) (Unit {0}) options;
   refused = IsRunRefusal (IsRunFault rounds path options) (IsAnswerFault Status path) (Unit {0}) options;
 }
-command_of_some rounds (tells_status path trust_owner) = record { answers = IsAnswerOfRun Status path; refused = IsAnswerFault Status path }
-command_of_some rounds (audits path trust_owner) = record { answers = IsAnswerOfRun Audit path; refused = IsAnswerFault Audit path }
+command_of_some rounds (tells_status path begun trust_owner) = record { answers = IsAnswerOfRun Status path; refused = IsRefusedBySome begun (IsAnswerFault Status path) }
+command_of_some rounds (audits path begun trust_owner) = record { answers = IsAnswerOfRun Audit path; refused = IsRefusedBySome begun (IsAnswerFault Audit path) }
 command_of_some rounds (rehearses path outcomes limits always_post) = record {
   answers = IsRehearsalWith (λ table. IsRehearsalOfSome always_post path table limits) outcomes;
   refused = IsRehearsalRefusalWith (IsRehearsalRefusal path) outcomes;
 }
-command_of_some rounds (draws path trust_owner) = record { answers = IsAnswerOfRun Graph path; refused = IsAnswerFault Graph path }
-command_of_some rounds (asks_why path nodes trust_owner) = record { answers = IsWhyOf path nodes; refused = IsAnswerFault Status path }
-command_of_some rounds (times path svg trust_owner) = record { answers = IsTimesOf path svg; refused = IsTimesFault path }
+command_of_some rounds (draws path begun trust_owner) = record { answers = IsAnswerOfRun Graph path; refused = IsRefusedBySome begun (IsAnswerFault Graph path) }
+command_of_some rounds (asks_why path nodes all begun trust_owner) = record { answers = IsWhyOf (grouping_by all) path nodes; refused = IsRefusedBySome begun (IsAnswerFault Status path) }
+command_of_some rounds (times path svg begun trust_owner) = record { answers = IsTimesOf path svg; refused = IsRefusedBySome begun (IsTimesFault path) }
 command_of_some rounds (salvages path trust_owner) = record { answers = IsSalvageWith (IsSalvageOf path) path; refused = λ fault. IsSalvageFault path (Refused fault) }
 command_of_some rounds (redoes path nodes only trust_owner) = record { answers = IsRedoOf path nodes only; refused = IsRedoFault path }
 command_of_some rounds (shows page) = record { answers = IsPage page; refused = λ fault. ⊥ }
 
+-- a question about the last round of a path, by its journal
+abbrev pub question_from : Question → Files → (path : List ℕ) → (begun : Bool) → CommandContract
+question_from question holds path begun = record {
+  answers = SaidByFiles begun holds path (λ files. IsAnswerHeld files question path);
+  refused = IsRefusedByFiles begun holds path (λ files. IsAnswerFaultHeld files question path);
+}
+
 -- The same where these files are held and these paths are there: of the files that are held.
 abbrev pub command_from : Files → (List ℕ → Bool) → Rounds → Asked → CommandContract
-command_from holds has rounds (checks path hinted) = record { answers = IsCheckWith (IsCheckOf holds path) hinted; refused = IsCheckRefusalHeld holds path }
+command_from holds has rounds (checks path all hinted) = record { answers = IsCheckWith (checks_from all holds path) hinted; refused = IsCheckRefusalHeld holds path }
 command_from holds has rounds (runs path options) = record {
   answers = IsRunWith (IsRunFrom holds has rounds path options) (IsReportFrom holds path) (IsNoReportFrom holds path) options;
   refused = IsRunRefusal (IsRunFaultFrom holds has rounds path options) (IsAnswerFaultHeld holds Status path) (IsNoReportFrom holds path) options;
 }
-command_from holds has rounds (tells_status path trust_owner) = record { answers = IsAnswerHeld holds Status path; refused = IsAnswerFaultHeld holds Status path }
-command_from holds has rounds (audits path trust_owner) = record { answers = IsAnswerHeld holds Audit path; refused = IsAnswerFaultHeld holds Audit path }
+command_from holds has rounds (tells_status path begun trust_owner) = question_from Status holds path begun
+command_from holds has rounds (audits path begun trust_owner) = question_from Audit holds path begun
 command_from holds has rounds (rehearses path outcomes limits always_post) = record {
   answers = IsRehearsalWith (λ table. IsRehearsalOf always_post holds path table limits) outcomes;
   refused = IsRehearsalRefusalWith (IsRehearsalRefusalFrom holds path) outcomes;
 }
-command_from holds has rounds (draws path trust_owner) = record { answers = IsAnswerHeld holds Graph path; refused = IsAnswerFaultHeld holds Graph path }
-command_from holds has rounds (asks_why path nodes trust_owner) = record { answers = IsWhyHeld holds path nodes; refused = IsWhyFaultHeld holds path }
-command_from holds has rounds (times path svg trust_owner) = record { answers = IsTimesFrom holds path svg; refused = IsTimesFaultHeld holds path }
+command_from holds has rounds (draws path begun trust_owner) = question_from Graph holds path begun
+command_from holds has rounds (asks_why path nodes all begun trust_owner) = record {
+  answers = SaidByFiles begun holds path (λ files. IsWhyHeld (grouping_by all) files path nodes);
+  refused = IsRefusedByFiles begun holds path (λ files. IsWhyFaultHeld files path);
+}
+command_from holds has rounds (times path svg begun trust_owner) = record {
+  answers = SaidByFiles begun holds path (λ files. IsTimesFrom files path svg);
+  refused = IsRefusedByFiles begun holds path (λ files. IsTimesFaultHeld files path);
+}
 command_from holds has rounds (salvages path trust_owner) = record { answers = IsSalvageWith (IsSalvageFrom holds path) path; refused = λ fault. IsSalvageFault path (Refused fault) }
 command_from holds has rounds (redoes path nodes only trust_owner) = record { answers = IsRedoHeld holds has path nodes only; refused = IsRedoFaultHeld holds path }
 command_from holds has rounds (shows page) = record { answers = IsPage page; refused = λ fault. ⊥ }
@@ -202,7 +264,7 @@ pub data IsExit (Replies : Asked → Result Answer RunFault → Type 0) (words :
 -- What is displayed before the reply to a request: the hints of a check that is refused, where they are asked for; else nothing, since an answer has
 -- its hints behind its warnings.
 abbrev pub AreHints : Asked → Result Answer RunFault → Streams → Streams → Type 0
-AreHints (checks path true) (Err fault) before after = OnlyWarns before after
+AreHints (checks path all true) (Err fault) before after = OnlyWarns before after
 AreHints _ _ before after = after ≡ before
 
 -- a reply is displayed, and at a terminal more behind it on standard error

@@ -1,31 +1,30 @@
 //! What is answered to a request by the files of a folder.
 
-ghost use Rattle.std.specs.Prelude.{◌≡◌, ◌⊎◌, ◌||◌, ℕ, List, true, [], ◌++◌, Some, IfOk, IfErr, IfSome, is_some, string_bytes, codes};
+ghost use Rattle.std.specs.Prelude.{◌≡◌, ℕ, List, true, [], ◌++◌, Some, IfOk, IfErr, IfSome, is_some, string_bytes, codes};
 ghost use Rattle.std.specs.Option.{option_map};
-ghost use Rattle.dag_main_args.specs.Requests.{asked_by, checks, runs};
+ghost use Rattle.dag_main_args.specs.Requests.{asked_by, runs};
 ghost use Rattle.dag_main_files.specs.Beside.{IsRefusalOf};
-ghost use Rattle.dag_main_check.specs.Checked.{IsCheckOf};
 ghost use Rattle.dag_main_rehearse.specs.Rehearsed.{IsRehearsalOf};
-ghost use Rattle.folder_answers.specs.Answered.{IsCheckOfSome, IsCheckRefusal, IsRehearsalOfSome, IsRehearsalRefusal, IsRehearsalRefusalFrom};
+ghost use Rattle.folder_answers.specs.Answered.{IsRehearsalOfSome, IsRehearsalRefusal, IsRehearsalRefusalFrom};
 ghost use Rattle.dag_main_check.specs.declared.fault.RunFault.TheVariants.{Memory};
 ghost use Rattle.salvage.specs.Faults.{fault_text};
 ghost use Rattle.salvage.specs.Answered.{IsSalvageOf, IsSalvageFrom};
 ghost use Rattle.salvage.specs.Refused.{IsSalvageFault};
 ghost use Rattle.salvage.specs.declared.fault.SalvageFault.TheVariants.{Refused};
 ghost use Rattle.dag_main_run.specs.Sites.{rounds_at};
-ghost use Rattle.dagrun.specs.Answered.{is_run, command_of_some, command_from, ComesTo, IsPage, IsCheckWith, IsCheckRefusalHeld, IsRehearsalWith, IsRehearsalRefusalWith, IsSalvageWith, AreHints};
+ghost use Rattle.dagrun.specs.Answered.{is_run, command_of_some, command_from, ComesTo, IsPage, IsRehearsalWith, IsRehearsalRefusalWith, IsSalvageWith, AreHints};
 
+use crate::checking::check;
+use crate::of_round::{answer_of_round, grouping_by, times_of_round, why_of_round};
 use answer_console::Console;
 use dag_main_args::{Request, RunOptions};
 use dag_main_check::{Answer, RunFault};
-use dag_main_files::{Folder, Place, Reading, files_of, read_input, refused};
-use dag_main_inspect::{Question, answer_here, report_here};
+use dag_main_files::{Folder, Place, read_input, refused};
+use dag_main_inspect::{Question, report_here};
 use dag_main_run::{Screen, Site, run_dag};
-use failure_answers::why_here;
-use folder_answers::{check_here, rehearse_here};
-use hint_answers::{Wanted, hints_of};
+use folder_answers::rehearse_here;
+use hint_answers::Wanted;
 use redo::redo_here;
-use run_times::times_here;
 use salvage::{SalvageFault, salvage_here};
 use std::alloc::Global;
 use std::fs::File;
@@ -63,21 +62,42 @@ pub(crate) fn answer_in<
     let seat = folder.seat();
     match request {
         Request::Run { dag, options } => run_in(rt, folder, dag, &options),
-        Request::Status { dag, .. } => answer_here(alloc, folder, dag, Question::Status),
-        Request::Audit { dag, .. } => answer_here(alloc, folder, dag, Question::Audit),
-        Request::Graph { dag, .. } => answer_here(alloc, folder, dag, Question::Graph),
+        Request::Status { dag, as_begun, .. } => {
+            answer_of_round(alloc, folder, dag, Question::Status, as_begun)
+        }
+        Request::Audit { dag, as_begun, .. } => {
+            answer_of_round(alloc, folder, dag, Question::Audit, as_begun)
+        }
+        Request::Graph { dag, as_begun, .. } => {
+            answer_of_round(alloc, folder, dag, Question::Graph, as_begun)
+        }
         Request::Why {
             dag,
             nodes,
+            all,
+            as_begun,
             trust_owner,
         } => {
             let place = Place {
                 folder: seat,
                 top: dag,
             };
-            why_here(rt, folder, &place, &nodes, trust_owner)
+            why_of_round(
+                rt,
+                folder,
+                &place,
+                &nodes,
+                grouping_by(all),
+                as_begun,
+                trust_owner,
+            )
         }
-        Request::Times { dag, svg, .. } => times_here(alloc, folder, dag, svg),
+        Request::Times {
+            dag,
+            svg,
+            as_begun,
+            ..
+        } => times_of_round(alloc, folder, dag, svg, as_begun),
         Request::Salvage { dag, trust_owner } => {
             let place = Place {
                 folder: seat,
@@ -98,9 +118,12 @@ pub(crate) fn answer_in<
             redo_here(*rt, folder, &place, &nodes, only, trust_owner)
         }
         Request::Page { text } => Ok(page(alloc, text)),
-        Request::Check { dag, hints, condor } => {
-            check(rt, console, folder, dag, Wanted { hints, condor })
-        }
+        Request::Check {
+            dag,
+            all,
+            hints,
+            condor,
+        } => check(rt, console, folder, dag, all, Wanted { hints, condor }),
         Request::Rehearse {
             dag,
             outcomes,
@@ -189,75 +212,6 @@ fn salvage_in<R: Files<File = File> + Clock + AllocGlobal + Copy + Drop, F: Fold
             not_salvaged(rt.alloc(), &own)
         }
     }
-}
-
-/// What `check` answers, with hints behind its warnings where they are asked for.
-fn check<R: Files<File = File> + Screen + AllocGlobal, C: Console, F: Folder>(
-    rt: &R,
-    console: &mut C,
-    folder: &F,
-    dag: &str,
-    wanted: Wanted,
-) -> Result<Answer, RunFault>
-    ensures answered { IfOk result (λ answer. IsCheckWith (IsCheckOfSome dag.now) (wanted.hints || wanted.condor)
-        (string_bytes answer.text) (string_bytes answer.warnings) answer.status) }
-    ensures held { F.honest folder.now → IfOk result (λ answer. IsCheckWith (IsCheckOf (F.holds folder.now) dag.now) (wanted.hints || wanted.condor)
-        (string_bytes answer.text) (string_bytes answer.warnings) answer.status) }
-    ensures refused { IfErr result (IsCheckRefusal dag.now) }
-    ensures refused_held { F.honest folder.now → IfErr result (IsCheckRefusalHeld (F.holds folder.now) dag.now) }
-    ensures hinted { C.honest console.new → AreHints (checks dag.now (wanted.hints || wanted.condor)) result (C.shown console.old) (C.shown console.new) }
-    ensures back { C.honest console.new → C.honest console.old }
-{
-    if wanted.any() {
-        check_with_hints(rt, console, folder, dag, wanted)
-    } else {
-        check_here(rt.alloc(), folder, dag)
-    }
-}
-
-/// The answer to a check of files that are read once, with hints; where it is refused, they are displayed at once, and
-/// so before the refusal.
-fn check_with_hints<R: Files<File = File> + Screen + AllocGlobal, C: Console, F: Folder>(
-    rt: &R,
-    console: &mut C,
-    folder: &F,
-    dag: &str,
-    wanted: Wanted,
-) -> Result<Answer, RunFault>
-    ensures checked { IfOk result (λ answer. IsCheckWith (IsCheckOfSome dag.now) true
-        (string_bytes answer.text) (string_bytes answer.warnings) answer.status) }
-    ensures held { F.honest folder.now → IfOk result (λ answer. IsCheckWith (IsCheckOf (F.holds folder.now) dag.now) true
-        (string_bytes answer.text) (string_bytes answer.warnings) answer.status) }
-    ensures refused { IfErr result (IsCheckRefusal dag.now) }
-    ensures refused_held { F.honest folder.now → IfErr result (IsCheckRefusalHeld (F.holds folder.now) dag.now) }
-    ensures hinted { C.honest console.new → AreHints (checks dag.now true) result (C.shown console.old) (C.shown console.new) }
-    ensures back { C.honest console.new → C.honest console.old }
-{
-    let alloc = rt.alloc();
-    let files = files_of(alloc, folder, dag, Reading::SubmitFilesToo)?;
-    let reply = check_here(alloc, &files, dag);
-    let hints = match hints_of(rt, &files, dag, wanted) {
-        Ok(hints) => hints,
-        Err(_) => String::new(alloc),
-    };
-    match reply {
-        Ok(answer) => Ok(with_hints(answer, hints.as_str())),
-        Err(fault) => {
-            console.warn(hints.as_str());
-            Err(fault)
-        }
-    }
-}
-
-/// An answer with hints behind its warnings, as far as there is memory for them.
-fn with_hints(mut answer: Answer, hints: &str) -> Answer
-    ensures text { string_bytes result.text ≡ string_bytes answer.text }
-    ensures status { result.status ≡ answer.status }
-    ensures warnings { (string_bytes result.warnings ≡ string_bytes answer.warnings ++ hints.now)
-        ⊎ (string_bytes result.warnings ≡ string_bytes answer.warnings) }
-{
-    let _ = answer.warnings.push_str(hints);
-    answer
 }
 
 /// What `rehearse` answers, by the table of outcomes where one is named.

@@ -2,8 +2,11 @@
 #![tactic(auto)]
 
 mod answers;
+mod checking;
 mod commands;
+mod declared;
 mod host;
+mod of_round;
 mod shorthand;
 mod terminal;
 

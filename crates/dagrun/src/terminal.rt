@@ -3,6 +3,7 @@
 ghost use Rattle.answer_console.specs.Display.{OnlyWarnsAtTerminal};
 
 use crate::answers::REFUSED;
+use crate::declared::{Declared, declaration_of, declared_with};
 use answer_console::Console;
 use dag_main_files::{Folder, Place, Reading, SystemFolder, files_of, read_input};
 use hint_answers::{Wanted, hints_of};
@@ -38,6 +39,9 @@ const ROOT: u32 = 0;
 
 /// Who works on a DAG file where no manager does.
 const NOBODY: &str = "no manager";
+
+/// The codes of faults of a node, by whose name their lines end.
+const OF_A_NODE: [&str; 7] = ["V1", "V2", "V3", "V4", "V5", "P4", "P5"];
 
 /// How many changed files are named.
 const MOST_CHANGED: usize = 5;
@@ -266,8 +270,56 @@ fn changed_since<R: Files + AllocGlobal>(rt: &R, dag: &str) -> Result<Option<Str
     if count > MOST_CHANGED {
         write!(text, " and {} more", count - MOST_CHANGED)?;
     }
-    write!(text, "; dagrun salvage {dag} keeps what is done")?;
+    write!(
+        text,
+        "; dagrun salvage {dag} keeps what is done, and --as-begun shows the round"
+    )?;
     Ok(Some(text))
+}
+
+/// The DAG file of this path, where it is a text.
+fn dag_text<R: Files + AllocGlobal>(rt: &R, dag: &str) -> Option<String> {
+    let bytes = read_input(rt, dag, false).ok()?;
+    let text = str::from_utf8(&bytes).ok()?;
+    String::from_str(rt.alloc(), text).ok()
+}
+
+/// What is known of a submit file that can't be read: what the system says, and which line names it.
+fn reason_of_submit_file<R: Files + Env + AllocGlobal>(
+    rt: &R,
+    dag: Option<&str>,
+    path: &str,
+) -> Result<Option<String>, AllocError> {
+    let (said, dag) = match (reason_of_path(rt, path, false)?, dag) {
+        (Some(said), Some(dag)) => (said, dag),
+        (reason, _) => return Ok(reason),
+    };
+    let Some(text) = dag_text(rt, dag) else {
+        return Ok(Some(said));
+    };
+    match declared_with(text.as_str(), path) {
+        Some(Declared { line, node, .. }) => Ok(Some(format!(in rt.alloc();
+            "{said}; it is that of {node}, {dag}:{line}"
+        )?)),
+        None => Ok(Some(said)),
+    }
+}
+
+/// Where a node is declared, and which its submit file is; nothing where another file than this one declares it.
+fn place_of_node<R: Files + AllocGlobal>(
+    rt: &R,
+    dag: &str,
+    node: &str,
+) -> Result<Option<String>, AllocError> {
+    let Some(text) = dag_text(rt, dag) else {
+        return Ok(None);
+    };
+    match declaration_of(text.as_str(), node) {
+        Some(Declared { line, file, .. }) => Ok(Some(format!(in rt.alloc();
+            "{node} is declared at {dag}:{line}, with {file}"
+        )?)),
+        None => Ok(None),
+    }
 }
 
 /// What the system said, as far as that can still be known.
@@ -277,9 +329,13 @@ fn reason_of<R: Files + Env + AllocGlobal>(
     refusal: &Refusal<'_>,
 ) -> Result<Option<String>, AllocError> {
     match (refusal.path(), dag) {
+        (Some(path), _) if refusal.code == "P1" => reason_of_submit_file(rt, dag, path),
         (Some(path), _) => reason_of_path(rt, path, refusal.code == "X2"),
         (None, Some(dag)) if refusal.code == "J1" => reason_in_log(rt, dag),
         (None, Some(dag)) if refusal.code == "J5" => changed_since(rt, dag),
+        (None, Some(dag)) if OF_A_NODE.contains(&refusal.code) => {
+            place_of_node(rt, dag, refusal.detail)
+        }
         _ => Ok(None),
     }
 }

@@ -15,7 +15,7 @@ use dag_main_files::{Folder, Place, Reading, files_of, named};
 use dag_main_inspect::{bytes_in, core_of, last_round, plan_by, records_of};
 use dag_reader::Text;
 use event_journal::require_regular;
-use failure_report::{Surroundings, Why, why_text};
+use failure_report::{Grouping, Surroundings, Why, why_text};
 use sched_core::Core;
 use splices_flat::FileSet;
 use std::alloc::Global;
@@ -78,8 +78,9 @@ fn answer_of<R: Files<File = File> + AllocGlobal>(
     place: &Place<'_>,
     core: &Core<'_>,
     names: &[&str],
+    grouping: Grouping,
 ) -> Result<Answer, RunFault>
-    ensures answered { IfOk result (λ answer. IsAnswerOf core.now.plan core.now.past place.now.top.now (map (λ n. n.now) names.now)
+    ensures answered { IfOk result (λ answer. IsAnswerOf grouping core.now.plan core.now.past place.now.top.now (map (λ n. n.now) names.now)
         (string_bytes answer.text) (string_bytes answer.warnings) answer.status) }
     ensures refused { IfErr result (λ fault. fault ≡ Memory) }
 {
@@ -90,7 +91,7 @@ fn answer_of<R: Files<File = File> + AllocGlobal>(
         folder: place.folder,
         log: &log,
     };
-    match why_text(rt, core, &surroundings, names)? {
+    match why_text(rt, core, &surroundings, names, grouping)? {
         Why::Reported(text) => Ok(Answer {
             text,
             warnings: warning_text(alloc, core.plan().graph().flat().warnings())?,
@@ -112,8 +113,9 @@ fn why_of<R: Files<File = File> + AllocGlobal>(
     rescue: Option<&[u8]>,
     journal: Option<&[u8]>,
     names: &[&str],
+    grouping: Grouping,
 ) -> Result<Answer, RunFault>
-    ensures answered { IfOk result (λ answer. IsWhyFrom files.now place.now.top.now
+    ensures answered { IfOk result (λ answer. IsWhyFrom grouping files.now place.now.top.now
         (option_map (λ b. b.now) rescue.entry) (option_map (λ b. b.now) journal.entry) (map (λ n. n.now) names.now)
         (string_bytes answer.text) (string_bytes answer.warnings) answer.status) }
     ensures refused { IfErr result (IsStatusFault (bytes_of files.now) (entries_of files.now) place.now.top.now
@@ -125,13 +127,13 @@ fn why_of<R: Files<File = File> + AllocGlobal>(
     let records = records_of(alloc, &plan, bytes)?;
     let core = core_of(alloc, &plan, bytes, &records)?;
     core.keeps_the_law();
-    answer_of(rt, place, &core, names)
+    answer_of(rt, place, &core, names, grouping)
 }
 
 /// Why nodes of a DAG file are in error, and for whom others wait: by the files and the journal of this folder, and by
 /// the log and the files of jobs that the system has at its place. Of the nodes of these names in their order; where
 /// there is no name, of all that are in error, those first for which most nodes wait, and of as many in
-/// plan order.
+/// plan order; those with one cause once, or each by itself (`Grouping`).
 ///
 /// A name that is none of a node is answered by a warning, with no text and with status 125.
 ///
@@ -146,12 +148,13 @@ pub fn why_here<R: Files<File = File> + AllocGlobal, F: Folder>(
     place: &Place<'_>,
     names: &[&str],
     trust_owner: bool,
+    grouping: Grouping,
 ) -> Result<Answer, RunFault>
-    ensures answered { IfOk result (λ answer. IsWhyOf place.now.top.now (map (λ n. n.now) names.now)
+    ensures answered { IfOk result (λ answer. IsWhyOf grouping place.now.top.now (map (λ n. n.now) names.now)
         (string_bytes answer.text) (string_bytes answer.warnings) answer.status) }
     // It is that of the files, the journal and the rescue file that the folder holds.
     ensures held { F.honest folder.now → IfOk result (λ answer.
-        IsWhyHeld (F.holds folder.now) place.now.top.now (map (λ n. n.now) names.now)
+        IsWhyHeld grouping (F.holds folder.now) place.now.top.now (map (λ n. n.now) names.now)
         (string_bytes answer.text) (string_bytes answer.warnings) answer.status) }
     ensures refused { IfErr result (IsAnswerFault Status place.now.top.now) }
     // The refusal too is for what the folder holds.
@@ -163,7 +166,7 @@ pub fn why_here<R: Files<File = File> + AllocGlobal, F: Folder>(
     let files = files_of(alloc, folder, place.top, Reading::SubmitFilesToo)?;
     let rescue = round.rescue.as_deref();
     let journal = round.journal.as_deref();
-    match why_of(rt, place, &files, rescue, journal, names) {
+    match why_of(rt, place, &files, rescue, journal, names, grouping) {
         Ok(answer) => Ok(answer),
         Err(fault) => Err(named(fault, round.name)),
     }

@@ -5,9 +5,11 @@ use Rattle.node_machine.specs.declared.Ended.{Ended}
 use Rattle.run_plan_node.specs.Node.{NodeSpec}
 use Rattle.run_plan.specs.Plan.{Plan, node_at}
 use Rattle.failure_report.specs.declared.failed.Failure.{Failure}
+use Rattle.failure_report.specs.declared.groups.Group.{Group}
 use Rattle.failure_report.specs.declared.why.Reported.{Reported}
 use Rattle.failure_report.specs.Heads.{head_line}
 use Rattle.failure_report.specs.Reported.{IsFailureBlock, has_line, HasBlock, HasBlocks, behind}
+use Rattle.failure_report.specs.Grouped.{HasGroup, HasGroups, one_more_group}
 
 pub line_and_more : (plan : Plan) (failure : Failure) (end : Ended) (reason : Option (List ℕ)) (spec : NodeSpec) (name : List ℕ) (retries : ℕ) (start headed more now : List ℕ)
     → failure.end ≡ Some end → spec ≡ node_at plan failure.node → name ≡ spec.name → retries ≡ spec.course.retries → start ≡ []
@@ -23,3 +25,9 @@ pub blocks_more : (plan : Plan) (reported : List Reported) (i : ℕ) (x : Report
 blocks_more plan reported i x before now lt is blocks block =
     subst (λ (ts : List Reported). HasBlocks plan ts now) (sym (take_more reported i x lt))
     (behind blocks (subst (λ (one : Reported). HasBlock plan one before now) is block))
+
+pub groups_more : (plan : Plan) (groups : List Group) (i : ℕ) (x : Group) (before now : List ℕ) → i < length groups → x ≡ get_or groups i x → HasGroups plan (take i groups) before
+    → HasGroup plan x before now → HasGroups plan (take (i + 1) groups) now
+groups_more plan groups i x before now lt is blocks block =
+    subst (λ (gs : List Group). HasGroups plan gs now) (sym (take_more groups i x lt))
+    (one_more_group blocks (subst (λ (one : Group). HasGroup plan one before now) is block))

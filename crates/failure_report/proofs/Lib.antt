@@ -5,3 +5,5 @@ pub mod Endings
 pub mod Listing
 pub mod Blocks
 pub mod Naming
+pub mod Gathering
+pub mod Listed

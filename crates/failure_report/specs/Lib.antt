@@ -4,3 +4,5 @@ pub mod Failures
 pub mod Heads
 pub mod Reported
 pub mod Named
+pub mod Grouped
+pub mod Joining

@@ -1,13 +1,11 @@
 -- What is reported of nodes.
-use Rattle.std.specs.Prelude.{◌≡◌, ℕ, ◌<◌, List, [], ◌∷◌, ◌++◌, map, Option, Some, None, string_bytes}
+use Rattle.std.specs.Prelude.{◌≡◌, ℕ, ◌<◌, List, [], ◌∷◌, ◌++◌, map, Option, Some, None}
 use Rattle.node_machine.specs.declared.Ended.{Ended}
 use Rattle.node_machine.specs.declared.Record.{Record}
 use Rattle.run_plan.specs.Plan.{Plan, node_at, count_of}
 use Rattle.failure_report.specs.declared.failed.Failure.{Failure}
 use Rattle.failure_report.specs.declared.why.Reported.{Reported}
 use Rattle.failure_report.specs.declared.why.Reported.TheVariants.{Failed, Standing}
-use Rattle.failure_report.specs.declared.why.Why.{Why}
-use Rattle.failure_report.specs.declared.why.Why.TheVariants as why
 use Rattle.failure_report.specs.Failures.{AreFailures}
 use Rattle.failure_report.specs.Heads.{head_line}
 
@@ -47,7 +45,3 @@ pub record HasAllFailed (plan : Plan) (past : List Record) (text : List ℕ) : T
   pub reported : List Reported
   pub all : AreAllFailed plan past reported
   pub blocks : HasBlocks plan reported text
-
-abbrev pub IsWhyOfAll : Plan → List Record → Why → Type 0
-IsWhyOfAll plan past (why.Reported text) = HasAllFailed plan past (string_bytes text)
-IsWhyOfAll plan past (why.Unknown line) = ⊥

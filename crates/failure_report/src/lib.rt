@@ -2,12 +2,15 @@
 //! jobs.
 //!
 //! Which nodes are in error, how each of them failed and how many wait for it are values (`failures`), the
-//! line of each is made of them, and behind it stands what is found by looking (`why_text`).
+//! line of each is made of them, and behind it stands what is found by looking (`why_text`). Those with one cause
+//! are reported once, in groups.
 #![tactic(auto)]
 
+mod causes;
 mod details;
 mod earlier;
 mod failed;
+mod groups;
 mod heads;
 mod launches;
 mod looking;
@@ -16,6 +19,7 @@ mod numbers;
 mod quotes;
 mod reaching;
 mod reported;
+mod same;
 mod standing;
 mod waiting;
 mod why;
@@ -23,4 +27,4 @@ mod why;
 pub use failed::{Failure, failures};
 pub use numbers::{Named, numbers_of};
 pub use reaching::reached_from;
-pub use why::{Surroundings, Why, why_text};
+pub use why::{Grouping, Surroundings, Why, why_text};

@@ -3,7 +3,7 @@
 
 use crate::details::{Quote, SeenCommand};
 use crate::notes::Refused;
-use crate::quotes::last_lines;
+use crate::quotes::{last_lines, push_all_shown};
 use dag_reader::Text;
 use log_lines::{push_word, unquoted};
 use node_machine::Outcome;
@@ -24,8 +24,11 @@ const HEAD: usize = 256;
 /// to give.
 const PASSING: [i32; 3] = [11, 23, 24];
 
-/// The code that says that a file may not be executed (EACCES).
+/// The code that says that a file may not be executed or written (EACCES).
 const NOT_ALLOWED: i32 = 13;
+
+/// The code that says that a disk is full (ENOSPC).
+const DISK_FULL: i32 = 28;
 
 /// Programs that read the file which their first word names.
 const READERS: [&str; 12] = [
@@ -134,6 +137,24 @@ fn output_repair<R: Files + AllocGlobal>(rt: &R, path: &str) -> Result<Option<St
     }
 }
 
+/// What is wrong with such a file, which the system refused with this code, if that is known.
+fn refused_output_repair<R: Files + AllocGlobal>(
+    rt: &R,
+    path: &str,
+    code: Option<i32>,
+) -> Result<Option<String>, AllocError> {
+    let alloc = rt.alloc();
+    match code {
+        Some(NOT_ALLOWED) if is_missing(rt, path) => {
+            let words = "you may not write in that folder: chmod u+w ";
+            about(alloc, words, folder_of(path))
+        }
+        Some(NOT_ALLOWED) => about(alloc, "you may not write that file: chmod u+w ", path),
+        Some(DISK_FULL) => about(alloc, "that disk is full: df ", folder_of(path)),
+        _ => output_repair(rt, path),
+    }
+}
+
 /// What is wrong with a file that is to be read.
 fn input_repair<R: Files + AllocGlobal>(rt: &R, path: &str) -> Result<Option<String>, AllocError> {
     if is_missing(rt, path) {
@@ -202,6 +223,28 @@ fn beginning_repair<R: Files + AllocGlobal>(
     )
 }
 
+/// What is wrong with a program that is not there. Perhaps its words are behind it.
+fn missing_repair<R: Files + AllocGlobal>(
+    rt: &R,
+    path: &str,
+) -> Result<Option<String>, AllocError> {
+    let alloc = rt.alloc();
+    if let Some((program, words)) = path.split_once(' ') {
+        if fs::metadata(rt, program).is_ok_and(|found| found.is_file()) {
+            let mut text = String::from_str(
+                alloc,
+                "there is no such program: write executable = ",
+            )?;
+            push_all_shown(&mut text, program)?;
+            text.push_str(" and arguments = ")?;
+            push_all_shown(&mut text, words)?;
+            return Ok(Some(text));
+        }
+    }
+    let words = "there is no such program: put it there, or mend its path: ";
+    about(alloc, words, path)
+}
+
 /// What is wrong with a program, where the system refused it with this code, if that is known.
 fn program_repair<R: Files<File = File> + AllocGlobal>(
     rt: &R,
@@ -212,13 +255,7 @@ fn program_repair<R: Files<File = File> + AllocGlobal>(
     match fs::metadata(rt, path) {
         Ok(found) if found.is_dir() => return about(alloc, "this is a folder, no program: ", path),
         Ok(_) => {}
-        Err(error) if error.kind() == ErrorKind::NotFound => {
-            return about(
-                alloc,
-                "there is no such program: put it there, or mend its path: ",
-                path,
-            );
-        }
+        Err(error) if error.kind() == ErrorKind::NotFound => return missing_repair(rt, path),
         Err(_) => return about(alloc, "a folder of its path may not be looked into: ", path),
     }
     if code == Some(NOT_ALLOWED) {
@@ -256,7 +293,7 @@ fn refused_repair<R: Files<File = File> + AllocGlobal>(
         "program" => program_repair(rt, path.as_str(), code),
         "folder" => folder_repair(rt, path.as_str()),
         "input" => input_repair(rt, path.as_str()),
-        _ => output_repair(rt, path.as_str()),
+        _ => refused_output_repair(rt, path.as_str(), code),
     }
 }
 
@@ -295,6 +332,35 @@ fn command_repair<R: Files<File = File> + AllocGlobal>(
     program_repair(rt, command.program.as_str(), None)
 }
 
+/// What a program says that writes on a full disk.
+const SAYS_FULL: &str = "No space left on device";
+
+/// Whether the last lines of a file say that a disk is full.
+fn says_full<R: Files<File = File> + AllocGlobal>(
+    rt: &R,
+    path: &Option<Text>,
+) -> Result<bool, AllocError> {
+    let Some(path) = path else {
+        return Ok(false);
+    };
+    match quote_of(rt, path.as_str())? {
+        Quote::Lines(lines) => Ok(lines.iter().any(|line| line.as_str().contains(SAYS_FULL))),
+        _ => Ok(false),
+    }
+}
+
+/// How a command is mended that ended with this exit and said why.
+fn said_repair<R: Files<File = File> + AllocGlobal>(
+    rt: &R,
+    command: &SeenCommand,
+    code: u8,
+) -> Result<Option<String>, AllocError> {
+    if code != 0 && says_full(rt, &command.error)? {
+        return said(rt.alloc(), "a disk is full: df says which, and how full");
+    }
+    exit_repair(rt, command, code)
+}
+
 /// How a command is mended that ended with this exit: a program that reads a file has none to read.
 fn exit_repair<R: Files + AllocGlobal>(
     rt: &R,
@@ -321,6 +387,10 @@ fn exit_repair<R: Files + AllocGlobal>(
             alloc,
             "a shell ends with 127 where it does not find a program",
         ),
+        139 => said(
+            alloc,
+            "139 is 128 and SIGSEGV: what it ran used memory that is not its own, a fault of that program",
+        ),
         137 => said(
             alloc,
             "137 is 128 and SIGKILL: what it ran was killed; where memory ran out, the kernel's log says so (dmesg)",
@@ -335,6 +405,14 @@ fn signal_repair(alloc: Global, number: u8) -> Result<Option<String>, AllocError
         9 => said(
             alloc,
             "it was killed; where memory ran out, the kernel's log says so (dmesg)",
+        ),
+        6 => said(
+            alloc,
+            "it gave up by itself (abort): its error output may say why",
+        ),
+        7 | 11 => said(
+            alloc,
+            "it used memory that is not its own, a fault of the program: call it by hand, in a debugger (gdb)",
         ),
         24 => said(alloc, "it took more processor time than it may (ulimit -t)"),
         25 => said(alloc, "a file grew larger than it may (ulimit -f)"),
@@ -355,7 +433,7 @@ pub(crate) fn repair_of<R: Files<File = File> + AllocGlobal>(
     match (outcome, refused) {
         (Outcome::NoStart, Some(refused)) => refused_repair(rt, refused),
         (Outcome::NoStart, None) => command_repair(rt, command),
-        (Outcome::Exit(code), _) => exit_repair(rt, command, code),
+        (Outcome::Exit(code), _) => said_repair(rt, command, code),
         (Outcome::Signal(number), _) => signal_repair(rt.alloc(), number),
         _ => Ok(None),
     }

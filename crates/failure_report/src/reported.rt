@@ -153,6 +153,21 @@ fn quote_at<R: Files<File = File> + AllocGlobal>(
     }
 }
 
+/// What the error output of a phase has that is reported, where it has one.
+///
+/// # Errors
+/// Want of memory.
+pub(crate) fn quoted_of<R: Files<File = File> + AllocGlobal>(
+    rt: &R,
+    run: &Run<'_, '_, '_>,
+    story: &Story,
+) -> Result<Option<Quote>, AllocError> {
+    match run.seen_at(rt.alloc(), story)? {
+        Some(command) => quote_at(rt, story, &command),
+        None => Ok(None),
+    }
+}
+
 /// How what is wrong with a phase is mended, as far as its files tell it.
 fn repair_at<R: Files<File = File> + AllocGlobal>(
     rt: &R,
@@ -190,7 +205,10 @@ pub(crate) fn push_story<R: Files<File = File> + AllocGlobal>(
 }
 
 /// Why a phase was not started, in words: the path that was refused, and what the system said.
-fn reason_of(
+///
+/// # Errors
+/// Want of memory.
+pub(crate) fn reason_of(
     alloc: Global,
     run: &Run<'_, '_, '_>,
     story: &Story,
@@ -257,7 +275,7 @@ fn push_before<R: Files<File = File> + AllocGlobal>(
 }
 
 /// The text, where there is one.
-fn shown(text: &Option<String>) -> Option<&str> {
+pub(crate) fn shown(text: &Option<String>) -> Option<&str> {
     match text {
         Some(text) => Some(text.as_str()),
         None => None,
@@ -311,7 +329,7 @@ fn rest_of<R: Files<File = File> + AllocGlobal>(
 }
 
 /// The last phase of a node in error, which ended so.
-fn story_of(run: &Run<'_, '_, '_>, node: u32, end: &Ended) -> Story {
+pub(crate) fn story_of(run: &Run<'_, '_, '_>, node: u32, end: &Ended) -> Story {
     Story {
         key: Key {
             node,

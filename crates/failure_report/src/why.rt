@@ -5,14 +5,17 @@ ghost use Rattle.run_plan.specs.Plan.{count_of};
 ghost use Rattle.failure_report.specs.Reaching.{nodes_in};
 ghost use Rattle.failure_report.specs.Waiting.{AreChildrenLeft};
 ghost use Rattle.failure_report.specs.Failures.{AreLastEnds};
-ghost use Rattle.failure_report.specs.Reported.{IsBlock, HasBlock, HasBlocks, AreAllFailed, IsWhyOfAll};
+ghost use Rattle.failure_report.specs.Reported.{IsBlock, HasBlock, HasBlocks, AreAllFailed};
+ghost use Rattle.failure_report.specs.Grouped.{HasGroup, HasGroups, HasAllGrouped, HasAllBy, IsWhyOfAllBy};
 ghost use Rattle.failure_report.specs.Named.{IsReportedOfNode, AreReported, IsWhyOfNamed};
 
 use crate::failed::{Failure, failures, is_in_error, last_ends};
+use crate::groups::{Group, groups_of};
 use crate::launches::launch_facts;
 use crate::notes::LogNotes;
 use crate::numbers::{Named, numbers_of};
 use crate::reported::{Run, failure_block};
+use crate::same::group_block;
 use crate::standing::push_standing;
 use crate::waiting::{held_lists, waiting_for};
 use log_lines::unquoted;
@@ -33,6 +36,15 @@ pub struct Surroundings<'a> {
     pub log: &'a [u8],
 }
 
+/// How all nodes in error are reported.
+#[derive(Clone, Copy, Debug, PartialEq, Eq)]
+pub enum Grouping {
+    /// Those with one cause once: the first of them, and the names of the others.
+    ByCause,
+    /// Each by itself.
+    Each,
+}
+
 /// What is reported of nodes.
 #[derive(Drop)]
 pub enum Why {
@@ -51,15 +63,23 @@ enum Reported {
     Standing(u32),
 }
 
+/// These nodes in error, as they are reported.
+fn as_reported(alloc: Global, failures: &[Failure]) -> Result<Vec<Reported>, AllocError>
+    ensures { IfOk result (λ reported. reported.items ≡ map Reported.Failed failures.now) }
+{
+    let mut reported = Vec::new(alloc);
+    for failure in failures {
+        reported.push(Reported::Failed(*failure))?;
+    }
+    Ok(reported)
+}
+
 /// All nodes in error.
 fn all_failed(alloc: Global, core: &Core<'_>) -> Result<Vec<Reported>, AllocError>
     ensures { IfOk result (λ reported. AreAllFailed core.now.plan core.now.past reported.items) }
 {
     let failed = failures(alloc, core)?;
-    let mut reported = Vec::new(alloc);
-    for failure in &failed {
-        reported.push(Reported::Failed(*failure))?;
-    }
+    let reported = as_reported(alloc, &failed)?;
     Ok(reported)
 }
 
@@ -233,6 +253,60 @@ fn text_of<R: Files<File = File> + AllocGlobal>(
     Ok(text)
 }
 
+/// Adds what is reported of a group of nodes in error.
+fn push_group<R: Files<File = File> + AllocGlobal>(
+    rt: &R,
+    text: &mut String,
+    run: &Run<'_, '_, '_>,
+    group: &Group,
+) -> Result<(), AllocError>
+    ensures { OnOk result (HasGroup run.now.core.now.plan group.now (string_bytes text.old) (string_bytes text.new)) }
+{
+    let block = group_block(rt, run, group)?;
+    text.push_str(gap_behind(text.as_str()))?;
+    text.push_str(block.as_str())?;
+    Ok(())
+}
+
+/// The text of nodes in error that are in groups, after what is reported before all nodes.
+fn text_of_groups<R: Files<File = File> + AllocGlobal>(
+    rt: &R,
+    front: String,
+    run: &Run<'_, '_, '_>,
+    groups: &[Group],
+) -> Result<String, AllocError>
+    ensures { IfOk result (λ text. HasGroups run.now.core.now.plan groups.now (string_bytes text)) }
+{
+    let mut text = front;
+    for group in groups {
+        push_group(rt, &mut text, run, group)?;
+    }
+    Ok(text)
+}
+
+/// What is known of a run in which these nodes are reported.
+fn run_of<'c, 'p, 'l>(
+    alloc: Global,
+    core: &'c Core<'p>,
+    place: &Surroundings<'l>,
+    reported: &[Reported],
+) -> Result<Run<'c, 'p, 'l>, AllocError>
+    ensures { IfOk result (λ run. run.core.now.plan ≡ core.now.plan) }
+{
+    let notes = notes_for(alloc, core, reported, place.log)?;
+    let folder = match notes.folder {
+        Some(value) => unquoted(alloc, value)?,
+        None => String::from_str(alloc, place.folder)?,
+    };
+    Ok(Run {
+        core,
+        ends: last_ends(alloc, core)?,
+        facts: launch_facts(alloc, core)?,
+        notes,
+        folder,
+    })
+}
+
 /// What is reported of these nodes of a run.
 fn reported_of<R: Files<File = File> + AllocGlobal>(
     rt: &R,
@@ -242,25 +316,51 @@ fn reported_of<R: Files<File = File> + AllocGlobal>(
 ) -> Result<String, AllocError>
     ensures { IfOk result (λ text. HasBlocks core.now.plan reported.now (string_bytes text)) }
 {
+    let run = run_of(rt.alloc(), core, place, reported)?;
+    let text = text_of(rt, &run, reported)?;
+    Ok(text)
+}
+
+/// What is reported of all nodes in error, in groups.
+fn grouped_text<R: Files<File = File> + AllocGlobal>(
+    rt: &R,
+    core: &Core<'_>,
+    place: &Surroundings<'_>,
+) -> Result<String, AllocError>
+    ensures { IfOk result (λ text. HasAllGrouped core.now.plan core.now.past (string_bytes text)) }
+{
     let alloc = rt.alloc();
-    let notes = notes_for(alloc, core, reported, place.log)?;
-    let folder = match notes.folder {
-        Some(value) => unquoted(alloc, value)?,
-        None => String::from_str(alloc, place.folder)?,
-    };
-    let run = Run {
-        core,
-        ends: last_ends(alloc, core)?,
-        facts: launch_facts(alloc, core)?,
-        notes,
-        folder,
-    };
-    text_of(rt, &run, reported)
+    let failed = failures(alloc, core)?;
+    let reported = as_reported(alloc, &failed)?;
+    let run = run_of(alloc, core, place, &reported)?;
+    let groups = groups_of(rt, &run, &failed)?;
+    let front = front_of(alloc, core, &reported)?;
+    let text = text_of_groups(rt, front, &run, &groups)?;
+    Ok(text)
+}
+
+/// What is reported of all nodes in error.
+fn all_text<R: Files<File = File> + AllocGlobal>(
+    rt: &R,
+    core: &Core<'_>,
+    place: &Surroundings<'_>,
+    grouping: Grouping,
+) -> Result<String, AllocError>
+    ensures { IfOk result (λ text. HasAllBy grouping core.now.plan core.now.past (string_bytes text)) }
+{
+    if grouping == Grouping::ByCause {
+        return Ok(grouped_text(rt, core, place)?);
+    }
+    let reported = all_failed(rt.alloc(), core)?;
+    Ok(reported_of(rt, core, place, &reported)?)
 }
 
 /// What is reported of the nodes of these names in their order; where there is no name, of all that are in
 /// error, those first for which most nodes wait, and of as many in plan order. What the log and the files
 /// of jobs say is reported as far as they can be read.
+///
+/// Where there is no name, those with one cause may be reported once, at the place of the first of them. A cause is the phase that
+/// failed, its outcome, the reason where it was not started, and the last line that is quoted of its error output.
 ///
 /// # Errors
 /// Want of memory, and nothing else.
@@ -269,16 +369,16 @@ pub fn why_text<R: Files<File = File> + AllocGlobal>(
     core: &Core<'_>,
     place: &Surroundings<'_>,
     names: &[&str],
+    grouping: Grouping,
 ) -> Result<Why, AllocError>
-    // Where no node is named, it is the text of all nodes in error, each with its line.
-    ensures all { length names.now ≡ 0 → IfOk result (IsWhyOfAll core.now.plan core.now.past) }
+    // Where no node is named, it is the text of all nodes in error, each with its line, or in groups.
+    ensures all { length names.now ≡ 0 → IfOk result (IsWhyOfAllBy grouping core.now.plan core.now.past) }
     ensures named { length names.now ≢ 0 →
         IfOk result (IsWhyOfNamed core.now.plan core.now.past place.now.top.now (map (λ n. n.now) names.now)) }
 {
     let alloc = rt.alloc();
     if names.is_empty() {
-        let reported = all_failed(alloc, core)?;
-        return Ok(Why::Reported(reported_of(rt, core, place, &reported)?));
+        return Ok(Why::Reported(all_text(rt, core, place, grouping)?));
     }
     match numbers_of(alloc, core.plan(), place.top, names)? {
         Named::Nodes(nodes) => {

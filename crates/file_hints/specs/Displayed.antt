@@ -2,7 +2,7 @@
 use Rattle.std.specs.Prelude.{ℕ, List, ◌++◌, codes}
 use Rattle.std.specs.Fmt.{decimal}
 use Rattle.file_hints.specs.declared.hint.Hint.{Hint}
-use Rattle.file_hints.specs.declared.hint.Hint.TheVariants.{UnknownName, Misspelled, PassedOver, BelowQueue, Unassigned, MissingProgram, Elsewhere, FolderAsProgram, NotExecutable, CarriageReturn, MissingFolder, SharedOutput, NoLog, NoEnvironment, OwnFolder, ContinuedComment, LaunchNumber, SkipValue, SignalValue, NoopScript}
+use Rattle.file_hints.specs.declared.hint.Hint.TheVariants.{UnknownName, Misspelled, PassedOver, BelowQueue, Unassigned, MissingProgram, Elsewhere, WordsInProgram, FolderAsProgram, NotExecutable, CarriageReturn, MissingFolder, SharedOutput, NoLog, NoEnvironment, OwnFolder, ContinuedComment, LaunchNumber, SkipValue, SignalValue, NoopScript}
 use Rattle.file_hints.specs.declared.hint.Finding.{Finding}
 
 -- what stands behind the place
@@ -14,6 +14,7 @@ hint_text (BelowQueue name) = name ++ codes " stands below queue and has no effe
 hint_text (Unassigned name) = codes "$(" ++ (name ++ codes ") is assigned nowhere, so it is empty: assign it here or by VARS, or give it a default")
 hint_text (MissingProgram path) = path ++ codes " is not there: put it there, or mend its path"
 hint_text (Elsewhere path found) = path ++ (codes " is not there, and the folders of PATH are not searched: is " ++ (found ++ codes " meant?"))
+hint_text (WordsInProgram path program words) = path ++ (codes " is not there: write executable = " ++ (program ++ (codes " and arguments = " ++ words)))
 hint_text (FolderAsProgram path) = path ++ codes " is a folder: name a program"
 hint_text (NotExecutable path) = path ++ (codes " may not be executed: chmod +x " ++ path)
 hint_text (CarriageReturn path) = codes "the first line of " ++ (path ++ (codes " ends with a carriage return: sed -i 's/\\r$//' " ++ path))
@@ -37,6 +38,7 @@ topic_of (BelowQueue name) = codes "hint"
 topic_of (Unassigned name) = codes "hint"
 topic_of (MissingProgram path) = codes "hint"
 topic_of (Elsewhere path found) = codes "hint"
+topic_of (WordsInProgram path program words) = codes "hint"
 topic_of (FolderAsProgram path) = codes "hint"
 topic_of (NotExecutable path) = codes "hint"
 topic_of (CarriageReturn path) = codes "hint"

@@ -33,6 +33,12 @@ pub enum Hint {
         path: Text,
         found: Text,
     },
+    /// The path of a program that is not there, and the program and its words that it names, a blank between them.
+    WordsInProgram {
+        path: Text,
+        program: Text,
+        words: Text,
+    },
     /// A folder in the place of a program.
     FolderAsProgram(Text),
     /// The program of this path, which nobody may run.
@@ -96,6 +102,14 @@ impl fmt::Display for Hint {
             Hint::Elsewhere { path, found } => write!(
                 f,
                 "{path} is not there, and the folders of PATH are not searched: is {found} meant?"
+            ),
+            Hint::WordsInProgram {
+                path,
+                program,
+                words,
+            } => write!(
+                f,
+                "{path} is not there: write executable = {program} and arguments = {words}"
             ),
             Hint::FolderAsProgram(path) => write!(f, "{path} is a folder: name a program"),
             Hint::NotExecutable(path) => write!(f, "{path} may not be executed: chmod +x {path}"),
@@ -191,6 +205,7 @@ fn topic_of(hint: &Hint) -> &'static str
         | Hint::Unassigned(_)
         | Hint::MissingProgram(_)
         | Hint::Elsewhere { .. }
+        | Hint::WordsInProgram { .. }
         | Hint::FolderAsProgram(_)
         | Hint::NotExecutable(_)
         | Hint::CarriageReturn(_)

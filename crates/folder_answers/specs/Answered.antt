@@ -1,4 +1,4 @@
--- What `check` and `rehearse` answer of the files of a folder, and why they are refused.
+-- What `check`, `check --all` and `rehearse` answer of the files of a folder, and why they are refused.
 use Rattle.std.specs.Prelude.{◌≡◌, ℕ, Bool, List, Option, Some, None, String, string_bytes}
 use Rattle.std.specs.Global.{Global}
 use Rattle.splices_flat.specs.Opening.{Files}
@@ -15,6 +15,7 @@ use Rattle.dag_main_check.specs.Checked.{IsCheckOf, IsCheckFault}
 use Rattle.dag_main_files.specs.Beside.{IsInputFault}
 use Rattle.dag_main_files.specs.Folder.{IsReadFrom}
 use Rattle.dag_main_rehearse.specs.Rehearsed.{IsRehearsalOf, IsRehearsalFault}
+use Rattle.fault_list.specs.LineFaults.{IsCheckOfAll, ListsLineFaults}
 
 -- the path of the file of which a fault tells that it is missing
 abbrev pub missing_file : DagFault → Option (List ℕ)
@@ -54,6 +55,17 @@ pub data IsCheckRefusalFrom (holds : Files) (path : List ℕ) : RunFault → Typ
   held_not_checked : (fault : RunFault) → IsCheckFault holds path fault → IsCheckRefusalFrom holds path fault
   held_file_came : (files : FileSet) (missing : RunFault) (file : String Global) → IsReadFrom holds path files →
       IsCheckFault (bytes_of files) path missing → missing_in missing ≡ Some (string_bytes file) → IsCheckRefusalFrom holds path (FileRefused file)
+
+-- what `check --all` answers, of some files of the path
+abbrev pub IsCheckOfAllSome : (path text warnings : List ℕ) → (status : ℕ) → Type 0
+IsCheckOfAllSome path text warnings status = (files : FileSet) × IsCheckOfAll files path text warnings status
+
+-- The same where these files are held: what `check` answers for what they say; or the faults of lines of those that were read, the first of which is
+-- that of what they say.
+pub data IsCheckOfAllFrom (holds : Files) (path text warnings : List ℕ) (status : ℕ) : Type 0 where
+  held_nothing_wrong : IsCheckOf holds path text warnings status → IsCheckOfAllFrom holds path text warnings status
+  held_lines_wrong : (files : FileSet) → IsReadFrom holds path files → (list : ListsLineFaults files path text warnings status) →
+      IsCheckFault holds path list.first → IsCheckOfAllFrom holds path text warnings status
 
 -- what `rehearse` answers, of some files of the path
 abbrev pub IsRehearsalOfSome : (always_post : Bool) → (path : List ℕ) → (table : Option (List ℕ)) → Limits → (text warnings : List ℕ) → (status : ℕ) → Type 0

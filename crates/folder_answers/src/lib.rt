@@ -1,15 +1,20 @@
-//! What `check` and `rehearse` answer of the files of a folder.
+//! What `check`, `check --all` and `rehearse` answer of the files of a folder.
 #![tactic(auto)]
 
 ghost use Rattle.std.specs.Prelude.{◌≡◌, None, Some, IfOk, IfErr, string_bytes};
 ghost use Rattle.std.specs.Option.{option_map};
 ghost use Rattle.dag_main_check.specs.Checked.{IsCheckOf};
-ghost use Rattle.folder_answers.specs.Answered.{missing_in, IsCheckOfSome, IsCheckRefusal, IsCheckRefusalFrom, IsConfirmed, IsRehearsalOfSome, IsRehearsalRefusal, IsRehearsalRefusalFrom};
+ghost use Rattle.fault_list.specs.FaultPlaces.{fault_place};
+ghost use Rattle.folder_answers.specs.Answered.{missing_in, IsCheckOfAllSome, IsCheckOfAllFrom, IsCheckOfSome, IsCheckRefusal, IsCheckRefusalFrom, IsConfirmed, IsRehearsalOfSome, IsRehearsalRefusal, IsRehearsalRefusalFrom};
 ghost use Rattle.dag_main_rehearse.specs.Rehearsed.{IsRehearsalOf};
 
+mod reading;
+
+use crate::reading::all_files_of;
 use dag_main_check::{Answer, RunFault, check_text};
 use dag_main_files::{Folder, Reading, files_of};
 use dag_main_rehearse::rehearse_text;
+use fault_list::check_all;
 use run_plan::PlanFault;
 use splices_flat::DagFault;
 use std::alloc::Global;
@@ -35,6 +40,29 @@ pub fn check_here<F: Folder>(alloc: Global, folder: &F, top: &str) -> Result<Ans
     match check_text(alloc, &files, top) {
         Ok(answer) => Ok(answer),
         Err(fault) => Err(confirmed(alloc, folder, fault)),
+    }
+}
+
+/// What `check --all` answers of the DAG file of this path: what `check` does; or, where a line is wrong, no text, as warnings the
+/// lines of all faults of lines, in the order in which they are found, and status 125. Each is found once the lines of those before
+/// it are empty, in memory alone; at most 100 are.
+///
+/// # Errors
+/// Those of `check_here` that name no line.
+pub fn check_all_here<F: Folder>(alloc: Global, folder: &F, top: &str) -> Result<Answer, RunFault>
+    ensures checked { IfOk result (λ answer. IsCheckOfAllSome top.now
+        (string_bytes answer.text) (string_bytes answer.warnings) answer.status) }
+    ensures refused { IfErr result (IsCheckRefusal top.now) }
+    ensures has_no_line { IfErr result (λ fault. fault_place fault ≡ None) }
+    // It is the answer for what the folder holds, and the refusal too.
+    ensures held { F.honest folder.now → IfOk result (λ answer. IsCheckOfAllFrom (F.holds folder.now) top.now
+        (string_bytes answer.text) (string_bytes answer.warnings) answer.status) }
+    ensures refused_held { F.honest folder.now → IfErr result (IsCheckRefusalFrom (F.holds folder.now) top.now) }
+{
+    let files = all_files_of(alloc, folder, top)?;
+    match check_all(alloc, files, top) {
+        Ok(answer) => Ok(answer),
+        Err(refusal) => Err(confirmed(alloc, folder, refusal)),
     }
 }
 

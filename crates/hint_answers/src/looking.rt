@@ -63,16 +63,53 @@ fn found_in_path<R: Files + Env + AllocGlobal>(
     Ok(None)
 }
 
+/// The last part of a path.
+fn name_in(path: &str) -> &str {
+    match path.rsplit_once('/') {
+        Some((_, name)) => name,
+        None => path,
+    }
+}
+
+/// The path of a program: this one, where a file is there, or that of one of its name in a folder of PATH.
+fn program_at<R: Files + Env + AllocGlobal>(
+    rt: &R,
+    path: &str,
+) -> Result<Option<Text>, AllocError> {
+    match fs::metadata(rt, path) {
+        Ok(found) if found.is_file() => Ok(Some(Text::new(rt.alloc(), path)?)),
+        _ => found_in_path(rt, name_in(path)),
+    }
+}
+
+/// Whether the path of a program, which is not there, has the words of that program behind its first blank.
+fn words_in_program<R: Files + Env + AllocGlobal>(
+    rt: &R,
+    path: &str,
+) -> Result<Option<Hint>, AllocError> {
+    let Some((program, words)) = path.split_once(' ') else {
+        return Ok(None);
+    };
+    let Some(program) = program_at(rt, program)? else {
+        return Ok(None);
+    };
+    Ok(Some(Hint::WordsInProgram {
+        path: Text::new(rt.alloc(), path)?,
+        program,
+        words: Text::new(rt.alloc(), words)?,
+    }))
+}
+
 /// What is odd in a program of this path, which is not there.
 fn missing_program<R: Files + Env + AllocGlobal>(
     rt: &R,
     path: &str,
 ) -> Result<Option<Hint>, AllocError> {
-    let name = match path.rsplit_once('/') {
-        Some((_, name)) => name,
-        None => path,
-    };
-    match found_in_path(rt, name)? {
+    let with_words = words_in_program(rt, path)?;
+    if with_words.is_some() {
+        return Ok(with_words);
+    }
+    match found_in_path(rt, name_in(path))? {
         Some(found) => Ok(Some(Hint::Elsewhere {
             path: Text::new(rt.alloc(), path)?,
             found,

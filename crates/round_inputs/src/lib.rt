@@ -2,6 +2,7 @@
 //! `x.dag.begun`, the files.
 #![tactic(auto)]
 
+mod as_begun;
 mod begun;
 #[cfg(test)]
 mod checks;
@@ -9,6 +10,7 @@ mod inputs;
 mod listing;
 mod reading;
 
+pub use as_begun::{AsBegun, last_begun};
 pub use begun::{BadBegun, Begun, begun_in, begun_text};
 pub use inputs::{Inputs, Listed, inputs_of, inputs_text, list_file};
 pub use listing::{MOST_OF_BEGUN, begun_path, inputs_path, write_begun, write_inputs};

@@ -6,7 +6,8 @@ use crate::children::{NotedManager, manager_in};
 use crate::events::push_time;
 use crate::line_file::LineFile;
 use crate::processes::{
-    all_numbers, asked_of, boot_of, environment_of, is_on_its_way, own_number, standing_of, user_of,
+    Program, Standing, all_numbers, asked_of, boot_of, environment_of, has_own_program,
+    is_wordless, own_number, standing_of, user_of,
 };
 use dag_main_args::OrphanRule;
 use event_journal::require_regular;
@@ -96,8 +97,9 @@ const LONGEST_PAUSE: u64 = 100_000;
 /// How often it is looked at most whether those that were killed are gone.
 const LOOKS: u32 = 10_000;
 
-/// How often a process is asked that is on its way to its program, and the pause between two questions, in microseconds.
-const STEPS: u32 = 100;
+/// How often a process is asked that is on its way to its program, ten seconds in all, and the pause between two questions, in
+/// microseconds.
+const STEPS: u32 = 10_000;
 
 const STEP_PAUSE: u64 = 1_000;
 
@@ -111,7 +113,8 @@ fn is_alive<R: Files + AllocGlobal>(rt: &R, manager: &NotedManager<'_>) -> bool 
     };
     match standing_of(rt, manager.process) {
         Some(standing) => {
-            boot.as_str() == manager.boot && !standing.ended && standing.began == manager.began
+            let runs = !standing.ended && standing.program != Program::Left;
+            boot.as_str() == manager.boot && runs && standing.began == manager.began
         }
         None => false,
     }
@@ -178,21 +181,67 @@ fn key_in(alloc: Global, environment: &[u8]) -> Result<String, AllocError> {
     format!(in alloc; "{node}\t{phase}\t{attempt}")
 }
 
-/// The environment of a process. One that is on its way to its program has none for a moment: it is asked again.
+/// Whether a process was started by a manager, and is on its way to its program: so long it has the program of the manager, and
+/// the environment of the manager. (It has left the manager's lock already.)
+fn is_started<R: Files + AllocGlobal>(
+    rt: &R,
+    process: u32,
+    standing: &Standing,
+) -> Result<bool, OrphanFault> {
+    Ok(standing.forked && has_own_program(rt, process)?)
+}
+
+/// Whether a process has no environment for good, that was so far with its program before it was asked for its environment, and is
+/// so far after it: a process has none, too, while it changes one program for another one.
+fn is_bare(before: &Standing, after: &Standing) -> bool {
+    match after.program {
+        Program::Never => true,
+        Program::Here(_) => before.program == after.program,
+        Program::Coming | Program::Left => false,
+    }
+}
+
+/// Whether a process is on its way to its program. Some systems don't say where code begins: they say the words of a process that
+/// has come to it.
+fn is_coming<R: Files + AllocGlobal>(rt: &R, process: u32) -> Result<bool, OrphanFault> {
+    match asked_of(rt, process)? {
+        Some(standing) if standing.program == Program::Coming => is_wordless(rt, process),
+        Some(standing) => is_started(rt, process, &standing),
+        None => Ok(false),
+    }
+}
+
+/// The environment of a process; none where it has none. One that is on its way to its program has none for a moment, or that of the
+/// manager which started it: it is asked again.
+///
+/// # Errors
+/// `NotAsked` where it has not come to its program after ten seconds, or where the system refuses to say it; `Memory`.
 fn environment_at<R: Files + Clock + AllocGlobal>(
     rt: &R,
     process: u32,
 ) -> Result<Option<Vec<u8>>, OrphanFault> {
     for _ in 0..STEPS {
-        let environment = environment_of(rt, process)?;
-        match &environment {
-            Some(bytes) if bytes.is_empty() => {}
-            _ => return Ok(environment),
+        let Some(before) = asked_of(rt, process)? else {
+            return Ok(None);
+        };
+        // This is asked before the environment: what comes to its program in between has its own.
+        let is_started = is_started(rt, process, &before)?;
+        let Some(environment) = environment_of(rt, process)? else {
+            return Ok(None);
+        };
+        if !environment.is_empty() && !is_started {
+            return Ok(Some(environment));
         }
-        if !is_on_its_way(rt, process)? {
-            return Ok(environment);
+        let Some(after) = asked_of(rt, process)? else {
+            return Ok(None);
+        };
+        if environment.is_empty() && is_bare(&before, &after) {
+            return Ok(None);
         }
         thread::sleep(rt, Duration::from_micros(STEP_PAUSE));
+    }
+    if is_coming(rt, process)? {
+        return Err(OrphanFault::NotAsked);
     }
     Ok(None)
 }
@@ -346,12 +395,17 @@ impl Orphans {
         rounds
     }
 
-    /// Looks at all processes: those of the rounds that run now.
+    /// Looks at all processes: those of the rounds that run now. Where none is seen it looks again, since one may have started
+    /// another one, and ended, while the list was read.
     fn look<R: Files + Clock + AllocGlobal + Clone + Drop>(
         &self,
         rt: &R,
     ) -> Result<Vec<Orphan>, OrphanFault> {
-        all_of(rt, &self.rounds, &self.spared)
+        let found = all_of(rt, &self.rounds, &self.spared)?;
+        if found.is_empty() {
+            return all_of(rt, &self.rounds, &self.spared);
+        }
+        Ok(found)
     }
 
     /// Whether a process was found before.

@@ -8,6 +8,19 @@ use std::io::{self, ErrorKind};
 use std::os::unix::fs::MetadataExt;
 use std::rt::Files;
 
+/// What the system says of the program of a process.
+#[derive(Clone, Copy, Debug, PartialEq, Eq)]
+pub(crate) enum Program {
+    /// There is none, and none will come: the process has ended, or is a thread of the system.
+    Never,
+    /// The process is on its way to it.
+    Coming,
+    /// It is there, and its stack begins here: that of the next program begins elsewhere.
+    Here(u64),
+    /// The process has left it, and is ending.
+    Left,
+}
+
 /// What the system says of a process.
 #[derive(Clone, Copy, Debug, PartialEq, Eq)]
 pub(crate) struct Standing {
@@ -21,6 +34,10 @@ pub(crate) struct Standing {
     pub(crate) session: u32,
     /// When it began, in ticks of the system's clock.
     pub(crate) began: u64,
+    /// How far it is with its program.
+    pub(crate) program: Program,
+    /// Whether it still has the program of the process that started it.
+    pub(crate) forked: bool,
 }
 
 /// What stands behind the name of a program, which is in parentheses and may have any bytes: what follows the last parenthesis.
@@ -31,26 +48,48 @@ fn behind_name(stat: &[u8]) -> &[u8] {
     }
 }
 
-/// What a text says that the system has of a process, from behind its name on: the first word is its state, the second its
-/// parent, the third its group, the fourth its session, and the twentieth when it began.
+/// The flag of the system that says of a process that it is ending (PF_EXITING).
+const ENDING: u64 = 0x4;
+
+/// The flag that says that it has started no program since it was forked (PF_FORKNOEXEC).
+const FORKED: u64 = 0x40;
+
+/// The flag that says that it is a thread of the system, which has no program (PF_KTHREAD).
+const THREAD: u64 = 0x20_0000;
+
+/// What a text says that the system has of a process, from after its name on: the first word is its state, the second its
+/// parent, the third its group, the fourth its session, the seventh its flags, and the twentieth when it began. The twenty-fourth
+/// is where its code begins, 0 until its program is there, and the twenty-sixth where its stack begins.
 fn standing_behind(text: &str) -> Option<Standing> {
     let mut words = text.split(' ');
     let state = words.nth(1)?;
     let parent = words.next()?.parse::<u32>().ok()?;
     let group = words.next()?.parse::<u32>().ok()?;
     let session = words.next()?.parse::<u32>().ok()?;
-    let began = words.nth(15)?.parse::<u64>().ok()?;
+    let flags = words.nth(2)?.parse::<u64>().ok()?;
+    let began = words.nth(12)?.parse::<u64>().ok()?;
+    let code = words.nth(3)?.parse::<u64>().ok()?;
+    let stack = words.nth(1)?.parse::<u64>().ok()?;
+    let ended = matches!(state, "Z" | "X" | "x");
+    let program = if ended || flags & THREAD != 0 {
+        Program::Never
+    } else if flags & ENDING != 0 {
+        Program::Left
+    } else if code == 0 {
+        Program::Coming
+    } else {
+        Program::Here(stack)
+    };
     Some(Standing {
-        ended: matches!(state, "Z" | "X" | "x"),
+        ended,
         parent,
         group,
         session,
         began,
+        program,
+        forked: flags & FORKED != 0,
     })
 }
-
-/// The process whose children are the threads of the system.
-const THREADS: u32 = 2;
 
 /// The code of the system that says that there is no such process any more (ESRCH).
 const NO_PROCESS: i32 = 3;
@@ -106,25 +145,40 @@ pub(crate) fn environment_of<R: Files + AllocGlobal>(
     asked(fs::read(rt, path.as_str()))
 }
 
-/// Whether a process is on its way to its program: it runs, is no thread of the system, and has no words and no environment yet.
+/// The device and the number of the file of a program; none where there is none.
 ///
 /// # Errors
 /// `NotAsked` where the question is refused; `Memory`.
-pub(crate) fn is_on_its_way<R: Files + AllocGlobal>(
+fn file_of<R: Files>(rt: &R, path: &str) -> Result<Option<(u64, u64)>, OrphanFault> {
+    Ok(asked(fs::metadata(rt, path))?.map(|found| (found.dev(), found.ino())))
+}
+
+/// Whether a process has the program of this one.
+///
+/// # Errors
+/// `NotAsked` where the question is refused; `Memory`.
+pub(crate) fn has_own_program<R: Files + AllocGlobal>(
+    rt: &R,
+    process: u32,
+) -> Result<bool, OrphanFault> {
+    let path = format!(in rt.alloc(); "/proc/{process}/exe")?;
+    let Some(found) = file_of(rt, path.as_str())? else {
+        return Ok(false);
+    };
+    Ok(file_of(rt, "/proc/self/exe")? == Some(found))
+}
+
+/// Whether the system has no words of a process: those with which its program is started.
+///
+/// # Errors
+/// `NotAsked` where the question is refused; `Memory`.
+pub(crate) fn is_wordless<R: Files + AllocGlobal>(
     rt: &R,
     process: u32,
 ) -> Result<bool, OrphanFault> {
     let path = format!(in rt.alloc(); "/proc/{process}/cmdline")?;
-    let Some(words) = asked(fs::read(rt, path.as_str()))? else {
-        return Ok(false);
-    };
-    if !words.is_empty() {
-        return Ok(false);
-    }
-    Ok(match asked_of(rt, process)? {
-        Some(standing) => !standing.ended && standing.parent != 0 && standing.parent != THREADS,
-        None => false,
-    })
+    let words = asked(fs::read(rt, path.as_str()))?;
+    Ok(words.is_none_or(|words| words.is_empty()))
 }
 
 /// The number of the user as whom a process runs; none where there is no such process.

@@ -1,1 +1,2 @@
 pub mod Shortening
+pub mod Painting

@@ -16,7 +16,7 @@ mod watcher;
 
 pub use columns::fits;
 pub use errors::ErrorWatcher;
-pub use line::{Counts, ProgressLine, RunningNode, line_text};
+pub use line::{Counts, ProgressLine, RunningNode, line_text, painted};
 pub use processors::processor_count;
 pub use terminal::{Screen, Way, way_of};
 pub use watcher::{ProgressWatcher, Watched};

@@ -2,7 +2,7 @@
 
 ghost use Rattle.std.specs.Prelude.{◌≡◌, ◌≤◌, ◌-◌, ◌+◌, ◌<◌, ◌++◌, ◌∷◌, [], map, take, length, chars, OnOk, IfOk, string_bytes};
 ghost use Rattle.run_progress.specs.Columns.{columns};
-ghost use Rattle.run_progress.specs.Line.{two_digits, clock_of, duration_of, front_of, back_of, shown_node, further_nodes, list_of, longest_list, cut_text, first_fitting, progress_line};
+ghost use Rattle.run_progress.specs.Line.{two_digits, clock_of, duration_of, failed_front, percent_of, front_of, seconds_left, left_words, back_of, shown_node, further_nodes, list_of, longest_list, cut_text, first_fitting, progress_line, painted};
 
 use crate::columns::fits;
 use std::alloc::{AllocError, Global};
@@ -12,6 +12,8 @@ use std::alloc::{AllocError, Global};
 pub struct Counts {
     /// Done, from the start or after a good last attempt.
     pub done: u32,
+    /// Those of them that were done as this manager began.
+    pub kept: u32,
     /// All nodes, FINAL among them.
     pub total: u32,
     /// None of its phases runs, one is to come, and all its parents are done.
@@ -72,29 +74,86 @@ fn push_span(text: &mut String, seconds: u64) -> Result<(), AllocError>
     }
 }
 
-/// What stands before the names.
+/// Adds how many nodes failed, where some did.
+fn push_failed(text: &mut String, failed: u32) -> Result<(), AllocError>
+    ensures { OnOk result (string_bytes text.new ≡ string_bytes text.old ++ failed_front failed) }
+{
+    if failed > 0 {
+        write!(text, "{failed} failed, ")?;
+    }
+    Ok(())
+}
+
+/// Adds the percent of all nodes that is done, rounded down, where there are nodes.
+fn push_percent(text: &mut String, done: u32, total: u32) -> Result<(), AllocError>
+    ensures { OnOk result (string_bytes text.new ≡ string_bytes text.old ++ percent_of done total) }
+{
+    if total > 0 {
+        let percent = u64::from(done) * 100 / u64::from(total);
+        write!(text, " ({percent}%)")?;
+    }
+    Ok(())
+}
+
+/// What is before the names.
 fn front_text(alloc: Global, counts: Option<Counts>, running: usize) -> Result<String, AllocError>
     ensures { IfOk result (λ text. string_bytes text ≡ front_of counts running) }
 {
-    match counts {
-        Some(counts) => format!(in alloc;
-            "{}/{} done, {running} running",
-            counts.done, counts.total
-        ),
-        None => format!(in alloc; "{running} running"),
+    let mut text = String::new(alloc);
+    if let Some(counts) = counts {
+        push_failed(&mut text, counts.failed)?;
+        write!(text, "{}/{} done", counts.done, counts.total)?;
+        push_percent(&mut text, counts.done, counts.total)?;
+        text.push_str(", ")?;
+    }
+    write!(text, "{running} running")?;
+    Ok(text)
+}
+
+/// How many seconds are left of a run in which this manager has worked for so many: each node that is left takes as long
+/// as one that it has done. None before it has done a tenth of what it had to do, and where nothing is left.
+fn seconds_left(counts: Counts, seconds: u64) -> Option<u64>
+    ensures { result ≡ seconds_left counts seconds }
+{
+    let fresh = u64::from(counts.done.saturating_sub(counts.kept));
+    let left = u64::from(counts.total.saturating_sub(counts.done));
+    let first = u64::from(counts.total.saturating_sub(counts.kept));
+    if fresh == 0 || left == 0 || 10 * fresh < first {
+        return None;
+    }
+    Some(seconds.saturating_mul(left) / fresh)
+}
+
+/// Adds how much time is left, where that is estimated.
+fn push_left(text: &mut String, seconds: Option<u64>) -> Result<(), AllocError>
+    ensures { OnOk result (string_bytes text.new ≡ string_bytes text.old ++ left_words seconds) }
+{
+    match seconds {
+        Some(seconds) => {
+            text.push_str(", ")?;
+            push_clock(text, seconds)?;
+            text.push_str(" left")
+        }
+        None => Ok(()),
     }
 }
 
-/// What stands behind them.
+/// What is after them.
 fn back_text(alloc: Global, counts: Option<Counts>, seconds: u64) -> Result<String, AllocError>
     ensures { IfOk result (λ text. string_bytes text ≡ back_of counts seconds) }
 {
     let mut text = String::new(alloc);
     match counts {
-        Some(counts) => write!(text, ", {} ready, {} failed  ", counts.ready, counts.failed)?,
-        None => text.push_str("  ")?,
+        Some(counts) => {
+            write!(text, ", {} ready  ", counts.ready)?;
+            push_clock(&mut text, seconds)?;
+            push_left(&mut text, seconds_left(counts, seconds))?;
+        }
+        None => {
+            text.push_str("  ")?;
+            push_clock(&mut text, seconds)?;
+        }
     }
-    push_clock(&mut text, seconds)?;
     Ok(text)
 }
 
@@ -108,7 +167,7 @@ fn push_entry(text: &mut String, node: &RunningNode<'_>) -> Result<(), AllocErro
     push_span(text, node.seconds)
 }
 
-/// Adds further nodes, each behind a comma.
+/// Adds further nodes, each after a comma.
 fn push_further(text: &mut String, nodes: &[RunningNode<'_>]) -> Result<(), AllocError>
     ensures { OnOk result (string_bytes text.new ≡ string_bytes text.old
         ++ further_nodes (map (λ node. (node.name.now, node.seconds)) nodes.now)) }
@@ -164,7 +223,7 @@ fn longest_text(
     Ok(String::new(alloc))
 }
 
-/// A text cut behind so many characters less two, with `..` for the rest.
+/// A text cut after so many characters less two, with `..` for the rest.
 fn cut_text(alloc: Global, text: &str, width: usize) -> Result<String, AllocError>
     ensures { IfOk result (λ cut. string_bytes cut ≡ cut_text text.now width) }
 {
@@ -195,8 +254,8 @@ fn first_fitting(alloc: Global, width: usize, whole: String, bare: String, cut: 
 }
 
 /// The line that says how far a run is, such as
-/// `47/160 done, 5 running (s1_06 3 s, s1_07 2 s, ..), 33 ready, 1 failed  0:20`, with as many names
-/// as the width has room for, and cut where it has no room for the numbers. Names that are handed in have
+/// `1 failed, 47/160 done (29%), 5 running (s1_06 3 s, s1_07 2 s, ..), 33 ready  0:20, 0:48 left`, with as many
+/// names as the width has room for, and cut where it has no room for the numbers. Names that are handed in have
 /// no control characters.
 ///
 /// # Errors
@@ -215,4 +274,21 @@ pub fn line_text(alloc: Global, line: &ProgressLine<'_>, width: usize) -> Result
     let bare = format!(in alloc; "{front}{back}")?;
     let cut = cut_text(alloc, bare.as_str(), width)?;
     Ok(first_fitting(alloc, width, whole, bare, cut))
+}
+
+/// A line of `line_text` in colours: where nodes failed, how many these are is red, if the line has it whole.
+///
+/// # Errors
+/// Want of memory.
+pub fn painted(alloc: Global, line: &str, failed: u32) -> Result<String, AllocError>
+    ensures { IfOk result (λ text. string_bytes text ≡ painted line.now failed) }
+{
+    if failed == 0 {
+        return String::from_str(alloc, line);
+    }
+    let front = format!(in alloc; "{failed} failed")?;
+    match line.strip_prefix(front.as_str()) {
+        Some(rest) => format!(in alloc; "\x1b[31m{front}\x1b[0m{rest}"),
+        None => String::from_str(alloc, line),
+    }
 }

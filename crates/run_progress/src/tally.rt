@@ -146,6 +146,7 @@ impl Tally {
     fn fresh(alloc: Global, plan: &Plan) -> Result<Tally, AllocError> {
         let counts = Counts {
             done: 0,
+            kept: 0,
             total: plan.count() + u32::from(plan.has_final()),
             ready: 0,
             failed: 0,
@@ -169,7 +170,7 @@ impl Tally {
         Ok(tally)
     }
 
-    /// The nodes of a plan behind the records of earlier managers.
+    /// The nodes of a plan after the records of earlier managers. Those that are done by then are kept.
     ///
     /// # Errors
     /// Want of memory.
@@ -182,6 +183,7 @@ impl Tally {
         if tally.has_noops {
             tally.end_all_noops(alloc, plan)?;
         }
+        tally.counts.kept = tally.counts.done;
         Ok(tally)
     }
 

@@ -2,7 +2,7 @@
 
 use dag_main_args::ProgressRule;
 use std::alloc::Global;
-use std::env;
+use std::env::{self, VarError};
 use std::fs::File;
 use std::io::IsTerminal;
 use std::process::{Command, Processes, Stdio};
@@ -34,6 +34,15 @@ pub enum Way {
 fn can_erase<R: Env + AllocGlobal>(rt: &R) -> bool {
     match env::var(rt, "TERM") {
         Ok(name) => !matches!(name.as_str(), "" | "dumb"),
+        Err(_) => false,
+    }
+}
+
+/// Whether the user takes colours: the variable `NO_COLOR` is not set, or empty (no-color.org).
+pub(crate) fn takes_colours<R: Env + AllocGlobal>(rt: &R) -> bool {
+    match env::var(rt, "NO_COLOR") {
+        Ok(text) => text.is_empty(),
+        Err(VarError::NotPresent) => true,
         Err(_) => false,
     }
 }

@@ -2,11 +2,11 @@
 
 use crate::doomed::Dooms;
 use crate::failures::{Failure, failure_line, last_lines, outcome_text};
-use crate::line::{Counts, ProgressLine, RunningNode, line_text};
+use crate::line::{Counts, ProgressLine, RunningNode, line_text, painted};
 use crate::processors::processor_count;
 use crate::shown::{columns_of, push_shown, shown};
 use crate::tally::{Ending, Tally};
-use crate::terminal::{Screen, Way, Width};
+use crate::terminal::{Screen, Way, Width, takes_colours};
 use child_watcher::{ChildWatcher, CommandPart, Killed, refused_part};
 use node_machine::{Key, Outcome, Record, value_of};
 use run_plan::Plan;
@@ -67,6 +67,8 @@ struct Progress<'a, R: Drop> {
     /// the line that stands there
     line: String,
     width: Width,
+    /// whether how many nodes failed is drawn in red
+    has_colours: bool,
     /// how many processors there are, where that was asked and is known
     processors: Option<Option<u64>>,
     told_many: bool,
@@ -131,6 +133,7 @@ impl<'a, R: Screen + Processes + Files<File = File> + Clock + AllocGlobal + Copy
             drawn: None,
             line: String::new(alloc),
             width,
+            has_colours: run.way == Way::Redrawn && takes_colours(&rt),
             processors: None,
             told_many: false,
         }
@@ -205,13 +208,22 @@ impl<'a, R: Screen + Processes + Files<File = File> + Clock + AllocGlobal + Copy
         }
     }
 
-    /// Shows this line, behind lines that stay.
+    /// A line as it is drawn: in colours, where these are taken.
+    fn drawn_text(&self, line: &str) -> Result<String, AllocError> {
+        let failed = match self.counts() {
+            Some(counts) if self.has_colours => counts.failed,
+            _ => 0,
+        };
+        painted(self.rt.alloc(), line, failed)
+    }
+
+    /// Shows this line, after lines that stay.
     fn draw(&mut self, staying: &str, line: String) -> Result<(), AllocError> {
         let alloc = self.rt.alloc();
-        let (shown, standing) = (line.as_str(), staying);
+        let shown = self.drawn_text(line.as_str())?;
         let text = match self.run.way {
-            Way::Redrawn if standing.is_empty() => format!(in alloc; "\r{shown}\x1b[K")?,
-            Way::Redrawn => format!(in alloc; "\r\x1b[K{standing}{shown}\x1b[K")?,
+            Way::Redrawn if staying.is_empty() => format!(in alloc; "\r{shown}\x1b[K")?,
+            Way::Redrawn => format!(in alloc; "\r\x1b[K{staying}{shown}\x1b[K")?,
             Way::Plain => format!(in alloc; "{shown}\n")?,
         };
         self.write(text.as_str());

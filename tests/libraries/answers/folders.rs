@@ -7,7 +7,7 @@ use dag_main_check::{Answer, RunFault};
 use dag_main_files::{Folder, round_of};
 use dag_main_inspect::{Question, answer_here, report_here};
 use event_journal_log::Peek;
-use folder_answers::{check_here, rehearse_here};
+use folder_answers::{check_all_here, check_here, rehearse_here};
 use splices_flat::FileSet;
 use std::alloc::Global;
 use std::cell::Cell;
@@ -138,6 +138,124 @@ fn checked(rt: HostRuntime) -> Result<(), Fail> {
             check_here(alloc, &folder(alloc, &texts)?, "x.dag"),
             line,
         );
+    }
+    Ok(())
+}
+
+/// A submit file with which nothing is wrong.
+const SOUND: &str = "executable = /bin/true\nqueue\n";
+
+/// Files with faults of lines, and the lines that are listed of them.
+struct ListRow {
+    files: &'static [(&'static str, &'static str)],
+    listed: &'static str,
+}
+
+static LISTS: [ListRow; 6] = [
+    // Four lines are wrong, in three files.
+    ListRow {
+        files: &[
+            (
+                "x.dag",
+                "JOB A a.sub\nFOO A\nSPLICE S s.dag\nRETRY A many\n",
+            ),
+            ("s.dag", "JOB B b.sub\nJOB B.C b.sub\n"),
+            ("a.sub", "executable = /bin/true\na b = c\nqueue\n"),
+            ("b.sub", SOUND),
+        ],
+        listed: "dagrun: L2 UnknownCommand x.dag:2:1\ndagrun: L7 BadNumber x.dag:4:9\n\
+                 dagrun: L6 BadName s.dag:2:5\ndagrun: U2 BadLine a.sub:2\n",
+    },
+    // Each line that names what is not there is listed.
+    ListRow {
+        files: &[
+            ("x.dag", "JOB A a.sub\nPARENT A CHILD Q\nRETRY R 1\n"),
+            ("a.sub", SOUND),
+        ],
+        listed: "dagrun: S5 UnknownNode x.dag:2:16\ndagrun: S5 UnknownNode x.dag:3:7\n",
+    },
+    // But not one that may name what a wrong line declares.
+    ListRow {
+        files: &[
+            ("x.dag", "JOB A a.sub\nJOB B\nPARENT A CHILD B\n"),
+            ("a.sub", SOUND),
+        ],
+        listed: "dagrun: L4 MissingWord x.dag:2:6\n",
+    },
+    // A wrong line that is continued is one fault; the last line of a file may have no end.
+    ListRow {
+        files: &[
+            ("x.dag", "JOB A a.sub\nJOB A a.sub"),
+            (
+                "a.sub",
+                "executable = /bin/true\r\na b \\\r\n= c\r\nqueue\r\nqueue\r\n",
+            ),
+        ],
+        listed: "dagrun: S4 DuplicateName x.dag:2:5\ndagrun: U2 BadLine a.sub:2\n\
+                 dagrun: U4 QueueCount a.sub:5\n",
+    },
+    // A fault that names no line ends the list.
+    ListRow {
+        files: &[
+            ("x.dag", "FOO\nJOB A a.sub\nJOB B b.sub\nJOB C c.sub\n"),
+            ("a.sub", "executable = /bin/true\nqueue 5\n"),
+            ("b.sub", "a b = c\n"),
+            ("c.sub", "a b = c\n"),
+        ],
+        listed: "dagrun: L2 UnknownCommand x.dag:1:1\ndagrun: U4 QueueCount a.sub:2\n",
+    },
+    // A file of two splices has each fault once.
+    ListRow {
+        files: &[
+            ("x.dag", "SPLICE S s.dag\nSPLICE T s.dag\n"),
+            ("s.dag", "BAR\nJOB B b.sub\n\nBAR"),
+            ("b.sub", SOUND),
+        ],
+        listed: "dagrun: L2 UnknownCommand s.dag:1:1\ndagrun: L2 UnknownCommand s.dag:4:1\n",
+    },
+];
+
+// All faults of lines are listed in the order in which they are found, with status 125.
+#[test]
+fn listed(rt: HostRuntime) -> Result<(), Fail> {
+    let alloc = rt.alloc();
+    for row in &LISTS {
+        match check_all_here(alloc, &folder(alloc, row.files)?, "x.dag") {
+            Ok(answer) => {
+                same(&rt, answer.warnings.as_str(), row.listed);
+                same(&rt, answer.text.as_str(), "");
+                same(&rt, answer.status, 125);
+            }
+            Err(fault) => comes_to(&rt, alloc, Err(fault), row.listed),
+        }
+    }
+    Ok(())
+}
+
+// Where no line is wrong, it is answered as without the list; and of a hundred and one faults, one is not listed.
+#[test]
+fn listed_at_most(rt: HostRuntime) -> Result<(), Fail> {
+    let alloc = rt.alloc();
+    let answer = check_all_here(alloc, &whole(alloc)?, "x.dag");
+    comes_to(&rt, alloc, answer, CHECKED);
+    let answer = check_all_here(alloc, &folder(alloc, &[SPLICE])?, "x.dag");
+    comes_to(&rt, alloc, answer, "S1 MissingFile x.dag");
+    let mut text = String::new(alloc);
+    for _ in 0..101 {
+        text.push_str("FOO\n")?;
+    }
+    let mut files = FileSet::new(alloc);
+    files.add(alloc, "x.dag", text.as_bytes())?;
+    match check_all_here(alloc, &files, "x.dag") {
+        Ok(answer) => {
+            same(&rt, answer.warnings.as_str().lines().count(), 100);
+            same(
+                &rt,
+                answer.warnings.as_str().lines().last(),
+                Some("dagrun: L2 UnknownCommand x.dag:100:1"),
+            );
+        }
+        Err(fault) => comes_to(&rt, alloc, Err(fault), "a list"),
     }
     Ok(())
 }

@@ -4,61 +4,68 @@ use Rattle.redo.specs.Answered.{IsRedoOf, IsRedoHeld}
 use Rattle.dag_main_run.specs.Sites.{rounds_at}
 use Rattle.dag_main_args.specs.declared.request.Request.{Request}
 use Rattle.dag_main_args.specs.Requests.{asked_by}
-use Rattle.dagrun.specs.Answered.{is_run, command_of_some, command_from, ComesTo}
+use Rattle.failure_report.specs.declared.why.Grouping.{Grouping}
+use Rattle.dagrun.specs.Answered.{is_run, command_of_some, command_from, ComesTo, grouping_by, SaidByFiles}
 use Rattle.dagrun.proofs.Worlds.{some-to, held-to}
 use Rattle.dagrun.proofs.answers.answer_in.Goals as goal
 
 pub returns-in-Status-clause-some : goal.returns-in-Status-clause-some
 returns-in-Status-clause-some g c = λ run.
     some-to (rounds_at g.F.Journal.Disk g.F.Rescue.Disk (g.F.Site.own c.args.folder.now) (g.F.Folder.honest c.args.folder.now) (g.F.Folder.holds c.args.folder.now))
-    c.args.request _ c.in-Status.is c.answer_here.result c.answer_here.ensures.answered c.answer_here.ensures.refused
+    c.args.request _ c.in-Status.is c.answer_of_round.result c.answer_of_round.ensures.answered c.answer_of_round.ensures.refused
 
 pub returns-in-Status-clause-held : goal.returns-in-Status-clause-held
 returns-in-Status-clause-held g c = λ honest run.
     held-to (g.F.Folder.holds c.args.folder.now) (g.F.Folder.has c.args.folder.now) (rounds_at g.F.Journal.Disk g.F.Rescue.Disk (g.F.Site.own c.args.folder.now) (g.F.Folder.honest c.args.folder.now) (g.F.Folder.holds c.args.folder.now))
-    c.args.request _ c.in-Status.is c.answer_here.result (c.answer_here.ensures.held honest) (c.answer_here.ensures.refused_held honest)
+    c.args.request _ c.in-Status.is c.answer_of_round.result (c.answer_of_round.ensures.held honest) (c.answer_of_round.ensures.refused_held honest)
 
 pub returns-in-Audit-clause-some : goal.returns-in-Audit-clause-some
 returns-in-Audit-clause-some g c = λ run.
     some-to (rounds_at g.F.Journal.Disk g.F.Rescue.Disk (g.F.Site.own c.args.folder.now) (g.F.Folder.honest c.args.folder.now) (g.F.Folder.holds c.args.folder.now))
-    c.args.request _ c.in-Audit.is c.answer_here-in-Audit.result c.answer_here-in-Audit.ensures.answered c.answer_here-in-Audit.ensures.refused
+    c.args.request _ c.in-Audit.is c.answer_of_round-in-Audit.result c.answer_of_round-in-Audit.ensures.answered c.answer_of_round-in-Audit.ensures.refused
 
 pub returns-in-Audit-clause-held : goal.returns-in-Audit-clause-held
 returns-in-Audit-clause-held g c = λ honest run.
     held-to (g.F.Folder.holds c.args.folder.now) (g.F.Folder.has c.args.folder.now) (rounds_at g.F.Journal.Disk g.F.Rescue.Disk (g.F.Site.own c.args.folder.now) (g.F.Folder.honest c.args.folder.now) (g.F.Folder.holds c.args.folder.now))
-    c.args.request _ c.in-Audit.is c.answer_here-in-Audit.result (c.answer_here-in-Audit.ensures.held honest) (c.answer_here-in-Audit.ensures.refused_held honest)
+    c.args.request _ c.in-Audit.is c.answer_of_round-in-Audit.result (c.answer_of_round-in-Audit.ensures.held honest) (c.answer_of_round-in-Audit.ensures.refused_held honest)
 
 pub returns-in-Graph-clause-some : goal.returns-in-Graph-clause-some
 returns-in-Graph-clause-some g c = λ run.
     some-to (rounds_at g.F.Journal.Disk g.F.Rescue.Disk (g.F.Site.own c.args.folder.now) (g.F.Folder.honest c.args.folder.now) (g.F.Folder.holds c.args.folder.now))
-    c.args.request _ c.in-Graph.is c.answer_here-in-Graph.result c.answer_here-in-Graph.ensures.answered c.answer_here-in-Graph.ensures.refused
+    c.args.request _ c.in-Graph.is c.answer_of_round-in-Graph.result c.answer_of_round-in-Graph.ensures.answered c.answer_of_round-in-Graph.ensures.refused
 
 pub returns-in-Graph-clause-held : goal.returns-in-Graph-clause-held
 returns-in-Graph-clause-held g c = λ honest run.
     held-to (g.F.Folder.holds c.args.folder.now) (g.F.Folder.has c.args.folder.now) (rounds_at g.F.Journal.Disk g.F.Rescue.Disk (g.F.Site.own c.args.folder.now) (g.F.Folder.honest c.args.folder.now) (g.F.Folder.holds c.args.folder.now))
-    c.args.request _ c.in-Graph.is c.answer_here-in-Graph.result (c.answer_here-in-Graph.ensures.held honest) (c.answer_here-in-Graph.ensures.refused_held honest)
+    c.args.request _ c.in-Graph.is c.answer_of_round-in-Graph.result (c.answer_of_round-in-Graph.ensures.held honest) (c.answer_of_round-in-Graph.ensures.refused_held honest)
 
 pub returns-in-Why-clause-some : goal.returns-in-Why-clause-some
 returns-in-Why-clause-some g c = λ run.
     let same : c.deref.result.now ≡ c.in-Why.nodes.items = search rules in
     some-to (rounds_at g.F.Journal.Disk g.F.Rescue.Disk (g.F.Site.own c.args.folder.now) (g.F.Folder.honest c.args.folder.now) (g.F.Folder.holds c.args.folder.now))
-    c.args.request _ c.in-Why.is c.why_here.result (subst (λ (ns : List (Bor (List ℕ))). IfOk c.why_here.result (λ answer. IsWhyOf c.in-Why.dag.now (map (λ (n : Bor (List ℕ)). n.now) ns) (string_bytes answer.text) (string_bytes answer.warnings) answer.status)) same c.why_here.ensures.answered) c.why_here.ensures.refused
+    c.args.request _ c.in-Why.is c.why_of_round.result
+    (subst (λ (ns : List (Bor (List ℕ))). IfOk c.why_of_round.result (λ answer. IsWhyOf (grouping_by c.in-Why.all) c.in-Why.dag.now (map (λ (n : Bor (List ℕ)). n.now) ns) (string_bytes answer.text) (string_bytes answer.warnings) answer.status)) same
+    (subst (λ (grouping : Grouping). IfOk c.why_of_round.result (λ answer. IsWhyOf grouping c.in-Why.dag.now (map (λ (n : Bor (List ℕ)). n.now) c.deref.result.now) (string_bytes answer.text) (string_bytes answer.warnings) answer.status)) c.grouping_by.ensures
+    c.why_of_round.ensures.answered)) c.why_of_round.ensures.refused
 
 pub returns-in-Why-clause-held : goal.returns-in-Why-clause-held
 returns-in-Why-clause-held g c = λ honest run.
     let same : c.deref.result.now ≡ c.in-Why.nodes.items = search rules in
     held-to (g.F.Folder.holds c.args.folder.now) (g.F.Folder.has c.args.folder.now) (rounds_at g.F.Journal.Disk g.F.Rescue.Disk (g.F.Site.own c.args.folder.now) (g.F.Folder.honest c.args.folder.now) (g.F.Folder.holds c.args.folder.now))
-    c.args.request _ c.in-Why.is c.why_here.result (subst (λ (ns : List (Bor (List ℕ))). IfOk c.why_here.result (λ answer. IsWhyHeld (g.F.Folder.holds c.args.folder.now) c.in-Why.dag.now (map (λ (n : Bor (List ℕ)). n.now) ns) (string_bytes answer.text) (string_bytes answer.warnings) answer.status)) same (c.why_here.ensures.held honest)) (c.why_here.ensures.refused_held honest)
+    c.args.request _ c.in-Why.is c.why_of_round.result
+    (subst (λ (ns : List (Bor (List ℕ))). IfOk c.why_of_round.result (λ answer. SaidByFiles c.in-Why.as_begun (g.F.Folder.holds c.args.folder.now) c.in-Why.dag.now (λ files. IsWhyHeld (grouping_by c.in-Why.all) files c.in-Why.dag.now (map (λ (n : Bor (List ℕ)). n.now) ns)) (string_bytes answer.text) (string_bytes answer.warnings) answer.status)) same
+    (subst (λ (grouping : Grouping). IfOk c.why_of_round.result (λ answer. SaidByFiles c.in-Why.as_begun (g.F.Folder.holds c.args.folder.now) c.in-Why.dag.now (λ files. IsWhyHeld grouping files c.in-Why.dag.now (map (λ (n : Bor (List ℕ)). n.now) c.deref.result.now)) (string_bytes answer.text) (string_bytes answer.warnings) answer.status)) c.grouping_by.ensures
+    (c.why_of_round.ensures.held honest))) (c.why_of_round.ensures.refused_held honest)
 
 pub returns-in-Times-clause-some : goal.returns-in-Times-clause-some
 returns-in-Times-clause-some g c = λ run.
     some-to (rounds_at g.F.Journal.Disk g.F.Rescue.Disk (g.F.Site.own c.args.folder.now) (g.F.Folder.honest c.args.folder.now) (g.F.Folder.holds c.args.folder.now))
-    c.args.request _ c.in-Times.is c.times_here.result c.times_here.ensures.told c.times_here.ensures.refused
+    c.args.request _ c.in-Times.is c.times_of_round.result c.times_of_round.ensures.answered c.times_of_round.ensures.refused
 
 pub returns-in-Times-clause-held : goal.returns-in-Times-clause-held
 returns-in-Times-clause-held g c = λ honest run.
     held-to (g.F.Folder.holds c.args.folder.now) (g.F.Folder.has c.args.folder.now) (rounds_at g.F.Journal.Disk g.F.Rescue.Disk (g.F.Site.own c.args.folder.now) (g.F.Folder.honest c.args.folder.now) (g.F.Folder.holds c.args.folder.now))
-    c.args.request _ c.in-Times.is c.times_here.result (c.times_here.ensures.held honest) (c.times_here.ensures.refused_held honest)
+    c.args.request _ c.in-Times.is c.times_of_round.result (c.times_of_round.ensures.held honest) (c.times_of_round.ensures.refused_held honest)
 
 pub returns-in-Salvage-clause-some : goal.returns-in-Salvage-clause-some
 returns-in-Salvage-clause-some g c = λ run.

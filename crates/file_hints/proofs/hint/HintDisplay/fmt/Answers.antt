@@ -30,3 +30,6 @@ returns-in-LaunchNumber-clause-writes g c = λ plain ok. subst (λ (hint : Hint)
 
 pub returns-in-SignalValue-clause-writes : goal.returns-in-SignalValue-clause-writes
 returns-in-SignalValue-clause-writes g c = λ plain ok. subst (λ (hint : Hint). HasWritten g.W.Write.write_str_gives c.args.f.now (hint_text hint) c.write-in-SignalValue.new.self) (sym c.in-SignalValue.is) (c.write-in-SignalValue.ensures.writes plain ok)
+
+pub returns-in-WordsInProgram-clause-writes : goal.returns-in-WordsInProgram-clause-writes
+returns-in-WordsInProgram-clause-writes g c = λ plain ok. subst (λ (hint : Hint). HasWritten g.W.Write.write_str_gives c.args.f.now (hint_text hint) c.write-in-WordsInProgram.new.self) (sym c.in-WordsInProgram.is) (c.write-in-WordsInProgram.ensures.writes plain ok)

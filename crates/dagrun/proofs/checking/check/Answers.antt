@@ -1,0 +1,14 @@
+use Rattle.std.proofs.lemmas.Result.{IfErr-weaker}
+use Rattle.dagrun.specs.Answered.{of_held_files}
+use Rattle.dagrun.proofs.Checks.{plain_check, at_once}
+use Rattle.dagrun.proofs.checking.check.Goals as goal
+
+pub returns-else-any-clause-answered : goal.returns-else-any-clause-answered
+returns-else-any-clause-answered g c = plain_check _ _ c.checked.result c.checked.ensures.answered
+
+pub returns-else-any-clause-held : goal.returns-else-any-clause-held
+returns-else-any-clause-held g c = λ honest. plain_check _ _ c.checked.result
+    (at_once c.args.all (g.F.Folder.holds c.args.folder.now) c.args.dag.now c.checked.result (c.checked.ensures.held honest))
+
+pub returns-else-any-clause-refused_held : goal.returns-else-any-clause-refused_held
+returns-else-any-clause-refused_held g c = λ honest. IfErr-weaker c.checked.result _ _ of_held_files (c.checked.ensures.refused_held honest)

@@ -1,0 +1,106 @@
+//! What `check` answers, with hints and without.
+
+ghost use Rattle.std.specs.Prelude.{◌≡◌, ◌⊎◌, ◌||◌, ◌++◌, true, IfOk, IfErr, string_bytes};
+ghost use Rattle.dag_main_args.specs.Requests.{checks};
+ghost use Rattle.folder_answers.specs.Answered.{IsCheckRefusal, IsCheckRefusalFrom};
+ghost use Rattle.dagrun.specs.Answered.{checks_some, checks_in, checks_from, IsCheckWith, IsCheckRefusalHeld, AreHints};
+
+use answer_console::Console;
+use dag_main_check::{Answer, RunFault};
+use dag_main_files::{Folder, Reading, files_of};
+use dag_main_run::Screen;
+use folder_answers::{check_all_here, check_here};
+use hint_answers::{Wanted, hints_of};
+use std::alloc::Global;
+use std::fs::File;
+use std::rt::Files;
+
+/// What a check of the files of a folder answers: of the first fault, or of all faults of lines.
+fn checked<F: Folder>(alloc: Global, folder: &F, dag: &str, all: bool) -> Result<Answer, RunFault>
+    ensures answered { IfOk result (λ answer. checks_some all dag.now
+        (string_bytes answer.text) (string_bytes answer.warnings) answer.status) }
+    ensures held { F.honest folder.now → IfOk result (λ answer. checks_in all (F.holds folder.now) dag.now
+        (string_bytes answer.text) (string_bytes answer.warnings) answer.status) }
+    ensures refused { IfErr result (IsCheckRefusal dag.now) }
+    ensures refused_held { F.honest folder.now → IfErr result (IsCheckRefusalFrom (F.holds folder.now) dag.now) }
+{
+    if all {
+        check_all_here(alloc, folder, dag)
+    } else {
+        check_here(alloc, folder, dag)
+    }
+}
+
+/// What `check` answers, with hints after its warnings where they are asked for; where all faults of lines are asked for, these.
+///
+/// # Errors
+/// Those of `check_here`, or of `check_all_here`.
+pub(crate) fn check<R: Files<File = File> + Screen + AllocGlobal, C: Console, F: Folder>(
+    rt: &R,
+    console: &mut C,
+    folder: &F,
+    dag: &str,
+    all: bool,
+    wanted: Wanted,
+) -> Result<Answer, RunFault>
+    ensures answered { IfOk result (λ answer. IsCheckWith (checks_some all dag.now) (wanted.hints || wanted.condor)
+        (string_bytes answer.text) (string_bytes answer.warnings) answer.status) }
+    ensures held { F.honest folder.now → IfOk result (λ answer. IsCheckWith (checks_from all (F.holds folder.now) dag.now) (wanted.hints || wanted.condor)
+        (string_bytes answer.text) (string_bytes answer.warnings) answer.status) }
+    ensures refused { IfErr result (IsCheckRefusal dag.now) }
+    ensures refused_held { F.honest folder.now → IfErr result (IsCheckRefusalHeld (F.holds folder.now) dag.now) }
+    ensures hinted { C.honest console.new → AreHints (checks dag.now all (wanted.hints || wanted.condor)) result (C.shown console.old) (C.shown console.new) }
+    ensures back { C.honest console.new → C.honest console.old }
+{
+    if wanted.any() {
+        check_with_hints(rt, console, folder, dag, all, wanted)
+    } else {
+        checked(rt.alloc(), folder, dag, all)
+    }
+}
+
+/// The answer to a check of files that are read once, with hints; where it is refused, they are displayed at once, and
+/// so before the refusal.
+fn check_with_hints<R: Files<File = File> + Screen + AllocGlobal, C: Console, F: Folder>(
+    rt: &R,
+    console: &mut C,
+    folder: &F,
+    dag: &str,
+    all: bool,
+    wanted: Wanted,
+) -> Result<Answer, RunFault>
+    ensures checked { IfOk result (λ answer. IsCheckWith (checks_some all dag.now) true
+        (string_bytes answer.text) (string_bytes answer.warnings) answer.status) }
+    ensures held { F.honest folder.now → IfOk result (λ answer. IsCheckWith (checks_from all (F.holds folder.now) dag.now) true
+        (string_bytes answer.text) (string_bytes answer.warnings) answer.status) }
+    ensures refused { IfErr result (IsCheckRefusal dag.now) }
+    ensures refused_held { F.honest folder.now → IfErr result (IsCheckRefusalHeld (F.holds folder.now) dag.now) }
+    ensures hinted { C.honest console.new → AreHints (checks dag.now all true) result (C.shown console.old) (C.shown console.new) }
+    ensures back { C.honest console.new → C.honest console.old }
+{
+    let alloc = rt.alloc();
+    let files = files_of(alloc, folder, dag, Reading::SubmitFilesToo)?;
+    let reply = checked(alloc, &files, dag, all);
+    let hints = match hints_of(rt, &files, dag, wanted) {
+        Ok(hints) => hints,
+        Err(_) => String::new(alloc),
+    };
+    match reply {
+        Ok(answer) => Ok(with_hints(answer, hints.as_str())),
+        Err(fault) => {
+            console.warn(hints.as_str());
+            Err(fault)
+        }
+    }
+}
+
+/// An answer with hints behind its warnings, as far as there is memory for them.
+fn with_hints(mut answer: Answer, hints: &str) -> Answer
+    ensures text { string_bytes result.text ≡ string_bytes answer.text }
+    ensures status { result.status ≡ answer.status }
+    ensures warnings { (string_bytes result.warnings ≡ string_bytes answer.warnings ++ hints.now)
+        ⊎ (string_bytes result.warnings ≡ string_bytes answer.warnings) }
+{
+    let _ = answer.warnings.push_str(hints);
+    answer
+}

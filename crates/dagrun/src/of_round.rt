@@ -1,0 +1,114 @@
+//! What is told of the last round of a DAG file: by the files as they are, or as they were when the round began.
+
+ghost use Rattle.std.specs.Prelude.{◌≡◌, map, IfOk, IfErr, string_bytes};
+ghost use Rattle.dag_main_inspect.specs.Asked.{IsAnswerOfRun, IsAnswerHeld, IsAnswerFault, IsAnswerFaultHeld};
+ghost use Rattle.dag_main_inspect.specs.declared.by_journal.Question.TheVariants.{Status};
+ghost use Rattle.failure_answers.specs.Answered.{IsWhyOf, IsWhyHeld, IsWhyFaultHeld};
+ghost use Rattle.run_times.specs.Answered.{IsTimesOf, IsTimesFrom, IsTimesFault, IsTimesFaultHeld};
+ghost use Rattle.dagrun.specs.Answered.{grouping_by, SaidByFiles, IsRefusedByFiles, IsRefusedBySome};
+
+use dag_main_check::{Answer, RunFault};
+use dag_main_files::{Folder, Place};
+use dag_main_inspect::{Question, answer_here};
+use failure_answers::why_here;
+use failure_report::Grouping;
+use round_inputs::last_begun;
+use run_times::times_here;
+use std::alloc::Global;
+use std::fs::File;
+use std::rt::Files;
+
+/// The answer to a question for the DAG file of this path, by the journal of its last round.
+///
+/// # Errors
+/// Those of `last_begun`, where the round is to be seen as it began; then those of `answer_here`.
+pub(crate) fn answer_of_round<F: Folder>(
+    alloc: Global,
+    folder: &F,
+    dag: &str,
+    question: Question,
+    as_begun: bool,
+) -> Result<Answer, RunFault>
+    ensures answered { IfOk result (λ answer.
+        IsAnswerOfRun question dag.now (string_bytes answer.text) (string_bytes answer.warnings) answer.status) }
+    // It is that of the files that the folder holds, or of those with which the round began.
+    ensures held { F.honest folder.now → IfOk result (λ answer. SaidByFiles as_begun (F.holds folder.now) dag.now
+        (λ files. IsAnswerHeld files question dag.now) (string_bytes answer.text) (string_bytes answer.warnings) answer.status) }
+    ensures refused { IfErr result (IsRefusedBySome as_begun (IsAnswerFault question dag.now)) }
+    ensures refused_held { F.honest folder.now → IfErr result (IsRefusedByFiles as_begun (F.holds folder.now) dag.now
+        (λ files. IsAnswerFaultHeld files question dag.now)) }
+{
+    if !as_begun {
+        return answer_here(alloc, folder, dag, question);
+    }
+    let seen = last_begun(alloc, folder, dag)?;
+    answer_here(alloc, &seen, dag, question)
+}
+
+/// Whether nodes in error with one cause are shown once, or each by itself.
+pub(crate) fn grouping_by(all: bool) -> Grouping
+    ensures { result ≡ grouping_by all }
+{
+    if all {
+        Grouping::Each
+    } else {
+        Grouping::ByCause
+    }
+}
+
+/// Why nodes of the last round of a DAG file are in error.
+///
+/// # Errors
+/// Those of `last_begun`, where the round is to be seen as it began; then those of `why_here`.
+pub(crate) fn why_of_round<R: Files<File = File> + AllocGlobal, F: Folder>(
+    rt: &R,
+    folder: &F,
+    place: &Place<'_>,
+    names: &[&str],
+    grouping: Grouping,
+    as_begun: bool,
+    trust_owner: bool,
+) -> Result<Answer, RunFault>
+    ensures answered { IfOk result (λ answer. IsWhyOf grouping place.now.top.now (map (λ n. n.now) names.now)
+        (string_bytes answer.text) (string_bytes answer.warnings) answer.status) }
+    // It is that of the files that the folder holds, or of those with which the round began.
+    ensures held { F.honest folder.now → IfOk result (λ answer. SaidByFiles as_begun (F.holds folder.now) place.now.top.now
+        (λ files. IsWhyHeld grouping files place.now.top.now (map (λ n. n.now) names.now))
+        (string_bytes answer.text) (string_bytes answer.warnings) answer.status) }
+    ensures refused { IfErr result (IsRefusedBySome as_begun (IsAnswerFault Status place.now.top.now)) }
+    ensures refused_held { F.honest folder.now → IfErr result (IsRefusedByFiles as_begun (F.holds folder.now) place.now.top.now
+        (λ files. IsWhyFaultHeld files place.now.top.now)) }
+{
+    if !as_begun {
+        return why_here(rt, folder, place, names, trust_owner, grouping);
+    }
+    let seen = last_begun(rt.alloc(), folder, place.top)?;
+    why_here(rt, &seen, place, names, trust_owner, grouping)
+}
+
+/// When the phases of the last round of a DAG file ran.
+///
+/// # Errors
+/// Those of `last_begun`, where the round is to be seen as it began; then those of `times_here`.
+pub(crate) fn times_of_round<F: Folder>(
+    alloc: Global,
+    folder: &F,
+    dag: &str,
+    svg: bool,
+    as_begun: bool,
+) -> Result<Answer, RunFault>
+    ensures answered { IfOk result (λ answer.
+        IsTimesOf dag.now svg (string_bytes answer.text) (string_bytes answer.warnings) answer.status) }
+    // It is that of the files that the folder holds, or of those with which the round began.
+    ensures held { F.honest folder.now → IfOk result (λ answer. SaidByFiles as_begun (F.holds folder.now) dag.now
+        (λ files. IsTimesFrom files dag.now svg) (string_bytes answer.text) (string_bytes answer.warnings) answer.status) }
+    ensures refused { IfErr result (IsRefusedBySome as_begun (IsTimesFault dag.now)) }
+    ensures refused_held { F.honest folder.now → IfErr result (IsRefusedByFiles as_begun (F.holds folder.now) dag.now
+        (λ files. IsTimesFaultHeld files dag.now)) }
+{
+    if !as_begun {
+        return times_here(alloc, folder, dag, svg);
+    }
+    let seen = last_begun(alloc, folder, dag)?;
+    times_here(alloc, &seen, dag, svg)
+}

@@ -1,0 +1,4 @@
+pub mod Emptied
+pub mod Emptying
+pub mod FaultPlaces
+pub mod LineFaults

@@ -1,0 +1,6 @@
+use Rattle.dag_main_files.specs.Beside.{IsFileFault, reading_had_no_memory}
+use Rattle.dag_main_files.proofs.RunFaults.{memory-alone}
+use Rattle.round_inputs.proofs.as_begun.AsBegunFolder.beside.Goals as goal
+
+pub returns-in-Some-clause-refused : goal.returns-in-Some-clause-refused
+returns-in-Some-clause-refused g c = memory-alone IsFileFault reading_had_no_memory c.copied.result c.copied.ensures.refused

@@ -1,0 +1,47 @@
+-- The files of a folder as a round saw them when it began.
+use Rattle.std.specs.Prelude.{◌≡◌, ℕ, List, Option, Some, None, slice_range, if◌then◌else◌}
+use Rattle.std.specs.Str.{bytes_eq}
+use Rattle.splices_flat.specs.Opening.{Files}
+use Rattle.splices_flat.specs.FileSet.{bytes_of, entries_of}
+use Rattle.event_journal_log.specs.declared.fault.JournalFault.TheVariants as journal
+use Rattle.recovery_manager.specs.declared.fault.ManagerFault.TheVariants as manager
+use Rattle.dag_main_check.specs.declared.fault.RunFault.{RunFault}
+use Rattle.dag_main_check.specs.declared.fault.RunFault.TheVariants.{InManager}
+use Rattle.dag_main_files.specs.Beside.{IsFileFault, journal_name_of}
+use Rattle.round_inputs.specs.declared.begun.Begun.{Begun}
+use Rattle.round_inputs.specs.Begun.{begun_name_of, begun_text_of, rescue_kept}
+
+-- the first of two, where it is there, else the second
+abbrev pub first_there : Option (List ℕ) → Option (List ℕ) → Option (List ℕ)
+first_there None other = other
+first_there (Some bytes) other = Some bytes
+
+-- the rescue file that is kept, at its path
+abbrev pub rescue_at : Option (List ℕ × List ℕ) → List ℕ → Option (List ℕ)
+rescue_at None path = None
+rescue_at (Some file) path = if bytes_eq file.0 path then Some file.1 else None
+
+-- the file of this path that is kept: one of the set, or the rescue file
+abbrev pub kept_at : Begun → Files
+kept_at begun path = first_there (bytes_of begun.files path) (rescue_at (rescue_kept begun.rescue) path)
+
+-- The files as the round saw them: those that are kept; and all others as they are held.
+abbrev pub as_begun : Begun → Files → Files
+as_begun begun holds path = first_there (kept_at begun path) (holds path)
+
+-- the digest in the header of a journal of these bytes
+abbrev pub digest_at : List ℕ → List ℕ
+digest_at journal = slice_range journal 8 40
+
+-- The file beside a DAG file keeps what its last round was begun with: it is spelled so, and its digest is that of the journal.
+pub record IsBegunRound (holds : Files) (path : List ℕ) (begun : Begun) : Type 0 where
+  pub kept : holds (begun_name_of path) ≡ Some (begun_text_of begun.digest (entries_of begun.files) (rescue_kept begun.rescue))
+  pub journal : List ℕ
+  pub journal_is : holds (journal_name_of path) ≡ Some journal
+  pub same : begun.digest ≡ digest_at journal
+
+-- Why it is not known what the last round was begun with: a file beside the DAG file is missing, refused or not spelled as it is written, or memory
+-- runs out; or what is kept is of another round.
+pub data IsNotBegun : RunFault → Type 0 where
+  not_kept : (fault : RunFault) → IsFileFault fault → IsNotBegun fault
+  of_another_round : IsNotBegun (InManager (manager.Journal journal.OtherInputs))

@@ -1,0 +1,2 @@
+echo $1 >>ran
+[ $1 != fail ] || exit 5
