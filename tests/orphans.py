@@ -362,16 +362,6 @@ def on_its_way(folder):
     traced.wait(timeout=PATIENCE)
 
 
-def never_there(folder):
-    """One that has not come to it after ten seconds refuses the run: it may be a copy. Nothing is started."""
-    child, traced = left_on_its_way(folder, 1000000000)
-    same(folder.call("run", "x.dag"), ("", "dagrun: X2 FileRefused /proc\n", 125))
-    same((runs_still(child), sleeping()), (True, []))
-    os.kill(child, signal.SIGKILL)
-    traced.kill()
-    traced.wait(timeout=PATIENCE)
-
-
 def two_hundred(folder):
     """Two hundred, of which the last one is not noted, are ended at once, by one call of a shell."""
     apart(folder, *(f"n{it}" for it in range(200)))
@@ -579,7 +569,6 @@ TRACED = [
     moved_folder,
     adopters,
     on_its_way,
-    never_there,
     two_hundred,
     left_and_killed,
     some_that_can_not_be_ended,
