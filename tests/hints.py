@@ -76,6 +76,31 @@ ROWS = [
         ["hint: a.sub:2 $(more) is assigned nowhere, so it is empty: assign it here or by VARS, or give it a default"],
     ),
     Row(
+        "misspelled macros, also in another case",
+        {
+            "x.dag": DAG + 'VARS A name="today" inputFile="x.csv"\n',
+            "a.sub": sub("part = 1", "arguments = $(nmae) $(INPUTFLIE) $(prat)", "output = a.$(jbo).$(RETYR)", "error = b.$(Culster)"),
+        },
+        [
+            "hint: a.sub:2 part is no command that dagrun reads, and no macro that is referred to: take the line away",
+            "hint: a.sub:3 $(nmae) is assigned nowhere, so it is empty: is $(name) meant?",
+            "hint: a.sub:3 $(INPUTFLIE) is assigned nowhere, so it is empty: is $(inputFile) meant?",
+            "hint: a.sub:3 $(prat) is assigned nowhere, so it is empty: is $(part) meant?",
+            "hint: a.sub:4 $(jbo) is assigned nowhere, so it is empty: is $(JOB) meant?",
+            "hint: a.sub:4 $(RETYR) is assigned nowhere, so it is empty: is $(RETRY) meant?",
+            "hint: a.sub:5 $(Culster) is assigned nowhere, so it is empty: is $(Cluster) meant?",
+        ],
+    ),
+    Row(
+        "no macro is meant that only this line assigns, or a line below queue",
+        {"x.dag": DAG, "a.sub": sub("arguments = $(argument) $(prat)") + "part = 1\n"},
+        [
+            "hint: a.sub:2 $(argument) is assigned nowhere, so it is empty: assign it here or by VARS, or give it a default",
+            "hint: a.sub:2 $(prat) is assigned nowhere, so it is empty: assign it here or by VARS, or give it a default",
+            "hint: a.sub:4 part stands below queue and has no effect: write it above",
+        ],
+    ),
+    Row(
         "macros of VARS, of one node of two",
         {"x.dag": "JOB A a.sub\nJOB B a.sub\nVARS B Words=\"x\"\n", "a.sub": sub("arguments = $(words)")},
         [],

@@ -342,12 +342,13 @@ def completion_of_bash(folder):
     for name in ("one.dag", "two words.dag", "one.outcomes"):
         write(f"{folder}/{name}", "")
     os.mkdir(f"{folder}/below")
-    same(completed(folder, "dagrun "), ["--help", "audit", "check", "explain", "graph", "help", "redo", "rehearse", "run", "salvage", "status", "times", "version", "why"])
-    same(completed(folder, "dagrun r"), ["redo", "rehearse", "run"])
+    same(completed(folder, "dagrun "), ["--help", "audit", "check", "explain", "graph", "help", "redo", "rehearse", "report", "run", "salvage", "status", "times", "version", "why"])
+    same(completed(folder, "dagrun r"), ["redo", "rehearse", "report", "run"])
     same(completed(folder, "dagrun run --"), ["--always-run-post", "--autorescue", "--dorescuefrom", "--help", "--launcher", "--launcher-final", "--launcher-grace", "--log-limit", "--maxjobs", "--maxpost", "--maxpre", "--orphans", "--progress", "--resume", "--script-output", "--stop-at-first-error", "--sync-output", "--trust-owner"])
     same(completed(folder, "dagrun rehearse --max"), ["--maxjobs", "--maxpost", "--maxpre"])
     same(completed(folder, "dagrun status --m"), [])
     same(completed(folder, "dagrun times --"), ["--as-begun", "--help", "--svg", "--trust-owner"])
+    same(completed(folder, "dagrun report --"), ["--as-begun", "--help", "--reload", "--trust-owner"])
     same(completed(folder, "dagrun redo --"), ["--help", "--only", "--trust-owner"])
     same(completed(folder, "dagrun why --"), ["--all", "--as-begun", "--help", "--trust-owner"])
     same(completed(folder, "dagrun check --"), ["--all", "--condor", "--help", "--hints"])
@@ -362,7 +363,7 @@ def completion_of_bash(folder):
     same(completed(folder, "dagrun rehearse one.dag one"), ["one.dag", "one.outcomes"])
     same(completed(folder, "dagrun status one.o"), ["one.outcomes"])
     same(completed(folder, "dagrun graph t"), ["two words.dag"])
-    same(completed(folder, "dagrun help r"), ["redo", "rehearse", "run"])
+    same(completed(folder, "dagrun help r"), ["redo", "rehearse", "report", "run"])
     same(completed(folder, "dagrun version "), [])
     # The codes of faults, and after the DAG file its nodes. Names are input, of which nothing is expanded.
     same(completed(folder, "dagrun explain H"), ["H1", "H2", "H3"])
@@ -399,7 +400,7 @@ def completion_of_fish(folder):
         same((told, status), ("", 0))
         return sorted(entry.split("\t")[0] for entry in said.splitlines())
 
-    same(fish("dagrun r"), ["redo", "rehearse", "run"])
+    same(fish("dagrun r"), ["redo", "rehearse", "report", "run"])
     same(fish("dagrun run --m"), ["--maxjobs", "--maxpost", "--maxpre"])
     same(fish("dagrun run --autorescue "), ["0", "1"])
     same(fish("dagrun run o"), ["one.dag"])

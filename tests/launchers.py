@@ -1138,8 +1138,17 @@ def requests(place):
         with open(f"{place.state}/asked") as file:
             asked = file.read().splitlines()[-1]
         same(asked.split(" -J ")[0], f"--parsable {wanted}")
-    for words in ("DAGRUN_REQUEST_CPUS=four", "DAGRUN_REQUEST_MEMORY=1.5X"):
-        place.one(more=f'environment = "{words}"\n')
+    for lines, wanted in (
+        ("request_cpus = 4\nrequest_memory = 512\nrequest_gpus = 2\nrequest_disk = 7\n", "-c 4 --mem=512 --gpus=2 -p short --qos high"),
+        ("request_memory = 2 GB\n", "--mem=2G -p short --qos high"),
+        ('request_cpus = 4\nenvironment = "DAGRUN_REQUEST_CPUS=3"\n', "-c 3 -p short --qos high"),
+    ):
+        place.one(more=lines)
+        same(place.run(), DONE)
+        with open(f"{place.state}/asked") as file:
+            same(file.read().splitlines()[-1].split(" -J ")[0], f"--parsable {wanted}")
+    for lines in ('environment = "DAGRUN_REQUEST_CPUS=four"\n', 'environment = "DAGRUN_REQUEST_MEMORY=1.5X"\n', "request_cpus = four\n", "request_memory = $(x\n"):
+        place.one(more=lines)
         same(place.run(), report("ERROR", 85))
 
 

@@ -285,7 +285,7 @@ ROWS = [
             (
                 "dagrun check x.dag",
                 0,
-                ["hint: a.sub:2 $(nmae) is assigned nowhere, so it is empty: assign it here or by VARS, or give it a default"],
+                ["hint: a.sub:2 $(nmae) is assigned nowhere, so it is empty: is $(name) meant?"],
             )
         ],
         "sed -i 's/nmae/name/' a.sub",

@@ -329,16 +329,26 @@ def wrapped(folder):
         end_all()
 
 
+def child_under(tracer):
+    """The manager that a tracer runs, and a child that it has started; none where it has none."""
+    for manager in children_of(tracer):
+        for child in children_of(manager):
+            return manager, child
+    return None
+
+
 def left_on_its_way(folder, delay):
     """A manager that is killed once it has started a child which comes to its program so many microseconds later; the child, and who holds it up.
 
-    Until then the child has the words, the program and the environment of the manager, and its lock no more."""
+    Until then the child has the words, the program and the environment of the manager, and its lock no more. Both are in a session of their own."""
     sleepers(folder, "A")
     strace = ["strace", "-f", "-qqq", "-o", "/dev/null", "-e", "trace=execve", "-P", "/bin/sleep", "-e", f"inject=execve:delay_enter={delay}"]
-    traced = subprocess.Popen([*strace, folder.program, "run", "x.dag"], cwd=folder.path, stdout=subprocess.DEVNULL, stderr=subprocess.DEVNULL)
-    wait_until(lambda: children_of(traced.pid) and children_of(children_of(traced.pid)[0]), "no child is started")
-    [manager] = children_of(traced.pid)
-    [child] = children_of(manager)
+    traced = subprocess.Popen(
+        [*strace, folder.program, "run", "x.dag"], cwd=folder.path, stdout=subprocess.DEVNULL, stderr=subprocess.DEVNULL, start_new_session=True
+    )
+    found = []
+    wait_until(lambda: found.append(child_under(traced.pid)) or found[-1], "no child is started")
+    manager, child = found[-1]
     same(words_of(child), words_of(manager))
     os.kill(manager, signal.SIGKILL)
     wait_until(lambda: not os.path.exists(f"/proc/{child}/fd/3"), "the child keeps the files of its manager")
@@ -353,12 +363,22 @@ def started_in(folder):
 
 def on_its_way(folder):
     """A child that has not come to its program as its manager is killed is waited for, and ended, before the next manager starts another one."""
-    child, traced = left_on_its_way(folder, 1000000)
+    child, traced = left_on_its_way(folder, 4000000)
     second = start(folder, "x.dag")
     wait_until(lambda: started_in(folder), "the next manager starts nothing")
     same(runs_still(child), False)
     same((child in started_in(folder), orphans_in(folder)), (False, [("A", "JOB", "0", "done=killed")]))
     kill(second)
+    traced.wait(timeout=PATIENCE)
+
+
+def never_there(folder):
+    """One that has not come to it after ten seconds refuses the run: it may be a copy. Nothing is started."""
+    child, traced = left_on_its_way(folder, 1000000000)
+    same(folder.call("run", "x.dag"), ("", "dagrun: X2 FileRefused /proc\n", 125))
+    same((runs_still(child), sleeping()), (True, []))
+    os.kill(child, signal.SIGKILL)
+    traced.kill()
     traced.wait(timeout=PATIENCE)
 
 
@@ -569,6 +589,7 @@ TRACED = [
     moved_folder,
     adopters,
     on_its_way,
+    never_there,
     two_hundred,
     left_and_killed,
     some_that_can_not_be_ended,

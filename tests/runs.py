@@ -6,9 +6,12 @@
 Values are worked out by hand from the rules in docs/MANUAL.md. The last line is 'N passed, M failed'."""
 import contextlib
 import ctypes
+import dataclasses
+import datetime
 import fcntl
 import hashlib
 import os
+import random
 import re
 import shutil
 import signal
@@ -1949,7 +1952,7 @@ def as_the_round_began(folder):
     folder.echo("a", "c")
     folder.shell("b", "exit 3\n")
     same(folder.call("run", "x.dag")[2], 1)
-    asked = (("status",), ("audit",), ("why",), ("why", "B"), ("graph",), ("times",))
+    asked = (("status",), ("audit",), ("why",), ("why", "B"), ("graph",), ("times",), ("report",))
 
     def answers(*words):
         return [folder.call(command, *words, "x.dag", *names) for command, *names in asked]
@@ -1978,7 +1981,7 @@ def not_known_how_the_round_began(folder):
     folder.echo("a")
 
     def are_refused(fault):
-        for command in ("status", "audit", "why", "graph", "times"):
+        for command in ("status", "audit", "why", "graph", "times", "report"):
             refused(folder, [command, "--as-begun", "x.dag"], fault)
 
     are_refused("X2 FileRefused x.dag.journal")
@@ -3508,7 +3511,7 @@ def special_files_beside(folder):
 
 # The files beside a DAG file, and the commands that may read them.
 BESIDE = ("journal", "journal.old", "log", "log.old", "inputs", "children", "round", "lock", "rescue001", "rescue002")
-READERS = (("status",), ("audit",), ("graph",), ("why",), ("times",), ("salvage",), ("run", "--resume"), ("run",), ("check",), ("rehearse",))
+READERS = (("status",), ("audit",), ("graph",), ("why",), ("times",), ("report",), ("salvage",), ("run", "--resume"), ("run",), ("check",), ("rehearse",))
 
 
 def measured(folder, *words):
@@ -3802,8 +3805,8 @@ def told_by_files_of_other_users(folder):
     # The second round reads x.dag.rescue001.
     folder.call("run", "x.dag")
     folder.call("run", "x.dag")
-    tellers = [("status",), ("audit",), ("graph",), ("why",), ("run", "--resume")]
-    for name, commands in (("x.dag.journal", tellers), ("x.dag.rescue001", tellers), ("x.dag.log", [("why",), ("times",)])):
+    tellers = [("status",), ("audit",), ("graph",), ("why",), ("report",), ("run", "--resume")]
+    for name, commands in (("x.dag.journal", tellers), ("x.dag.rescue001", tellers), ("x.dag.log", [("why",), ("times",), ("report",)])):
         for words in commands:
             before = everything(folder)
             wanted = folder.call(*words, "x.dag")
@@ -3947,12 +3950,10 @@ def when_the_steps_ran(folder):
     same(begins, sorted(begins))
     # None took longer than the run.
     same([row[0] for row in rows[1:] if not 0 <= float(row[3]) <= float(row[3]) + float(row[4]) <= round(took + 0.002, 3)], [])
-    picture = xml.etree.ElementTree.fromstring(folder.call("times", "--svg", "x.dag")[0])
-    of = "{http://www.w3.org/2000/svg}"
-    titles = [bar.find(of + "title").text for bar in picture.iter(of + "rect") if bar.find(of + "title") is not None]
-    same([title.split(":")[0] for title in titles], [" ".join(row[:3]) for row in rows[1:]])
-    names = [text.text for text in picture.iter(of + "text") if text.text in "ABCD"]
-    same(names, list(dict.fromkeys(row[0] for row in rows[1:])))
+    bars = bars_in(folder.call("times", "--svg", "x.dag")[0])
+    same([bar.title.split(":")[0] for bar in bars], [" ".join(row[:3]) for row in rows[1:]])
+    ends = {"exit 0": "good", "exit 4": "bad"}
+    same([bar.classes for bar in bars], [" ".join([ends[row[5]]] + ["script"] * (row[1] != "JOB") + ["path"] * (row[6] == "*")) for row in rows[1:]])
     # What runs, and what was lost with its manager.
     folder.write("y.dag", "JOB A a.sub\nJOB E e.sub\nPARENT A CHILD E\n")
     folder.shell("e", "echo $$ > process\nmv process begun\nexec sleep 1000\n")
@@ -3975,6 +3976,123 @@ def when_the_steps_ran(folder):
     folder.shell("late", f"{until('z.dag.log', 'end', 'D')}sleep 0.05\n")
     folder.call("run", "z.dag")
     same({tuple(line.split("\t")[0::6]) for line in folder.call("times", "z.dag")[0].splitlines()[1:]}, {("A", "*"), ("D", "-"), ("F", "*")})
+
+
+SVG = "{http://www.w3.org/2000/svg}"
+
+
+@dataclasses.dataclass
+class Bar:
+    """A phase of a picture: what it says where a pointer rests, its classes, its rectangle and that of its label, each from left to right, and its row."""
+
+    title: str
+    classes: str
+    left: float
+    right: float
+    row: str
+    label: str = ""
+    text_left: float = 0
+    text_right: float = 0
+
+
+def bars_in(picture):
+    """The phases of a picture, in order."""
+    bars = []
+    for group in xml.etree.ElementTree.fromstring(picture).iter(SVG + "g"):
+        title, box, text = (group.find(SVG + name) for name in ("title", "rect", "text"))
+        if title is None:
+            continue
+        left = float(box.get("x"))
+        bar = Bar(title.text, group.get("class"), left, left + float(box.get("width")), box.get("y"))
+        if text is not None:
+            at = float(text.get("x"))
+            bar.label, bar.text_left, bar.text_right = text.text, at, at + float(text.get("textLength"))
+        bars.append(bar)
+    return bars
+
+
+def log_time(milliseconds):
+    moment = datetime.datetime(2026, 11, 25, 23, 40) + datetime.timedelta(milliseconds=milliseconds)
+    return f"{moment:%Y-%m-%dT%H:%M:%S}.{moment.microsecond // 1000:03d}Z"
+
+
+def phases_at_random(count, slots, names, chance):
+    """So many phases or a few more, as many at once as there are slots: their node, phase, attempt, begin, end, the event of their end with its detail, and
+    their class. Now and then a POST script accepts what a job exits with."""
+    free, phases = [0] * slots, []
+    while len(phases) < count:
+        slot = free.index(min(free))
+        begin, name = free[slot], names[len(phases) % len(names)]
+        took = chance.choice((0, 3, 40, 700, 5000))
+        event, detail, word = chance.choice((("end", "exit=0", "good"), ("end", "exit=3", "bad"), ("end", "signal=9", "signal"), ("end", "untold=yes", "gone"), ("killed", "", "gone")))
+        accepted = word in ("bad", "signal") and chance.random() < 0.5
+        attempt = len(phases)
+        phases.append((name, "JOB", attempt, begin, begin + took, event, detail, "accepted" if accepted else word))
+        if accepted:
+            phases.append((name, "POST", attempt, begin + took, begin + took + 50, "end", "exit=0", "good script"))
+        free[slot] = phases[-1][4] + 1
+    return phases
+
+
+def write_log(folder, phases):
+    """Writes the log of phases, each of which begins after the line before it."""
+    lines = []
+    for name, phase, attempt, begin, end, event, detail, _ in phases:
+        of = f"{name}\t{phase}\t{attempt}\t7"
+        lines.append((begin, 1, f"start\t{of}\tcommand=x"))
+        lines.append((end, 0 if end > begin else 2, f"{event}\t{of}\t{detail}"))
+    # At one moment first what ran before ends, then what begins does, and last what takes no time ends.
+    lines.sort(key=lambda line: line[:2])
+    folder.write("x.dag.log", "".join(f"{log_time(moment)}\t{rest}\n" for moment, _, rest in lines))
+
+
+def label_width(text):
+    """The width of a label: 6.7 for a Latin letter, and twice as much for another character."""
+    return sum(6.7 if ord(character) < 0x300 else 13.4 for character in text)
+
+
+def labels_are_apart(bars):
+    """No label is over another one or over the bar of another phase, and each has its width; each is in its bar, or after it."""
+    rows = {}
+    for bar in bars:
+        rows.setdefault(bar.row, []).append(bar)
+    for row in rows.values():
+        edge = 0
+        for bar in row:
+            same(bar.left >= edge - 0.01, True)
+            edge = max(bar.right, bar.text_right)
+            if bar.label:
+                same(round(bar.text_right - bar.text_left - label_width(bar.label), 1), 0)
+                same(bar.text_left > bar.left and bar.text_right < bar.right or bar.text_left > bar.right, True)
+        same(edge < 1200, True)
+
+
+def a_picture_of_many_steps(folder):
+    """Each phase has its bar, where its times say; its class is by how it ended and by a POST script that accepts that; names are escaped; the highest number of
+    phases at once is shown; and many phases make no high picture."""
+    chance = random.Random(7)
+    names = ["A", "s+align", "a&b<c>", "\"quoted\"", "]]>", "\u5343\u5343", "n" * 70, "<!--"]
+    folder.write("x.dag", "JOB A a.sub\n")
+    for count, slots in ((10, 2), (300, 9), (5000, 200)):
+        phases = phases_at_random(count, slots, names, chance)
+        write_log(folder, phases)
+        picture = folder.call("times", "--svg", "x.dag")[0]
+        bars = bars_in(picture)
+        total = max(phase[4] for phase in phases)
+        wanted = sorted((f"{name} {phase} {attempt}", word, int(begin * 10000 / total) / 10 + 20) for name, phase, attempt, begin, _, _, _, word in phases)
+        shown = sorted((bar.title.rsplit(":", 1)[0], bar.classes.replace(" path", ""), bar.left) for bar in bars)
+        same([one[:2] for one in shown], [one[:2] for one in wanted])
+        same(max(abs(one[2] - other[2]) for one, other in zip(shown, wanted)) < 0.11, True)
+        labels_are_apart(bars)
+        at_once = max(sum(phase[3] <= moment < phase[4] for phase in phases) for moment in {phase[3] for phase in phases})
+        same(f"at most {at_once}</text>" in picture, True)
+        same(float(xml.etree.ElementTree.fromstring(picture).get("height")) < 2500, True)
+    # The times are where they are said to be: 1000 pixels for the whole time, and 20 to the left.
+    write_log(folder, [("A", "JOB", 0, 0, 4000, "end", "exit=0", ""), ("B", "PRE", 0, 1000, 2000, "end", "exit=1", ""), ("C", "JOB", 0, 2000, 3000, "killed", "", "")])
+    bars = bars_in(folder.call("times", "--svg", "x.dag")[0])
+    same([(bar.label, bar.classes, bar.left, bar.right) for bar in bars], [("A", "good path", 20, 1020), ("B PRE", "bad script", 270, 520), ("C", "gone", 520, 770)])
+    same([bar.row == bars[0].row for bar in bars], [True, False, False])
+    same(bars[1].row, bars[2].row)
 
 
 def times_without_a_log(folder):
@@ -4038,6 +4156,23 @@ def a_nice_launcher(folder):
     same(folder.call("run", "--launcher", "nice -n 5", "x.dag"), (ONE_DONE, "", 0))
     own = os.getpriority(os.PRIO_PROCESS, 0)
     same([int(folder.read(f"{name}.nice")) for name in ("pre", "job")], [own, min(own + 5, 19)])
+
+
+def what_a_job_asks_for(folder):
+    """A launcher has what the submit file asks of a cluster in its environment, expanded for the attempt, and empty where it asks for nothing; the job's own
+    environment wins. A text that can't be expanded is there as it is written. A script, and a job without a launcher, has none of it."""
+    folder.write("l.sh", '#!/bin/sh\nenv | grep ^DAGRUN_REQUEST_ | sort >"asked.$DAGRUN_NODE.$DAGRUN_ATTEMPT"\nexec "$@"\n')
+    folder.write("p.sh", '#!/bin/sh\nenv | grep -c ^DAGRUN_REQUEST_ >"script.$DAGRUN_PHASE"\nexit 0\n')
+    for name in ("l.sh", "p.sh"):
+        os.chmod(folder.at(name), 0o755)
+    folder.write("s.sub", "executable = /bin/false\nrequest_cpus = $(C)\nRequest_Memory = $(M:2 GB)\nrequest_disk = $(R)$(RETRY)\nqueue\n")
+    folder.write("t.sub", 'executable = /bin/true\nrequest_cpus = 4\nrequest_gpus = $(x\nrequest_memory = $(Cluster)\nenvironment = "DAGRUN_REQUEST_CPUS=5"\nqueue\n')
+    folder.write("x.dag", "JOB A s.sub\nVARS A C=\"3\" R=\"10\"\nRETRY A 1\nSCRIPT PRE A p.sh\nJOB B t.sub\n")
+    same(folder.call("run", "--launcher", "./l.sh", "x.dag"), ("A ERROR attempts=2 value=1\nB DONE attempts=1 value=0\nresult 1\n", "", 1))
+    for attempt in (0, 1):
+        same(folder.read(f"asked.A.{attempt}").decode(), f"DAGRUN_REQUEST_CPUS=3\nDAGRUN_REQUEST_DISK=10{attempt}\nDAGRUN_REQUEST_GPUS=\nDAGRUN_REQUEST_MEMORY=2 GB\n")
+    same(folder.read("asked.B.0").decode(), "DAGRUN_REQUEST_CPUS=5\nDAGRUN_REQUEST_DISK=\nDAGRUN_REQUEST_GPUS=$(x\nDAGRUN_REQUEST_MEMORY=$(Cluster)\n")
+    same(folder.read("script.PRE"), b"0\n")
 
 
 def words_of_a_launcher(folder):
@@ -4213,6 +4348,7 @@ ROWS = [
     a_report_again,
     when_the_steps_ran,
     times_without_a_log,
+    a_picture_of_many_steps,
     endings_that_nobody_is_told,
     names_that_are_too_long,
     stopped_by_sigterm,
@@ -4222,6 +4358,7 @@ ROWS = [
     limits_of_the_environment,
     a_launcher,
     a_nice_launcher,
+    what_a_job_asks_for,
     words_of_a_launcher,
     a_launcher_of_the_environment,
     no_launcher,

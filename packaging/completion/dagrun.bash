@@ -15,7 +15,7 @@ _dagrun() {
     if [ "$word" = '=' ]; then word=''; elif [ "$before" = '=' ]; then before=${COMP_WORDS[COMP_CWORD - 2]}; fi
     for ((place = 1; place < COMP_CWORD; place++)); do
         case $command:${COMP_WORDS[place]} in
-        :run|:status|:why|:times|:salvage|:redo|:audit|:check|:rehearse|:graph|:explain|:help|:version) command=${COMP_WORDS[place]} ;;
+        :run|:status|:why|:times|:report|:salvage|:redo|:audit|:check|:rehearse|:graph|:explain|:help|:version) command=${COMP_WORDS[place]} ;;
         ?*:*.dag | rehearse:-) dag=${COMP_WORDS[place]} ;;
         esac
     done
@@ -32,11 +32,12 @@ _dagrun() {
         return
     fi
     case $command in
-        '') options='run status why times salvage redo audit check rehearse graph explain help version --help' ;;
+        '') options='run status why times report salvage redo audit check rehearse graph explain help version --help' ;;
         run) options='--maxjobs --maxpre --maxpost --autorescue --dorescuefrom --always-run-post --stop-at-first-error --sync-output --script-output --log-limit --launcher --launcher-final --launcher-grace --orphans --progress --resume --trust-owner --help' ;;
         status) options='--as-begun --trust-owner --help' ;;
         why) options='--all --as-begun --trust-owner --help' ;;
         times) options='--svg --as-begun --trust-owner --help' ;;
+        report) options='--reload --as-begun --trust-owner --help' ;;
         salvage) options='--trust-owner --help' ;;
         redo) options='--only --trust-owner --help' ;;
         audit) options='--as-begun --trust-owner --help' ;;
@@ -53,7 +54,7 @@ _dagrun() {
     fi
     case $command in
         help)
-            COMPREPLY=($(compgen -W 'run status why times salvage redo audit check rehearse graph explain help version' -- "$word"))
+            COMPREPLY=($(compgen -W 'run status why times report salvage redo audit check rehearse graph explain help version' -- "$word"))
             return
             ;;
         explain)

@@ -19,6 +19,7 @@ _dagrun() {
         'status:Says where each node of a run stands, by its journal'
         'why:Says why nodes are in error, and for whom others wait'
         'times:Says when each phase of a run began and how long it took, by its log'
+        'report:Writes one HTML page of the last round, on standard output'
         'salvage:Makes a rescue file of a round that was cut short, whose submit files were changed since'
         'redo:Makes a rescue file of the last round by which nodes run again that are done'
         'audit:Says whether a journal is that of a finished run, and what its nodes came to'
@@ -82,6 +83,14 @@ _dagrun() {
                 '--trust-owner[Root goes by the journal, the rescue files and the lock of another user, and others by those of root]' \
                 '1:DAG:_files -g "*.dag"'
             ;;
+        report)
+            _arguments \
+                '(-h --help)'{-h,--help}'[Print help]' \
+                '--reload[The page loads itself again every 5 seconds while the round runs]' \
+                '--as-begun[Goes by the files with which the round began, as x.dag.begun keeps them, whatever was changed since]' \
+                '--trust-owner[Root goes by the journal, the rescue files and the lock of another user, and others by those of root]' \
+                '1:DAG:_files -g "*.dag"'
+            ;;
         salvage)
             _arguments \
                 '(-h --help)'{-h,--help}'[Print help]' \
@@ -136,7 +145,7 @@ _dagrun() {
         help)
             _arguments \
                 '(-h --help)'{-h,--help}'[Print help]' \
-                '1::COMMAND:(run status why times salvage redo audit check rehearse graph explain help version)'
+                '1::COMMAND:(run status why times report salvage redo audit check rehearse graph explain help version)'
             ;;
         version)
             _arguments \

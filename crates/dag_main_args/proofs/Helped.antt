@@ -6,7 +6,7 @@ use Rattle.std.proofs.lemmas.Slice.Eq.{bytes_eq-Decides}
 use Rattle.clap.specs.Words.{App, Text, fault_of}
 use Rattle.clap.specs.declared.error.ErrorKind.TheVariants.{DisplayHelp}
 use Rattle.clap.proofs.OnLiterals.{clap_on_literals}
-use Rattle.dag_main_args.specs.Matched.{command_names, is_text_among}
+use Rattle.dag_main_args.specs.Matched.{command_names, drawn_names, is_text_among, made_names, page_names, told_names}
 use Rattle.dag_main_args.specs.Table.{dagrun_app}
 use Rattle.dag_main_args.specs.Helps.{IsUnhelpful}
 
@@ -29,10 +29,25 @@ asks_help name = codes "dagrun" ∷ name ∷ codes "--help" ∷ []
 abbrev IsHelped : (orphans progress : Bor (List (Bor Text))) → Text → Type 0
 IsHelped orphans progress name = fault_of (dagrun_app false orphans progress) (asks_help name) ≡ DisplayHelp ∷ []
 
+each_page_helped : (orphans progress : Bor (List (Bor Text))) → Each (IsHelped orphans progress) page_names
+unfolding clap_on_literals
+each_page_helped orphans progress = (refl, (refl, (refl, tt)))
+
+each_made_helped : (orphans progress : Bor (List (Bor Text))) → Each (IsHelped orphans progress) made_names
+unfolding clap_on_literals
+each_made_helped orphans progress = (refl, (refl, each_page_helped orphans progress))
+
+each_drawn_helped : (orphans progress : Bor (List (Bor Text))) → Each (IsHelped orphans progress) drawn_names
+unfolding clap_on_literals
+each_drawn_helped orphans progress = (refl, (refl, (refl, each_made_helped orphans progress)))
+
+each_told_helped : (orphans progress : Bor (List (Bor Text))) → Each (IsHelped orphans progress) told_names
+unfolding clap_on_literals
+each_told_helped orphans progress = (refl, (refl, (refl, each_drawn_helped orphans progress)))
+
 each_helped : (orphans progress : Bor (List (Bor Text))) → Each (IsHelped orphans progress) command_names
 unfolding clap_on_literals
-each_helped orphans progress =
-    (refl, (refl, (refl, (refl, (refl, (refl, (refl, (refl, (refl, (refl, (refl, (refl, (refl, tt)))))))))))))
+each_helped orphans progress = (refl, (refl, (refl, each_told_helped orphans progress)))
 
 pub all_helped : (orphans progress : Bor (List (Bor Text))) → fault_of (dagrun_app false orphans progress) (codes "dagrun" ∷ codes "--help" ∷ []) ≡ DisplayHelp ∷ []
 unfolding clap_on_literals

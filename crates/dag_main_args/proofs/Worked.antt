@@ -7,7 +7,7 @@ use Rattle.throttles.specs.declared.Limits.{Limits}
 use Rattle.clap.proofs.OnLiterals.{clap_on_literals}
 use Rattle.dag_main_args.specs.declared.request.RunOptions.{RunOptions}
 use Rattle.dag_main_args.specs.declared.request.Request.{Request}
-use Rattle.dag_main_args.specs.declared.request.Request.TheVariants.{Check, Run, Status, Audit, Rehearse, Graph, Why, Times, Salvage, Redo, Page}
+use Rattle.dag_main_args.specs.declared.request.Request.TheVariants.{Check, Run, Status, Audit, Rehearse, Graph, Why, Times, Report, Salvage, Redo, Page}
 use Rattle.dag_main_args.specs.Launchers.{IsLauncherOf, given, not_given}
 use Rattle.dag_main_args.specs.Requests.{Asked, asked_by, asks_why, no_limits, rehearses, runs, shows}
 use Rattle.dag_main_args.specs.Matched.{AreOptionsOf, AsksFor, IsRequestOf, dag_path, is_on, is_set, limits_asked, nodes_asked, number_asked, orphan_rule_of, progress_of, trusts_owner, version_text}
@@ -72,6 +72,7 @@ run_alone rows dag plain (Rehearse path outcomes limits always_post) h is asks =
 run_alone rows dag plain (Graph path begun owned) h is asks = absurd (differ _ _ refl h.0)
 run_alone rows dag plain (Why path nodes all begun owned) h is asks = absurd (differ _ _ refl h.0)
 run_alone rows dag plain (Times path svg begun owned) h is asks = absurd (differ _ _ refl h.0)
+run_alone rows dag plain (Report path reload begun owned) h is asks = absurd (differ _ _ refl h.0)
 run_alone rows dag plain (Salvage path owned) h is asks = absurd (differ _ _ refl h.0)
 run_alone rows dag plain (Redo path names only owned) h is asks = absurd (differ _ _ refl h.0)
 run_alone rows dag plain (Page text) (inl h) is asks = absurd (differ _ _ refl h.0)
@@ -89,6 +90,7 @@ why_alone rows dag nodes (Audit path begun owned) h is asks grouped now distrust
 why_alone rows dag nodes (Rehearse path outcomes limits always_post) h is asks grouped now distrusts = absurd (differ _ _ refl h.0)
 why_alone rows dag nodes (Graph path begun owned) h is asks grouped now distrusts = absurd (differ _ _ refl h.0)
 why_alone rows dag nodes (Times path svg begun owned) h is asks grouped now distrusts = absurd (differ _ _ refl h.0)
+why_alone rows dag nodes (Report path reload begun owned) h is asks grouped now distrusts = absurd (differ _ _ refl h.0)
 why_alone rows dag nodes (Salvage path owned) h is asks grouped now distrusts = absurd (differ _ _ refl h.0)
 why_alone rows dag nodes (Redo path names only owned) h is asks grouped now distrusts = absurd (differ _ _ refl h.0)
 why_alone rows dag nodes (Page text) (inl h) is asks grouped now distrusts = absurd (differ _ _ refl h.0)
@@ -107,6 +109,7 @@ rehearsal_alone rows dag outcomes plain post (Audit path begun owned) h is asks 
 rehearsal_alone rows dag outcomes plain post (Graph path begun owned) h is asks most posts = absurd (differ _ _ refl h.0)
 rehearsal_alone rows dag outcomes plain post (Why path names all begun owned) h is asks most posts = absurd (differ _ _ refl h.0)
 rehearsal_alone rows dag outcomes plain post (Times path svg begun owned) h is asks most posts = absurd (differ _ _ refl h.0)
+rehearsal_alone rows dag outcomes plain post (Report path reload begun owned) h is asks most posts = absurd (differ _ _ refl h.0)
 rehearsal_alone rows dag outcomes plain post (Salvage path owned) h is asks most posts = absurd (differ _ _ refl h.0)
 rehearsal_alone rows dag outcomes plain post (Redo path names only owned) h is asks most posts = absurd (differ _ _ refl h.0)
 rehearsal_alone rows dag outcomes plain post (Page text) (inl h) is asks most posts = absurd (differ _ _ refl h.0)
@@ -122,6 +125,7 @@ version_alone rows (Rehearse path outcomes limits always_post) h = absurd (diffe
 version_alone rows (Graph path begun owned) h = absurd (differ _ _ refl h.0)
 version_alone rows (Why path names all begun owned) h = absurd (differ _ _ refl h.0)
 version_alone rows (Times path svg begun owned) h = absurd (differ _ _ refl h.0)
+version_alone rows (Report path reload begun owned) h = absurd (differ _ _ refl h.0)
 version_alone rows (Salvage path owned) h = absurd (differ _ _ refl h.0)
 version_alone rows (Redo path names only owned) h = absurd (differ _ _ refl h.0)
 version_alone rows (Page text) (inl h) = absurd (differ _ _ refl h.0)

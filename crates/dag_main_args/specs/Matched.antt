@@ -13,7 +13,7 @@ use Rattle.dag_main_args.specs.declared.request.OrphanRule.TheVariants.{Kill, Wa
 use Rattle.dag_main_args.specs.declared.request.ProgressRule.{ProgressRule}
 use Rattle.dag_main_args.specs.declared.request.ProgressRule.TheVariants.{Auto, Always, Never}
 use Rattle.dag_main_args.specs.declared.request.Request.{Request}
-use Rattle.dag_main_args.specs.declared.request.Request.TheVariants.{Check, Run, Status, Audit, Rehearse, Graph, Why, Times, Salvage, Redo, Page}
+use Rattle.dag_main_args.specs.declared.request.Request.TheVariants.{Check, Run, Status, Audit, Rehearse, Graph, Why, Times, Report, Salvage, Redo, Page}
 use Rattle.dag_main_args.specs.Launchers.{IsLauncherOf}
 use Rattle.dag_main_args.specs.Pages.{IsExplained}
 use Rattle.dag_main_args.specs.Requests.{asked_by, no_limits, rehearses}
@@ -106,12 +106,19 @@ nodes_asked rows = unwrap_or (all_of (codes "NODE") rows) []
 abbrev pub version_text : Text
 version_text = codes "dagrun 1.0.0\n"
 
--- the commands whose answer is a page; with those that tell of a round by what stands beside its DAG file; and all commands
+-- the commands whose answer is a page; with those that make a rescue file of a round; with those that draw a round; with those that
+-- tell of one; and all commands
 abbrev pub page_names : List Text
 page_names = codes "explain" ∷ codes "help" ∷ codes "version" ∷ []
 
+abbrev pub made_names : List Text
+made_names = codes "salvage" ∷ codes "redo" ∷ page_names
+
+abbrev pub drawn_names : List Text
+drawn_names = codes "graph" ∷ codes "times" ∷ codes "report" ∷ made_names
+
 abbrev pub told_names : List Text
-told_names = codes "status" ∷ codes "audit" ∷ codes "graph" ∷ codes "why" ∷ codes "times" ∷ codes "salvage" ∷ codes "redo" ∷ page_names
+told_names = codes "status" ∷ codes "audit" ∷ codes "why" ∷ drawn_names
 
 abbrev pub command_names : List Text
 command_names = codes "run" ∷ codes "check" ∷ codes "rehearse" ∷ told_names
@@ -143,6 +150,8 @@ IsRequestOf command rows (Graph dag as_begun trust_owner) = (command ≡ codes "
 IsRequestOf command rows (Why dag nodes all as_begun trust_owner) = (command ≡ codes "why") × (map (λ n. n.now) nodes.items ≡ nodes_asked rows)
     × (all ≡ is_set (codes "all") rows) × TellsOfRound rows dag.now as_begun trust_owner
 IsRequestOf command rows (Times dag svg as_begun trust_owner) = (command ≡ codes "times") × (svg ≡ is_set (codes "svg") rows)
+    × TellsOfRound rows dag.now as_begun trust_owner
+IsRequestOf command rows (Report dag reload as_begun trust_owner) = (command ≡ codes "report") × (reload ≡ is_set (codes "reload") rows)
     × TellsOfRound rows dag.now as_begun trust_owner
 IsRequestOf command rows (Salvage dag trust_owner) = (command ≡ codes "salvage") × (dag.now ≡ dag_path rows) × (trust_owner ≡ trusts_owner rows)
 IsRequestOf command rows (Redo dag nodes only trust_owner) = (command ≡ codes "redo") × (dag.now ≡ dag_path rows)

@@ -88,6 +88,7 @@ commands is_tied orphans progress = command (codes "run") (run_rules is_tied orp
     ∷ of_round (codes "status")
     ∷ command (codes "why") (dag ∷ many (codes "NODE") ∷ flag (codes "all") ∷ as_it_began ∷ trust_owner ∷ [])
     ∷ command (codes "times") (dag ∷ flag (codes "svg") ∷ as_it_began ∷ trust_owner ∷ [])
+    ∷ command (codes "report") (dag ∷ flag (codes "reload") ∷ as_it_began ∷ trust_owner ∷ [])
     ∷ command (codes "salvage") (dag ∷ trust_owner ∷ [])
     ∷ command (codes "redo") (dag ∷ many (codes "NODE") ∷ flag (codes "only") ∷ trust_owner ∷ [])
     ∷ of_round (codes "audit")

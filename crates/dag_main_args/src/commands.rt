@@ -187,6 +187,12 @@ const SVG: ArgumentRow = ArgumentRow {
     help: "A picture of the run over time, in place of a table",
 };
 
+const RELOAD: ArgumentRow = ArgumentRow {
+    name: "reload",
+    kind: Kind::Flag,
+    help: "The page loads itself again every 5 seconds while the round runs",
+};
+
 const LAUNCHER: ArgumentRow = ArgumentRow {
     name: "launcher",
     kind: Kind::Words,
@@ -235,7 +241,7 @@ const CONDOR: ArgumentRow = ArgumentRow {
     help: "Says there, with places, what would be otherwise under condor_submit_dag",
 };
 
-static COMMANDS: [CommandRow; 13] = [
+static COMMANDS: [CommandRow; 14] = [
     CommandRow {
         name: "run",
         about: "Runs a DAG file, or goes on with a run that was cut short",
@@ -289,6 +295,14 @@ static COMMANDS: [CommandRow; 13] = [
         arguments: &[FILE, SVG, AS_BEGUN, TRUST_OWNER],
         examples: "  dagrun times x.dag                  a table, for a spreadsheet
   dagrun times --svg x.dag > x.svg    a picture of the run over time
+",
+    },
+    CommandRow {
+        name: "report",
+        about: "Writes one HTML page of the last round, on standard output",
+        arguments: &[FILE, RELOAD, AS_BEGUN, TRUST_OWNER],
+        examples: "  dagrun report x.dag > x.html        a page for a browser, which needs no other file
+  dagrun report --reload x.dag > x.html   the same; while the round runs, it loads itself again
 ",
     },
     CommandRow {

@@ -7,4 +7,4 @@ mod launchers;
 mod pages;
 mod request;
 
-pub use request::{OrphanRule, ProgressRule, Request, RunOptions, WordsFault, read_words};
+pub use request::{OrphanRule, ProgressRule, Request, RunOptions, VERSION, WordsFault, read_words};

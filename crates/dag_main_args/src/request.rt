@@ -21,7 +21,7 @@ use std::alloc::{AllocError, Global};
 use throttles::Limits;
 
 /// What `version` prints.
-const VERSION: &str = "dagrun 1.0.0\n";
+pub const VERSION: &str = "dagrun 1.0.0\n";
 
 /// No limits but that on all children.
 const NO_LIMITS: Limits = Limits {
@@ -181,6 +181,14 @@ pub enum Request<'a> {
         trust_owner: bool,
     },
 
+    /// `report DAG`: the path of the DAG file, and whether the page loads itself again while the round runs.
+    Report {
+        dag: &'a str,
+        reload: bool,
+        as_begun: bool,
+        trust_owner: bool,
+    },
+
     /// `salvage DAG`: the path of the DAG file.
     Salvage {
         dag: &'a str,
@@ -261,6 +269,20 @@ fn is_set(found: &ArgMatches<'_>, name: &str) -> bool
     ensures { result ≡ matched.is_set name.now (rows_of (found_of found.now)) }
 {
     found.get_one::<bool>(name).unwrap_or(false)
+}
+
+/// Whether a round is told of by the files with which it began.
+fn goes_by_begun(found: &ArgMatches<'_>) -> bool
+    ensures { result ≡ matched.is_set (codes "as-begun") (rows_of (found_of found.now)) }
+{
+    is_set(found, "as-begun")
+}
+
+/// Whether the owner of the files beside the DAG file is trusted.
+fn trusts_owner(found: &ArgMatches<'_>) -> bool
+    ensures { result ≡ matched.trusts_owner (rows_of (found_of found.now)) }
+{
+    is_set(found, "trust-owner")
 }
 
 /// The first value of an option or an argument.
@@ -354,7 +376,7 @@ fn options_of(alloc: Global, found: &ArgMatches<'_>) -> Result<RunOptions, Words
         launcher_final: is_set(found, "launcher-final"),
         progress: progress_of(found),
         resume: is_set(found, "resume"),
-        trust_owner: is_set(found, "trust-owner"),
+        trust_owner: trusts_owner(found),
     })
 }
 
@@ -432,8 +454,69 @@ fn rehearsal_of<'a>(found: &ArgMatches<'a>) -> Request<'a>
     }
 }
 
-/// The request for what is told of a round, or is made of it, by the files that stand beside the DAG file; for another
-/// command the one for a page.
+/// The request for the rescue file that is made of a round; for another command the one for a page.
+fn made_of_round<'a>(
+    alloc: Global,
+    command: &str,
+    found: &ArgMatches<'a>,
+) -> Result<Request<'a>, WordsFault>
+    ensures fit { IfOk result (λ request. IfSome (limits_in (asked_by request)) AreLimits) }
+    ensures asked { IfOk result (λ request. matched.is_text_among matched.made_names command.now ≡ true
+        → matched.IsRequestOf command.now (rows_of (found_of found.now)) request) }
+    ensures refused { IfErr result (λ fault. (fault ≡ WordsFault.Memory) ⊎ AsksForNone command.now (rows_of (found_of found.now))) }
+{
+    let dag = dag_of(found);
+    let trust_owner = trusts_owner(found);
+    match command {
+        "salvage" => Ok(Request::Salvage { dag, trust_owner }),
+        "redo" => Ok(Request::Redo {
+            dag,
+            nodes: nodes_of(alloc, found)?,
+            only: is_set(found, "only"),
+            trust_owner,
+        }),
+        _ => page_of(alloc, command, found),
+    }
+}
+
+/// The request for a drawing of a round, or for its page; for another command the one for what is made of it.
+fn drawn_of_round<'a>(
+    alloc: Global,
+    command: &str,
+    found: &ArgMatches<'a>,
+) -> Result<Request<'a>, WordsFault>
+    ensures fit { IfOk result (λ request. IfSome (limits_in (asked_by request)) AreLimits) }
+    ensures asked { IfOk result (λ request. matched.is_text_among matched.drawn_names command.now ≡ true
+        → matched.IsRequestOf command.now (rows_of (found_of found.now)) request) }
+    ensures refused { IfErr result (λ fault. (fault ≡ WordsFault.Memory) ⊎ AsksForNone command.now (rows_of (found_of found.now))) }
+{
+    let dag = dag_of(found);
+    let as_begun = goes_by_begun(found);
+    let trust_owner = trusts_owner(found);
+    match command {
+        "graph" => Ok(Request::Graph {
+            dag,
+            as_begun,
+            trust_owner,
+        }),
+        "times" => Ok(Request::Times {
+            dag,
+            svg: is_set(found, "svg"),
+            as_begun,
+            trust_owner,
+        }),
+        "report" => Ok(Request::Report {
+            dag,
+            reload: is_set(found, "reload"),
+            as_begun,
+            trust_owner,
+        }),
+        _ => made_of_round(alloc, command, found),
+    }
+}
+
+/// The request for what is told of a round, by the files that stand beside the DAG file; for another command the one
+/// for what is drawn of it.
 fn told_of_round<'a>(
     alloc: Global,
     command: &str,
@@ -446,8 +529,8 @@ fn told_of_round<'a>(
 {
     let dag = dag_of(found);
     let all = is_set(found, "all");
-    let as_begun = is_set(found, "as-begun");
-    let trust_owner = is_set(found, "trust-owner");
+    let as_begun = goes_by_begun(found);
+    let trust_owner = trusts_owner(found);
     match command {
         "status" => Ok(Request::Status {
             dag,
@@ -459,11 +542,6 @@ fn told_of_round<'a>(
             as_begun,
             trust_owner,
         }),
-        "graph" => Ok(Request::Graph {
-            dag,
-            as_begun,
-            trust_owner,
-        }),
         "why" => Ok(Request::Why {
             dag,
             nodes: nodes_of(alloc, found)?,
@@ -471,20 +549,7 @@ fn told_of_round<'a>(
             as_begun,
             trust_owner,
         }),
-        "times" => Ok(Request::Times {
-            dag,
-            svg: is_set(found, "svg"),
-            as_begun,
-            trust_owner,
-        }),
-        "salvage" => Ok(Request::Salvage { dag, trust_owner }),
-        "redo" => Ok(Request::Redo {
-            dag,
-            nodes: nodes_of(alloc, found)?,
-            only: is_set(found, "only"),
-            trust_owner,
-        }),
-        _ => page_of(alloc, command, found),
+        _ => drawn_of_round(alloc, command, found),
     }
 }
 

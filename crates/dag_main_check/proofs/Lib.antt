@@ -1,3 +1,5 @@
 pub mod PlansOfFiles
 mod Checks
 pub mod Refusals
+mod Openings
+pub mod HeldFiles

@@ -3,3 +3,4 @@ pub mod Checked
 pub mod Planned
 pub mod ByPlan
 pub mod Displayed
+pub mod Missing

@@ -3,10 +3,12 @@
 
 mod check;
 mod fault;
+mod missing;
 mod plans;
 mod warnings;
 
 pub use check::check_text;
 pub use fault::RunFault;
+pub use missing::missing_in;
 pub use plans::{graph_of, plan_by, plan_of, plan_with};
 pub use warnings::{Answer, warning_text};

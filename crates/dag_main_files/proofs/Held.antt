@@ -7,7 +7,7 @@ use Rattle.splices_flat.specs.Opening.{Files}
 use Rattle.splices_flat.specs.FileSet.{bytes_of}
 use Rattle.splices_flat.specs.declared.file_set.FileSet.{FileSet}
 use Rattle.rescue_file.specs.Numbered.{rescue_name_of}
-use Rattle.dag_main_files.specs.Folder.{AreHeld, KeepsFiles, rescue_in}
+use Rattle.dag_main_files.specs.Folder.{AreHeld, KeepsFiles, IsReadFrom, rescue_in}
 
 module _ (old new : FileSet) (name bytes : List ℕ) (added : bytes_of new name ≡ Some bytes)
     (others : (other : List ℕ) → other ≢ name → bytes_of new other ≡ bytes_of old other) where
@@ -18,6 +18,17 @@ module _ (old new : FileSet) (name bytes : List ℕ) (added : bytes_of new name 
       ap holds here ∙ is ∙ sym added ∙ ap (bytes_of new) (sym here) ∙ at)
       (λ differs. before path found (sym (others path (λ here. both_ways (bytes_eq path name) differs ((bytes_eq-Decides path name).1 here))) ∙ at))
       (cases_Bool (bytes_eq path name))
+
+  pub read-added : (holds : Files) → holds name ≡ Some bytes → (top : List ℕ) → IsReadFrom holds top old → IsReadFrom holds top new
+  read-added holds is top before = record {
+    held = held-added holds is before.held;
+    has_top = ⊎_elim
+        (λ same.
+        let here : top ≡ name = (bytes_eq-Decides top name).0 same in
+        ap (bytes_of new) here ∙ added ∙ sym is ∙ ap holds (sym here))
+        (λ differs. others top (λ here. both_ways (bytes_eq top name) differs ((bytes_eq-Decides top name).1 here)) ∙ before.has_top)
+        (cases_Bool (bytes_eq top name));
+  }
 
   pub kept-added : bytes_of old name ≡ None → KeepsFiles old new
   kept-added missing path found at = ⊎_elim

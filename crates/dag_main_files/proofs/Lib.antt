@@ -2,3 +2,4 @@ pub mod RunFaults
 pub mod Above
 pub mod Held
 pub mod Journals
+pub mod OpenedFiles

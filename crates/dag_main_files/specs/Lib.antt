@@ -2,3 +2,4 @@ pub mod Beside
 pub mod Folder
 pub mod Journals
 pub mod Rescues
+pub mod Opened

@@ -250,7 +250,8 @@ impl<'a> Place<'a> {
         path: &str,
         trust_owner: bool,
     ) -> Result<(), RunFault>
-        ensures { IfErr result IsFileFault }
+        ensures refused { IfErr result IsFileFault }
+        ensures named { IfErr result (IsRefusalOf path.now) }
     {
         let alloc = rt.alloc();
         let folder = self.at(alloc, folder_of(self.top))?;
@@ -269,7 +270,8 @@ impl<'a> Place<'a> {
     /// # Errors
     /// `FileRefused` with the path of such a one; `Memory`, also for one that is too large, as `read` says it.
     pub fn is_regular<R: Files + AllocGlobal>(&self, rt: &R, path: &str) -> Result<(), RunFault>
-        ensures { IfErr result IsFileFault }
+        ensures refused { IfErr result IsFileFault }
+        ensures named { IfErr result (IsRefusalOf path.now) }
     {
         let place = self.at(rt.alloc(), path)?;
         match require_readable(rt, place.as_str()) {
@@ -404,7 +406,8 @@ pub(crate) fn read_beside<R: Files + AllocGlobal>(
     seat: &str,
     path: &str,
 ) -> Result<Option<Vec<u8>>, RunFault>
-    ensures { IfErr result IsFileFault }
+    ensures refused { IfErr result IsFileFault }
+    ensures named { IfErr result (IsRefusalOf path.now) }
 {
     let place = path_in(alloc, seat, path)?;
     match read_regular(rt, place.as_str()) {

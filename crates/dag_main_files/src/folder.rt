@@ -6,7 +6,7 @@ ghost use Rattle.splices_flat.specs.Opening as opening;
 ghost use Rattle.splices_flat.specs.FileSet.{bytes_of};
 ghost use Rattle.event_journal_log.specs.Peeks.{ReadsPeek};
 ghost use Rattle.dag_main_check.specs.declared.fault.RunFault.TheVariants.{Memory};
-ghost use Rattle.dag_main_files.specs.Beside.{IsFileFault, IsInputFault, IsJournalFault};
+ghost use Rattle.dag_main_files.specs.Beside.{IsFileFault, IsRefusalOf, IsInputFault, IsJournalFault};
 ghost use Rattle.dag_main_files.specs.Folder.{journal_in, IsHighestThere};
 
 use crate::beside::{LAST_NUMBER, Place, journal_path, read_beside, rescue_path};
@@ -64,7 +64,8 @@ pub trait Folder {
     /// another user's; `Memory`.
     fn beside(&self, alloc: Global, path: &str) -> Result<Option<Vec<u8>>, RunFault>
         ensures bytes { honest self.now → IfOk result (λ bytes. option_map (λ b. b.items) bytes ≡ holds self.now path.now) }
-        ensures refused { IfErr result IsFileFault };
+        ensures refused { IfErr result IsFileFault }
+        ensures named { IfErr result (IsRefusalOf path.now) };
 
     /// Whether the path of a file that dagrun writes beside a DAG file is there. Where the system doesn't tell, it is taken
     /// to be: what is refused is returned as it is read.
@@ -117,7 +118,8 @@ impl<'a, R: Files + AllocGlobal> SystemFolder<'a, R> {
     /// # Errors
     /// `FileRefused` with the path of a file that may be another user's; `Memory`.
     fn goes_by(&self, path: &str) -> Result<(), RunFault>
-        ensures { IfErr result IsFileFault }
+        ensures refused { IfErr result IsFileFault }
+        ensures named { IfErr result (IsRefusalOf path.now) }
     {
         let place = Place {
             folder: self.seat.as_str(),

@@ -59,8 +59,11 @@ pub(crate) fn lock_opened<R: Clock>(rt: &R, file: &File) -> bool {
     file.try_lock().is_ok()
 }
 
-/// Whether the file of this path is there and another process has locked it.
+/// Whether the file of this path is there and another process has locked it. A pipe or a device is no lock: opening one may take for ever.
 pub(crate) fn is_locked<R: Files<File = File>>(rt: &R, path: &str) -> bool {
+    if require_regular(rt, path).is_err() {
+        return false;
+    }
     match File::open(rt, path) {
         Ok(file) => file.try_lock_shared().is_err(),
         Err(_) => false,

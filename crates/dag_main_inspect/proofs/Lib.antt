@@ -2,3 +2,4 @@ mod StatusFaults
 mod AuditTexts
 mod Pictures
 pub mod Rounds
+pub mod OfPlans

@@ -17,34 +17,6 @@ use Rattle.dag_main_check.specs.declared.warnings.Answer.{Answer}
 use Rattle.dag_main_inspect.specs.Statused.{flag_by, records_read, records_in_bytes, IsRecordsFault, no_journal, foreign_record, reading_had_no_memory}
 use Rattle.dag_main_inspect.specs.Drawn.{IsPicture, of_run, of_others, of_other_flag, IsBarePicture, IsDrawnOf, tells_of_others, IsJournalDrawnFault, no_records, drawing_had_no_memory}
 
--- the picture of the DAG files alone
-pub bare-picture : (files : Files) (path : List ℕ) (plan : Plan) → IsPlanOf false files path plan → (answer : Result Answer RunFault)
-    → IfOk answer (λ (a : Answer). string_bytes a.text ≡ dot_text_of plan unknown)
-    → IfOk answer (λ (a : Answer). string_bytes a.warnings ≡ warning_lines plan.graph.dag.warnings)
-    → IfOk answer (λ (a : Answer). IsBarePicture files path (string_bytes a.text) (string_bytes a.warnings))
-bare-picture files path plan planned (Ok a) text warnings = (plan, planned, text, warnings)
-bare-picture files path plan planned (Err fault) text warnings = tt
-
-pub bare-memory : (files : Files) (path : List ℕ) (fault : RunFault) → fault ≡ Memory → IsGraphFault files path fault
-bare-memory files path fault is = subst (IsGraphFault files path) (sym is) opening_had_no_memory
-
--- the answer
-module _ (files : Files) (entries : List (List ℕ × List ℕ)) (path : List ℕ) (rescue : Option (List ℕ)) where
-  pub bare-drawn : (answer : Result Answer RunFault)
-      → IfOk answer (λ (a : Answer). IsBarePicture files path (string_bytes a.text) (string_bytes a.warnings))
-      → IfOk answer (λ (a : Answer). a.status ≡ 0)
-      → IfOk answer (λ (a : Answer). IsDrawnOf files entries path rescue None (string_bytes a.text) (string_bytes a.warnings) a.status)
-  bare-drawn (Ok a) is status = (is, status)
-  bare-drawn (Err fault) is status = tt
-
-  pub drawn-by : (bytes : List ℕ) (plan : Plan) → IsPlanWith (flag_by (Some bytes)) files entries path rescue plan → (answer : Result Answer RunFault)
-      → IfOk answer (λ (a : Answer). IsPicture plan bytes (string_bytes a.text))
-      → IfOk answer (λ (a : Answer). string_bytes a.warnings ≡ warning_lines plan.graph.dag.warnings)
-      → IfOk answer (λ (a : Answer). a.status ≡ 0)
-      → IfOk answer (λ (a : Answer). IsDrawnOf files entries path rescue (Some bytes) (string_bytes a.text) (string_bytes a.warnings) a.status)
-  drawn-by bytes plan planned (Ok a) is warnings status = (record { plan = plan; planned = planned; answered = is; warnings_are = warnings }, status)
-  drawn-by bytes plan planned (Err fault) is warnings status = tt
-
 -- the picture by a journal
 module _ (plan : Plan) (bytes : List ℕ) where
   pub drawn-memory : (fault : RunFault) → fault ≡ Memory → IsJournalDrawnFault plan bytes fault

@@ -1,16 +1,14 @@
 -- What is answered of a run by what stands beside its DAG file.
 use Rattle.std.specs.Prelude.{ℕ, List, Option, None}
 use Rattle.splices_flat.specs.Opening.{Files}
-use Rattle.splices_flat.specs.FileSet.{bytes_of, entries_of}
-use Rattle.splices_flat.specs.declared.file_set.FileSet.{FileSet}
 use Rattle.dag_main_check.specs.Planned.{in_line, named_by}
 use Rattle.dag_main_inspect.specs.Statused.{IsStatusTextOf, IsStatusFault}
 use Rattle.dag_main_inspect.specs.Audited.{IsAuditedAs, IsAuditFault}
 use Rattle.dag_main_inspect.specs.Drawn.{IsDrawnOf, IsDrawnFault}
 use Rattle.dag_main_check.specs.declared.fault.RunFault.{RunFault}
 use Rattle.dag_main_files.specs.Beside.{IsRoundFault}
-use Rattle.dag_main_files.specs.Folder.{IsReadFrom}
-use Rattle.dag_main_inspect.specs.LastRound.{IsLastRound, used_by, used_name}
+use Rattle.dag_main_files.specs.Opened.{IsOfFiles, IsOfSome, IsRefusedFor, IsRefusedForSome}
+use Rattle.dag_main_inspect.specs.LastRound.{IsLastRound, IsNoLastRound, used_by, used_name}
 use Rattle.dag_main_inspect.specs.declared.by_journal.Question.{Question}
 use Rattle.dag_main_inspect.specs.declared.by_journal.Question.TheVariants.{Status, Audit, Graph}
 
@@ -26,35 +24,38 @@ IsNotAnswered Status files entries path rescue journal fault = IsStatusFault fil
 IsNotAnswered Audit files entries path rescue journal fault = IsAuditFault files entries path rescue fault
 IsNotAnswered Graph files entries path rescue journal fault = IsDrawnFault files entries path rescue journal fault
 
+-- that is the answer by these files, where they are what a folder holds
+abbrev pub AnswersBy : Question → (path : List ℕ) → (rescue journal : Option (List ℕ)) → (text warnings : List ℕ) → (status : ℕ) → Files → List (List ℕ × List ℕ) → Type 0
+AnswersBy question path rescue journal text warnings status files entries = IsAskAnswered question files entries path rescue journal text warnings status
+
+abbrev pub IsNotAnsweredBy : Question → (path : List ℕ) → (rescue journal : Option (List ℕ)) → Files → List (List ℕ × List ℕ) → RunFault → Type 0
+IsNotAnsweredBy question path rescue journal files entries fault = IsNotAnswered question files entries path rescue journal fault
+
 -- this is the answer to a question, by files of this path, a rescue file or none and a journal or none
 pub record IsAnswerOfRun (question : Question) (path text warnings : List ℕ) (status : ℕ) : Type 0 where
-  pub files : FileSet
   pub rescue : Option (List ℕ)
   pub journal : Option (List ℕ)
-  pub answered : IsAskAnswered question (bytes_of files) (entries_of files) path rescue journal text warnings status
+  pub answered : IsOfSome path (AnswersBy question path rescue journal text warnings status)
 
--- The same where these files are held: of the DAG file and those that were read with it, the journal, and the rescue file that the journal's
--- header names.
+-- The same where these files are held: of the DAG file and all that it names, the journal, and the rescue file that the journal's header names.
 pub record IsAnswerHeld (holds : Files) (question : Question) (path text warnings : List ℕ) (status : ℕ) : Type 0 where
-  pub files : FileSet
   pub rescue : Option (List ℕ)
   pub journal : Option (List ℕ)
-  pub read : IsReadFrom holds path files
   pub beside : IsLastRound holds path journal rescue
-  pub answered : IsAskAnswered question (bytes_of files) (entries_of files) path rescue journal text warnings status
+  pub answered : IsOfFiles holds path (AnswersBy question path rescue journal text warnings status)
 
--- Why there is no answer: it is not known which round is the last one, or memory runs out as the files are read; or what they and the
--- journal say is refused, the fault of a line of the rescue file returned with that file's name.
+-- Why there is no answer: it is not known which round is the last one; or what some files and a journal say is refused, the fault of a line of the
+-- rescue file returned with that file's name.
 pub data IsAnswerFault (question : Question) (path : List ℕ) : RunFault → Type 0 where
   no_last_round : (fault : RunFault) → IsRoundFault None fault → IsAnswerFault question path fault
-  not_told : (files : FileSet) (rescue journal name : Option (List ℕ)) (fault : RunFault) →
-      IsNotAnswered question (bytes_of files) (entries_of files) path rescue journal fault →
+  not_told : (rescue journal name : Option (List ℕ)) (fault : RunFault) →
+      IsRefusedForSome path (IsNotAnsweredBy question path rescue journal) fault →
       IsAnswerFault question path (named_by (in_line fault) name fault)
 
--- Why there is no answer where these files are held: it is not known which round is the last one, or memory runs out as the files are read. Or
--- what they and the journal that is held say is refused, the fault of a line of the rescue file returned with that file's name.
+-- Why there is no answer where these files are held: it is not known which round is the last one; or what they and the journal that is held say is
+-- refused, the fault of a line of the rescue file returned with that file's name.
 pub data IsAnswerFaultHeld (holds : Files) (question : Question) (path : List ℕ) : RunFault → Type 0 where
-  held_no_last_round : (fault : RunFault) → IsRoundFault None fault → IsAnswerFaultHeld holds question path fault
-  held_not_told : (files : FileSet) (rescue journal : Option (List ℕ)) (fault : RunFault) → IsReadFrom holds path files →
-      IsLastRound holds path journal rescue → IsNotAnswered question (bytes_of files) (entries_of files) path rescue journal fault →
+  held_no_last_round : (fault : RunFault) → IsNoLastRound holds path fault → IsAnswerFaultHeld holds question path fault
+  held_not_told : (rescue journal : Option (List ℕ)) (fault : RunFault) → IsLastRound holds path journal rescue →
+      IsRefusedFor holds path (IsNotAnsweredBy question path rescue journal) fault →
       IsAnswerFaultHeld holds question path (named_by (in_line fault) (used_name path (used_by journal)) fault)

@@ -30,14 +30,15 @@ abbrev pub IsBarePicture : Files → List ℕ → List ℕ → List ℕ → Type
 IsBarePicture files path text warnings =
     (plan : Plan) × IsPlanOf false files path plan × (text ≡ dot_text_of plan unknown) × (warnings ≡ warning_lines plan.graph.dag.warnings)
 
--- the picture of the files of a path: by the journal, where there is one
-abbrev pub IsPictureOf : Files → List (List ℕ × List ℕ) → List ℕ → Option (List ℕ) → Option (List ℕ) → List ℕ → List ℕ → Type 0
-IsPictureOf files entries path rescue None text warnings = IsBarePicture files path text warnings
-IsPictureOf files entries path rescue (Some bytes) text warnings = IsAnswerByPlan (flag_by (Some bytes)) files entries path rescue (λ plan. IsPicture plan bytes text) warnings
+-- that is the answer where there is no journal, and the exit status is 0
+abbrev pub IsBareDrawn : Files → List ℕ → List ℕ → List ℕ → ℕ → Type 0
+IsBareDrawn files path text warnings status = IsBarePicture files path text warnings × (status ≡ 0)
 
--- that is the answer, and the exit status is 0
+-- the answer for the files of a path: by the journal, where there is one; the exit status is 0
 abbrev pub IsDrawnOf : Files → List (List ℕ × List ℕ) → List ℕ → Option (List ℕ) → Option (List ℕ) → List ℕ → List ℕ → ℕ → Type 0
-IsDrawnOf files entries path rescue journal text warnings status = IsPictureOf files entries path rescue journal text warnings × (status ≡ 0)
+IsDrawnOf files entries path rescue None text warnings status = IsBareDrawn files path text warnings status
+IsDrawnOf files entries path rescue (Some bytes) text warnings status =
+    IsAnswerByPlan (flag_by (Some bytes)) files entries path rescue (λ plan. IsPicture plan bytes text) warnings × (status ≡ 0)
 
 -- a fault tells that a journal is that of other files (J5), or of a run with the other flag (J10)
 abbrev pub is_of_others : JournalFault → Bool

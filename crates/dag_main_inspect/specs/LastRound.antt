@@ -1,11 +1,13 @@
 -- What stands beside a DAG file of its last round.
-use Rattle.std.specs.Prelude.{◌≡◌, ℕ, zero, suc, Bool, false, List, Option, Some, None, Result, Ok, Err}
+use Rattle.std.specs.Prelude.{◌≡◌, ◌<◌, ℕ, zero, suc, Bool, false, List, Option, Some, None, Result, Ok, Err}
 use Rattle.splices_flat.specs.Opening.{Files}
 use Rattle.rescue_file.specs.Numbered.{rescue_name_of}
 use Rattle.event_journal_log.specs.declared.fault.JournalFault.{JournalFault}
 use Rattle.event_journal_log.specs.Image.{Found, replay_of}
 use Rattle.event_journal_log.specs.Peeks.{ends_with_finish}
-use Rattle.dag_main_files.specs.Beside.{journal_name_of}
+use Rattle.dag_main_files.specs.Beside.{journal_name_of, IsRefusalOf}
+use Rattle.dag_main_check.specs.declared.fault.RunFault.{RunFault}
+use Rattle.dag_main_check.specs.declared.fault.RunFault.TheVariants.{NotThere, Memory}
 use Rattle.dag_main_inspect.specs.Statused.{journal_bytes}
 
 -- the number of the rescue file that a run read, as the header of its journal says: 0 for none, and where there is no header
@@ -41,3 +43,12 @@ held_at holds (Some path) = holds path
 pub record IsLastRound (holds : Files) (path : List ℕ) (journal rescue : Option (List ℕ)) : Type 0 where
   pub journal_is : journal ≡ holds (journal_name_of path)
   pub rescue_is : rescue ≡ held_at holds (used_name path (used_by journal))
+
+-- Why it is not known which round of a path is the last one where these files are held, and what its rescue file says: the journal is refused; its
+-- header has a number that no rescue file has; the rescue file that it names is refused. Or memory ran out.
+pub data IsNoLastRound (holds : Files) (path : List ℕ) : RunFault → Type 0 where
+  journal_refused : (fault : RunFault) → IsRefusalOf (journal_name_of path) fault → IsNoLastRound holds path fault
+  no_such_rescue : 999 < used_by (holds (journal_name_of path)) → IsNoLastRound holds path (NotThere (used_by (holds (journal_name_of path))))
+  rescue_refused : (name : List ℕ) (fault : RunFault) → used_name path (used_by (holds (journal_name_of path))) ≡ Some name → IsRefusalOf name fault →
+      IsNoLastRound holds path fault
+  looking_had_no_memory : IsNoLastRound holds path Memory

@@ -5,9 +5,7 @@ use Rattle.run_plan.specs.Plan.{Plan}
 use Rattle.node_machine.specs.declared.Record.{Record}
 use Rattle.sched_core.specs.Run.{chronological, is_lawful, is_over, exit_status}
 use Rattle.status_report.specs.Text.{run_text}
-use Rattle.splices_flat.specs.FileSet.{bytes_of, entries_of}
-use Rattle.splices_flat.specs.declared.file_set.FileSet.{FileSet}
-use Rattle.dag_main_files.specs.Folder.{IsReadFrom}
+use Rattle.dag_main_files.specs.Opened.{IsOfFiles, IsOfSome}
 use Rattle.dag_main_check.specs.Planned.{IsPlanWith}
 use Rattle.dag_main_check.specs.ByPlan.{IsAnswerByPlan}
 use Rattle.dag_main_inspect.specs.Statused.{flag_by, records_in_bytes}
@@ -43,25 +41,21 @@ pub record IsUnendedRun (files : Files) (entries : List (List ℕ × List ℕ)) 
 
 -- this was printed of the last round of a path, by files of this path, a rescue file or none and a journal
 pub record IsReportHere (path text warnings : List ℕ) (status : ℕ) : Type 0 where
-  pub files : Files
-  pub entries : List (List ℕ × List ℕ)
   pub rescue : Option (List ℕ)
   pub journal : List ℕ
-  pub answered : IsReportOf files entries path rescue journal text warnings status
+  pub answered : IsOfSome path (λ files entries. IsReportOf files entries path rescue journal text warnings status)
 
 -- the same where these files are held
 pub record IsReportFrom (holds : Files) (path text warnings : List ℕ) (status : ℕ) : Type 0 where
-  pub files : FileSet
   pub rescue : Option (List ℕ)
   pub journal : List ℕ
-  pub read : IsReadFrom holds path files
   pub beside : IsLastRound holds path (Some journal) rescue
-  pub answered : IsReportOf (bytes_of files) (entries_of files) path rescue journal text warnings status
+  pub answered : IsOfFiles holds path (λ files entries. IsReportOf files entries path rescue journal text warnings status)
 
 -- Why there is none, where these files are held: there is no journal; its last record is not Finish, or there is none to be read; or the run of
 -- the plan has not ended by it.
 pub data IsNoReportFrom (holds : Files) (path : List ℕ) : Type 0 where
   no_journal : (rescue : Option (List ℕ)) → IsLastRound holds path None rescue → IsNoReportFrom holds path
   no_end : (journal rescue : Option (List ℕ)) → IsLastRound holds path journal rescue → has_ended_by journal ≡ false → IsNoReportFrom holds path
-  unended : (files : FileSet) (rescue : Option (List ℕ)) (journal : List ℕ) → IsReadFrom holds path files → IsLastRound holds path (Some journal) rescue →
-      IsUnendedRun (bytes_of files) (entries_of files) path rescue journal → IsNoReportFrom holds path
+  unended : (rescue : Option (List ℕ)) (journal : List ℕ) → IsLastRound holds path (Some journal) rescue →
+      IsOfFiles holds path (λ files entries. IsUnendedRun files entries path rescue journal) → IsNoReportFrom holds path

@@ -7,10 +7,12 @@ ghost use Rattle.run_plan.specs.Plan.{count_of};
 ghost use Rattle.status_report.specs.Text.{fate_line};
 ghost use Rattle.dag_main_check.specs.declared.fault.RunFault.TheVariants.{Memory};
 ghost use Rattle.dag_main_check.specs.Warnings.{warning_lines};
+ghost use Rattle.dag_main_files.specs.Opened.{IsOfFiles, IsOfSome, IsRefusedFor, IsRefusedForSome};
 ghost use Rattle.dag_main_inspect.specs.Audited.{passed_text, refused_text, IsAuditText, IsAuditedAs, IsAuditFault};
 
-use crate::statuses::{bytes_in, plan_by};
+use crate::statuses::{bytes_in, plan_by, plan_of_round};
 use dag_main_check::{Answer, RunFault, warning_text};
+use dag_main_files::Folder;
 use fate_audit::{AuditNo, Fate, audit};
 use node_machine::Verdict;
 use run_plan::Plan;
@@ -44,6 +46,31 @@ pub fn audit_of(
         (option_map (λ b. b.now) rescue.entry)) }
 {
     let plan = plan_by(alloc, files, path, rescue, journal)?;
+    audit_plan(alloc, &plan, bytes_in(journal))
+}
+
+/// The audit of the last round of the DAG file of this path, which read this rescue file and has this journal.
+///
+/// # Errors
+/// Those of `plan_here`.
+pub(crate) fn audit_here<F: Folder>(
+    alloc: Global,
+    folder: &F,
+    top: &str,
+    rescue: Option<&[u8]>,
+    journal: Option<&[u8]>,
+) -> Result<Answer, RunFault>
+    ensures audited { IfOk result (λ answer. IsOfSome top.now (λ files entries. IsAuditedAs files entries top.now
+        (option_map (λ b. b.now) rescue.entry) (option_map (λ b. b.now) journal.entry)
+        (string_bytes answer.text) (string_bytes answer.warnings) answer.status)) }
+    ensures held { F.honest folder.now → IfOk result (λ answer. IsOfFiles (F.holds folder.now) top.now (λ files entries. IsAuditedAs files entries top.now
+        (option_map (λ b. b.now) rescue.entry) (option_map (λ b. b.now) journal.entry)
+        (string_bytes answer.text) (string_bytes answer.warnings) answer.status)) }
+    ensures refused { IfErr result (IsRefusedForSome top.now (λ files entries. IsAuditFault files entries top.now (option_map (λ b. b.now) rescue.entry))) }
+    ensures refused_held { F.honest folder.now
+        → IfErr result (IsRefusedFor (F.holds folder.now) top.now (λ files entries. IsAuditFault files entries top.now (option_map (λ b. b.now) rescue.entry))) }
+{
+    let plan = plan_of_round(alloc, folder, top, rescue, journal)?;
     audit_plan(alloc, &plan, bytes_in(journal))
 }
 

@@ -1,24 +1,23 @@
 //! What is answered of a run by its journal, from the files that stand beside its DAG file.
 
-ghost use Rattle.std.specs.Prelude.{◌≡◌, false, None, IfOk, IfErr, IfSome, IfNone, option_map, string_bytes};
-ghost use Rattle.splices_flat.specs.FileSet.{bytes_of, entries_of};
+ghost use Rattle.std.specs.Prelude.{◌≡◌, ◌⊎◌, ◌<◌, false, None, IfOk, IfErr, IfSome, IfNone, option_map, string_bytes};
 ghost use Rattle.event_journal_log.specs.Image.{replay_of};
 ghost use Rattle.dag_main_check.specs.declared.fault.RunFault.TheVariants.{Memory};
-ghost use Rattle.dag_main_files.specs.Beside.{IsRoundFault, journal_name_of};
-ghost use Rattle.dag_main_inspect.specs.LastRound.{used_read, used_by, finished_read, has_ended_by, used_name, IsLastRound};
-ghost use Rattle.dag_main_inspect.specs.Asked.{IsAskAnswered, IsNotAnswered, IsAnswerOfRun, IsAnswerHeld, IsAnswerFault, IsAnswerFaultHeld};
+ghost use Rattle.dag_main_files.specs.Beside.{IsRoundFault, IsRefusalOf, journal_name_of};
+ghost use Rattle.dag_main_inspect.specs.LastRound.{used_read, used_by, finished_read, has_ended_by, used_name, IsLastRound, IsNoLastRound};
+ghost use Rattle.dag_main_files.specs.Opened.{IsOfFiles, IsOfSome, IsRefusedFor, IsRefusedForSome};
+ghost use Rattle.dag_main_inspect.specs.Asked.{AnswersBy, IsNotAnsweredBy, IsAnswerOfRun, IsAnswerHeld, IsAnswerFault, IsAnswerFaultHeld};
 ghost use Rattle.dag_main_inspect.specs.Reported.{IsReportHere, IsReportFrom, IsNoReportFrom};
 ghost use Rattle.dag_main_inspect.specs.declared.by_journal.Question.TheVariants.{Status};
 
-use crate::audits::audit_of;
-use crate::graphs::graph_of;
-use crate::reports::report_of;
-use crate::statuses::{bytes_in, status_of};
+use crate::audits::audit_here;
+use crate::graphs::graph_here;
+use crate::reports::reported;
+use crate::statuses::{bytes_in, status_here};
 use dag_main_check::{Answer, RunFault};
-use dag_main_files::{Folder, LAST_NUMBER, Reading, files_of, journal_path, named, rescue_path};
+use dag_main_files::{Folder, LAST_NUMBER, journal_path, named, rescue_path};
 use dag_reader::Text;
 use event_journal_log::{JournalFault, Peek, peek_bytes};
-use splices_flat::FileSet;
 use std::alloc::Global;
 
 /// What the header of a journal says, and whether it has ended: nothing where none was begun, and where its
@@ -63,6 +62,7 @@ fn has_ended(alloc: Global, journal: Option<&[u8]>) -> Result<bool, RunFault>
 fn used_path(alloc: Global, top: &str, used: u16) -> Result<Option<Text>, RunFault>
     ensures name { IfOk result (λ name. name ≡ used_name top.now used) }
     ensures refused { IfErr result (IsRoundFault None) }
+    ensures number { IfErr result (λ fault. (fault ≡ Memory) ⊎ ((999 < used) × (fault ≡ RunFault.NotThere used))) }
 {
     if used == 0 {
         return Ok(None);
@@ -86,6 +86,7 @@ fn journal_of<F: Folder>(alloc: Global, folder: &F, top: &str) -> Result<Option<
     ensures journal { F.honest folder.now
         → IfOk result (λ bytes. option_map (λ b. b.items) bytes ≡ F.holds folder.now (journal_name_of top.now)) }
     ensures refused { IfErr result (IsRoundFault None) }
+    ensures named { IfErr result (IsRefusalOf (journal_name_of top.now)) }
 {
     let path = journal_path(alloc, top)?;
     let mut found = folder.beside(alloc, path.as_str())?;
@@ -140,6 +141,8 @@ pub fn last_round<F: Folder>(alloc: Global, folder: &F, top: &str) -> Result<Las
         (option_map (λ b. b.items) round.journal) (option_map (λ b. b.items) round.rescue)) }
     ensures name { IfOk result (λ round. round.name ≡ used_name top.now (used_by (option_map (λ b. b.items) round.journal))) }
     ensures refused { IfErr result (IsRoundFault None) }
+    // The refusal too is for what the folder holds.
+    ensures refused_held { F.honest folder.now → IfErr result (IsNoLastRound (F.holds folder.now) top.now) }
 {
     let journal = journal_of(alloc, folder, top)?;
     let used = used_in(alloc, journal.as_deref())?;
@@ -166,28 +169,33 @@ pub enum Question {
     Graph,
 }
 
-/// What these files, bytes of a rescue file and bytes of a journal answer.
+/// What is answered for the DAG file of this path by these bytes of a rescue file and of a journal.
 ///
 /// # Errors
-/// As `status_of`, `audit_of` or `graph_of`.
-fn asked(
+/// As `status_here`, `audit_here` or `graph_here`.
+fn asked<F: Folder>(
     alloc: Global,
-    files: &FileSet,
+    folder: &F,
     top: &str,
     rescue: Option<&[u8]>,
     journal: Option<&[u8]>,
     question: Question,
 ) -> Result<Answer, RunFault>
-    ensures answered { IfOk result (λ answer. IsAskAnswered question (bytes_of files.now) (entries_of files.now) top.now
+    ensures answered { IfOk result (λ answer. IsOfSome top.now (AnswersBy question top.now
         (option_map (λ b. b.now) rescue.entry) (option_map (λ b. b.now) journal.entry)
-        (string_bytes answer.text) (string_bytes answer.warnings) answer.status) }
-    ensures refused { IfErr result (IsNotAnswered question (bytes_of files.now) (entries_of files.now) top.now
-        (option_map (λ b. b.now) rescue.entry) (option_map (λ b. b.now) journal.entry)) }
+        (string_bytes answer.text) (string_bytes answer.warnings) answer.status)) }
+    ensures held { F.honest folder.now → IfOk result (λ answer. IsOfFiles (F.holds folder.now) top.now (AnswersBy question top.now
+        (option_map (λ b. b.now) rescue.entry) (option_map (λ b. b.now) journal.entry)
+        (string_bytes answer.text) (string_bytes answer.warnings) answer.status)) }
+    ensures refused { IfErr result (IsRefusedForSome top.now (IsNotAnsweredBy question top.now
+        (option_map (λ b. b.now) rescue.entry) (option_map (λ b. b.now) journal.entry))) }
+    ensures refused_held { F.honest folder.now → IfErr result (IsRefusedFor (F.holds folder.now) top.now (IsNotAnsweredBy question top.now
+        (option_map (λ b. b.now) rescue.entry) (option_map (λ b. b.now) journal.entry))) }
 {
     match question {
-        Question::Status => status_of(alloc, files, top, rescue, journal),
-        Question::Audit => audit_of(alloc, files, top, rescue, journal),
-        Question::Graph => graph_of(alloc, files, top, rescue, journal),
+        Question::Status => status_here(alloc, folder, top, rescue, journal),
+        Question::Audit => audit_here(alloc, folder, top, rescue, journal),
+        Question::Graph => graph_here(alloc, folder, top, rescue, journal),
     }
 }
 
@@ -196,8 +204,8 @@ fn asked(
 /// # Errors
 /// In this order: a journal that the system refuses to read, a number of a rescue file above 999 in
 /// its header, a rescue file that the system refuses to read; then as `status_of`, `audit_of` or
-/// `graph_of`, a fault in a line of the rescue file with its path. Where the header can't be read, no rescue file
-/// is. Want of memory may stand before any.
+/// `graph_here`, a fault in a line of the rescue file with its path. Where the header can't be read, no rescue file
+/// is. Want of memory may come before any.
 pub fn answer_here<F: Folder>(
     alloc: Global,
     folder: &F,
@@ -214,10 +222,9 @@ pub fn answer_here<F: Folder>(
     ensures refused_held { F.honest folder.now → IfErr result (IsAnswerFaultHeld (F.holds folder.now) question top.now) }
 {
     let round = last_round(alloc, folder, top)?;
-    let files = files_of(alloc, folder, top, Reading::SubmitFilesToo)?;
     let rescue = round.rescue.as_deref();
     let journal = round.journal.as_deref();
-    match asked(alloc, &files, top, rescue, journal, question) {
+    match asked(alloc, folder, top, rescue, journal, question) {
         Ok(answer) => Ok(answer),
         Err(fault) => Err(named(fault, round.name)),
     }
@@ -250,8 +257,7 @@ pub fn report_here<F: Folder>(
     if !has_ended(alloc, Some(journal))? {
         return Ok(None);
     }
-    let files = files_of(alloc, folder, top, Reading::SubmitFilesToo)?;
-    match report_of(alloc, &files, top, round.rescue.as_deref(), journal) {
+    match reported(alloc, folder, top, round.rescue.as_deref(), journal) {
         Ok(answer) => Ok(answer),
         Err(fault) => Err(named(fault, round.name)),
     }

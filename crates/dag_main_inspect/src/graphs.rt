@@ -1,52 +1,89 @@
 //! The picture of a DAG, with where the nodes of its last round stand.
 
-ghost use Rattle.std.specs.Prelude.{◌≡◌, Some, None, IfOk, IfErr, string_bytes};
+ghost use Rattle.std.specs.Prelude.{◌≡◌, Some, IfOk, IfErr, string_bytes};
 ghost use Rattle.std.specs.Option.{option_map};
-ghost use Rattle.splices_flat.specs.FileSet.{bytes_of, entries_of};
 ghost use Rattle.dag_main_check.specs.declared.fault.RunFault.TheVariants.{Memory};
-ghost use Rattle.dag_main_check.specs.Planned.{IsGraphFault};
 ghost use Rattle.dag_main_check.specs.Warnings.{warning_lines};
 ghost use Rattle.graph_text.specs.Picture.{drawn_plan, states_of, dot_text_of};
+ghost use Rattle.dag_main_files.specs.Opened.{IsOfFiles, IsOfSome, IsRefusedFor, IsRefusedForSome, HasNoGraph};
 ghost use Rattle.dag_main_inspect.specs.Statused.{records_in_bytes, IsRecordsFault};
-ghost use Rattle.dag_main_inspect.specs.Drawn.{IsPicture, IsBarePicture, IsDrawnOf, IsDrawnFault, IsJournalDrawnFault, tells_of_others};
+ghost use Rattle.dag_main_inspect.specs.Drawn.{IsPicture, IsBareDrawn, IsDrawnOf, IsDrawnFault, IsJournalDrawnFault, tells_of_others};
 
-use crate::statuses::{core_of, plan_by, records_of};
-use dag_main_check::{Answer, RunFault, plan_of, warning_text};
+use crate::statuses::{core_of, plan_of_round, records_of};
+use dag_main_check::{Answer, RunFault, warning_text};
+use dag_main_files::{Folder, bare_plan_here};
 use event_journal_log::JournalFault;
 use graph_text::{Drawn, dot_text};
 use node_machine::Record;
 use recovery_manager::ManagerFault;
 use run_plan::Plan;
-use splices_flat::FileSet;
 use std::alloc::Global;
 
 /// The picture of the DAG of the file of this path, as a graph in DOT. Where there is a journal of a
-/// run of these files, its nodes have the colours of where they stand in it; the submit files stand in
-/// the file set then, and `rescue` is the rescue file that the run read, if it read one. A journal of
-/// other files says nothing of the nodes. Without a journal the DAG files alone are looked at.
+/// run of these files, its nodes have the colours of where they are in it; `rescue` is the rescue file that the run read, if it
+/// read one. A journal of other files says nothing of the nodes. Without a journal the DAG files alone are looked at.
 ///
 /// # Errors
-/// The first fault that opening the files meets (`InFiles`), a cycle (`Cycle`), and want of memory;
-/// where there is a journal, also the first fault of the submit files, the texts of jobs and the
-/// rescue file (`InPlan`), and that of the journal, unless it is of other files, or its first record
-/// that may not follow (`InManager`).
-pub fn graph_of(
+/// Those of `bare_plan_here`; where there is a journal, those of `plan_here`, and that of the journal, unless it is of other files, or
+/// its first record that may not follow (`InManager`).
+pub(crate) fn graph_here<F: Folder>(
     alloc: Global,
-    files: &FileSet,
-    path: &str,
+    folder: &F,
+    top: &str,
     rescue: Option<&[u8]>,
     journal: Option<&[u8]>,
 ) -> Result<Answer, RunFault>
-    ensures drawn { IfOk result (λ answer. IsDrawnOf (bytes_of files.now) (entries_of files.now) path.now
+    ensures drawn { IfOk result (λ answer. IsOfSome top.now (λ files entries. IsDrawnOf files entries top.now
         (option_map (λ b. b.now) rescue.entry) (option_map (λ b. b.now) journal.entry)
-        (string_bytes answer.text) (string_bytes answer.warnings) answer.status) }
-    ensures refused { IfErr result (IsDrawnFault (bytes_of files.now) (entries_of files.now) path.now
-        (option_map (λ b. b.now) rescue.entry) (option_map (λ b. b.now) journal.entry)) }
+        (string_bytes answer.text) (string_bytes answer.warnings) answer.status)) }
+    ensures held { F.honest folder.now → IfOk result (λ answer. IsOfFiles (F.holds folder.now) top.now (λ files entries. IsDrawnOf files entries top.now
+        (option_map (λ b. b.now) rescue.entry) (option_map (λ b. b.now) journal.entry)
+        (string_bytes answer.text) (string_bytes answer.warnings) answer.status)) }
+    ensures refused { IfErr result (IsRefusedForSome top.now (λ files entries. IsDrawnFault files entries top.now
+        (option_map (λ b. b.now) rescue.entry) (option_map (λ b. b.now) journal.entry))) }
+    ensures refused_held { F.honest folder.now → IfErr result (IsRefusedFor (F.holds folder.now) top.now (λ files entries. IsDrawnFault files entries top.now
+        (option_map (λ b. b.now) rescue.entry) (option_map (λ b. b.now) journal.entry))) }
 {
     match journal {
-        Some(bytes) => graph_by(alloc, files, path, rescue, bytes),
-        None => bare_graph(alloc, files, path),
+        Some(bytes) => graph_by(alloc, folder, top, rescue, bytes),
+        None => bare_graph(alloc, folder, top),
     }
+}
+
+/// The picture of the DAG files alone.
+fn bare_graph<F: Folder>(alloc: Global, folder: &F, top: &str) -> Result<Answer, RunFault>
+    ensures drawn { IfOk result (λ answer. IsOfSome top.now (λ files entries.
+        IsBareDrawn files top.now (string_bytes answer.text) (string_bytes answer.warnings) answer.status)) }
+    ensures held { F.honest folder.now → IfOk result (λ answer. IsOfFiles (F.holds folder.now) top.now (λ files entries.
+        IsBareDrawn files top.now (string_bytes answer.text) (string_bytes answer.warnings) answer.status)) }
+    ensures refused { IfErr result (IsRefusedForSome top.now (HasNoGraph top.now)) }
+    ensures refused_held { F.honest folder.now → IfErr result (IsRefusedFor (F.holds folder.now) top.now (HasNoGraph top.now)) }
+{
+    let plan = bare_plan_here(alloc, folder, top, false)?;
+    answer_for(alloc, &Drawn::Bare(&plan))
+}
+
+/// The picture of the plan of a round, by a journal of these bytes.
+fn graph_by<F: Folder>(
+    alloc: Global,
+    folder: &F,
+    top: &str,
+    rescue: Option<&[u8]>,
+    bytes: &[u8],
+) -> Result<Answer, RunFault>
+    ensures drawn { IfOk result (λ answer. IsOfSome top.now (λ files entries. IsDrawnOf files entries top.now
+        (option_map (λ b. b.now) rescue.entry) (Some bytes.now)
+        (string_bytes answer.text) (string_bytes answer.warnings) answer.status)) }
+    ensures held { F.honest folder.now → IfOk result (λ answer. IsOfFiles (F.holds folder.now) top.now (λ files entries. IsDrawnOf files entries top.now
+        (option_map (λ b. b.now) rescue.entry) (Some bytes.now)
+        (string_bytes answer.text) (string_bytes answer.warnings) answer.status)) }
+    ensures refused { IfErr result (IsRefusedForSome top.now (λ files entries. IsDrawnFault files entries top.now
+        (option_map (λ b. b.now) rescue.entry) (Some bytes.now))) }
+    ensures refused_held { F.honest folder.now → IfErr result (IsRefusedFor (F.holds folder.now) top.now (λ files entries. IsDrawnFault files entries top.now
+        (option_map (λ b. b.now) rescue.entry) (Some bytes.now))) }
+{
+    let plan = plan_of_round(alloc, folder, top, rescue, Some(bytes))?;
+    graph_plan(alloc, &plan, bytes)
 }
 
 /// The picture of a plan, and the warnings of its files.
@@ -62,35 +99,6 @@ fn answer_for(alloc: Global, drawn: &Drawn<'_>) -> Result<Answer, RunFault>
         warnings: warning_text(alloc, plan.graph().flat().warnings())?,
         status: 0,
     })
-}
-
-/// The picture of the DAG files alone.
-fn bare_graph(alloc: Global, files: &FileSet, path: &str) -> Result<Answer, RunFault>
-    ensures drawn { IfOk result (λ answer.
-        IsBarePicture (bytes_of files.now) path.now (string_bytes answer.text) (string_bytes answer.warnings)) }
-    ensures status { IfOk result (λ answer. answer.status ≡ 0) }
-    ensures refused { IfErr result (IsGraphFault (bytes_of files.now) path.now) }
-{
-    let plan = plan_of(alloc, files, path, false)?;
-    answer_for(alloc, &Drawn::Bare(&plan))
-}
-
-/// The picture of the plan of these files, by a journal of these bytes.
-fn graph_by(
-    alloc: Global,
-    files: &FileSet,
-    path: &str,
-    rescue: Option<&[u8]>,
-    bytes: &[u8],
-) -> Result<Answer, RunFault>
-    ensures drawn { IfOk result (λ answer. IsDrawnOf (bytes_of files.now) (entries_of files.now) path.now
-        (option_map (λ b. b.now) rescue.entry) (Some bytes.now)
-        (string_bytes answer.text) (string_bytes answer.warnings) answer.status) }
-    ensures refused { IfErr result (IsDrawnFault (bytes_of files.now) (entries_of files.now) path.now
-        (option_map (λ b. b.now) rescue.entry) (Some bytes.now)) }
-{
-    let plan = plan_by(alloc, files, path, rescue, Some(bytes))?;
-    graph_plan(alloc, &plan, bytes)
 }
 
 /// The picture of a plan that has a journal of these bytes.

@@ -10,6 +10,4 @@ mod statuses;
 
 pub use audits::audit_of;
 pub use by_journal::{LastRound, Question, answer_here, last_round, report_here};
-pub use graphs::graph_of;
-pub use reports::report_of;
-pub use statuses::{bytes_in, core_of, plan_by, records_of, status_of};
+pub use statuses::{bytes_in, core_of, plan_of_round, records_of, status_of};

@@ -2,45 +2,48 @@
 
 ghost use Rattle.std.specs.Prelude.{◌≡◌, Some, IfOk, IfErr, IfSome, IfNone, string_bytes};
 ghost use Rattle.std.specs.Option.{option_map};
-ghost use Rattle.splices_flat.specs.FileSet.{bytes_of, entries_of};
 ghost use Rattle.sched_core.specs.Run.{exit_status};
 ghost use Rattle.status_report.specs.Text.{run_text};
 ghost use Rattle.dag_main_check.specs.Warnings.{warning_lines};
 ghost use Rattle.dag_main_check.specs.declared.fault.RunFault.TheVariants.{Memory};
+ghost use Rattle.dag_main_files.specs.Opened.{IsOfFiles, IsOfSome, IsRefusedFor, IsRefusedForSome};
 ghost use Rattle.dag_main_inspect.specs.Statused.{IsRecordsFault, IsStatusFault};
 ghost use Rattle.dag_main_inspect.specs.Reported.{IsReport, HasNotEnded, IsReportOf, IsUnendedRun};
 
-use crate::statuses::{core_of, plan_by, records_of};
+use crate::statuses::{core_of, plan_of_round, records_of};
 use dag_main_check::{Answer, RunFault, warning_text};
+use dag_main_files::Folder;
 use run_plan::Plan;
 use sched_core::Core;
-use splices_flat::FileSet;
 use status_report::run_text;
 use std::alloc::Global;
 
-/// What the run of the DAG file of this path printed at its end, whose journal has these bytes, and the exit
-/// status with which it ended; none where it has not ended. The DAG file, those of its splices and the
-/// submit files of its nodes stand in the file set; `rescue` is the rescue file that the run read, if
-/// it read one.
+/// What the last round of the DAG file of this path printed at its end, which read this rescue file and has a journal of these bytes, and
+/// the exit status with which it ended; none where it has not ended.
 ///
 /// # Errors
-/// Those of `status_of`.
-pub fn report_of(
+/// Those of `status_here`.
+pub(crate) fn reported<F: Folder>(
     alloc: Global,
-    files: &FileSet,
-    path: &str,
+    folder: &F,
+    top: &str,
     rescue: Option<&[u8]>,
     journal: &[u8],
 ) -> Result<Option<Answer>, RunFault>
-    ensures report { IfOk result (λ answer. IfSome answer (λ answer.
-        IsReportOf (bytes_of files.now) (entries_of files.now) path.now (option_map (λ b. b.now) rescue.entry) journal.now
-        (string_bytes answer.text) (string_bytes answer.warnings) answer.status)) }
-    ensures none { IfOk result (λ answer. IfNone answer
-        (IsUnendedRun (bytes_of files.now) (entries_of files.now) path.now (option_map (λ b. b.now) rescue.entry) journal.now)) }
-    ensures refused { IfErr result (IsStatusFault (bytes_of files.now) (entries_of files.now) path.now
-        (option_map (λ b. b.now) rescue.entry) (Some journal.now)) }
+    ensures report { IfOk result (λ answer. IfSome answer (λ answer. IsOfSome top.now (λ files entries.
+        IsReportOf files entries top.now (option_map (λ b. b.now) rescue.entry) journal.now
+        (string_bytes answer.text) (string_bytes answer.warnings) answer.status))) }
+    ensures held { F.honest folder.now → IfOk result (λ answer. IfSome answer (λ answer. IsOfFiles (F.holds folder.now) top.now (λ files entries.
+        IsReportOf files entries top.now (option_map (λ b. b.now) rescue.entry) journal.now
+        (string_bytes answer.text) (string_bytes answer.warnings) answer.status))) }
+    ensures none { F.honest folder.now → IfOk result (λ answer. IfNone answer (IsOfFiles (F.holds folder.now) top.now (λ files entries.
+        IsUnendedRun files entries top.now (option_map (λ b. b.now) rescue.entry) journal.now))) }
+    ensures refused { IfErr result (IsRefusedForSome top.now (λ files entries. IsStatusFault files entries top.now
+        (option_map (λ b. b.now) rescue.entry) (Some journal.now))) }
+    ensures refused_held { F.honest folder.now → IfErr result (IsRefusedFor (F.holds folder.now) top.now (λ files entries. IsStatusFault files entries top.now
+        (option_map (λ b. b.now) rescue.entry) (Some journal.now))) }
 {
-    let plan = plan_by(alloc, files, path, rescue, Some(journal))?;
+    let plan = plan_of_round(alloc, folder, top, rescue, Some(journal))?;
     report_plan(alloc, &plan, journal)
 }
 

@@ -7,9 +7,11 @@ ghost use Rattle.sched_core.specs.Run.{chronological};
 ghost use Rattle.dag_main_check.specs.Planned.{IsPlanWith, IsPlanWithFault};
 ghost use Rattle.dag_main_check.specs.declared.fault.RunFault.TheVariants.{Memory};
 ghost use Rattle.dag_main_check.specs.Warnings.{warning_lines};
+ghost use Rattle.dag_main_files.specs.Opened.{IsOfFiles, IsOfSome, IsRefusedFor, IsRefusedForSome, HasPlan, HasNoPlan};
 ghost use Rattle.dag_main_inspect.specs.Statused.{journal_bytes, flag_by, records_in_bytes, bytes_fault, IsStatusText, IsRecordsFault, IsStatusTextOf, IsStatusFault};
 
 use dag_main_check::{Answer, RunFault, plan_with, warning_text};
+use dag_main_files::{Folder, plan_here};
 use event_journal_log::{JournalFault, flag_in, read_journal, slot_of};
 use node_machine::Record;
 use recovery::replay;
@@ -47,12 +49,62 @@ pub fn status_of(
     status_plan(alloc, &plan, bytes_in(journal))
 }
 
+/// The status of the last round of the DAG file of this path, which read this rescue file and has this journal.
+///
+/// # Errors
+/// Those of `plan_here`, then that of the journal or its first record that may not follow (`InManager`).
+pub(crate) fn status_here<F: Folder>(
+    alloc: Global,
+    folder: &F,
+    top: &str,
+    rescue: Option<&[u8]>,
+    journal: Option<&[u8]>,
+) -> Result<Answer, RunFault>
+    ensures status { IfOk result (λ answer. IsOfSome top.now (λ files entries. IsStatusTextOf files entries top.now
+        (option_map (λ b. b.now) rescue.entry) (option_map (λ b. b.now) journal.entry)
+        (string_bytes answer.text) (string_bytes answer.warnings) answer.status)) }
+    ensures held { F.honest folder.now → IfOk result (λ answer. IsOfFiles (F.holds folder.now) top.now (λ files entries. IsStatusTextOf files entries top.now
+        (option_map (λ b. b.now) rescue.entry) (option_map (λ b. b.now) journal.entry)
+        (string_bytes answer.text) (string_bytes answer.warnings) answer.status)) }
+    ensures refused { IfErr result (IsRefusedForSome top.now (λ files entries. IsStatusFault files entries top.now
+        (option_map (λ b. b.now) rescue.entry) (option_map (λ b. b.now) journal.entry))) }
+    ensures refused_held { F.honest folder.now → IfErr result (IsRefusedFor (F.holds folder.now) top.now (λ files entries. IsStatusFault files entries top.now
+        (option_map (λ b. b.now) rescue.entry) (option_map (λ b. b.now) journal.entry))) }
+{
+    let plan = plan_of_round(alloc, folder, top, rescue, journal)?;
+    status_plan(alloc, &plan, bytes_in(journal))
+}
+
+/// The plan of the last round of the DAG file of this path, which read this rescue file and has this journal: POST scripts run after
+/// failed PRE scripts where its header says so.
+///
+/// # Errors
+/// Those of `plan_here`.
+pub fn plan_of_round<F: Folder>(
+    alloc: Global,
+    folder: &F,
+    top: &str,
+    rescue: Option<&[u8]>,
+    journal: Option<&[u8]>,
+) -> Result<Plan, RunFault>
+    ensures plan { IfOk result (λ plan. IsOfSome top.now
+        (HasPlan (flag_by (option_map (λ b. b.now) journal.entry)) top.now (option_map (λ b. b.now) rescue.entry) plan)) }
+    ensures held { F.honest folder.now → IfOk result (λ plan. IsOfFiles (F.holds folder.now) top.now
+        (HasPlan (flag_by (option_map (λ b. b.now) journal.entry)) top.now (option_map (λ b. b.now) rescue.entry) plan)) }
+    ensures refused { IfErr result (IsRefusedForSome top.now (HasNoPlan top.now (option_map (λ b. b.now) rescue.entry))) }
+    ensures refused_held { F.honest folder.now
+        → IfErr result (IsRefusedFor (F.holds folder.now) top.now (HasNoPlan top.now (option_map (λ b. b.now) rescue.entry))) }
+{
+    let always_post = flag_of(alloc, journal)?;
+    plan_here(alloc, folder, top, rescue, always_post)
+}
+
 /// The plan of the DAG file of this path and of a rescue file, for the run of a journal: POST scripts
-/// run behind failed PRE scripts where its header says so.
+/// run after failed PRE scripts where its header says so.
 ///
 /// # Errors
 /// Those of `plan_with`.
-pub fn plan_by(
+pub(crate) fn plan_by(
     alloc: Global,
     files: &FileSet,
     path: &str,

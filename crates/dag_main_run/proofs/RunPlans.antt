@@ -1,73 +1,37 @@
--- What a run prints, by its plan.
-use Rattle.std.proofs.Common.{◌≡◌, ℕ, Bool, List, Option, Result, Ok, Err, IfOk, string_bytes}
+-- What a run prints and why it is refused, by its plan; and what is said of the files that were read is said of those that are held.
+use Rattle.std.proofs.Common.{◌≡◌, ◌∙◌, ℕ, Bool, List, Option, Some, None, Result, Ok, Err, IfOk, IfErr, string_bytes, refl, sym, subst}
 use Rattle.splices_flat.specs.Opening.{Files}
 use Rattle.splices_flat.specs.FileSet.{bytes_of, entries_of}
 use Rattle.splices_flat.specs.declared.file_set.FileSet.{FileSet}
+use Rattle.rescue_file.specs.Numbered.{rescue_name_of}
 use Rattle.dag_graph.specs.Graph.{Network}
 use Rattle.run_plan.specs.Plan.{Plan}
+use Rattle.run_plan.specs.declared.fault.PlanFault.{PlanFault}
+use Rattle.run_plan.specs.declared.fault.PlanFault.TheVariants as plans
 use Rattle.dag_main_args.specs.declared.request.RunOptions.{RunOptions}
 use Rattle.dag_main_files.specs.declared.rounds.Round.{Round}
-use Rattle.dag_main_files.specs.Beside.{IsRoundBy}
-use Rattle.dag_main_files.specs.Folder.{IsReadFrom, IsRoundFrom, rescue_in}
+use Rattle.dag_main_files.specs.Folder.{IsReadFrom}
+use Rattle.dag_main_files.specs.Opened.{IsStill, still_missing, asking_had_no_memory}
 use Rattle.dag_main_run.specs.Sites.{Rounds}
-use Rattle.dag_main_run.specs.Runs.{IsPlannedRun, IsPlannedFor, IsRunOf, IsRunFrom}
-use Rattle.dag_main_check.specs.Planned.{IsGraphOf, IsPlanBy}
+use Rattle.dag_main_run.specs.Runs.{IsPlannedRun, IsPlannedFor, IsRunWhere, IsRoundPlanFault, not_planned, not_planned_with, planning_had_no_memory, IsRunFaultWhere, no_graph, not_found, no_plan, no_launcher, no_room, not_alone, not_held, no_memory}
+use Rattle.dag_main_check.specs.Planned.{IsGraphOf, IsPlanBy, IsPlanByFault, has_plan_fault, planning_had_no_memory as plan_had_no_memory, in_line, rescue_line, named_by}
+use Rattle.dag_main_check.specs.Missing.{missing_in}
 use Rattle.dag_main_check.specs.Warnings.{warning_lines}
 use Rattle.dag_main_check.specs.declared.fault.RunFault.{RunFault}
+use Rattle.dag_main_check.specs.declared.fault.RunFault.TheVariants.{InPlan, Memory}
 use Rattle.dag_main_check.specs.declared.warnings.Answer.{Answer}
+use Rattle.dag_main_check.proofs.HeldFiles.{graph-held, graph-refused, plan-held, plan-refused, planned-held}
 
-pub run-of : (rounds : Rounds) (path : List ℕ) (options : RunOptions) (files : FileSet) (graph : Network) (round : Round) (plan : Plan) → IsGraphOf (bytes_of files) path graph
-    → IsRoundBy options.autorescue options.dorescuefrom options.always_post round → IsPlannedRun files graph round plan → (text warnings : List ℕ) (status : ℕ)
-    → rounds.led path options.limits plan round text status → warnings ≡ warning_lines plan.graph.dag.warnings → IsRunOf rounds path options text warnings status
-run-of rounds path options files graph round plan is_graph is_round (rescue, rescue_is, made) text warnings status led notes = record {
-  files = files;
-  read = tt;
-  round = round;
-  is_round = is_round;
-  rescue = rescue;
-  rescue_is = rescue_is;
-  answered = record {
-    plan = plan;
-    planned = record { graph = graph; is_graph = is_graph; made = made };
-    answered = led;
-    warnings_are = notes;
-  };
-}
-
--- the answer of a round that was led to its end
-pub answer-of : (rounds : Rounds) (path : List ℕ) (options : RunOptions) (files : FileSet) (graph : Network) (round : Round) (plan : Plan) → IsGraphOf (bytes_of files) path graph
-    → IsRoundBy options.autorescue options.dorescuefrom options.always_post round → IsPlannedRun files graph round plan → (r : Result Answer RunFault)
-    → IfOk r (λ answer. rounds.led path options.limits plan round (string_bytes answer.text) answer.status)
-    → IfOk r (λ answer. string_bytes answer.warnings ≡ warning_lines plan.graph.dag.warnings)
-    → IfOk r (λ answer. IsRunOf rounds path options (string_bytes answer.text) (string_bytes answer.warnings) answer.status)
-answer-of rounds path options files graph round plan is_graph is_round planned (Ok answer) led notes =
-    run-of rounds path options files graph round plan is_graph is_round planned (string_bytes answer.text) (string_bytes answer.warnings) answer.status led notes
-answer-of rounds path options files graph round plan is_graph is_round planned (Err fault) led notes = tt
-
-abbrev pub planned-for : (IsRead : FileSet → Type 0) (IsRound : Round → Type 0) (path : List ℕ) (files : FileSet) (graph : Network) (round : Round) (plan : Plan) → IsRead files
-    → IsGraphOf (bytes_of files) path graph → IsRound round → IsPlannedRun files graph round plan → IsPlannedFor IsRead IsRound path
-planned-for IsRead IsRound path files graph round plan read is_graph is_round planned = record {
-  files = files;
-  graph = graph;
-  round = round;
-  plan = plan;
-  read = read;
-  is_graph = is_graph;
-  is_round = is_round;
-  planned = planned;
-}
-
--- the same where files are held
-pub answer-from : (rounds : Rounds) (holds : Files) (has : List ℕ → Bool) (path : List ℕ) (options : RunOptions) (files : FileSet) (graph : Network) (round : Round) (plan : Plan)
-    (rescue : Option (List ℕ)) → IsReadFrom holds path files → IsGraphOf (bytes_of files) path graph
-    → IsRoundFrom holds has path options.autorescue options.dorescuefrom options.always_post round → rescue ≡ rescue_in holds path round.used
+-- the answer of a round that was led to its end, of one set
+pub answer-where : (files : FileSet) (IsRound : Round → Type 0) (IsRescue : Round → Option (List ℕ) → Type 0) (rounds : Rounds) (path : List ℕ) (options : RunOptions) (graph : Network)
+    (round : Round) (plan : Plan) (rescue : Option (List ℕ)) → IsGraphOf (bytes_of files) path graph → IsRound round → IsRescue round rescue
     → IsPlanBy round.always_post (bytes_of files) (entries_of files) rescue graph plan → (r : Result Answer RunFault)
     → IfOk r (λ answer. rounds.led path options.limits plan round (string_bytes answer.text) answer.status)
     → IfOk r (λ answer. string_bytes answer.warnings ≡ warning_lines plan.graph.dag.warnings)
-    → IfOk r (λ answer. IsRunFrom holds has rounds path options (string_bytes answer.text) (string_bytes answer.warnings) answer.status)
-answer-from rounds holds has path options files graph round plan rescue read is_graph is_round is_rescue made (Ok answer) led notes = record {
+    → IfOk r (λ answer. IsRunWhere bytes_of (λ set. set ≡ files) IsRound IsRescue rounds path options (string_bytes answer.text) (string_bytes answer.warnings) answer.status)
+answer-where files IsRound IsRescue rounds path options graph round plan rescue is_graph is_round is_rescue made (Ok answer) led notes = record {
   files = files;
-  read = read;
+  read = refl;
   round = round;
   is_round = is_round;
   rescue = rescue;
@@ -79,4 +43,128 @@ answer-from rounds holds has path options files graph round plan rescue read is_
     warnings_are = notes;
   };
 }
-answer-from rounds holds has path options files graph round plan rescue read is_graph is_round is_rescue made (Err fault) led notes = tt
+answer-where files IsRound IsRescue rounds path options graph round plan rescue is_graph is_round is_rescue made (Err fault) led notes = tt
+
+abbrev pub planned-for : (files : FileSet) (IsRound : Round → Type 0) (path : List ℕ) (graph : Network) (round : Round) (plan : Plan) → IsGraphOf (bytes_of files) path graph → IsRound round
+    → IsPlannedRun (bytes_of files) files graph round plan → IsPlannedFor bytes_of (λ set. set ≡ files) IsRound path
+planned-for files IsRound path graph round plan is_graph is_round planned = record {
+  files = files;
+  graph = graph;
+  round = round;
+  plan = plan;
+  read = refl;
+  is_graph = is_graph;
+  is_round = is_round;
+  planned = planned;
+}
+
+-- what is known of one set is known of some
+module _ (files : FileSet) (IsRound : Round → Type 0) (rounds : Rounds) (path : List ℕ) (options : RunOptions) where
+  pub run-of-some : (IsRescue : Round → Option (List ℕ) → Type 0) (text warnings : List ℕ) (status : ℕ)
+      → IsRunWhere bytes_of (λ set. set ≡ files) IsRound IsRescue rounds path options text warnings status
+      → IsRunWhere bytes_of (λ set. Unit {0}) IsRound IsRescue rounds path options text warnings status
+  run-of-some IsRescue text warnings status is = record {
+    files = is.files;
+    read = tt;
+    round = is.round;
+    is_round = is.is_round;
+    rescue = is.rescue;
+    rescue_is = is.rescue_is;
+    answered = is.answered;
+  }
+
+  planned-of-some : IsPlannedFor bytes_of (λ set. set ≡ files) IsRound path → IsPlannedFor bytes_of (λ set. Unit {0}) IsRound path
+  planned-of-some is = record { files = is.files; graph = is.graph; round = is.round; plan = is.plan; read = tt; is_graph = is.is_graph; is_round = is.is_round; planned = is.planned }
+
+  pub fault-of-some : (fault : RunFault) → IsRunFaultWhere bytes_of (λ set. set ≡ files) IsRound rounds path options fault → IsRunFaultWhere bytes_of (λ set. Unit {0}) IsRound rounds path options fault
+  unfolding planned-of-some
+  fault-of-some fault (no_graph set why read is) = no_graph set why tt is
+  fault-of-some fault (not_found set graph why read is_graph is) = not_found set graph why tt is_graph is
+  fault-of-some fault (no_plan set graph why read is_graph is) = no_plan set graph why tt is_graph is
+  fault-of-some fault (no_launcher why planned is) = no_launcher why (planned-of-some planned) is
+  fault-of-some fault (no_room why planned is) = no_room why (planned-of-some planned) is
+  fault-of-some fault (not_alone why planned is) = not_alone why (planned-of-some planned) is
+  fault-of-some fault (not_held planned why is) = not_held (planned-of-some planned) why is
+  fault-of-some fault no_memory = no_memory
+
+  pub told-of-some : (fault told : RunFault) → IsRunFaultWhere bytes_of (λ set. set ≡ files) IsRound rounds path options fault → IsStill (λ file. None) fault told
+      → IsRunFaultWhere bytes_of (λ set. Unit {0}) IsRound rounds path options told
+  told-of-some fault told why (still_missing none) = fault-of-some fault why
+  told-of-some fault told why asking_had_no_memory = no_memory
+
+-- a fault that is returned with the name of the rescue file tells of no missing file
+named-missing : (fault : RunFault) (name path : List ℕ) → missing_in fault ≡ Some path → missing_in (named_by (in_line fault) (Some name) fault) ≡ Some path
+named-missing (InPlan (plans.InRescue line)) name path is = absurd cc
+named-missing (InPlan (plans.MissingFile file)) name path is = is
+named-missing (InPlan (plans.InSubmit file why)) name path is = is
+named-missing (InPlan (plans.InMacro node why)) name path is = is
+named-missing (InPlan (plans.NoExecutable node)) name path is = is
+named-missing (InPlan (plans.BadUniverse node)) name path is = is
+named-missing (InPlan plans.Memory) name path is = is
+named-missing _ name path is = is
+
+-- what is said of a set that was read is said of the files that are held
+module _ (holds : Files) (files : FileSet) (path : List ℕ) (read : IsReadFrom holds path files) (IsRound : Round → Type 0) (rounds : Rounds) (options : RunOptions) where
+  here : (set : FileSet) → set ≡ files → IsReadFrom holds path set
+  here set same = subst (IsReadFrom holds path) (sym same) read
+
+  pub run-held : (IsRescue : Round → Option (List ℕ) → Type 0) (text warnings : List ℕ) (status : ℕ)
+      → IsRunWhere bytes_of (λ set. set ≡ files) IsRound IsRescue rounds path options text warnings status
+      → IsRunWhere (λ set. holds) (IsReadFrom holds path) IsRound IsRescue rounds path options text warnings status
+  run-held IsRescue text warnings status is = record {
+    files = is.files;
+    read = here is.files is.read;
+    round = is.round;
+    is_round = is.is_round;
+    rescue = is.rescue;
+    rescue_is = is.rescue_is;
+    answered = record {
+      plan = is.answered.plan;
+      planned = planned-held (bytes_of is.files) holds (here is.files is.read).held is.round.always_post (entries_of is.files) path is.rescue is.answered.plan is.answered.planned;
+      answered = is.answered.answered;
+      warnings_are = is.answered.warnings_are;
+    };
+  }
+
+  run-plan-held : (set : FileSet) → set ≡ files → (graph : Network) (round : Round) (plan : Plan) → IsPlannedRun (bytes_of set) set graph round plan → IsPlannedRun holds set graph round plan
+  run-plan-held set same graph round plan (rescue, is_rescue, made) =
+      (rescue, is_rescue, plan-held (bytes_of set) holds (here set same).held round.always_post (entries_of set) rescue graph plan made)
+
+  planned-for-held : IsPlannedFor bytes_of (λ set. set ≡ files) IsRound path → IsPlannedFor (λ set. holds) (IsReadFrom holds path) IsRound path
+  planned-for-held is = record {
+    files = is.files;
+    graph = is.graph;
+    round = is.round;
+    plan = is.plan;
+    read = here is.files is.read;
+    is_graph = graph-held (bytes_of is.files) holds (here is.files is.read).held path is.graph is.is_graph;
+    is_round = is.is_round;
+    planned = run-plan-held is.files is.read is.graph is.round is.plan is.planned;
+  }
+
+  round-plan-refused : (set : FileSet) → set ≡ files → (graph : Network) (fault : RunFault) → ((file : List ℕ) → missing_in fault ≡ Some file → holds file ≡ None)
+      → IsRoundPlanFault (bytes_of set) set path graph fault → IsRoundPlanFault holds set path graph fault
+  round-plan-refused set same graph fault none (not_planned why is) =
+      not_planned why (plan-refused (bytes_of set) holds (here set same).held (entries_of set) None graph why none is)
+  round-plan-refused set same graph fault none (not_planned_with number rescue why is) =
+      not_planned_with number rescue why
+      (plan-refused (bytes_of set) holds (here set same).held (entries_of set) rescue graph why (λ file tells. none file (named-missing why (rescue_name_of path number) file tells)) is)
+  round-plan-refused set same graph fault none planning_had_no_memory = planning_had_no_memory
+
+  pub fault-held : (fault : RunFault) → ((file : List ℕ) → missing_in fault ≡ Some file → holds file ≡ None) → IsRunFaultWhere bytes_of (λ set. set ≡ files) IsRound rounds path options fault
+      → IsRunFaultWhere (λ set. holds) (IsReadFrom holds path) IsRound rounds path options fault
+  unfolding planned-for-held
+  fault-held fault none (no_graph set why same is) = no_graph set why (here set same) (graph-refused (bytes_of set) holds (here set same).held path why none is)
+  fault-held fault none (not_found set graph why same is_graph is) = not_found set graph why (here set same) (graph-held (bytes_of set) holds (here set same).held path graph is_graph) is
+  fault-held fault none (no_plan set graph why same is_graph is) =
+      no_plan set graph why (here set same) (graph-held (bytes_of set) holds (here set same).held path graph is_graph) (round-plan-refused set same graph why none is)
+  fault-held fault none (no_launcher why planned is) = no_launcher why (planned-for-held planned) is
+  fault-held fault none (no_room why planned is) = no_room why (planned-for-held planned) is
+  fault-held fault none (not_alone why planned is) = not_alone why (planned-for-held planned) is
+  fault-held fault none (not_held planned why is) = not_held (planned-for-held planned) why is
+  fault-held fault none no_memory = no_memory
+
+  pub told-held : (fault told : RunFault) → IsRunFaultWhere bytes_of (λ set. set ≡ files) IsRound rounds path options fault → IsStill holds fault told
+      → IsRunFaultWhere (λ set. holds) (IsReadFrom holds path) IsRound rounds path options told
+  told-held fault told why (still_missing none) = fault-held fault none why
+  told-held fault told why asking_had_no_memory = no_memory

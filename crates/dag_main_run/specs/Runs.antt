@@ -18,15 +18,15 @@ use Rattle.dag_main_check.specs.ByPlan.{IsAnswerByPlan}
 use Rattle.dag_main_check.specs.declared.fault.RunFault.{RunFault}
 use Rattle.dag_main_check.specs.declared.fault.RunFault.TheVariants.{InManager, WaitFault, Memory}
 
--- the plan of a graph and of the submit files of a set, with the rescue file of this round, or with none where it reads none, and with POST
+-- the plan of a graph and of its submit files, of which a set was read, with the rescue file of this round, or with none where it reads none, and with POST
 -- scripts as the round runs them
-abbrev pub IsPlannedRun : FileSet → Network → Round → Plan → Type 0
-IsPlannedRun set graph round plan =
-    (rescue : Option (List ℕ)) × IsRescueOf round rescue × IsPlanBy round.always_post (bytes_of set) (entries_of set) rescue graph plan
+abbrev pub IsPlannedRun : Files → FileSet → Network → Round → Plan → Type 0
+IsPlannedRun files set graph round plan =
+    (rescue : Option (List ℕ)) × IsRescueOf round rescue × IsPlanBy round.always_post files (entries_of set) rescue graph plan
 
--- This was printed of the plan of the files of this path, by what is known of the files, of the round and of its rescue file: the text and the exit
--- status of the round that was led to its end, and the warnings of its files.
-pub record IsRunWhere (IsRead : FileSet → Type 0) (IsRound : Round → Type 0) (IsRescue : Round → Option (List ℕ) → Type 0) (rounds : Rounds)
+-- This was printed of the plan of the files of this path, by what is known of the set that was read, of the round and of its rescue file, where each set
+-- stands for these files: the text and the exit status of the round that was led to its end, and the warnings of its files.
+pub record IsRunWhere (says : FileSet → Files) (IsRead : FileSet → Type 0) (IsRound : Round → Type 0) (IsRescue : Round → Option (List ℕ) → Type 0) (rounds : Rounds)
     (path : List ℕ) (options : RunOptions) (text warnings : List ℕ) (status : ℕ) : Type 0 where
   pub files : FileSet
   pub read : IsRead files
@@ -34,18 +34,18 @@ pub record IsRunWhere (IsRead : FileSet → Type 0) (IsRound : Round → Type 0)
   pub is_round : IsRound round
   pub rescue : Option (List ℕ)
   pub rescue_is : IsRescue round rescue
-  pub answered : IsAnswerByPlan round.always_post (bytes_of files) (entries_of files) path rescue (λ plan. rounds.led path options.limits plan round text status) warnings
+  pub answered : IsAnswerByPlan round.always_post (says files) (entries_of files) path rescue (λ plan. rounds.led path options.limits plan round text status) warnings
 
 -- Of some files, with the rescue file of the round that this is, or without one.
 abbrev pub IsRunOf : Rounds → (path : List ℕ) → RunOptions → (text warnings : List ℕ) → (status : ℕ) → Type 0
 IsRunOf rounds path options text warnings status =
-    IsRunWhere (λ files. Unit {0}) (IsRoundBy options.autorescue options.dorescuefrom options.always_post) IsRescueOf rounds path options text warnings status
+    IsRunWhere bytes_of (λ files. Unit {0}) (IsRoundBy options.autorescue options.dorescuefrom options.always_post) IsRescueOf rounds path options text warnings status
 
--- Where these files are held and these paths are there: of files that are held, with the rescue file that is held, in the round that the journal and
+-- Where these files are held and these paths are there: of all that the DAG file names, with the rescue file that is held, in the round that the journal and
 -- the rescue files make of it.
 abbrev pub IsRunFrom : Files → (List ℕ → Bool) → Rounds → (path : List ℕ) → RunOptions → (text warnings : List ℕ) → (status : ℕ) → Type 0
 IsRunFrom holds has rounds path options text warnings status =
-    IsRunWhere (IsReadFrom holds path) (IsRoundFrom holds has path options.autorescue options.dorescuefrom options.always_post)
+    IsRunWhere (λ files. holds) (IsReadFrom holds path) (IsRoundFrom holds has path options.autorescue options.dorescuefrom options.always_post)
     (λ round rescue. rescue ≡ rescue_in holds path round.used) rounds path options text warnings status
 
 -- Why it is not known which round this is and what its rescue file says, the first cause first: the second is met where the first is not.
@@ -70,11 +70,11 @@ pub data IsFirstRunFault (path : List ℕ) (options : RunOptions) : RunFault →
 
 -- Why the round has no plan: a submit file, a text of a job or a line of the rescue file has a fault, that of a line returned with the name
 -- of the rescue file; memory ran out.
-pub data IsRoundPlanFault (files : FileSet) (path : List ℕ) (graph : Network) : RunFault → Type 0 where
-  not_planned : (fault : RunFault) → IsPlanByFault (bytes_of files) (entries_of files) None graph fault → IsRoundPlanFault files path graph fault
-  not_planned_with : (number : ℕ) (rescue : Option (List ℕ)) (fault : RunFault) → IsPlanByFault (bytes_of files) (entries_of files) rescue graph fault →
-      IsRoundPlanFault files path graph (named_by (in_line fault) (Some (rescue_name_of path number)) fault)
-  planning_had_no_memory : IsRoundPlanFault files path graph Memory
+pub data IsRoundPlanFault (files : Files) (set : FileSet) (path : List ℕ) (graph : Network) : RunFault → Type 0 where
+  not_planned : (fault : RunFault) → IsPlanByFault files (entries_of set) None graph fault → IsRoundPlanFault files set path graph fault
+  not_planned_with : (number : ℕ) (rescue : Option (List ℕ)) (fault : RunFault) → IsPlanByFault files (entries_of set) rescue graph fault →
+      IsRoundPlanFault files set path graph (named_by (in_line fault) (Some (rescue_name_of path number)) fault)
+  planning_had_no_memory : IsRoundPlanFault files set path graph Memory
 
 -- Why a run is not led to its end: what an earlier manager left running can't be ended, a rescue file, or the journal of the round before,
 -- can't be renamed, or another process has locked the journal; nobody is told how children end; the round is stopped; or memory ran out.
@@ -92,38 +92,38 @@ pub data IsHeldFault (options : RunOptions) (IsDeaf : Type 0) (Stopped : RunFaul
   not_led : (fault : RunFault) → IsStopFault IsDeaf Stopped fault → IsHeldFault options IsDeaf Stopped fault
 
 -- The plan of the round that the options ask for, by what is known of the files that were read and of the round.
-pub record IsPlannedFor (IsRead : FileSet → Type 0) (IsRound : Round → Type 0) (path : List ℕ) : Type 0 where
+pub record IsPlannedFor (says : FileSet → Files) (IsRead : FileSet → Type 0) (IsRound : Round → Type 0) (path : List ℕ) : Type 0 where
   pub files : FileSet
   pub graph : Network
   pub round : Round
   pub plan : Plan
   pub read : IsRead files
-  pub is_graph : IsGraphOf (bytes_of files) path graph
+  pub is_graph : IsGraphOf (says files) path graph
   pub is_round : IsRound round
-  pub planned : IsPlannedRun files graph round plan
+  pub planned : IsPlannedRun (says files) files graph round plan
 
--- Why `run` is refused, the first cause first, by what is known of the files that were read and of the round. Each is met where those before it
+-- Why `run` is refused, the first cause first, by what is known of the set that was read and of the round, where each set stands for these files. Each is met where those before it
 -- are not: the files make no graph; it is not known which round this is, or what its rescue file says; the round has no plan; there is no
 -- launcher as it is asked for; a name beside the DAG file would be too long; another manager is at work, or the lock is refused; under the lock
 -- the round is another one, or is not led to its end.
-pub data IsRunFaultWhere (IsRead : FileSet → Type 0) (IsRound : Round → Type 0) (rounds : Rounds) (path : List ℕ) (options : RunOptions) : RunFault → Type 0 where
-  no_graph : (files : FileSet) (fault : RunFault) → IsRead files → IsGraphFault (bytes_of files) path fault → IsRunFaultWhere IsRead IsRound rounds path options fault
-  not_found : (files : FileSet) (graph : Network) (fault : RunFault) → IsRead files → IsGraphOf (bytes_of files) path graph → IsFirstRunFault path options fault →
-      IsRunFaultWhere IsRead IsRound rounds path options fault
-  no_plan : (files : FileSet) (graph : Network) (fault : RunFault) → IsRead files → IsGraphOf (bytes_of files) path graph → IsRoundPlanFault files path graph fault →
-      IsRunFaultWhere IsRead IsRound rounds path options fault
-  no_launcher : (fault : RunFault) → IsPlannedFor IsRead IsRound path → IsLauncherFault options.launcher fault → IsRunFaultWhere IsRead IsRound rounds path options fault
-  no_room : (fault : RunFault) → IsPlannedFor IsRead IsRound path → IsRoomFault path fault → IsRunFaultWhere IsRead IsRound rounds path options fault
-  not_alone : (fault : RunFault) → IsPlannedFor IsRead IsRound path → IsFileFault fault → IsRunFaultWhere IsRead IsRound rounds path options fault
-  not_held : (planned : IsPlannedFor IsRead IsRound path) (fault : RunFault) →
-      IsHeldFault options rounds.is_deaf (rounds.stopped path options.limits planned.plan planned.round) fault → IsRunFaultWhere IsRead IsRound rounds path options fault
-  no_memory : IsRunFaultWhere IsRead IsRound rounds path options Memory
+pub data IsRunFaultWhere (says : FileSet → Files) (IsRead : FileSet → Type 0) (IsRound : Round → Type 0) (rounds : Rounds) (path : List ℕ) (options : RunOptions) : RunFault → Type 0 where
+  no_graph : (files : FileSet) (fault : RunFault) → IsRead files → IsGraphFault (says files) path fault → IsRunFaultWhere says IsRead IsRound rounds path options fault
+  not_found : (files : FileSet) (graph : Network) (fault : RunFault) → IsRead files → IsGraphOf (says files) path graph → IsFirstRunFault path options fault →
+      IsRunFaultWhere says IsRead IsRound rounds path options fault
+  no_plan : (files : FileSet) (graph : Network) (fault : RunFault) → IsRead files → IsGraphOf (says files) path graph → IsRoundPlanFault (says files) files path graph fault →
+      IsRunFaultWhere says IsRead IsRound rounds path options fault
+  no_launcher : (fault : RunFault) → IsPlannedFor says IsRead IsRound path → IsLauncherFault options.launcher fault → IsRunFaultWhere says IsRead IsRound rounds path options fault
+  no_room : (fault : RunFault) → IsPlannedFor says IsRead IsRound path → IsRoomFault path fault → IsRunFaultWhere says IsRead IsRound rounds path options fault
+  not_alone : (fault : RunFault) → IsPlannedFor says IsRead IsRound path → IsFileFault fault → IsRunFaultWhere says IsRead IsRound rounds path options fault
+  not_held : (planned : IsPlannedFor says IsRead IsRound path) (fault : RunFault) →
+      IsHeldFault options rounds.is_deaf (rounds.stopped path options.limits planned.plan planned.round) fault → IsRunFaultWhere says IsRead IsRound rounds path options fault
+  no_memory : IsRunFaultWhere says IsRead IsRound rounds path options Memory
 
 -- of some files, and a round that the options ask for
 abbrev pub IsRunFault : Rounds → (path : List ℕ) → RunOptions → RunFault → Type 0
-IsRunFault rounds path options = IsRunFaultWhere (λ files. Unit {0}) (IsRoundBy options.autorescue options.dorescuefrom options.always_post) rounds path options
+IsRunFault rounds path options = IsRunFaultWhere bytes_of (λ files. Unit {0}) (IsRoundBy options.autorescue options.dorescuefrom options.always_post) rounds path options
 
--- Where these files are held and these paths are there: of files that are held, and the round that the journal and the rescue files make of it.
+-- Where these files are held and these paths are there: of all that the DAG file names, and the round that the journal and the rescue files make of it.
 abbrev pub IsRunFaultFrom : Files → (List ℕ → Bool) → Rounds → (path : List ℕ) → RunOptions → RunFault → Type 0
 IsRunFaultFrom holds has rounds path options =
-    IsRunFaultWhere (IsReadFrom holds path) (IsRoundFrom holds has path options.autorescue options.dorescuefrom options.always_post) rounds path options
+    IsRunFaultWhere (λ files. holds) (IsReadFrom holds path) (IsRoundFrom holds has path options.autorescue options.dorescuefrom options.always_post) rounds path options

@@ -8,7 +8,7 @@ ghost use Rattle.dag_main_files.specs.Beside.{IsRoundBy, IsRescueOf, HasJournal}
 ghost use Rattle.dag_main_files.specs.Folder.{IsRoundFrom, journal_in, rescue_in};
 ghost use Rattle.dag_main_check.specs.Warnings.{warning_lines};
 ghost use Rattle.dag_main_run.specs.Sites.{start_by, journal_found, rounds_at, manager_refusal, IsReturned, IsRoundLedAt, IsRoundStoppedAt};
-ghost use Rattle.dag_main_run.specs.Runs.{IsPlannedRun, IsRunOf, IsRunFrom, IsFindingFault, IsLockedFault, IsFirstRunFault, IsRoundPlanFault, IsStopFault, IsHeldFault, IsRunFault, IsRunFaultFrom};
+ghost use Rattle.dag_main_run.specs.Runs.{IsPlannedRun, IsRunWhere, IsRunOf, IsRunFrom, IsFindingFault, IsLockedFault, IsFirstRunFault, IsRoundPlanFault, IsStopFault, IsHeldFault, IsRunFaultWhere, IsRunFault, IsRunFaultFrom};
 
 use crate::beginning::{Inputs, forget_processes, has_own_files, keep_inputs, life_of, watcher_of};
 use crate::halting::{HaltWatcher, halted};
@@ -21,8 +21,8 @@ use dag_graph::Graph;
 use dag_main_args::RunOptions;
 use dag_main_check::{Answer, RunFault, graph_of, plan_by, warning_text};
 use dag_main_files::{
-    Folder, Journaled, Lock, Place, Reading, Round, files_of, named, rescue_of, rescue_path,
-    round_of,
+    Folder, Journaled, Lock, Place, Reading, Round, files_of, named, read_missing, rescue_of,
+    rescue_path, round_of,
 };
 use job_starter_drive::DriveFault;
 use job_starter_local::Launcher;
@@ -89,10 +89,10 @@ fn plan_of_round(
 ) -> Result<Plan, RunFault>
     requires used { round.now.used ≤ 999 }
     requires rescue { IsRescueOf round.now (option_map (λ b. b.now) rescue) }
-    ensures plan { IfOk result (IsPlannedRun files.now graph round.now) }
+    ensures plan { IfOk result (IsPlannedRun (bytes_of files.now) files.now graph round.now) }
     ensures by_rescue { IfOk result (IsPlanBy round.now.always_post (bytes_of files.now) (entries_of files.now)
         (option_map (λ b. b.now) rescue.entry) graph) }
-    ensures refused { IfErr result (IsRoundPlanFault files.now place.now.top.now graph) }
+    ensures refused { IfErr result (IsRoundPlanFault (bytes_of files.now) files.now place.now.top.now graph) }
 {
     if round.used == 0 {
         return plan_by(alloc, graph, files, rescue, round.always_post);
@@ -478,6 +478,55 @@ fn run_locked<
     })
 }
 
+/// How many files are read one by one that came while others were read; far more than a DAG has.
+const MOST_COME: usize = 1 << 20;
+
+/// Runs the DAG file of this path with these files.
+///
+/// # Errors
+/// As `run_dag` has them from the faults of the files on.
+fn run_files<
+    R: Processes + Files<File = File> + Clock + Screen + AllocGlobal + Copy + Drop,
+    H: Site,
+>(
+    rt: R,
+    site: &H,
+    place: &Place<'_>,
+    files: &FileSet,
+    options: &RunOptions,
+) -> Result<Answer, RunFault>
+    ensures run { IfOk result (λ answer. IsRunWhere bytes_of (λ set. set ≡ files.now)
+        (IsRoundBy options.now.autorescue options.now.dorescuefrom options.now.always_post) IsRescueOf
+        (rounds_at H.Journal.Disk H.Rescue.Disk (H.own site.now) (H.honest site.now) (H.holds site.now))
+        place.now.top.now options.now (string_bytes answer.text) (string_bytes answer.warnings) answer.status) }
+    ensures held { H.honest site.now → IfOk result (λ answer. IsRunWhere bytes_of (λ set. set ≡ files.now)
+        (IsRoundFrom (H.holds site.now) (H.has site.now) place.now.top.now options.now.autorescue options.now.dorescuefrom options.now.always_post)
+        (λ round rescue. rescue ≡ rescue_in (H.holds site.now) place.now.top.now round.used)
+        (rounds_at H.Journal.Disk H.Rescue.Disk (H.own site.now) (H.honest site.now) (H.holds site.now))
+        place.now.top.now options.now (string_bytes answer.text) (string_bytes answer.warnings) answer.status) }
+    ensures refused { IfErr result (IsRunFaultWhere bytes_of (λ set. set ≡ files.now)
+        (IsRoundBy options.now.autorescue options.now.dorescuefrom options.now.always_post)
+        (rounds_at H.Journal.Disk H.Rescue.Disk (H.own site.now) (H.honest site.now) (H.holds site.now))
+        place.now.top.now options.now) }
+    ensures refused_held { H.honest site.now → IfErr result (IsRunFaultWhere bytes_of (λ set. set ≡ files.now)
+        (IsRoundFrom (H.holds site.now) (H.has site.now) place.now.top.now options.now.autorescue options.now.dorescuefrom options.now.always_post)
+        (rounds_at H.Journal.Disk H.Rescue.Disk (H.own site.now) (H.honest site.now) (H.holds site.now))
+        place.now.top.now options.now) }
+{
+    let alloc = rt.alloc();
+    let graph = graph_of(alloc, files, place.top)?;
+    let found = first_look(rt, site, place, options)?;
+    let plan = plan_of_round(alloc, place, files, graph, &found.0, found.1.as_deref())?;
+    let launcher = launcher_of(&rt, place.folder, &plan, options)?;
+    place.has_room_for_names(alloc)?;
+    let mut lock = place.lock(&rt)?;
+    let answer = run_locked(
+        rt, site, place, files, &plan, &found, options, &launcher, &mut lock,
+    );
+    place.unlock(&rt, lock);
+    answer
+}
+
 /// Runs the DAG file of this path at a site, with children of the site and with the inputs that stand in its folder: its files, the
 /// journal and the rescue files. What it writes beside these, it writes at the place, which is in that folder: relative paths are
 /// taken from its path, which is absolute.
@@ -531,16 +580,12 @@ pub fn run_dag<
         place.now.top.now options.now) }
 {
     let alloc = rt.alloc();
-    let files = files_of(alloc, site, place.top, Reading::SubmitFilesToo)?;
-    let graph = graph_of(alloc, &files, place.top)?;
-    let found = first_look(rt, site, place, options)?;
-    let plan = plan_of_round(alloc, place, &files, graph, &found.0, found.1.as_deref())?;
-    let launcher = launcher_of(&rt, place.folder, &plan, options)?;
-    place.has_room_for_names(alloc)?;
-    let mut lock = place.lock(&rt)?;
-    let answer = run_locked(
-        rt, site, place, &files, &plan, &found, options, &launcher, &mut lock,
-    );
-    place.unlock(&rt, lock);
-    answer
+    let mut files = files_of(alloc, site, place.top, Reading::SubmitFilesToo)?;
+    for _ in 0..MOST_COME {
+        match run_files(rt, site, place, &files, options) {
+            Ok(answer) => return Ok(answer),
+            Err(fault) => read_missing(alloc, site, &mut files, fault)?,
+        }
+    }
+    Err(RunFault::Memory)
 }

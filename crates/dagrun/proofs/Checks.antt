@@ -1,13 +1,15 @@
 -- What `check` answers, with hints and without.
-use Rattle.std.proofs.Common.{◌≡◌, ◌⊎◌, ◌++◌, ℕ, Bool, true, false, List, Result, Ok, Err, IfOk, inl, inr, refl, string_bytes, sym, subst}
+use Rattle.std.proofs.Common.{◌≡◌, ◌⊎◌, ◌++◌, ℕ, Bool, true, false, List, None, Result, Ok, Err, IfOk, inl, inr, refl, string_bytes, sym, subst}
 use Rattle.dag_main_check.specs.declared.fault.RunFault.{RunFault}
 use Rattle.dag_main_check.specs.declared.warnings.Answer.{Answer}
 use Rattle.splices_flat.specs.Opening.{Files}
 use Rattle.splices_flat.specs.FileSet.{bytes_of}
 use Rattle.splices_flat.specs.declared.file_set.FileSet.{FileSet}
 use Rattle.dag_main_files.specs.Folder.{IsReadFrom}
-use Rattle.folder_answers.proofs.Held.{checked}
-use Rattle.dagrun.specs.Answered.{Said, IsCheckWith, without_hints, with_hints, checks_in, checks_from, all_of_held_files, all_of_files_read_once}
+use Rattle.dag_main_check.proofs.HeldFiles.{checked}
+use Rattle.dag_main_files.specs.Beside.{IsInputFault}
+use Rattle.folder_answers.specs.Answered.{held_not_read, held_refused}
+use Rattle.dagrun.specs.Answered.{Said, IsCheckWith, without_hints, with_hints, checks_in, checks_from, all_of_held_files, all_of_files_read_once, check_refused_some, check_refused_in}
 
 -- what is said of an answer
 abbrev pub IsAnswer : Said → Bool → Answer → Type 0
@@ -27,6 +29,15 @@ pub read_once : (all : Bool) (files : FileSet) (holds : Files) (path : List ℕ)
     → checks_in all (bytes_of files) path text warnings status → checks_from all holds path text warnings status
 read_once false files holds path read text warnings status is = checked (bytes_of files) holds read.held path text warnings status is
 read_once true files holds path read text warnings status is = all_of_files_read_once files read is
+
+-- standard input can't be read
+pub not_read : (all : Bool) (holds : Files) (path : List ℕ) (fault : RunFault) → IsInputFault path fault → check_refused_in all holds path fault
+not_read false holds path fault why = held_not_read fault why
+not_read true holds path fault why = held_refused fault (held_not_read fault why)
+
+pub not_read_of_some : (all : Bool) (path : List ℕ) (fault : RunFault) → IsInputFault path fault → check_refused_some all path fault
+not_read_of_some false path fault why = ((λ file. None), held_not_read fault why)
+not_read_of_some true path fault why = ((λ file. None), held_refused fault (held_not_read fault why))
 
 -- without hints
 pub plain_check : (Checked : Said) (hinted : Bool) (r : Result Answer RunFault) → IfOk r (IsPlain Checked) → IfOk r (IsAnswer Checked hinted)

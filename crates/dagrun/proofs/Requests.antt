@@ -5,7 +5,7 @@ use Rattle.std.proofs.lemmas.List.{length-map}
 use Rattle.dag_main_args.specs.declared.request.Request.{Request}
 use Rattle.dag_main_args.specs.declared.request.WordsFault.{WordsFault}
 use Rattle.dag_main_args.specs.declared.request.WordsFault.TheVariants.{Refused, Memory}
-use Rattle.dag_main_args.specs.Requests.{Asked, asked_by, checks, runs, tells_status, audits, rehearses, draws, asks_why, times, salvages, redoes, shows, no_limits, limits_in, AreLimits}
+use Rattle.dag_main_args.specs.Requests.{Asked, asked_by, checks, runs, tells_status, audits, rehearses, draws, asks_why, times, reports, salvages, redoes, shows, no_limits, limits_in, AreLimits}
 use Rattle.dag_main_args.specs.Answered.{IsAskedFor, IsRefused}
 use Rattle.dag_main_check.specs.declared.fault.RunFault.{RunFault}
 use Rattle.dag_main_check.specs.declared.fault.RunFault.TheVariants.{Memory as NoMemory}
@@ -52,6 +52,7 @@ no-hints (rehearses path outcomes limits always_post) reply streams = refl
 no-hints (draws path begun owned) reply streams = refl
 no-hints (asks_why path nodes all begun owned) reply streams = refl
 no-hints (times path svg begun owned) reply streams = refl
+no-hints (reports path reload begun owned) reply streams = refl
 no-hints (salvages path owned) reply streams = refl
 no-hints (redoes path nodes only owned) reply streams = refl
 no-hints (shows page) reply streams = refl

@@ -10,7 +10,7 @@ use Rattle.run_plan.specs.Plan.{Plan}
 use Rattle.job_starter_drive.specs.declared.Call.{Call}
 use Rattle.dag_main_args.specs.declared.request.RunOptions.{RunOptions}
 use Rattle.dag_main_args.specs.declared.request.Request.{Request}
-use Rattle.dag_main_args.specs.Requests.{Asked, asked_by, checks, runs, tells_status, audits, rehearses, draws, asks_why, times, salvages, redoes, shows}
+use Rattle.dag_main_args.specs.Requests.{Asked, asked_by, checks, runs, tells_status, audits, rehearses, draws, asks_why, times, reports, salvages, redoes, shows}
 use Rattle.dag_main_files.specs.declared.rounds.Round.{Round}
 use Rattle.dag_main_files.specs.Beside.{IsRefusalOf, path_refused, refusing_had_no_memory}
 use Rattle.dag_main_check.specs.declared.fault.RunFault.{RunFault}
@@ -51,10 +51,10 @@ pub record AreToldAs (rounds known : Rounds) : Type 0 where
   pub deaf : rounds.is_deaf → known.is_deaf
 
 module _ (rounds known : Rounds) (told : AreToldAs rounds known) where
-  run-by : (IsRead : FileSet → Type 0) (IsRound : Round → Type 0) (IsRescue : Round → Option (List ℕ) → Type 0) (path : List ℕ) (options : RunOptions)
-      (text warnings : List ℕ) (status : ℕ) → IsRunWhere IsRead IsRound IsRescue rounds path options text warnings status
-      → IsRunWhere IsRead IsRound IsRescue known path options text warnings status
-  run-by IsRead IsRound IsRescue path options text warnings status run = record {
+  run-by : (says : FileSet → Files) (IsRead : FileSet → Type 0) (IsRound : Round → Type 0) (IsRescue : Round → Option (List ℕ) → Type 0) (path : List ℕ) (options : RunOptions)
+      (text warnings : List ℕ) (status : ℕ) → IsRunWhere says IsRead IsRound IsRescue rounds path options text warnings status
+      → IsRunWhere says IsRead IsRound IsRescue known path options text warnings status
+  run-by says IsRead IsRound IsRescue path options text warnings status run = record {
     files = run.files;
     read = run.read;
     round = run.round;
@@ -69,13 +69,13 @@ module _ (rounds known : Rounds) (told : AreToldAs rounds known) where
     };
   }
 
-  run-with : (IsRead : FileSet → Type 0) (IsRound : Round → Type 0) (IsRescue : Round → Option (List ℕ) → Type 0) (Again : Said) (NoReport : Type 0)
+  run-with : (says : FileSet → Files) (IsRead : FileSet → Type 0) (IsRound : Round → Type 0) (IsRescue : Round → Option (List ℕ) → Type 0) (Again : Said) (NoReport : Type 0)
       (path : List ℕ) (options : RunOptions) (text warnings : List ℕ) (status : ℕ)
-      → IsRunWith (IsRunWhere IsRead IsRound IsRescue rounds path options) Again NoReport options text warnings status
-      → IsRunWith (IsRunWhere IsRead IsRound IsRescue known path options) Again NoReport options text warnings status
-  run-with IsRead IsRound IsRescue Again NoReport path options text warnings status (led none run) =
-      led none (run-by IsRead IsRound IsRescue path options text warnings status run)
-  run-with IsRead IsRound IsRescue Again NoReport path options text warnings status (reported_again asked again) = reported_again asked again
+      → IsRunWith (IsRunWhere says IsRead IsRound IsRescue rounds path options) Again NoReport options text warnings status
+      → IsRunWith (IsRunWhere says IsRead IsRound IsRescue known path options) Again NoReport options text warnings status
+  run-with says IsRead IsRound IsRescue Again NoReport path options text warnings status (led none run) =
+      led none (run-by says IsRead IsRound IsRescue path options text warnings status run)
+  run-with says IsRead IsRound IsRescue Again NoReport path options text warnings status (reported_again asked again) = reported_again asked again
 
   stop-fault : (path : List ℕ) (limits : Limits) (plan : Plan) (round : Round) (fault : RunFault)
       → IsStopFault rounds.is_deaf (rounds.stopped path limits plan round) fault → IsStopFault known.is_deaf (known.stopped path limits plan round) fault
@@ -91,33 +91,34 @@ module _ (rounds known : Rounds) (told : AreToldAs rounds known) where
   held-fault options path plan round _ (another_was_at_work fault why) = another_was_at_work fault why
   held-fault options path plan round _ (not_led fault why) = not_led fault (stop-fault path options.limits plan round fault why)
 
-  run-fault : (IsRead : FileSet → Type 0) (IsRound : Round → Type 0) (path : List ℕ) (options : RunOptions) (fault : RunFault)
-      → IsRunFaultWhere IsRead IsRound rounds path options fault → IsRunFaultWhere IsRead IsRound known path options fault
-  run-fault IsRead IsRound path options _ (no_graph files fault read why) = no_graph files fault read why
-  run-fault IsRead IsRound path options _ (not_found files graph fault read is why) = not_found files graph fault read is why
-  run-fault IsRead IsRound path options _ (no_plan files graph fault read is why) = no_plan files graph fault read is why
-  run-fault IsRead IsRound path options _ (no_launcher fault planned why) = no_launcher fault planned why
-  run-fault IsRead IsRound path options _ (no_room fault planned why) = no_room fault planned why
-  run-fault IsRead IsRound path options _ (not_alone fault planned why) = not_alone fault planned why
-  run-fault IsRead IsRound path options _ (not_held planned fault why) = not_held planned fault (held-fault options path planned.plan planned.round fault why)
-  run-fault IsRead IsRound path options _ no_memory = no_memory
+  run-fault : (says : FileSet → Files) (IsRead : FileSet → Type 0) (IsRound : Round → Type 0) (path : List ℕ) (options : RunOptions) (fault : RunFault)
+      → IsRunFaultWhere says IsRead IsRound rounds path options fault → IsRunFaultWhere says IsRead IsRound known path options fault
+  run-fault says IsRead IsRound path options _ (no_graph files fault read why) = no_graph files fault read why
+  run-fault says IsRead IsRound path options _ (not_found files graph fault read is why) = not_found files graph fault read is why
+  run-fault says IsRead IsRound path options _ (no_plan files graph fault read is why) = no_plan files graph fault read is why
+  run-fault says IsRead IsRound path options _ (no_launcher fault planned why) = no_launcher fault planned why
+  run-fault says IsRead IsRound path options _ (no_room fault planned why) = no_room fault planned why
+  run-fault says IsRead IsRound path options _ (not_alone fault planned why) = not_alone fault planned why
+  run-fault says IsRead IsRound path options _ (not_held planned fault why) = not_held planned fault (held-fault options path planned.plan planned.round fault why)
+  run-fault says IsRead IsRound path options _ no_memory = no_memory
 
-  run-refusal : (IsRead : FileSet → Type 0) (IsRound : Round → Type 0) (NotTold : RunFault → Type 0) (NoReport : Type 0) (path : List ℕ) (options : RunOptions) (fault : RunFault)
-      → IsRunRefusal (IsRunFaultWhere IsRead IsRound rounds path options) NotTold NoReport options fault
-      → IsRunRefusal (IsRunFaultWhere IsRead IsRound known path options) NotTold NoReport options fault
-  run-refusal IsRead IsRound NotTold NoReport path options _ (not_run fault none why) = not_run fault none (run-fault IsRead IsRound path options fault why)
-  run-refusal IsRead IsRound NotTold NoReport path options _ (not_reported fault asked why) = not_reported fault asked why
+  run-refusal : (says : FileSet → Files) (IsRead : FileSet → Type 0) (IsRound : Round → Type 0) (NotTold : RunFault → Type 0) (NoReport : Type 0) (path : List ℕ) (options : RunOptions) (fault : RunFault)
+      → IsRunRefusal (IsRunFaultWhere says IsRead IsRound rounds path options) NotTold NoReport options fault
+      → IsRunRefusal (IsRunFaultWhere says IsRead IsRound known path options) NotTold NoReport options fault
+  run-refusal says IsRead IsRound NotTold NoReport path options _ (not_run fault none why) = not_run fault none (run-fault says IsRead IsRound path options fault why)
+  run-refusal says IsRead IsRound NotTold NoReport path options _ (not_reported fault asked why) = not_reported fault asked why
 
   pub told-some : (asked : Asked) (r : Result Answer RunFault) → ComesTo (command_of_some rounds asked) r → ComesTo (command_of_some known asked) r
   told-some (checks path all hinted) r is = is
-  told-some (runs path options) (Ok answer) is = run-with _ _ _ _ _ path options _ _ _ is
-  told-some (runs path options) (Err fault) is = run-refusal _ _ _ _ path options fault is
+  told-some (runs path options) (Ok answer) is = run-with _ _ _ _ _ _ path options _ _ _ is
+  told-some (runs path options) (Err fault) is = run-refusal _ _ _ _ _ path options fault is
   told-some (tells_status path begun owned) r is = is
   told-some (audits path begun owned) r is = is
   told-some (rehearses path outcomes limits always_post) r is = is
   told-some (draws path begun owned) r is = is
   told-some (asks_why path nodes all begun owned) r is = is
   told-some (times path svg begun owned) r is = is
+  told-some (reports path reload begun owned) r is = is
   told-some (salvages path owned) r is = is
   told-some (redoes path nodes only owned) r is = is
   told-some (shows page) r is = is
@@ -125,14 +126,15 @@ module _ (rounds known : Rounds) (told : AreToldAs rounds known) where
   pub told-from : (holds : Files) (has : List ℕ → Bool) (asked : Asked) (r : Result Answer RunFault) → ComesTo (command_from holds has rounds asked) r
       → ComesTo (command_from holds has known asked) r
   told-from holds has (checks path all hinted) r is = is
-  told-from holds has (runs path options) (Ok answer) is = run-with _ _ _ _ _ path options _ _ _ is
-  told-from holds has (runs path options) (Err fault) is = run-refusal _ _ _ _ path options fault is
+  told-from holds has (runs path options) (Ok answer) is = run-with _ _ _ _ _ _ path options _ _ _ is
+  told-from holds has (runs path options) (Err fault) is = run-refusal _ _ _ _ _ path options fault is
   told-from holds has (tells_status path begun owned) r is = is
   told-from holds has (audits path begun owned) r is = is
   told-from holds has (rehearses path outcomes limits always_post) r is = is
   told-from holds has (draws path begun owned) r is = is
   told-from holds has (asks_why path nodes all begun owned) r is = is
   told-from holds has (times path svg begun owned) r is = is
+  told-from holds has (reports path reload begun owned) r is = is
   told-from holds has (salvages path owned) r is = is
   told-from holds has (redoes path nodes only owned) r is = is
   told-from holds has (shows page) r is = is
@@ -158,6 +160,7 @@ unbeside-some rounds known (rehearses path outcomes limits always_post) isnt r i
 unbeside-some rounds known (draws path begun owned) isnt r is = is
 unbeside-some rounds known (asks_why path nodes all begun owned) isnt r is = is
 unbeside-some rounds known (times path svg begun owned) isnt r is = is
+unbeside-some rounds known (reports path reload begun owned) isnt r is = is
 unbeside-some rounds known (salvages path owned) isnt r is = is
 unbeside-some rounds known (redoes path nodes only owned) isnt r is = is
 unbeside-some rounds known (shows page) isnt r is = is
@@ -172,6 +175,7 @@ unbeside-from holds has there rounds known (rehearses path outcomes limits alway
 unbeside-from holds has there rounds known (draws path begun owned) isnt r is = is
 unbeside-from holds has there rounds known (asks_why path nodes all begun owned) isnt r is = is
 unbeside-from holds has there rounds known (times path svg begun owned) isnt r is = is
+unbeside-from holds has there rounds known (reports path reload begun owned) isnt r is = is
 unbeside-from holds has there rounds known (salvages path owned) isnt r is = is
 unbeside-from holds has there rounds known (redoes path nodes only owned) isnt r is = absurd (false≢true (sym isnt))
 unbeside-from holds has there rounds known (shows page) isnt r is = is
@@ -196,6 +200,7 @@ unasked (rehearses path outcomes limits always_post) isnt run = absurd (false≢
 unasked (draws path begun owned) isnt run = absurd (false≢true run)
 unasked (asks_why path nodes all begun owned) isnt run = absurd (false≢true run)
 unasked (times path svg begun owned) isnt run = absurd (false≢true run)
+unasked (reports path reload begun owned) isnt run = absurd (false≢true run)
 unasked (salvages path owned) isnt run = absurd (false≢true run)
 unasked (redoes path nodes only owned) isnt run = absurd (false≢true run)
 unasked (shows page) isnt run = absurd (false≢true run)

@@ -7,13 +7,13 @@ use Rattle.splices_flat.specs.declared.file_set.FileSet.{FileSet}
 use Rattle.throttles.specs.declared.Limits.{Limits}
 use Rattle.dag_main_args.specs.declared.request.Request.{Request}
 use Rattle.dag_main_args.specs.Answered.{IsAskedFor, IsRefused}
-use Rattle.dag_main_args.specs.Requests.{Asked, asked_by, checks, runs, tells_status, audits, rehearses, draws, asks_why, times, salvages, redoes, shows, no_limits, limits_in, AreLimits}
+use Rattle.dag_main_args.specs.Requests.{Asked, asked_by, checks, runs, tells_status, audits, rehearses, draws, asks_why, times, reports, salvages, redoes, shows, no_limits, limits_in, AreLimits}
 use Rattle.dag_main_args.specs.declared.request.RunOptions.{RunOptions}
 use Rattle.dag_main_files.specs.Beside.{IsRefusalOf}
 use Rattle.dag_main_files.specs.Folder.{IsReadFrom}
 use Rattle.dag_main_check.specs.Checked.{IsCheckOf}
 use Rattle.dag_main_rehearse.specs.Rehearsed.{IsRehearsalOf}
-use Rattle.folder_answers.specs.Answered.{IsCheckOfSome, IsCheckOfAllSome, IsCheckOfAllFrom, IsCheckRefusal, IsCheckRefusalFrom, IsRehearsalOfSome, IsRehearsalRefusal, IsRehearsalRefusalFrom}
+use Rattle.folder_answers.specs.Answered.{IsCheckOfSome, IsCheckOfAllSome, IsCheckOfAllFrom, IsCheckRefusal, IsCheckRefusalFrom, IsCheckOfAllRefusal, IsCheckOfAllRefusalFrom, IsRehearsalOfSome, IsRehearsalRefusal, IsRehearsalRefusalFrom}
 use Rattle.dag_main_check.specs.declared.fault.RunFault.{RunFault}
 use Rattle.dag_main_check.specs.declared.fault.RunFault.TheVariants.{FileRefused, Memory}
 use Rattle.dag_main_check.specs.declared.warnings.Answer.{Answer}
@@ -33,6 +33,8 @@ use Rattle.salvage.specs.declared.fault.SalvageFault.TheVariants.{Refused}
 use Rattle.failure_report.specs.declared.why.Grouping.{Grouping}
 use Rattle.failure_report.specs.declared.why.Grouping.TheVariants.{ByCause, Each}
 use Rattle.failure_answers.specs.Answered.{IsWhyOf, IsWhyHeld, IsWhyFaultHeld}
+use Rattle.dag_main_args.specs.Matched.{version_text}
+use Rattle.report_answers.specs.Answered.{IsReportPageOf, IsReportPageHeld}
 use Rattle.round_inputs.specs.declared.begun.Begun.{Begun}
 use Rattle.round_inputs.specs.AsBegun.{as_begun, IsBegunRound, IsNotBegun}
 use Rattle.redo.specs.Answered.{IsRedoOf, IsRedoHeld, IsRedoFault, IsRedoFaultHeld}
@@ -114,6 +116,7 @@ is_owner_trusted (audits path begun trust_owner) = trust_owner
 is_owner_trusted (draws path begun trust_owner) = trust_owner
 is_owner_trusted (asks_why path nodes all begun trust_owner) = trust_owner
 is_owner_trusted (times path svg begun trust_owner) = trust_owner
+is_owner_trusted (reports path reload begun trust_owner) = trust_owner
 is_owner_trusted (salvages path trust_owner) = trust_owner
 is_owner_trusted (redoes path nodes only trust_owner) = trust_owner
 is_owner_trusted _ = false
@@ -133,11 +136,21 @@ pub data IsRehearsalRefusalWith (Refused : Option (List ℕ) → RunFault → Ty
   table_refused : (path : List ℕ) (fault : RunFault) → outcomes ≡ Some path → IsRefusalOf path fault → IsRehearsalRefusalWith Refused outcomes fault
   not_rehearsed : (table : Option (List ℕ)) (fault : RunFault) → is_some table ≡ is_some outcomes → Refused table fault → IsRehearsalRefusalWith Refused outcomes fault
 
+-- Why a check is refused for some files, by whether all faults of lines are asked for; and for what these files say.
+abbrev pub check_refused_some : (all : Bool) → (path : List ℕ) → RunFault → Type 0
+check_refused_some false path = IsCheckRefusal path
+check_refused_some true path = IsCheckOfAllRefusal path
+
+abbrev pub check_refused_in : (all : Bool) → Files → (path : List ℕ) → RunFault → Type 0
+check_refused_in false holds path = IsCheckRefusalFrom holds path
+check_refused_in true holds path = IsCheckOfAllRefusalFrom holds path
+
 -- Why a check is refused where these files are held: for what they say; or, where hints are asked for, for what the files say that were read once
 -- for both.
-pub data IsCheckRefusalHeld (holds : Files) (path : List ℕ) : RunFault → Type 0 where
-  of_held_files : (fault : RunFault) → IsCheckRefusalFrom holds path fault → IsCheckRefusalHeld holds path fault
-  of_files_read_once : (files : FileSet) (fault : RunFault) → IsReadFrom holds path files → IsCheckRefusalFrom (bytes_of files) path fault → IsCheckRefusalHeld holds path fault
+pub data IsCheckRefusalHeld (all hinted : Bool) (holds : Files) (path : List ℕ) : RunFault → Type 0 where
+  of_held_files : (fault : RunFault) → check_refused_in all holds path fault → IsCheckRefusalHeld all hinted holds path fault
+  of_files_read_once : (files : FileSet) (fault : RunFault) → hinted ≡ true → IsReadFrom holds path files → check_refused_in all (bytes_of files) path fault →
+      IsCheckRefusalHeld all hinted holds path fault
 
 -- This is so by the files that are held; or, where a round is to be seen as it began, by those with which the last one began, and by those that are held
 -- where it kept none.
@@ -174,7 +187,7 @@ IsPage page text warnings status = (text ≡ page) × (warnings ≡ []) × (stat
 
 -- The command that a request is for, of some files of its path, where this is said of the rounds of a run.
 abbrev pub command_of_some : Rounds → Asked → CommandContract
-command_of_some rounds (checks path all hinted) = record { answers = IsCheckWith (checks_some all path) hinted; refused = IsCheckRefusal path }
+command_of_some rounds (checks path all hinted) = record { answers = IsCheckWith (checks_some all path) hinted; refused = check_refused_some all path }
 command_of_some rounds (runs path options) = record {
   answers = IsRunWith (IsRunOf rounds path options) (IsReportHere path) (Unit {0}) options;
   refused = IsRunRefusal (IsRunFault rounds path options) (IsAnswerFault Status path) (Unit {0}) options;
@@ -188,6 +201,7 @@ command_of_some rounds (rehearses path outcomes limits always_post) = record {
 command_of_some rounds (draws path begun trust_owner) = record { answers = IsAnswerOfRun Graph path; refused = IsRefusedBySome begun (IsAnswerFault Graph path) }
 command_of_some rounds (asks_why path nodes all begun trust_owner) = record { answers = IsWhyOf (grouping_by all) path nodes; refused = IsRefusedBySome begun (IsAnswerFault Status path) }
 command_of_some rounds (times path svg begun trust_owner) = record { answers = IsTimesOf path svg; refused = IsRefusedBySome begun (IsTimesFault path) }
+command_of_some rounds (reports path reload begun trust_owner) = record { answers = IsReportPageOf path version_text reload; refused = IsRefusedBySome begun (IsAnswerFault Status path) }
 command_of_some rounds (salvages path trust_owner) = record { answers = IsSalvageWith (IsSalvageOf path) path; refused = λ fault. IsSalvageFault path (Refused fault) }
 command_of_some rounds (redoes path nodes only trust_owner) = record { answers = IsRedoOf path nodes only; refused = IsRedoFault path }
 command_of_some rounds (shows page) = record { answers = IsPage page; refused = λ fault. ⊥ }
@@ -201,7 +215,7 @@ question_from question holds path begun = record {
 
 -- The same where these files are held and these paths are there: of the files that are held.
 abbrev pub command_from : Files → (List ℕ → Bool) → Rounds → Asked → CommandContract
-command_from holds has rounds (checks path all hinted) = record { answers = IsCheckWith (checks_from all holds path) hinted; refused = IsCheckRefusalHeld holds path }
+command_from holds has rounds (checks path all hinted) = record { answers = IsCheckWith (checks_from all holds path) hinted; refused = IsCheckRefusalHeld all hinted holds path }
 command_from holds has rounds (runs path options) = record {
   answers = IsRunWith (IsRunFrom holds has rounds path options) (IsReportFrom holds path) (IsNoReportFrom holds path) options;
   refused = IsRunRefusal (IsRunFaultFrom holds has rounds path options) (IsAnswerFaultHeld holds Status path) (IsNoReportFrom holds path) options;
@@ -220,6 +234,10 @@ command_from holds has rounds (asks_why path nodes all begun trust_owner) = reco
 command_from holds has rounds (times path svg begun trust_owner) = record {
   answers = SaidByFiles begun holds path (λ files. IsTimesFrom files path svg);
   refused = IsRefusedByFiles begun holds path (λ files. IsTimesFaultHeld files path);
+}
+command_from holds has rounds (reports path reload begun trust_owner) = record {
+  answers = SaidByFiles begun holds path (λ files. IsReportPageHeld files path version_text reload);
+  refused = IsRefusedByFiles begun holds path (λ files. IsWhyFaultHeld files path);
 }
 command_from holds has rounds (salvages path trust_owner) = record { answers = IsSalvageWith (IsSalvageFrom holds path) path; refused = λ fault. IsSalvageFault path (Refused fault) }
 command_from holds has rounds (redoes path nodes only trust_owner) = record { answers = IsRedoHeld holds has path nodes only; refused = IsRedoFaultHeld holds path }

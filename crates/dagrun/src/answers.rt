@@ -15,7 +15,7 @@ ghost use Rattle.dag_main_run.specs.Sites.{rounds_at};
 ghost use Rattle.dagrun.specs.Answered.{is_run, command_of_some, command_from, ComesTo, IsPage, IsRehearsalWith, IsRehearsalRefusalWith, IsSalvageWith, AreHints};
 
 use crate::checking::check;
-use crate::of_round::{answer_of_round, grouping_by, times_of_round, why_of_round};
+use crate::of_round::{answer_of_round, grouping_by, page_of_round, times_of_round, why_of_round};
 use answer_console::Console;
 use dag_main_args::{Request, RunOptions};
 use dag_main_check::{Answer, RunFault};
@@ -98,6 +98,18 @@ pub(crate) fn answer_in<
             as_begun,
             ..
         } => times_of_round(alloc, folder, dag, svg, as_begun),
+        Request::Report {
+            dag,
+            reload,
+            as_begun,
+            trust_owner,
+        } => {
+            let place = Place {
+                folder: seat,
+                top: dag,
+            };
+            page_of_round(rt, folder, &place, reload, as_begun, trust_owner)
+        }
         Request::Salvage { dag, trust_owner } => {
             let place = Place {
                 folder: seat,

@@ -109,6 +109,7 @@ fn is_owner_trusted(request: &Request<'_>) -> bool
         | Request::Graph { trust_owner, .. }
         | Request::Why { trust_owner, .. }
         | Request::Times { trust_owner, .. }
+        | Request::Report { trust_owner, .. }
         | Request::Salvage { trust_owner, .. }
         | Request::Redo { trust_owner, .. } => *trust_owner,
         _ => false,
@@ -124,6 +125,7 @@ fn dag_in<'a>(request: &Request<'a>) -> Option<&'a str> {
         | Request::Graph { dag, .. }
         | Request::Why { dag, .. }
         | Request::Times { dag, .. }
+        | Request::Report { dag, .. }
         | Request::Salvage { dag, .. }
         | Request::Redo { dag, .. }
         | Request::Check { dag, .. }

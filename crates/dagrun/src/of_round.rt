@@ -4,14 +4,18 @@ ghost use Rattle.std.specs.Prelude.{◌≡◌, map, IfOk, IfErr, string_bytes};
 ghost use Rattle.dag_main_inspect.specs.Asked.{IsAnswerOfRun, IsAnswerHeld, IsAnswerFault, IsAnswerFaultHeld};
 ghost use Rattle.dag_main_inspect.specs.declared.by_journal.Question.TheVariants.{Status};
 ghost use Rattle.failure_answers.specs.Answered.{IsWhyOf, IsWhyHeld, IsWhyFaultHeld};
+ghost use Rattle.dag_main_args.specs.Matched.{version_text};
+ghost use Rattle.report_answers.specs.Answered.{IsReportPageOf, IsReportPageHeld};
 ghost use Rattle.run_times.specs.Answered.{IsTimesOf, IsTimesFrom, IsTimesFault, IsTimesFaultHeld};
 ghost use Rattle.dagrun.specs.Answered.{grouping_by, SaidByFiles, IsRefusedByFiles, IsRefusedBySome};
 
+use dag_main_args::VERSION;
 use dag_main_check::{Answer, RunFault};
 use dag_main_files::{Folder, Place};
 use dag_main_inspect::{Question, answer_here};
 use failure_answers::why_here;
 use failure_report::Grouping;
+use report_answers::{Wanted, page_here};
 use round_inputs::last_begun;
 use run_times::times_here;
 use std::alloc::Global;
@@ -111,4 +115,37 @@ pub(crate) fn times_of_round<F: Folder>(
     }
     let seen = last_begun(alloc, folder, dag)?;
     times_here(alloc, &seen, dag, svg)
+}
+
+/// A page of the last round of a DAG file.
+///
+/// # Errors
+/// Those of `last_begun`, where the round is to be seen as it began; then those of `page_here`.
+pub(crate) fn page_of_round<R: Files<File = File> + AllocGlobal, F: Folder>(
+    rt: &R,
+    folder: &F,
+    place: &Place<'_>,
+    reloads: bool,
+    as_begun: bool,
+    trust_owner: bool,
+) -> Result<Answer, RunFault>
+    ensures answered { IfOk result (λ answer. IsReportPageOf place.now.top.now version_text reloads
+        (string_bytes answer.text) (string_bytes answer.warnings) answer.status) }
+    // It is that of the files that the folder holds, or of those with which the round began.
+    ensures held { F.honest folder.now → IfOk result (λ answer. SaidByFiles as_begun (F.holds folder.now) place.now.top.now
+        (λ files. IsReportPageHeld files place.now.top.now version_text reloads)
+        (string_bytes answer.text) (string_bytes answer.warnings) answer.status) }
+    ensures refused { IfErr result (IsRefusedBySome as_begun (IsAnswerFault Status place.now.top.now)) }
+    ensures refused_held { F.honest folder.now → IfErr result (IsRefusedByFiles as_begun (F.holds folder.now) place.now.top.now
+        (λ files. IsWhyFaultHeld files place.now.top.now)) }
+{
+    let wanted = Wanted {
+        version: VERSION,
+        reloads,
+    };
+    if !as_begun {
+        return page_here(rt, folder, place, &wanted, trust_owner);
+    }
+    let seen = last_begun(rt.alloc(), folder, place.top)?;
+    page_here(rt, &seen, place, &wanted, trust_owner)
 }

@@ -1,16 +1,14 @@
 -- What `why` answers.
-use Rattle.std.specs.Prelude.{◌≡◌, ◌≢◌, ℕ, List, [], length, Option, Some, IsTrue}
+use Rattle.std.specs.Prelude.{◌≡◌, ◌≢◌, ℕ, List, [], ◌++◌, codes, length, Option, Some, IsTrue}
 use Rattle.splices_flat.specs.Opening.{Files}
-use Rattle.splices_flat.specs.FileSet.{bytes_of, entries_of}
-use Rattle.splices_flat.specs.declared.file_set.FileSet.{FileSet}
 use Rattle.node_machine.specs.declared.Record.{Record}
 use Rattle.run_plan.specs.Plan.{Plan}
 use Rattle.sched_core.specs.Run.{chronological, is_lawful}
 use Rattle.dag_main_check.specs.Planned.{IsPlanWith}
 use Rattle.dag_main_check.specs.Warnings.{warning_lines}
 use Rattle.dag_main_check.specs.declared.fault.RunFault.{RunFault}
-use Rattle.dag_main_files.specs.Beside.{IsFileFault}
-use Rattle.dag_main_files.specs.Folder.{IsReadFrom}
+use Rattle.dag_main_files.specs.Beside.{IsRefusalOf}
+use Rattle.dag_main_files.specs.Opened.{IsOfFiles, IsOfSome}
 use Rattle.dag_main_inspect.specs.Asked.{IsAnswerFaultHeld}
 use Rattle.dag_main_inspect.specs.LastRound.{IsLastRound}
 use Rattle.dag_main_inspect.specs.declared.by_journal.Question.TheVariants.{Status}
@@ -28,9 +26,9 @@ pub data IsAnswerOf (grouping : Grouping) (plan : Plan) (past : List Record) (pa
   unknown_name : (line : List ℕ) → length names ≢ 0 → IsUnknownName plan path names line → IsAnswerOf grouping plan past path names [] line 125
 
 -- That is the answer of the plan of these files, with a rescue file or none, where the records of a journal or none are lawful.
-pub record IsWhyFrom (grouping : Grouping) (files : FileSet) (path : List ℕ) (rescue journal : Option (List ℕ)) (names : List (List ℕ)) (text warnings : List ℕ) (status : ℕ) : Type 0 where
+pub record IsWhyFrom (grouping : Grouping) (path : List ℕ) (rescue journal : Option (List ℕ)) (names : List (List ℕ)) (text warnings : List ℕ) (status : ℕ) (files : Files) (entries : List (List ℕ × List ℕ)) : Type 0 where
   pub plan : Plan
-  pub planned : IsPlanWith (flag_by journal) (bytes_of files) (entries_of files) path rescue plan
+  pub planned : IsPlanWith (flag_by journal) files entries path rescue plan
   pub past : List Record
   pub are_records : records_in_bytes plan (journal_bytes journal) ≡ Some (chronological past)
   pub lawful : IsTrue (is_lawful plan past)
@@ -38,23 +36,19 @@ pub record IsWhyFrom (grouping : Grouping) (files : FileSet) (path : List ℕ) (
 
 -- That is the answer for the DAG file of a path: of some files, with a rescue file or none and a journal or none.
 pub record IsWhyOf (grouping : Grouping) (path : List ℕ) (names : List (List ℕ)) (text warnings : List ℕ) (status : ℕ) : Type 0 where
-  pub files : FileSet
   pub rescue : Option (List ℕ)
   pub journal : Option (List ℕ)
-  pub answered : IsWhyFrom grouping files path rescue journal names text warnings status
+  pub answered : IsOfSome path (IsWhyFrom grouping path rescue journal names text warnings status)
 
--- The same where these files are held: of the DAG file and those that were read with it, the journal, and the rescue file that the journal's
--- header names.
+-- The same where these files are held: of the DAG file and all that it names, the journal, and the rescue file that the journal's header names.
 pub record IsWhyHeld (grouping : Grouping) (holds : Files) (path : List ℕ) (names : List (List ℕ)) (text warnings : List ℕ) (status : ℕ) : Type 0 where
-  pub files : FileSet
   pub rescue : Option (List ℕ)
   pub journal : Option (List ℕ)
-  pub read : IsReadFrom holds path files
   pub beside : IsLastRound holds path journal rescue
-  pub answered : IsWhyFrom grouping files path rescue journal names text warnings status
+  pub answered : IsOfFiles holds path (IsWhyFrom grouping path rescue journal names text warnings status)
 
 -- Why `why` gives no answer where these files are held: for a cause for which `status` is refused; or the log may be another user's, or memory
 -- runs out before it is known whose it is.
 pub data IsWhyFaultHeld (holds : Files) (path : List ℕ) : RunFault → Type 0 where
   held_no_status : (fault : RunFault) → IsAnswerFaultHeld holds Status path fault → IsWhyFaultHeld holds path fault
-  held_log_refused : (fault : RunFault) → IsFileFault fault → IsWhyFaultHeld holds path fault
+  held_log_refused : (fault : RunFault) → IsRefusalOf (path ++ codes ".log") fault → IsWhyFaultHeld holds path fault

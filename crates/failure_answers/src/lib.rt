@@ -1,23 +1,21 @@
 //! Why nodes of the last round of a DAG file are in error, from the files that stand beside it.
 #![tactic(auto)]
 
-ghost use Rattle.std.specs.Prelude.{◌≡◌, map, IfOk, IfErr, option_map, string_bytes};
+ghost use Rattle.std.specs.Prelude.{◌≡◌, ◌++◌, codes, map, IfOk, IfErr, option_map, string_bytes};
 ghost use Rattle.dag_main_check.specs.declared.fault.RunFault.TheVariants.{Memory};
-ghost use Rattle.splices_flat.specs.FileSet.{bytes_of, entries_of};
-ghost use Rattle.dag_main_files.specs.Beside.{IsFileFault};
-ghost use Rattle.dag_main_inspect.specs.Asked.{IsAnswerFault};
-ghost use Rattle.dag_main_inspect.specs.Statused.{IsStatusFault};
+ghost use Rattle.dag_main_files.specs.Beside.{IsFileFault, IsRefusalOf};
+ghost use Rattle.dag_main_files.specs.Opened.{IsOfFiles, IsOfSome, IsRefusedFor, IsRefusedForSome};
+ghost use Rattle.dag_main_inspect.specs.Asked.{IsNotAnsweredBy, IsAnswerFault};
 ghost use Rattle.dag_main_inspect.specs.declared.by_journal.Question.TheVariants.{Status};
 ghost use Rattle.failure_answers.specs.Answered.{IsAnswerOf, IsWhyFrom, IsWhyOf, IsWhyHeld, IsWhyFaultHeld};
 
 use dag_main_check::{Answer, RunFault, warning_text};
-use dag_main_files::{Folder, Place, Reading, files_of, named};
-use dag_main_inspect::{bytes_in, core_of, last_round, plan_by, records_of};
+use dag_main_files::{Folder, Place, named};
+use dag_main_inspect::{bytes_in, core_of, last_round, plan_of_round, records_of};
 use dag_reader::Text;
 use event_journal::require_regular;
 use failure_report::{Grouping, Surroundings, Why, why_text};
 use sched_core::Core;
-use splices_flat::FileSet;
 use std::alloc::Global;
 use std::fs::File;
 use std::io::{self, ErrorKind, Read, Seek, SeekFrom};
@@ -41,7 +39,10 @@ fn end_of<R: Files<File = File> + AllocGlobal>(rt: &R, path: &str) -> io::Result
 }
 
 /// The bytes of the log of a DAG file, of one that is long its end; none where the system has none to give.
-fn log_of<R: Files<File = File> + AllocGlobal>(
+///
+/// # Errors
+/// `Memory` alone.
+pub fn log_of<R: Files<File = File> + AllocGlobal>(
     rt: &R,
     place: &Place<'_>,
 ) -> Result<Vec<u8>, RunFault>
@@ -61,12 +62,13 @@ fn log_of<R: Files<File = File> + AllocGlobal>(
 ///
 /// # Errors
 /// `FileRefused` with the path of a log that may be another user's; `Memory`.
-fn has_own_log<R: Files + AllocGlobal>(
+pub fn has_own_log<R: Files + AllocGlobal>(
     rt: &R,
     place: &Place<'_>,
     trust_owner: bool,
 ) -> Result<(), RunFault>
-    ensures { IfErr result IsFileFault }
+    ensures refused { IfErr result IsFileFault }
+    ensures named { IfErr result (IsRefusalOf (place.now.top.now ++ codes ".log")) }
 {
     let path = Text::joined(rt.alloc(), place.top, ".log")?;
     place.trusts(rt, path.as_str(), trust_owner)
@@ -105,24 +107,32 @@ fn answer_of<R: Files<File = File> + AllocGlobal>(
     }
 }
 
-/// What is answered by these files, bytes of a rescue file and bytes of a journal.
-fn why_of<R: Files<File = File> + AllocGlobal>(
+/// What is answered for the DAG file of this path by these bytes of a rescue file and of a journal.
+///
+/// # Errors
+/// Those of `plan_of_round`, then that of the journal or its first record that may not follow (`InManager`).
+fn why_of<R: Files<File = File> + AllocGlobal, F: Folder>(
     rt: &R,
+    folder: &F,
     place: &Place<'_>,
-    files: &FileSet,
     rescue: Option<&[u8]>,
     journal: Option<&[u8]>,
     names: &[&str],
     grouping: Grouping,
 ) -> Result<Answer, RunFault>
-    ensures answered { IfOk result (λ answer. IsWhyFrom grouping files.now place.now.top.now
+    ensures answered { IfOk result (λ answer. IsOfSome place.now.top.now (IsWhyFrom grouping place.now.top.now
         (option_map (λ b. b.now) rescue.entry) (option_map (λ b. b.now) journal.entry) (map (λ n. n.now) names.now)
-        (string_bytes answer.text) (string_bytes answer.warnings) answer.status) }
-    ensures refused { IfErr result (IsStatusFault (bytes_of files.now) (entries_of files.now) place.now.top.now
-        (option_map (λ b. b.now) rescue.entry) (option_map (λ b. b.now) journal.entry)) }
+        (string_bytes answer.text) (string_bytes answer.warnings) answer.status)) }
+    ensures held { F.honest folder.now → IfOk result (λ answer. IsOfFiles (F.holds folder.now) place.now.top.now (IsWhyFrom grouping place.now.top.now
+        (option_map (λ b. b.now) rescue.entry) (option_map (λ b. b.now) journal.entry) (map (λ n. n.now) names.now)
+        (string_bytes answer.text) (string_bytes answer.warnings) answer.status)) }
+    ensures refused { IfErr result (IsRefusedForSome place.now.top.now (IsNotAnsweredBy Status place.now.top.now
+        (option_map (λ b. b.now) rescue.entry) (option_map (λ b. b.now) journal.entry))) }
+    ensures refused_held { F.honest folder.now → IfErr result (IsRefusedFor (F.holds folder.now) place.now.top.now (IsNotAnsweredBy Status place.now.top.now
+        (option_map (λ b. b.now) rescue.entry) (option_map (λ b. b.now) journal.entry))) }
 {
     let alloc = rt.alloc();
-    let plan = plan_by(alloc, files, place.top, rescue, journal)?;
+    let plan = plan_of_round(alloc, folder, place.top, rescue, journal)?;
     let bytes = bytes_in(journal);
     let records = records_of(alloc, &plan, bytes)?;
     let core = core_of(alloc, &plan, bytes, &records)?;
@@ -163,10 +173,9 @@ pub fn why_here<R: Files<File = File> + AllocGlobal, F: Folder>(
     let alloc = rt.alloc();
     let round = last_round(alloc, folder, place.top)?;
     has_own_log(rt, place, trust_owner)?;
-    let files = files_of(alloc, folder, place.top, Reading::SubmitFilesToo)?;
     let rescue = round.rescue.as_deref();
     let journal = round.journal.as_deref();
-    match why_of(rt, place, &files, rescue, journal, names, grouping) {
+    match why_of(rt, folder, place, rescue, journal, names, grouping) {
         Ok(answer) => Ok(answer),
         Err(fault) => Err(named(fault, round.name)),
     }

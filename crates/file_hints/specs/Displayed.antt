@@ -2,7 +2,7 @@
 use Rattle.std.specs.Prelude.{ℕ, List, ◌++◌, codes}
 use Rattle.std.specs.Fmt.{decimal}
 use Rattle.file_hints.specs.declared.hint.Hint.{Hint}
-use Rattle.file_hints.specs.declared.hint.Hint.TheVariants.{UnknownName, Misspelled, PassedOver, BelowQueue, Unassigned, MissingProgram, Elsewhere, WordsInProgram, FolderAsProgram, NotExecutable, CarriageReturn, MissingFolder, SharedOutput, NoLog, NoEnvironment, OwnFolder, ContinuedComment, LaunchNumber, SkipValue, SignalValue, NoopScript}
+use Rattle.file_hints.specs.declared.hint.Hint.TheVariants.{UnknownName, Misspelled, PassedOver, BelowQueue, Unassigned, MisspelledMacro, MissingProgram, Elsewhere, WordsInProgram, FolderAsProgram, NotExecutable, CarriageReturn, MissingFolder, SharedOutput, NoLog, NoEnvironment, OwnFolder, ContinuedComment, LaunchNumber, SkipValue, SignalValue, NoopScript}
 use Rattle.file_hints.specs.declared.hint.Finding.{Finding}
 
 -- what stands behind the place
@@ -12,6 +12,7 @@ hint_text (Misspelled name meant) = name ++ (codes " is no command that dagrun r
 hint_text (PassedOver name instead) = name ++ (codes " is passed over: " ++ instead)
 hint_text (BelowQueue name) = name ++ codes " stands below queue and has no effect: write it above"
 hint_text (Unassigned name) = codes "$(" ++ (name ++ codes ") is assigned nowhere, so it is empty: assign it here or by VARS, or give it a default")
+hint_text (MisspelledMacro name meant) = codes "$(" ++ (name ++ (codes ") is assigned nowhere, so it is empty: is $(" ++ (meant ++ codes ") meant?")))
 hint_text (MissingProgram path) = path ++ codes " is not there: put it there, or mend its path"
 hint_text (Elsewhere path found) = path ++ (codes " is not there, and the folders of PATH are not searched: is " ++ (found ++ codes " meant?"))
 hint_text (WordsInProgram path program words) = path ++ (codes " is not there: write executable = " ++ (program ++ (codes " and arguments = " ++ words)))
@@ -36,6 +37,7 @@ topic_of (Misspelled name meant) = codes "hint"
 topic_of (PassedOver name instead) = codes "hint"
 topic_of (BelowQueue name) = codes "hint"
 topic_of (Unassigned name) = codes "hint"
+topic_of (MisspelledMacro name meant) = codes "hint"
 topic_of (MissingProgram path) = codes "hint"
 topic_of (Elsewhere path found) = codes "hint"
 topic_of (WordsInProgram path program words) = codes "hint"

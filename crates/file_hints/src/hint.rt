@@ -26,6 +26,11 @@ pub enum Hint {
     BelowQueue(Text),
     /// A macro of this name that is referred to without a default.
     Unassigned(Text),
+    /// Such a macro, and the one that may have been meant.
+    MisspelledMacro {
+        name: Text,
+        meant: Text,
+    },
     /// The program of this path, which is not there.
     MissingProgram(Text),
     /// The program of this path, which is not there, and one of its name in a folder of PATH.
@@ -95,6 +100,10 @@ impl fmt::Display for Hint {
             Hint::Unassigned(name) => write!(
                 f,
                 "$({name}) is assigned nowhere, so it is empty: assign it here or by VARS, or give it a default"
+            ),
+            Hint::MisspelledMacro { name, meant } => write!(
+                f,
+                "$({name}) is assigned nowhere, so it is empty: is $({meant}) meant?"
             ),
             Hint::MissingProgram(path) => {
                 write!(f, "{path} is not there: put it there, or mend its path")
@@ -203,6 +212,7 @@ fn topic_of(hint: &Hint) -> &'static str
         | Hint::PassedOver { .. }
         | Hint::BelowQueue(_)
         | Hint::Unassigned(_)
+        | Hint::MisspelledMacro { .. }
         | Hint::MissingProgram(_)
         | Hint::Elsewhere { .. }
         | Hint::WordsInProgram { .. }

@@ -15,7 +15,7 @@ mod submit;
 pub use commands::dag_notes;
 pub use hint::{Finding, Hint, finding_line};
 pub use macros::{Reference, references};
-pub use meant::with_meant;
+pub use meant::{with_meant, with_meant_macros};
 pub use names::{CommandNames, command_names};
 pub use notes::{comment_notes, submit_notes};
 pub use outputs::{Clash, Writer, clashes};

@@ -15,8 +15,9 @@ use Rattle.dag_main_files.specs.Folder.{IsReadFrom}
 use Rattle.fault_list.specs.FaultPlaces.{dag_place, plan_place, fault_place}
 use Rattle.fault_list.specs.LineFaults.{IsCheckOfAll, nothing_wrong, lines_wrong, IsRefusalOfAll}
 use Rattle.fault_list.proofs.Answers.{first-fault}
-use Rattle.folder_answers.specs.Answered.{missing_file, missing_submit, missing_in, IsConfirmed, stays, came_meanwhile, asking_had_no_memory, IsCheckOfAllFrom, held_nothing_wrong, held_lines_wrong}
-use Rattle.folder_answers.proofs.Held.{checked, refused}
+use Rattle.folder_answers.specs.Answered.{IsConfirmed, stays, came_meanwhile, asking_had_no_memory, IsCheckOfAllFrom, held_nothing_wrong, held_lines_wrong}
+use Rattle.dag_main_check.specs.Missing.{missing_file, missing_submit, missing_in}
+use Rattle.dag_main_check.proofs.HeldFiles.{checked, refused}
 
 -- a fault that names a line tells of no file as missing
 dag-not-missing : (fault : DagFault) → is_some (dag_place fault) ≡ true → (path : List ℕ) → missing_file fault ≡ Some path → ⊥

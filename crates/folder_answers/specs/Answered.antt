@@ -4,32 +4,15 @@ use Rattle.std.specs.Global.{Global}
 use Rattle.splices_flat.specs.Opening.{Files}
 use Rattle.splices_flat.specs.FileSet.{bytes_of}
 use Rattle.splices_flat.specs.declared.file_set.FileSet.{FileSet}
-use Rattle.splices_flat.specs.declared.fault.DagFault.{DagFault}
-use Rattle.splices_flat.specs.declared.fault.DagFault.TheVariants as files
-use Rattle.run_plan.specs.declared.fault.PlanFault.{PlanFault}
-use Rattle.run_plan.specs.declared.fault.PlanFault.TheVariants as plans
 use Rattle.throttles.specs.declared.Limits.{Limits}
 use Rattle.dag_main_check.specs.declared.fault.RunFault.{RunFault}
-use Rattle.dag_main_check.specs.declared.fault.RunFault.TheVariants.{InFiles, InPlan, FileRefused, Memory}
+use Rattle.dag_main_check.specs.declared.fault.RunFault.TheVariants.{FileRefused, Memory}
+use Rattle.dag_main_check.specs.Missing.{missing_in}
 use Rattle.dag_main_check.specs.Checked.{IsCheckOf, IsCheckFault}
 use Rattle.dag_main_files.specs.Beside.{IsInputFault}
 use Rattle.dag_main_files.specs.Folder.{IsReadFrom}
 use Rattle.dag_main_rehearse.specs.Rehearsed.{IsRehearsalOf, IsRehearsalFault}
 use Rattle.fault_list.specs.LineFaults.{IsCheckOfAll, ListsLineFaults}
-
--- the path of the file of which a fault tells that it is missing
-abbrev pub missing_file : DagFault → Option (List ℕ)
-missing_file (files.MissingFile path) = Some path
-missing_file _ = None
-
-abbrev pub missing_submit : PlanFault → Option (List ℕ)
-missing_submit (plans.MissingFile path) = Some path
-missing_submit _ = None
-
-abbrev pub missing_in : RunFault → Option (List ℕ)
-missing_in (InFiles fault) = missing_file fault
-missing_in (InPlan fault) = missing_submit fault
-missing_in _ = None
 
 -- What becomes of a fault where these files are held: it stays, where the file that it tells of as missing is not held; the path of that file is
 -- returned, where it came meanwhile; memory ran out.
@@ -42,19 +25,24 @@ pub data IsConfirmed (holds : Files) (fault : RunFault) : RunFault → Type 0 wh
 abbrev pub IsCheckOfSome : (path text warnings : List ℕ) → (status : ℕ) → Type 0
 IsCheckOfSome path text warnings status = (files : FileSet) × IsCheckOf (bytes_of files) path text warnings status
 
--- Why it is refused: standard input can't be read, or memory ran out; for what some files say; or a file that is missing by these came meanwhile.
-pub data IsCheckRefusal (path : List ℕ) : RunFault → Type 0 where
-  check_not_read : (fault : RunFault) → IsInputFault path fault → IsCheckRefusal path fault
-  not_checked : (files : FileSet) (fault : RunFault) → IsCheckFault (bytes_of files) path fault → IsCheckRefusal path fault
-  file_came : (files : FileSet) (missing : RunFault) (file : String Global) → IsCheckFault (bytes_of files) path missing →
-      missing_in missing ≡ Some (string_bytes file) → IsCheckRefusal path (FileRefused file)
-
--- The same where these files are held: for what they say.
+-- Why it is refused where these files are held: standard input can't be read, or memory ran out; or for what the files say.
 pub data IsCheckRefusalFrom (holds : Files) (path : List ℕ) : RunFault → Type 0 where
   held_not_read : (fault : RunFault) → IsInputFault path fault → IsCheckRefusalFrom holds path fault
   held_not_checked : (fault : RunFault) → IsCheckFault holds path fault → IsCheckRefusalFrom holds path fault
+
+-- the same of some files
+abbrev pub IsCheckRefusal : (path : List ℕ) → RunFault → Type 0
+IsCheckRefusal path fault = (holds : Files) × IsCheckRefusalFrom holds path fault
+
+-- Why `check --all` is refused where these files are held: for what they say; or a file that is missing by those that were read came meanwhile.
+pub data IsCheckOfAllRefusalFrom (holds : Files) (path : List ℕ) : RunFault → Type 0 where
+  held_refused : (fault : RunFault) → IsCheckRefusalFrom holds path fault → IsCheckOfAllRefusalFrom holds path fault
   held_file_came : (files : FileSet) (missing : RunFault) (file : String Global) → IsReadFrom holds path files →
-      IsCheckFault (bytes_of files) path missing → missing_in missing ≡ Some (string_bytes file) → IsCheckRefusalFrom holds path (FileRefused file)
+      IsCheckFault (bytes_of files) path missing → missing_in missing ≡ Some (string_bytes file) → IsCheckOfAllRefusalFrom holds path (FileRefused file)
+
+-- the same of some files
+abbrev pub IsCheckOfAllRefusal : (path : List ℕ) → RunFault → Type 0
+IsCheckOfAllRefusal path fault = (holds : Files) × IsCheckOfAllRefusalFrom holds path fault
 
 -- what `check --all` answers, of some files of the path
 abbrev pub IsCheckOfAllSome : (path text warnings : List ℕ) → (status : ℕ) → Type 0
@@ -72,13 +60,11 @@ abbrev pub IsRehearsalOfSome : (always_post : Bool) → (path : List ℕ) → (t
 IsRehearsalOfSome always_post path table limits text warnings status =
     (files : FileSet) × IsRehearsalOf always_post (bytes_of files) path table limits text warnings status
 
--- why it is refused: standard input is, or memory ran out; or for what some files and the table say
-pub data IsRehearsalRefusal (path : List ℕ) (table : Option (List ℕ)) : RunFault → Type 0 where
-  input_not_read : (fault : RunFault) → IsInputFault path fault → IsRehearsalRefusal path table fault
-  not_rehearsed : (files : FileSet) (fault : RunFault) → IsRehearsalFault (bytes_of files) path table fault → IsRehearsalRefusal path table fault
-
--- The same where these files are held: for what those that were read and the table say.
+-- Why it is refused where these files are held: standard input is, or memory ran out; or for what the files and the table say.
 pub data IsRehearsalRefusalFrom (holds : Files) (path : List ℕ) (table : Option (List ℕ)) : RunFault → Type 0 where
   held_input_not_read : (fault : RunFault) → IsInputFault path fault → IsRehearsalRefusalFrom holds path table fault
-  held_not_rehearsed : (files : FileSet) (fault : RunFault) → IsReadFrom holds path files → IsRehearsalFault (bytes_of files) path table fault →
-      IsRehearsalRefusalFrom holds path table fault
+  held_not_rehearsed : (fault : RunFault) → IsRehearsalFault holds path table fault → IsRehearsalRefusalFrom holds path table fault
+
+-- the same of some files
+abbrev pub IsRehearsalRefusal : (path : List ℕ) → (table : Option (List ℕ)) → RunFault → Type 0
+IsRehearsalRefusal path table fault = (holds : Files) × IsRehearsalRefusalFrom holds path table fault

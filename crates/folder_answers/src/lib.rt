@@ -5,20 +5,21 @@ ghost use Rattle.std.specs.Prelude.{◌≡◌, None, Some, IfOk, IfErr, string_b
 ghost use Rattle.std.specs.Option.{option_map};
 ghost use Rattle.dag_main_check.specs.Checked.{IsCheckOf};
 ghost use Rattle.fault_list.specs.FaultPlaces.{fault_place};
-ghost use Rattle.folder_answers.specs.Answered.{missing_in, IsCheckOfAllSome, IsCheckOfAllFrom, IsCheckOfSome, IsCheckRefusal, IsCheckRefusalFrom, IsConfirmed, IsRehearsalOfSome, IsRehearsalRefusal, IsRehearsalRefusalFrom};
+ghost use Rattle.folder_answers.specs.Answered.{IsCheckOfAllSome, IsCheckOfAllFrom, IsCheckOfAllRefusal, IsCheckOfAllRefusalFrom, IsCheckOfSome, IsCheckRefusal, IsCheckRefusalFrom, IsConfirmed, IsRehearsalOfSome, IsRehearsalRefusal, IsRehearsalRefusalFrom};
 ghost use Rattle.dag_main_rehearse.specs.Rehearsed.{IsRehearsalOf};
 
 mod reading;
 
 use crate::reading::all_files_of;
-use dag_main_check::{Answer, RunFault, check_text};
-use dag_main_files::{Folder, Reading, files_of};
+use dag_main_check::{Answer, RunFault, check_text, missing_in};
+use dag_main_files::{Folder, Reading, files_of, read_missing};
 use dag_main_rehearse::rehearse_text;
 use fault_list::check_all;
-use run_plan::PlanFault;
-use splices_flat::DagFault;
 use std::alloc::Global;
 use throttles::Limits;
+
+/// How many files are read one by one that came while others were read; far more than a DAG has.
+const MOST_COME: usize = 1 << 20;
 
 /// What `check` answers of the DAG file of this path: `ok nodes=N edges=E final=yes` or `final=no`, with the
 /// warnings of its files.
@@ -26,7 +27,7 @@ use throttles::Limits;
 /// # Errors
 /// Standard input that is asked for and can't be read (`FileRefused`); the first fault that opening the files meets
 /// (`InFiles`), a cycle (`Cycle`), the first fault of the submit files and the texts of jobs, in plan order (`InPlan`);
-/// `FileRefused` with the path of a file that was missing as the files were read, and is there now; want of memory.
+/// want of memory.
 pub fn check_here<F: Folder>(alloc: Global, folder: &F, top: &str) -> Result<Answer, RunFault>
     ensures checked { IfOk result (λ answer. IsCheckOfSome top.now
         (string_bytes answer.text) (string_bytes answer.warnings) answer.status) }
@@ -36,11 +37,14 @@ pub fn check_here<F: Folder>(alloc: Global, folder: &F, top: &str) -> Result<Ans
         (string_bytes answer.text) (string_bytes answer.warnings) answer.status) }
     ensures refused_held { F.honest folder.now → IfErr result (IsCheckRefusalFrom (F.holds folder.now) top.now) }
 {
-    let files = files_of(alloc, folder, top, Reading::SubmitFilesToo)?;
-    match check_text(alloc, &files, top) {
-        Ok(answer) => Ok(answer),
-        Err(fault) => Err(confirmed(alloc, folder, fault)),
+    let mut files = files_of(alloc, folder, top, Reading::SubmitFilesToo)?;
+    for _ in 0..MOST_COME {
+        match check_text(alloc, &files, top) {
+            Ok(answer) => return Ok(answer),
+            Err(fault) => read_missing(alloc, folder, &mut files, fault)?,
+        }
     }
+    Err(RunFault::Memory)
 }
 
 /// What `check --all` answers of the DAG file of this path: what `check` does; or, where a line is wrong, no text, as warnings the
@@ -48,16 +52,17 @@ pub fn check_here<F: Folder>(alloc: Global, folder: &F, top: &str) -> Result<Ans
 /// it are empty, in memory alone; at most 100 are.
 ///
 /// # Errors
-/// Those of `check_here` that name no line.
+/// Those of `check_here` that name no line; `FileRefused` with the path of a file that was missing as the files were read, and is there
+/// now.
 pub fn check_all_here<F: Folder>(alloc: Global, folder: &F, top: &str) -> Result<Answer, RunFault>
     ensures checked { IfOk result (λ answer. IsCheckOfAllSome top.now
         (string_bytes answer.text) (string_bytes answer.warnings) answer.status) }
-    ensures refused { IfErr result (IsCheckRefusal top.now) }
+    ensures refused { IfErr result (IsCheckOfAllRefusal top.now) }
     ensures has_no_line { IfErr result (λ fault. fault_place fault ≡ None) }
     // It is the answer for what the folder holds, and the refusal too.
     ensures held { F.honest folder.now → IfOk result (λ answer. IsCheckOfAllFrom (F.holds folder.now) top.now
         (string_bytes answer.text) (string_bytes answer.warnings) answer.status) }
-    ensures refused_held { F.honest folder.now → IfErr result (IsCheckRefusalFrom (F.holds folder.now) top.now) }
+    ensures refused_held { F.honest folder.now → IfErr result (IsCheckOfAllRefusalFrom (F.holds folder.now) top.now) }
 {
     let files = all_files_of(alloc, folder, top)?;
     match check_all(alloc, files, top) {
@@ -84,17 +89,6 @@ fn confirmed<F: Folder>(alloc: Global, folder: &F, fault: RunFault) -> RunFault
     }
 }
 
-/// The path of the file of which a fault tells that it is missing.
-fn missing_in(fault: &RunFault) -> Option<&str>
-    ensures { option_map (λ path. path.now) result ≡ missing_in fault.now }
-{
-    match fault {
-        RunFault::InFiles(DagFault::MissingFile(path)) => Some(path.as_str()),
-        RunFault::InPlan(PlanFault::MissingFile(path)) => Some(path.as_str()),
-        _ => None,
-    }
-}
-
 /// What `rehearse` answers of the DAG file of this path: the report of a run at the outcomes of a table, where
 /// there is one, under these limits. Submit files are not read.
 ///
@@ -117,6 +111,12 @@ pub fn rehearse_here<F: Folder>(
     ensures refused_held { F.honest folder.now
         → IfErr result (IsRehearsalRefusalFrom (F.holds folder.now) top.now (option_map (λ b. b.now) table.entry)) }
 {
-    let files = files_of(alloc, folder, top, Reading::SplicesAlone)?;
-    rehearse_text(alloc, &files, top, table, limits, always_post)
+    let mut files = files_of(alloc, folder, top, Reading::SplicesAlone)?;
+    for _ in 0..MOST_COME {
+        match rehearse_text(alloc, &files, top, table, limits, always_post) {
+            Ok(answer) => return Ok(answer),
+            Err(fault) => read_missing(alloc, folder, &mut files, fault)?,
+        }
+    }
+    Err(RunFault::Memory)
 }

@@ -8,7 +8,10 @@ use crate::opened::{lines_of, opened_files};
 use crate::outputs::add_clashes;
 use crate::scripts::add_scripts;
 use dag_graph::{Graph, GraphFault};
-use file_hints::{command_names, comment_notes, dag_notes, submit_hints, submit_notes, with_meant};
+use file_hints::{
+    command_names, comment_notes, dag_notes, submit_hints, submit_notes, with_meant,
+    with_meant_macros,
+};
 use splices::open_dag;
 use splices_flat::{FileSet, FlatDag, SpliceFault};
 use std::alloc::{AllocError, Global};
@@ -100,8 +103,11 @@ fn add_submitted(
 ) -> Result<(), AllocError> {
     let names = command_names();
     for file in jobs.files.iter() {
-        let found = submit_hints(alloc, &names, file.placed.as_slice(), file.vars.as_slice())?;
-        findings.add_all(file.path.as_str(), with_meant(alloc, &names, found)?)?;
+        let (placed, vars) = (file.placed.as_slice(), file.vars.as_slice());
+        let found = submit_hints(alloc, &names, placed, vars)?;
+        let found = with_meant(alloc, &names, found)?;
+        let found = with_meant_macros(alloc, &names, placed, vars, found)?;
+        findings.add_all(file.path.as_str(), found)?;
     }
     Ok(())
 }

@@ -5,6 +5,8 @@ use Rattle.node_machine.specs.declared.Key.{Key}
 use Rattle.node_machine.specs.declared.Phase.{Phase}
 use Rattle.node_machine.specs.declared.Phase.TheVariants.{Pre, Job, Post}
 use Rattle.run_plan_node.specs.declared.command.ChildCommand.{ChildCommand}
+use Rattle.run_plan_node.specs.Node.{NodeSpec}
+use Rattle.run_plan_node.specs.Requests.{requests_of}
 use Rattle.job_starter_local.specs.declared.launching.Launcher.{Launcher}
 
 -- a job, and no script
@@ -22,14 +24,16 @@ is_spared (Some spared) node = spared == node
 abbrev pub has_launcher : Option ℕ → Key → Bool
 has_launcher spared key = is_job key.phase && not (is_spared spared key.node)
 
--- The launcher's program and its words, then the path of the command's own program as it would be started, then the command's words. The folder,
--- the streams and the environment are those of the command.
-abbrev pub behind_launcher : Option (List ℕ) → List (List ℕ) → List ℕ → ChildCommand → ChildCommand
-behind_launcher None words folder command = command
-behind_launcher (Some program) words folder command =
-    record command { program = program; words = words ++ join folder command.program ∷ command.words }
+-- The launcher's program and its words, then the path of the command's own program as it would be started, then the command's words. The folder
+-- and the streams are those of the command. The environment has what the job asks of a cluster, and then the command's own settings, of which
+-- the last one counts.
+abbrev pub behind_launcher : Option (List ℕ) → List (List ℕ) → List ℕ → List (List ℕ) → ChildCommand → ChildCommand
+behind_launcher None words folder requests command = command
+behind_launcher (Some program) words folder requests command =
+    record command { program = program; words = words ++ join folder command.program ∷ command.words; environment = requests ++ command.environment }
 
--- by which command the child of a key is started, which has this command of its own, seen from a folder
-abbrev pub started_by : Launcher → List ℕ → Key → ChildCommand → ChildCommand
-started_by launcher folder key command =
-    if has_launcher launcher.spared key then behind_launcher launcher.program launcher.words folder command else command
+-- By which command the child of a key is started, which has this command of its own, seen from a folder; its node's job asks for this.
+abbrev pub started_by : Launcher → List ℕ → Key → NodeSpec → ChildCommand → ChildCommand
+started_by launcher folder key node command =
+    if has_launcher launcher.spared key
+    then behind_launcher launcher.program launcher.words folder (requests_of node key.attempt) command else command

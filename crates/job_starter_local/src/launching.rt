@@ -5,7 +5,7 @@ ghost use Rattle.job_starter_local.specs.Launching.{is_job, is_spared, has_launc
 
 use dag_reader::{Text, Texts};
 use node_machine::{Key, Phase};
-use run_plan_node::ChildCommand;
+use run_plan_node::{ChildCommand, NodeSpec};
 use splices_flat::path_in;
 use std::alloc::{AllocError, Global};
 
@@ -84,8 +84,8 @@ impl Launcher {
         }
     }
 
-    /// The command by which the child of this key is started, which has this command of its own; none where it is
-    /// that one. Relative paths are seen from the folder.
+    /// The command by which the child of this key of this node is started, which has this command of its own; none where it is
+    /// that one. Relative paths are seen from the folder. A launcher is handed what the job asks of a cluster (`NodeSpec::requests`).
     ///
     /// # Errors
     /// Want of memory.
@@ -94,10 +94,11 @@ impl Launcher {
         alloc: Global,
         folder: &str,
         key: &Key,
+        node: &NodeSpec,
         command: &ChildCommand,
     ) -> Result<Option<ChildCommand>, AllocError>
         ensures { IfOk result (λ launched.
-            unwrap_or launched command.now ≡ started_by self.now folder.now key.now command.now) }
+            unwrap_or launched command.now ≡ started_by self.now folder.now key.now node.now command.now) }
     {
         let Some(program) = &self.program else {
             return Ok(None);
@@ -107,7 +108,9 @@ impl Launcher {
         }
         let own = path_in(alloc, folder, command.program.as_str())?;
         let words = words_behind(alloc, &self.words, own, command.words.as_slice())?;
-        Ok(Some(with_program(alloc, program, words, command)?))
+        let mut environment = node.requests(alloc, key.attempt)?;
+        add_words(alloc, &mut environment, command.environment.as_slice())?;
+        Ok(Some(with_program(alloc, program, words, environment, command)?))
     }
 }
 
@@ -154,14 +157,15 @@ pub(crate) fn copy_of(alloc: Global, text: &Option<Text>) -> Result<Option<Text>
     }
 }
 
-/// A command with another program and other words.
+/// A command with another program, other words and another environment.
 fn with_program(
     alloc: Global,
     program: &Text,
     words: Texts,
+    environment: Texts,
     command: &ChildCommand,
 ) -> Result<ChildCommand, AllocError>
-    ensures { IfOk result (λ other. other ≡ record command.now { program = program.now; words = words }) }
+    ensures { IfOk result (λ other. other ≡ record command.now { program = program.now; words = words; environment = environment }) }
 {
     Ok(ChildCommand {
         program: Text::new(alloc, program.as_str())?,
@@ -170,6 +174,6 @@ fn with_program(
         input: copy_of(alloc, &command.input)?,
         output: copy_of(alloc, &command.output)?,
         error: copy_of(alloc, &command.error)?,
-        environment: command.environment.from_place(alloc, 0)?,
+        environment,
     })
 }

@@ -25,7 +25,7 @@ pub use launching::Launcher;
 use node_machine::{Key, Outcome};
 use round_identity::RoundIdentity;
 use run_plan::Plan;
-use run_plan_node::ChildCommand;
+use run_plan_node::{ChildCommand, NodeSpec};
 use scripts::{kept_command, settle_kept};
 pub use starting::command_for;
 use starting::{Refusal, start_child};
@@ -365,13 +365,18 @@ fn start_in_time<R: Processes + Files<File = File> + Clock, W: ChildWatcher>(
     start_child(alloc, rt, folder, inherited, command)
 }
 
+/// What the files say of a node of a plan.
+fn spec_in<'a>(plan: &'a Plan, node: u32) -> &'a NodeSpec {
+    if node <= plan.count() {
+        plan.spec(node)
+    } else {
+        plan.spec(plan.count())
+    }
+}
+
 /// The name of a node of a plan.
 fn name_in<'a>(plan: &'a Plan, node: u32) -> &'a str {
-    if node <= plan.count() {
-        plan.spec(node).name()
-    } else {
-        ""
-    }
+    spec_in(plan, node).name()
 }
 
 impl<'a, R: Processes + Files<File = File> + Clock + Drop, W: ChildWatcher + Drop> LocalSystem<
@@ -434,8 +439,9 @@ impl<'a, R: Processes + Files<File = File> + Clock + Drop, W: ChildWatcher + Dro
             let dag = self.identity.dag;
             return kept_command(self.alloc, &self.rt, dag, name, key, command);
         }
+        let node = spec_in(self.plan, key.node);
         self.launcher
-            .started_by(self.alloc, self.folder.as_str(), key, command)
+            .started_by(self.alloc, self.folder.as_str(), key, node, command)
     }
 
     /// What a script has printed is kept or dropped, now that it has ended so.

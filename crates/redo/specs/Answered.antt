@@ -1,8 +1,6 @@
 -- What `redo` answers, and why it is refused.
-use Rattle.std.specs.Prelude.{◌≡◌, ℕ, Bool, false, List, [], ◌++◌, Option, Some, IsTrue, codes, string_bytes}
+use Rattle.std.specs.Prelude.{◌≡◌, ℕ, Bool, false, List, [], ◌++◌, Option, Some, None, IsTrue, codes, string_bytes}
 use Rattle.splices_flat.specs.Opening.{Files}
-use Rattle.splices_flat.specs.FileSet.{bytes_of, entries_of}
-use Rattle.splices_flat.specs.declared.file_set.FileSet.{FileSet}
 use Rattle.node_machine.specs.declared.Record.{Record}
 use Rattle.rescue_file.specs.Numbered.{rescue_name_of}
 use Rattle.run_plan.specs.Plan.{Plan, count_of}
@@ -11,8 +9,8 @@ use Rattle.log_lines.specs.Words.{word_text}
 use Rattle.dag_main_check.specs.Planned.{IsPlanWith}
 use Rattle.dag_main_check.specs.Warnings.{warning_lines}
 use Rattle.dag_main_check.specs.declared.fault.RunFault.{RunFault}
-use Rattle.dag_main_files.specs.Beside.{journal_name_of, IsFileFault}
-use Rattle.dag_main_files.specs.Folder.{IsReadFrom}
+use Rattle.dag_main_files.specs.Beside.{journal_name_of, IsFileFault, IsRoundFault}
+use Rattle.dag_main_files.specs.Opened.{IsOfFiles, IsOfSome}
 use Rattle.dag_main_inspect.specs.Asked.{IsAnswerFault, IsAnswerFaultHeld}
 use Rattle.dag_main_inspect.specs.LastRound.{IsLastRound}
 use Rattle.dag_main_inspect.specs.Statused.{journal_bytes, flag_by, records_in_bytes}
@@ -41,9 +39,9 @@ IsFoundOfNames plan past path names only (Marked marked) = (numbers : List ℕ) 
 IsFoundOfNames plan past path names only (Unknown line) = IsUnknownName plan path names (string_bytes line)
 
 -- that is found in the plan of these files, with a rescue file or none, where the records of a journal or none are lawful
-pub record IsFoundBy (files : FileSet) (path : List ℕ) (rescue journal : Option (List ℕ)) (names : List (List ℕ)) (only : Bool) (found : Found) : Type 0 where
+pub record IsFoundBy (path : List ℕ) (rescue journal : Option (List ℕ)) (names : List (List ℕ)) (only : Bool) (found : Found) (files : Files) (entries : List (List ℕ × List ℕ)) : Type 0 where
   pub plan : Plan
-  pub planned : IsPlanWith (flag_by journal) (bytes_of files) (entries_of files) path rescue plan
+  pub planned : IsPlanWith (flag_by journal) files entries path rescue plan
   pub past : List Record
   pub are_records : records_in_bytes plan (journal_bytes journal) ≡ Some (chronological past)
   pub lawful : IsTrue (is_lawful plan past)
@@ -66,9 +64,10 @@ pub data IsRedoAnswer (plan : Plan) (past : List Record) (path journal : List �
   unknown_name : IsUnknownName plan path names warnings → text ≡ [] → status ≡ 125 → IsRedoAnswer plan past path journal names only text warnings status
 
 -- that is the answer of the plan of these files, with a rescue file or none, where the records of a journal or none are lawful
-pub record IsRedoFrom (files : FileSet) (path : List ℕ) (rescue journal : Option (List ℕ)) (names : List (List ℕ)) (only : Bool) (text warnings : List ℕ) (status : ℕ) : Type 0 where
+pub record IsRedoFrom (path : List ℕ) (rescue journal : Option (List ℕ)) (names : List (List ℕ)) (only : Bool) (text warnings : List ℕ) (status : ℕ)
+    (files : Files) (entries : List (List ℕ × List ℕ)) : Type 0 where
   pub plan : Plan
-  pub planned : IsPlanWith (flag_by journal) (bytes_of files) (entries_of files) path rescue plan
+  pub planned : IsPlanWith (flag_by journal) files entries path rescue plan
   pub past : List Record
   pub are_records : records_in_bytes plan (journal_bytes journal) ≡ Some (chronological past)
   pub lawful : IsTrue (is_lawful plan past)
@@ -77,22 +76,24 @@ pub record IsRedoFrom (files : FileSet) (path : List ℕ) (rescue journal : Opti
 -- That is the answer for the DAG file of a path: of some files, with a rescue file or none and a journal or none; or there is no round.
 pub data IsRedoOf (path : List ℕ) (names : List (List ℕ)) (only : Bool) (text warnings : List ℕ) (status : ℕ) : Type 0 where
   has_no_round : text ≡ [] → warnings ≡ no_round_line path → status ≡ 125 → IsRedoOf path names only text warnings status
-  of_round : (files : FileSet) (rescue journal : Option (List ℕ)) → IsRedoFrom files path rescue journal names only text warnings status →
+  of_round : (rescue journal : Option (List ℕ)) → IsOfSome path (IsRedoFrom path rescue journal names only text warnings status) →
       IsRedoOf path names only text warnings status
 
--- The same where these files are held and these paths are there: of the DAG file and those that were read with it, the journal, and the rescue
--- file that the journal's header names; or there is no journal.
+-- The same where these files are held and these paths are there: of the DAG file and all that it names, the journal, and the rescue file that the
+-- journal's header names; or there is no journal.
 pub data IsRedoHeld (holds : Files) (has : List ℕ → Bool) (path : List ℕ) (names : List (List ℕ)) (only : Bool) (text warnings : List ℕ) (status : ℕ) : Type 0 where
   held_no_round : has (journal_name_of path) ≡ false → text ≡ [] → warnings ≡ no_round_line path → status ≡ 125 → IsRedoHeld holds has path names only text warnings status
-  of_held : (files : FileSet) (rescue journal : Option (List ℕ)) → IsReadFrom holds path files → IsLastRound holds path journal rescue →
-      IsRedoFrom files path rescue journal names only text warnings status → IsRedoHeld holds has path names only text warnings status
+  of_held : (rescue journal : Option (List ℕ)) → IsLastRound holds path journal rescue →
+      IsOfFiles holds path (IsRedoFrom path rescue journal names only text warnings status) → IsRedoHeld holds has path names only text warnings status
 
 -- Why nothing is answered: for a cause for which `status` is refused; or the system refuses a file, or memory ran out.
 pub data IsRedoFault (path : List ℕ) : RunFault → Type 0 where
   not_answered : (fault : RunFault) → IsAnswerFault Status path fault → IsRedoFault path fault
   file_not_written : (fault : RunFault) → IsFileFault fault → IsRedoFault path fault
 
--- The same where these files are held: for a cause for which `status` is refused there; or the system refuses a file, or memory ran out.
+-- The same where these files are held: for a cause for which `status` is refused there; or it isn't found out which number the rescue file has;
+-- or the system refuses a file, or memory ran out.
 pub data IsRedoFaultHeld (holds : Files) (path : List ℕ) : RunFault → Type 0 where
   held_not_answered : (fault : RunFault) → IsAnswerFaultHeld holds Status path fault → IsRedoFaultHeld holds path fault
+  held_no_number : (fault : RunFault) → IsRoundFault None fault → IsRedoFaultHeld holds path fault
   held_file_not_written : (fault : RunFault) → IsFileFault fault → IsRedoFaultHeld holds path fault

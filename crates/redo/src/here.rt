@@ -1,23 +1,23 @@
 //! Nodes of the last round that are to run again, from the files that are beside its DAG file.
 
 ghost use Rattle.std.specs.Prelude.{◌≡◌, [], map, IfOk, IfErr, option_map, string_bytes};
-ghost use Rattle.splices_flat.specs.FileSet.{bytes_of, entries_of};
 ghost use Rattle.rescue_file.specs.Numbered.{IsFileNumber, rescue_name_of};
 ghost use Rattle.dag_main_check.specs.declared.fault.RunFault.TheVariants.{Memory};
 ghost use Rattle.salvage.specs.Salvaged.{report_line};
-ghost use Rattle.dag_main_inspect.specs.Statused.{IsStatusFault};
+ghost use Rattle.dag_main_files.specs.Opened.{IsOfFiles, IsOfSome, IsRefusedFor, IsRefusedForSome};
+ghost use Rattle.dag_main_inspect.specs.Asked.{IsNotAnsweredBy};
+ghost use Rattle.dag_main_inspect.specs.declared.by_journal.Question.TheVariants.{Status};
 ghost use Rattle.redo.specs.Answered.{no_round_line, IsMarkedOf, IsFoundOfNames, IsFoundBy, IsRedoReport, IsRedoOf, IsRedoHeld, IsRedoFault, IsRedoFaultHeld};
 
 use crate::marks::{Redone, redone_text};
 use crate::numbers::next_number;
 use dag_main_check::{Answer, RunFault, warning_text};
-use dag_main_files::{Folder, Place, Reading, files_of, journal_path, named, rescue_path};
-use dag_main_inspect::{bytes_in, core_of, last_round, plan_by, records_of};
+use dag_main_files::{Folder, Place, journal_path, named, rescue_path};
+use dag_main_inspect::{bytes_in, core_of, last_round, plan_of_round, records_of};
 use failure_report::{Named, numbers_of};
 use log_lines::push_word;
 use salvage::{has_own_files, write_rescue};
 use sched_core::Core;
-use splices_flat::FileSet;
 use std::alloc::{AllocError, Global};
 use std::fs::File;
 use std::rt::Files;
@@ -85,25 +85,29 @@ fn found_in(
     }
 }
 
-/// What is found of them by these files, bytes of a rescue file and bytes of a journal.
+/// What is found of them for the DAG file of this path by these bytes of a rescue file and of a journal.
 ///
 /// # Errors
-/// As `status_of` has them.
-fn found_by(
+/// Those of `plan_of_round`, then that of the journal or its first record that may not follow (`InManager`).
+fn found_by<F: Folder>(
     alloc: Global,
-    files: &FileSet,
+    folder: &F,
     top: &str,
     rescue: Option<&[u8]>,
     journal: Option<&[u8]>,
     names: &[&str],
     only: bool,
 ) -> Result<Found, RunFault>
-    ensures found { IfOk result (IsFoundBy files.now top.now
-        (option_map (λ b. b.now) rescue.entry) (option_map (λ b. b.now) journal.entry) (map (λ n. n.now) names.now) only) }
-    ensures refused { IfErr result (IsStatusFault (bytes_of files.now) (entries_of files.now) top.now
-        (option_map (λ b. b.now) rescue.entry) (option_map (λ b. b.now) journal.entry)) }
+    ensures found { IfOk result (λ found. IsOfSome top.now (IsFoundBy top.now
+        (option_map (λ b. b.now) rescue.entry) (option_map (λ b. b.now) journal.entry) (map (λ n. n.now) names.now) only found)) }
+    ensures held { F.honest folder.now → IfOk result (λ found. IsOfFiles (F.holds folder.now) top.now (IsFoundBy top.now
+        (option_map (λ b. b.now) rescue.entry) (option_map (λ b. b.now) journal.entry) (map (λ n. n.now) names.now) only found)) }
+    ensures refused { IfErr result (IsRefusedForSome top.now (IsNotAnsweredBy Status top.now
+        (option_map (λ b. b.now) rescue.entry) (option_map (λ b. b.now) journal.entry))) }
+    ensures refused_held { F.honest folder.now → IfErr result (IsRefusedFor (F.holds folder.now) top.now (IsNotAnsweredBy Status top.now
+        (option_map (λ b. b.now) rescue.entry) (option_map (λ b. b.now) journal.entry))) }
 {
-    let plan = plan_by(alloc, files, top, rescue, journal)?;
+    let plan = plan_of_round(alloc, folder, top, rescue, journal)?;
     let bytes = bytes_in(journal);
     let records = records_of(alloc, &plan, bytes)?;
     let core = core_of(alloc, &plan, bytes, &records)?;
@@ -187,10 +191,9 @@ fn redo_locked<R: Files<File = File> + AllocGlobal + Copy + Drop, F: Folder>(
 {
     let alloc = rt.alloc();
     let round = last_round(alloc, folder, place.top)?;
-    let files = files_of(alloc, folder, place.top, Reading::SubmitFilesToo)?;
     let rescue = round.rescue.as_deref();
     let journal = round.journal.as_deref();
-    match found_by(alloc, &files, place.top, rescue, journal, names, only) {
+    match found_by(alloc, folder, place.top, rescue, journal, names, only) {
         Ok(Found::Marked(marked)) => write_marked(rt, folder, place, bytes_in(journal), marked),
         Ok(Found::Unknown(line)) => Ok(Answer {
             text: String::new(alloc),

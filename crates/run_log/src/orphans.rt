@@ -72,10 +72,23 @@ impl Orphan {
     }
 }
 
+/// What is looked for among all processes.
+#[derive(Clone, Copy)]
+struct Sought<'a> {
+    /// The identifiers of the rounds.
+    rounds: &'a [String],
+    /// Whose processes count.
+    user: Option<u32>,
+    /// The session in which the last manager worked, where that is known.
+    session: Option<u32>,
+}
+
 /// The processes of a round that an earlier manager left, and by what they are known.
 #[derive(Drop)]
 pub struct Orphans {
     rounds: Vec<String>,
+    /// the session of the last manager: one that it started is in it until it has come to its program
+    session: Option<u32>,
     /// this process and its ancestors, which are never ended
     spared: Vec<u32>,
     found: Vec<Orphan>,
@@ -120,18 +133,15 @@ fn is_alive<R: Files + AllocGlobal>(rt: &R, manager: &NotedManager<'_>) -> bool 
     }
 }
 
-/// Whether the last manager that these lines name still runs.
-fn manager_lives<R: Files + AllocGlobal>(rt: &R, text: &str) -> bool {
+/// The last manager that these lines name.
+fn last_manager(text: &str) -> Option<NotedManager<'_>> {
     let mut last = None;
     for line in text.lines() {
         if let Some(manager) = manager_in(line) {
             last = Some(manager);
         }
     }
-    match last {
-        Some(manager) => is_alive(rt, &manager),
-        None => false,
-    }
+    last
 }
 
 /// This process, its parent, and so on.
@@ -181,14 +191,16 @@ fn key_in(alloc: Global, environment: &[u8]) -> Result<String, AllocError> {
     format!(in alloc; "{node}\t{phase}\t{attempt}")
 }
 
-/// Whether a process was started by a manager, and is on its way to its program: so long it has the program of the manager, and
-/// the environment of the manager. (It has left the manager's lock already.)
+/// Whether a process may have been started by the last manager, and is on its way to its program: so long it has the program, the
+/// environment and the session of the manager. (It has left the manager's lock already.)
 fn is_started<R: Files + AllocGlobal>(
     rt: &R,
     process: u32,
     standing: &Standing,
+    session: Option<u32>,
 ) -> Result<bool, OrphanFault> {
-    Ok(standing.forked && has_own_program(rt, process)?)
+    let is_near = session.is_none_or(|session| session == standing.session);
+    Ok(is_near && standing.forked && has_own_program(rt, process)?)
 }
 
 /// Whether a process has no environment for good, that was so far with its program before it was asked for its environment, and is
@@ -203,10 +215,14 @@ fn is_bare(before: &Standing, after: &Standing) -> bool {
 
 /// Whether a process is on its way to its program. Some systems don't say where code begins: they say the words of a process that
 /// has come to it.
-fn is_coming<R: Files + AllocGlobal>(rt: &R, process: u32) -> Result<bool, OrphanFault> {
+fn is_coming<R: Files + AllocGlobal>(
+    rt: &R,
+    process: u32,
+    session: Option<u32>,
+) -> Result<bool, OrphanFault> {
     match asked_of(rt, process)? {
         Some(standing) if standing.program == Program::Coming => is_wordless(rt, process),
-        Some(standing) => is_started(rt, process, &standing),
+        Some(standing) => is_started(rt, process, &standing, session),
         None => Ok(false),
     }
 }
@@ -219,13 +235,14 @@ fn is_coming<R: Files + AllocGlobal>(rt: &R, process: u32) -> Result<bool, Orpha
 fn environment_at<R: Files + Clock + AllocGlobal>(
     rt: &R,
     process: u32,
+    session: Option<u32>,
 ) -> Result<Option<Vec<u8>>, OrphanFault> {
     for _ in 0..STEPS {
         let Some(before) = asked_of(rt, process)? else {
             return Ok(None);
         };
         // This is asked before the environment: what comes to its program in between has its own.
-        let is_started = is_started(rt, process, &before)?;
+        let is_started = is_started(rt, process, &before, session)?;
         let Some(environment) = environment_of(rt, process)? else {
             return Ok(None);
         };
@@ -240,7 +257,7 @@ fn environment_at<R: Files + Clock + AllocGlobal>(
         }
         thread::sleep(rt, Duration::from_micros(STEP_PAUSE));
     }
-    if is_coming(rt, process)? {
+    if is_coming(rt, process, session)? {
         return Err(OrphanFault::NotAsked);
     }
     Ok(None)
@@ -250,13 +267,12 @@ fn environment_at<R: Files + Clock + AllocGlobal>(
 fn orphan_at<R: Files + Clock + AllocGlobal>(
     rt: &R,
     process: u32,
-    rounds: &[String],
-    user: Option<u32>,
+    sought: Sought<'_>,
 ) -> Result<Option<Orphan>, OrphanFault> {
-    let Some(environment) = environment_at(rt, process)? else {
+    let Some(environment) = environment_at(rt, process, sought.session)? else {
         return Ok(None);
     };
-    if !is_of_any(&environment, rounds) || user_of(rt, process)? != user {
+    if !is_of_any(&environment, sought.rounds) || user_of(rt, process)? != sought.user {
         return Ok(None);
     }
     let key = key_in(rt.alloc(), &environment)?;
@@ -275,14 +291,13 @@ fn orphan_at<R: Files + Clock + AllocGlobal>(
 /// are spared.
 fn all_of<R: Files + Clock + AllocGlobal + Clone + Drop>(
     rt: &R,
-    rounds: &[String],
+    sought: Sought<'_>,
     spared: &[u32],
 ) -> Result<Vec<Orphan>, OrphanFault> {
-    let user = user_of(rt, own_number(rt))?;
     let mut found = Vec::new(rt.alloc());
     for process in all_numbers(rt)?.iter() {
         if *process > 1 && !spared.contains(process) {
-            if let Some(orphan) = orphan_at(rt, *process, rounds, user)? {
+            if let Some(orphan) = orphan_at(rt, *process, sought)? {
                 found.push(orphan)?;
             }
         }
@@ -300,17 +315,16 @@ fn is_first(orphan: &Orphan, orphans: &[Orphan]) -> bool {
 fn kill_words<R: Files + Clock + AllocGlobal>(
     rt: &R,
     orphans: &[Orphan],
-    rounds: &[String],
+    sought: Sought<'_>,
     first_alone: bool,
 ) -> Result<Option<String>, OrphanFault> {
-    let user = user_of(rt, own_number(rt))?;
     let mut words = String::from_str(rt.alloc(), "kill -KILL")?;
     let mut some = false;
     for orphan in orphans {
         if first_alone && !is_first(orphan, orphans) {
             continue;
         }
-        if let Some(now) = orphan_at(rt, orphan.process, rounds, user)? {
+        if let Some(now) = orphan_at(rt, orphan.process, sought)? {
             if now.is_same(orphan) {
                 write!(words, " {}", orphan.process)?;
                 some = true;
@@ -387,12 +401,17 @@ impl Orphans {
 
     /// The identifiers of the rounds whose they are.
     pub fn into_rounds(self) -> Vec<String> {
-        let Orphans {
-            rounds,
-            spared: _,
-            found: _,
-        } = self;
+        let Orphans { rounds, .. } = self;
         rounds
+    }
+
+    /// What is looked for.
+    fn sought<R: Files + AllocGlobal>(&self, rt: &R) -> Result<Sought<'_>, OrphanFault> {
+        Ok(Sought {
+            rounds: &self.rounds,
+            user: user_of(rt, own_number(rt))?,
+            session: self.session,
+        })
     }
 
     /// Looks at all processes: those of the rounds that run now. Where none is seen it looks again, since one may have started
@@ -401,9 +420,10 @@ impl Orphans {
         &self,
         rt: &R,
     ) -> Result<Vec<Orphan>, OrphanFault> {
-        let found = all_of(rt, &self.rounds, &self.spared)?;
+        let sought = self.sought(rt)?;
+        let found = all_of(rt, sought, &self.spared)?;
         if found.is_empty() {
-            return all_of(rt, &self.rounds, &self.spared);
+            return all_of(rt, sought, &self.spared);
         }
         Ok(found)
     }
@@ -456,7 +476,7 @@ impl Orphans {
         running: &[Orphan],
         first_alone: bool,
     ) -> Result<(), OrphanFault> {
-        if let Some(words) = kill_words(rt, running, &self.rounds, first_alone)? {
+        if let Some(words) = kill_words(rt, running, self.sought(rt)?, first_alone)? {
             let _ = kill(rt.alloc(), rt, words.as_str());
         }
         Ok(())
@@ -561,14 +581,15 @@ pub fn orphans_of<R: Files<File = File> + Clock + AllocGlobal + Clone + Drop>(
     rounds: Vec<String>,
     path: &str,
 ) -> Result<Orphans, OrphanFault> {
+    let text = text_at(rt, path, OrphanFault::NotRead)?;
+    let manager = last_manager(text.as_ref().map_or("", |text| text.as_str()));
     let mut orphans = Orphans {
         rounds,
+        session: manager.and_then(|manager| manager.session),
         spared: Vec::new(rt.alloc()),
         found: Vec::new(rt.alloc()),
     };
-    let text = text_at(rt, path, OrphanFault::NotRead)?;
-    let noted = text.as_ref().map_or("", |text| text.as_str());
-    if orphans.rounds.is_empty() || manager_lives(rt, noted) {
+    if orphans.rounds.is_empty() || manager.is_some_and(|manager| is_alive(rt, &manager)) {
         return Ok(orphans);
     }
     orphans.spared = own_line(rt)?;

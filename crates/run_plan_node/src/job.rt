@@ -82,7 +82,7 @@ fn value_at(
 }
 
 /// The expansion of what is assigned to a name.
-fn expanded(
+pub(crate) fn expanded(
     alloc: Global,
     macros: &Macros,
     attempt: Attempt,

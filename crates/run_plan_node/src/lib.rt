@@ -9,6 +9,7 @@ mod command;
 mod job;
 mod launch_spec;
 pub mod laws;
+mod requests;
 mod script;
 mod spec;
 

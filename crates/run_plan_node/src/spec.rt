@@ -7,6 +7,7 @@ ghost use Rattle.vars_macros.specs.Script.{is_whole_run};
 ghost use Rattle.run_plan_node.specs.Node.{no_node};
 ghost use Rattle.run_plan_node.specs.Commands.{phase_command, command_of_job, script_facts, words_of, job_reads_launch, uses_whole_run};
 ghost use Rattle.run_plan_node.specs.JobAnswers.{Gives};
+ghost use Rattle.run_plan_node.specs.Requests.{requests_of};
 ghost use Rattle.run_plan_node.specs.Specs.{course_of, retries_of, unless_exit_of, abort_return_of, priority_of, category_place, spec_of};
 ghost use Rattle.run_plan_node.specs.declared.job.JobFault.TheVariants.{Memory};
 
@@ -14,6 +15,7 @@ use crate::categories::Categories;
 use crate::command::{ChildCommand, PhaseFacts};
 use crate::job::{JobFault, job_command, reads_launch};
 use crate::launch_spec::{Job, LaunchSpec, Source};
+use crate::requests::requests_of_job;
 use crate::script::{bare_command, script_command};
 use dag_reader::{Text, Texts};
 use node_machine::{Course, Phase};
@@ -233,6 +235,19 @@ impl NodeSpec {
                 script_command(alloc, folder, self.launch_spec.post(), &facts)
             }
         }
+    }
+
+    /// What the node's job asks of a cluster in an attempt, as settings for its launcher, `name=value` each: `DAGRUN_REQUEST_CPUS`,
+    /// `DAGRUN_REQUEST_MEMORY`, `DAGRUN_REQUEST_DISK` and `DAGRUN_REQUEST_GPUS`, in this order, with what is assigned to
+    /// `request_cpus` and so on, expanded for the attempt; empty where nothing is. A text that can't be expanded, or that holds the
+    /// launch number, is there as it is written. A job without a submit file asks for nothing, and has no settings.
+    ///
+    /// # Errors
+    /// Where memory is refused.
+    pub fn requests(&self, alloc: Global, attempt: u32) -> Result<Texts, AllocError>
+        ensures { IfOk result (λ settings. settings ≡ requests_of self.now attempt) }
+    {
+        requests_of_job(alloc, self.launch_spec.job(), attempt)
     }
 
     /// What the words of the node's scripts can stand for.

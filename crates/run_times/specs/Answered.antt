@@ -1,5 +1,5 @@
 -- What `times` prints.
-use Rattle.std.specs.Prelude.{◌≡◌, ℕ, Bool, false, List, ◌++◌, Some, codes}
+use Rattle.std.specs.Prelude.{◌≡◌, ℕ, Bool, true, false, List, ◌++◌, length, Some, codes}
 use Rattle.splices_flat.specs.Opening.{Files}
 use Rattle.dag_main_files.specs.Folder.{IsReadFrom}
 use Rattle.splices_flat.specs.FileSet.{bytes_of}
@@ -11,19 +11,29 @@ use Rattle.dag_main_check.specs.Warnings.{warning_lines}
 use Rattle.dag_main_check.specs.declared.fault.RunFault.{RunFault}
 use Rattle.run_times.specs.declared.runs.PhaseRun.{PhaseRun}
 use Rattle.run_times.specs.Table.{table_text_of}
+use Rattle.run_times.specs.Reading.{IsRunsOf}
+use Rattle.run_times.specs.Picture.{IsTimesPicture}
 
--- some phases, with marks of those that are on the critical path, which make this table
-pub record IsTable (text : List ℕ) : Type 0 where
+-- phases with marks are shown as a table, or as a picture if one is asked for
+pub record IsShown (svg : Bool) (runs : List PhaseRun) (marks : List Bool) (text : List ℕ) : Type 0 where
+  pub table : svg ≡ false → text ≡ table_text_of runs marks
+  pub picture : svg ≡ true → IsTimesPicture runs marks text
+
+-- This is shown of a log: the phases that reading it gives, with a mark for each. Which of them are on the critical path is left open.
+pub record IsShownOf (log : List ℕ) (svg : Bool) (text : List ℕ) : Type 0 where
   pub runs : List PhaseRun
+  pub runs_are : IsRunsOf log runs
   pub marks : List Bool
-  pub text_is : text ≡ table_text_of runs marks
+  pub each : length marks ≡ length runs
+  pub shown : IsShown svg runs marks text
 
--- This is printed of the files of a path, which make a graph, and these are their warnings: a table, unless a picture is asked for.
+-- This is printed of the files of a path, which make a graph, and of a log; and these are the warnings of the files.
 pub record IsTimesOf (path : List ℕ) (svg : Bool) (text warnings : List ℕ) (status : ℕ) : Type 0 where
   pub files : FileSet
   pub graph : Network
   pub is_graph : IsGraphOf (bytes_of files) path graph
-  pub table : svg ≡ false → IsTable text
+  pub log : List ℕ
+  pub shown : IsShownOf log svg text
   pub warnings_are : warnings ≡ warning_lines graph.dag.warnings
   pub status_is : status ≡ 0
 
@@ -31,12 +41,11 @@ pub record IsTimesOf (path : List ℕ) (svg : Bool) (text warnings : List ℕ) (
 abbrev pub log_name_of : List ℕ → List ℕ
 log_name_of top = top ++ codes ".log"
 
--- the same where these files are held, the log among them
+-- the same where these files are held, and the log beside them
 pub record IsTimesFrom (holds : Files) (path : List ℕ) (svg : Bool) (text warnings : List ℕ) (status : ℕ) : Type 0 where
   pub of_files : IsTimesOf path svg text warnings status
   pub read : IsReadFrom holds path of_files.files
-  pub log : List ℕ
-  pub log_is : holds (log_name_of path) ≡ Some log
+  pub log_is : holds (log_name_of path) ≡ Some of_files.log
 
 -- Why nothing is printed: the files make no graph; or the log is missing or refused, or memory ran out
 pub data IsTimesFault (path : List ℕ) : RunFault → Type 0 where

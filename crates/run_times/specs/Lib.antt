@@ -1,2 +1,10 @@
 pub mod Table
+pub mod Reading
+pub mod Slots
+pub mod Canvas
+pub mod Classes
+pub mod Names
+pub mod Bars
+pub mod Load
+pub mod Picture
 pub mod Answered

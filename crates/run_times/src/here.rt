@@ -1,12 +1,13 @@
 //! What `times` answers.
 
-ghost use Rattle.std.specs.Prelude.{◌≡◌, false, Some, length, IfOk, IfErr, string_bytes};
+ghost use Rattle.std.specs.Prelude.{◌≡◌, Some, length, IfOk, IfErr, string_bytes};
 ghost use Rattle.dag_main_files.specs.Beside.{IsFileFault};
-ghost use Rattle.run_times.specs.Answered.{log_name_of, IsTable, IsTimesOf, IsTimesFrom, IsTimesFault, IsTimesFaultHeld};
+ghost use Rattle.run_times.specs.Answered.{log_name_of, IsShown, IsTimesOf, IsTimesFrom, IsTimesFault, IsTimesFaultHeld};
 
 use crate::critical::critical_marks;
 use crate::picture::picture_text;
-use crate::runs::{PhaseRun, runs_in};
+use crate::reader::runs_in;
+use crate::runs::PhaseRun;
 use crate::table::table_text;
 use dag_main_check::{Answer, RunFault, graph_of, warning_text};
 use dag_main_files::{Folder, Reading, files_of};
@@ -56,7 +57,7 @@ fn text_of(
     svg: bool,
 ) -> Result<String, AllocError>
     requires { length marks.now ≡ length runs.now }
-    ensures { IfOk result (λ text. svg ≡ false → IsTable (string_bytes text)) }
+    ensures { IfOk result (λ text. IsShown svg runs.now marks.now (string_bytes text)) }
 {
     if svg {
         picture_text(alloc, runs, marks)

@@ -2,15 +2,24 @@
 //! round, docs/LOG.md.
 #![tactic(auto)]
 
+mod bars;
+mod canvas;
 #[cfg(test)]
 mod checks;
+mod classes;
 mod critical;
 mod here;
+mod load;
+mod names;
 mod picture;
+mod reader;
 mod runs;
+mod slots;
+mod style;
 mod table;
 mod ticks;
 
 pub use here::times_here;
-pub use runs::{Ending, PhaseRun, runs_in};
+pub use reader::runs_in;
+pub use runs::{Ending, PhaseRun};
 pub use table::table_text;

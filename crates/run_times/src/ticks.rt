@@ -1,5 +1,8 @@
 //! The marks of an axis of time.
 
+ghost use Rattle.std.specs.Prelude.{◌≡◌, ◌++◌, OnOk, string_bytes};
+ghost use Rattle.run_times.specs.Picture.{axis_marks, tick_text};
+
 use std::alloc::AllocError;
 
 const SECOND: u64 = 1_000;
@@ -59,8 +62,17 @@ pub(crate) fn step_of(total: u64) -> u64 {
     }
 }
 
+/// How many marks an axis of so many milliseconds has that are so far apart.
+pub(crate) fn marks_of(total: u64, step: u64) -> u64
+    ensures { result ≡ axis_marks total step }
+{
+    (total / step.max(1)).saturating_add(1)
+}
+
 /// Adds a time of an axis whose marks lie so far apart: in the greatest unit that is no greater than a step.
-pub(crate) fn push_tick(text: &mut String, time: u64, step: u64) -> Result<(), AllocError> {
+pub(crate) fn push_tick(text: &mut String, time: u64, step: u64) -> Result<(), AllocError>
+    ensures { OnOk result (string_bytes text.new ≡ string_bytes text.old ++ tick_text time step) }
+{
     if step % DAY == 0 {
         write!(text, "{} d", time / DAY)
     } else if step % HOUR == 0 {

@@ -272,17 +272,40 @@ fn rehearsed(rt: HostRuntime) -> Result<(), Fail> {
     Ok(())
 }
 
-// The file that is missing as the files are read is there as it is asked for once more.
+/// A folder that has all its files once a file was asked for so often, and these until then.
+fn coming(alloc: Global, first: &[(&str, &str)], after: usize) -> Result<Changing, Fail> {
+    Ok(Changing {
+        first: folder(alloc, first)?,
+        then: whole(alloc)?,
+        asked: Cell::new(0),
+        after,
+    })
+}
+
+// A file that is missing as the files are read is asked for once more, and read where it is there by then: a submit file; a splice, and
+// then what its lines name; the DAG file.
 #[test]
 fn came_meanwhile(rt: HostRuntime) -> Result<(), Fail> {
     let alloc = rt.alloc();
-    let changing = Changing {
-        first: folder(alloc, &[DAG, SPLICE, SUBMITS[0]])?,
-        then: whole(alloc)?,
-        asked: Cell::new(0),
-        after: 4,
-    };
-    let answer = check_here(alloc, &changing, "x.dag");
+    let changing = coming(alloc, &[DAG, SPLICE, SUBMITS[0]], 4)?;
+    comes_to(&rt, alloc, check_here(alloc, &changing, "x.dag"), CHECKED);
+    let changing = coming(alloc, &[DAG], 3)?;
+    comes_to(&rt, alloc, check_here(alloc, &changing, "x.dag"), CHECKED);
+    let changing = coming(alloc, &[], 1)?;
+    let answer = rehearse_here(alloc, &changing, "x.dag", None, NO_LIMITS, false);
+    comes_to(&rt, alloc, answer, REHEARSED);
+    let changing = coming(alloc, &[], 2)?;
+    let answer = answer_here(alloc, &changing, "x.dag", Question::Status);
+    comes_to(&rt, alloc, answer, FRESH);
+    Ok(())
+}
+
+// `check --all` refuses such a file.
+#[test]
+fn came_while_all_were_checked(rt: HostRuntime) -> Result<(), Fail> {
+    let alloc = rt.alloc();
+    let changing = coming(alloc, &[DAG, SPLICE, SUBMITS[0]], 7)?;
+    let answer = check_all_here(alloc, &changing, "x.dag");
     comes_to(&rt, alloc, answer, "X2 FileRefused b.sub");
     Ok(())
 }

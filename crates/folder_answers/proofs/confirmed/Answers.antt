@@ -1,7 +1,7 @@
 use Rattle.std.proofs.Common.{Some, refl, sym, ap, ◌∙◌}
 use Rattle.std.specs.Option.{option_map}
 use Rattle.folder_answers.specs.Answered.{stays, came_meanwhile, asking_had_no_memory}
-use Rattle.folder_answers.proofs.Held.{none-missing, one-missing, not-held}
+use Rattle.dag_main_files.proofs.OpenedFiles.{none-missing, one-missing, not-held}
 use Rattle.folder_answers.proofs.confirmed.Goals as goal
 
 pub returns-in_default-clause-said : goal.returns-in_default-clause-said
@@ -15,8 +15,7 @@ returns-in-Ok-None-clause-said g c = stays (λ path is. refl)
 
 pub returns-in-Ok-None-clause-held : goal.returns-in-Ok-None-clause-held
 returns-in-Ok-None-clause-held g c = λ honest.
-    stays (not-held (g.F.Folder.holds c.args.folder.now) c.args.fault c.in-Some.path.now
-    (one-missing _ c.missing_in.result c.args.fault c.in-Some.path c.missing_in.ensures c.in-Some.is)
+    stays (not-held _ c.missing_in.result c.args.fault c.in-Some.path c.missing_in.ensures c.in-Some.is (g.F.Folder.holds c.args.folder.now)
     (sym (c.in-Ok-None.ensures.bytes honest) ∙ ap (option_map (λ b. b.items)) c.in-Ok-None.field-0-is))
 
 pub returns-in-Ok-clause-said : goal.returns-in-Ok-clause-said

@@ -11,7 +11,7 @@ returns-in_err-path-clause-refused g c =
 
 pub returns-in_err-trusts-clause-refused : goal.returns-in_err-trusts-clause-refused
 returns-in_err-trusts-clause-refused g c =
-    by-fault (IsRescueReadFault c.args.round.now) c.in_err-trusts.field-0.0 (rescue_not_read _ c.in_err-trusts.ensures)
+    by-fault (IsRescueReadFault c.args.round.now) c.in_err-trusts.field-0.0 (rescue_not_read _ c.in_err-trusts.ensures.refused)
     c.from_residual-in_err-trusts.result c.from_residual-in_err-trusts.ensures.1
 
 pub returns-in_err-bytes-clause-refused : goal.returns-in_err-bytes-clause-refused

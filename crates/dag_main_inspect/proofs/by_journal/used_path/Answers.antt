@@ -1,4 +1,5 @@
-use Rattle.std.proofs.Common.{refl, None, sym, subst, rules, arith}
+use Rattle.std.proofs.Common.{◌≡◌, ◌⊎◌, ◌<◌, inl, inr, refl, None, sym, subst, rules, arith}
+use Rattle.dag_main_check.specs.declared.fault.RunFault.TheVariants.{NotThere, Memory}
 use Rattle.std.proofs.lemmas.Grind.{common_steps}
 use Rattle.dag_main_files.specs.Beside.{IsFileFault, reading_had_no_memory, IsRoundFault, no_such_number, folder_not_read}
 use Rattle.dag_main_files.proofs.RunFaults.{by-fault}
@@ -10,4 +11,12 @@ returns-then-used-gt-LAST_NUMBER-clause-refused c = no_such_number _ refl (first
 pub returns-in_err-rescue_path-clause-refused : goal.returns-in_err-rescue_path-clause-refused
 returns-in_err-rescue_path-clause-refused c =
     by-fault (IsRoundFault None) c.in_err-rescue_path.field-0.0 (folder_not_read _ tt (subst IsFileFault (sym c.in_err-rescue_path.ensures.err) reading_had_no_memory))
+    c.from_residual.result c.from_residual.ensures.1
+
+pub returns-then-used-gt-LAST_NUMBER-clause-number : goal.returns-then-used-gt-LAST_NUMBER-clause-number
+returns-then-used-gt-LAST_NUMBER-clause-number c = inr (first_of (search rules, grind (arith, common_steps)), refl)
+
+pub returns-in_err-rescue_path-clause-number : goal.returns-in_err-rescue_path-clause-number
+returns-in_err-rescue_path-clause-number c =
+    by-fault (λ fault. (fault ≡ Memory) ⊎ ((999 < c.args.used) × (fault ≡ NotThere c.args.used))) c.in_err-rescue_path.field-0.0 (inl c.in_err-rescue_path.ensures.err)
     c.from_residual.result c.from_residual.ensures.1

@@ -67,6 +67,16 @@ returns-in-Times-clause-held g c = λ honest run.
     held-to (g.F.Folder.holds c.args.folder.now) (g.F.Folder.has c.args.folder.now) (rounds_at g.F.Journal.Disk g.F.Rescue.Disk (g.F.Site.own c.args.folder.now) (g.F.Folder.honest c.args.folder.now) (g.F.Folder.holds c.args.folder.now))
     c.args.request _ c.in-Times.is c.times_of_round.result (c.times_of_round.ensures.held honest) (c.times_of_round.ensures.refused_held honest)
 
+pub returns-in-Report-clause-some : goal.returns-in-Report-clause-some
+returns-in-Report-clause-some g c = λ run.
+    some-to (rounds_at g.F.Journal.Disk g.F.Rescue.Disk (g.F.Site.own c.args.folder.now) (g.F.Folder.honest c.args.folder.now) (g.F.Folder.holds c.args.folder.now))
+    c.args.request _ c.in-Report.is c.page_of_round.result c.page_of_round.ensures.answered c.page_of_round.ensures.refused
+
+pub returns-in-Report-clause-held : goal.returns-in-Report-clause-held
+returns-in-Report-clause-held g c = λ honest run.
+    held-to (g.F.Folder.holds c.args.folder.now) (g.F.Folder.has c.args.folder.now) (rounds_at g.F.Journal.Disk g.F.Rescue.Disk (g.F.Site.own c.args.folder.now) (g.F.Folder.honest c.args.folder.now) (g.F.Folder.holds c.args.folder.now))
+    c.args.request _ c.in-Report.is c.page_of_round.result (c.page_of_round.ensures.held honest) (c.page_of_round.ensures.refused_held honest)
+
 pub returns-in-Salvage-clause-some : goal.returns-in-Salvage-clause-some
 returns-in-Salvage-clause-some g c = λ run.
     some-to (rounds_at g.F.Journal.Disk g.F.Rescue.Disk (g.F.Site.own c.args.folder.now) (g.F.Folder.honest c.args.folder.now) (g.F.Folder.holds c.args.folder.now))

@@ -11,4 +11,4 @@ loop-finding-preserved c =
     let texts : List (Bor (List ℕ)) → List (List ℕ) = λ words. map (λ w. w.now) words in
     let better = subst (λ (known : List (List ℕ)). IsBetterHint known f.hint g.hint) (ap texts c.deref.ensures.value ∙ c.in_ok-known.ensures) c.in_ok-hint.ensures in
     subst (λ (gs : List Finding). AreBetter (known_names c.args.names.now) (c.loop-finding.yielded ++ f ∷ []) gs) (sym c.in_ok-push.ensures.items)
-    (better_more (known_names c.args.names.now) c.loop-finding.yielded c.loop-finding.better.items f g c.loop-finding.invariant refl better)
+    (better_more (λ f hint. IsBetterHint (known_names c.args.names.now) f.hint hint) c.loop-finding.yielded c.loop-finding.better.items f g c.loop-finding.invariant refl better)

@@ -1,12 +1,16 @@
-use Rattle.std.proofs.Common.{ℕ, List, sym, subst, string_bytes}
+use Rattle.std.proofs.Common.{ℕ, List, map, sym, subst, string_bytes}
+use Rattle.std.specs.Option.{option_map}
 use Rattle.std.proofs.lemmas.Result.{IfOk-weaker}
 use Rattle.dag_main_files.specs.Beside.{folder_not_read}
-use Rattle.dag_main_files.proofs.RunFaults.{by-fault, input-is-file}
+use Rattle.dag_main_files.proofs.RunFaults.{by-fault}
 use Rattle.dag_main_inspect.specs.Asked.{no_last_round, not_told, held_no_last_round}
 use Rattle.dag_main_inspect.specs.declared.by_journal.Question.TheVariants.{Status}
 use Rattle.dag_main_inspect.proofs.Rounds.{same-round, not-answered}
 use Rattle.redo.specs.Answered.{IsFoundBy, IsRedoReport, IsRedoFault, not_answered, of_round, of_held, IsRedoFaultHeld, held_not_answered}
+use Rattle.redo.specs.declared.here.Found.{Found}
 use Rattle.redo.proofs.Answers.{redone-so, unknown-so}
+use Rattle.dag_main_files.specs.Opened.{IsOfFiles, IsOfSome}
+use Rattle.dag_main_files.proofs.OpenedFiles.{said-more}
 use Rattle.redo.proofs.here.redo_locked.Goals as goal
 
 pub returns-in_err-round-clause-refused : goal.returns-in_err-round-clause-refused
@@ -14,58 +18,50 @@ returns-in_err-round-clause-refused g c =
     by-fault (IsRedoFault c.args.place.now.top.now) c.in_err-round.field-0.0 (not_answered _ (no_last_round _ c.in_err-round.ensures.refused))
     c.from_residual.result c.from_residual.ensures.1
 
-pub returns-in_err-files-clause-refused : goal.returns-in_err-files-clause-refused
-returns-in_err-files-clause-refused g c =
-    by-fault (IsRedoFault c.args.place.now.top.now) c.in_err-files.field-0.0
-    (not_answered _ (no_last_round _ (folder_not_read _ tt (input-is-file _ _ c.in_err-files.ensures.refused))))
-    c.from_residual-in_err-files.result c.from_residual-in_err-files.ensures.1
-
 pub returns-clause-refused : goal.returns-clause-refused
 returns-clause-refused g c =
     subst (IsRedoFault c.args.place.now.top.now) (sym c.named.ensures)
-    (not_answered _ (not_told c.in_ok-files.files _ _ _ c.in-Err.fault c.in-Err.ensures.refused))
+    (not_answered _ (not_told _ _ _ c.in-Err.fault c.in-Err.ensures.refused))
 
 pub returns-in-Ok-Marked-clause-redone : goal.returns-in-Ok-Marked-clause-redone
 returns-in-Ok-Marked-clause-redone g c =
-    IfOk-weaker c.write_marked.result _ _ (λ answer r. of_round c.in_ok-files.files _ _
-    (redone-so _ _ _ _ _ _ c.in-Ok-Marked.marked _ _ _ (subst (IsFoundBy _ _ _ _ _ _) c.in-Ok-Marked.field-0-is c.in-Ok-Marked.ensures.found)
-    (subst (λ (b : List ℕ). IsRedoReport c.args.place.now.top.now b c.in-Ok-Marked.marked.redone.done c.in-Ok-Marked.marked.total (string_bytes c.in-Ok-Marked.marked.warnings) (string_bytes answer.text) (string_bytes answer.warnings) answer.status)
-    c.bytes_in.ensures r))) c.write_marked.ensures.report
+    let found = subst (λ (f : Found). IsOfSome c.args.place.now.top.now (IsFoundBy c.args.place.now.top.now (option_map (λ b. b.now) c.as_deref-rescue.result) (option_map (λ b. b.now) c.as_deref-journal.result) (map (λ n. n.now) c.args.names.now) c.args.only f)) c.in-Ok-Marked.field-0-is c.in-Ok-Marked.ensures.found in
+    IfOk-weaker c.write_marked.result _ _ (λ answer r. of_round (option_map (λ b. b.now) c.as_deref-rescue.result) (option_map (λ b. b.now) c.as_deref-journal.result) (
+      found.0,
+      said-more found.0 c.args.place.now.top.now _ _
+          (redone-so c.args.place.now.top.now (option_map (λ b. b.now) c.as_deref-rescue.result) (option_map (λ b. b.now) c.as_deref-journal.result) (map (λ n. n.now) c.args.names.now) c.args.only c.in-Ok-Marked.marked _ _ _
+          (subst (λ (b : List ℕ). IsRedoReport c.args.place.now.top.now b c.in-Ok-Marked.marked.redone.done c.in-Ok-Marked.marked.total (string_bytes c.in-Ok-Marked.marked.warnings) (string_bytes answer.text) (string_bytes answer.warnings) answer.status) c.bytes_in.ensures r)) found.1,
+    )) c.write_marked.ensures.report
 
 pub returns-in-Ok-Marked-clause-held : goal.returns-in-Ok-Marked-clause-held
 returns-in-Ok-Marked-clause-held g c = λ honest.
-    IfOk-weaker c.write_marked.result _ _ (λ answer r. of_held c.in_ok-files.files _ _ (c.in_ok-files.ensures.read honest)
+    let found = subst (λ (f : Found). IsOfFiles (g.F.Folder.holds c.args.folder.now) c.args.place.now.top.now (IsFoundBy c.args.place.now.top.now (option_map (λ b. b.now) c.as_deref-rescue.result) (option_map (λ b. b.now) c.as_deref-journal.result) (map (λ n. n.now) c.args.names.now) c.args.only f)) c.in-Ok-Marked.field-0-is (c.in-Ok-Marked.ensures.held honest) in
+    IfOk-weaker c.write_marked.result _ _ (λ answer r. of_held (option_map (λ b. b.now) c.as_deref-rescue.result) (option_map (λ b. b.now) c.as_deref-journal.result)
     (same-round _ _ _ _ _ _ (c.in_ok-round.ensures.round honest) c.as_deref-journal.ensures.value c.as_deref-rescue.ensures.value)
-    (redone-so _ _ _ _ _ _ c.in-Ok-Marked.marked _ _ _ (subst (IsFoundBy _ _ _ _ _ _) c.in-Ok-Marked.field-0-is c.in-Ok-Marked.ensures.found)
-    (subst (λ (b : List ℕ). IsRedoReport c.args.place.now.top.now b c.in-Ok-Marked.marked.redone.done c.in-Ok-Marked.marked.total (string_bytes c.in-Ok-Marked.marked.warnings) (string_bytes answer.text) (string_bytes answer.warnings) answer.status)
-    c.bytes_in.ensures r))) c.write_marked.ensures.report
+    (said-more (g.F.Folder.holds c.args.folder.now) c.args.place.now.top.now _ _
+    (redone-so c.args.place.now.top.now (option_map (λ b. b.now) c.as_deref-rescue.result) (option_map (λ b. b.now) c.as_deref-journal.result) (map (λ n. n.now) c.args.names.now) c.args.only c.in-Ok-Marked.marked _ _ _
+    (subst (λ (b : List ℕ). IsRedoReport c.args.place.now.top.now b c.in-Ok-Marked.marked.redone.done c.in-Ok-Marked.marked.total (string_bytes c.in-Ok-Marked.marked.warnings) (string_bytes answer.text) (string_bytes answer.warnings) answer.status) c.bytes_in.ensures r)) found)) c.write_marked.ensures.report
 
 pub returns-in-Ok-Unknown-clause-redone : goal.returns-in-Ok-Unknown-clause-redone
 returns-in-Ok-Unknown-clause-redone g c =
-    of_round c.in_ok-files.files _ _ (unknown-so _ _ _ _ _ _ c.in-Ok-Unknown.line _ c.new.ensures.bytes
-    (subst (IsFoundBy _ _ _ _ _ _) c.in-Ok-Unknown.field-0-is c.in-Ok-Unknown.ensures.found))
+    let found = subst (λ (f : Found). IsOfSome c.args.place.now.top.now (IsFoundBy c.args.place.now.top.now (option_map (λ b. b.now) c.as_deref-rescue.result) (option_map (λ b. b.now) c.as_deref-journal.result) (map (λ n. n.now) c.args.names.now) c.args.only f)) c.in-Ok-Unknown.field-0-is c.in-Ok-Unknown.ensures.found in
+    of_round (option_map (λ b. b.now) c.as_deref-rescue.result) (option_map (λ b. b.now) c.as_deref-journal.result) (found.0, said-more found.0 c.args.place.now.top.now _ _ (unknown-so c.args.place.now.top.now (option_map (λ b. b.now) c.as_deref-rescue.result) (option_map (λ b. b.now) c.as_deref-journal.result) (map (λ n. n.now) c.args.names.now) c.args.only c.in-Ok-Unknown.line _ c.new.ensures.bytes) found.1)
 
 pub returns-in-Ok-Unknown-clause-held : goal.returns-in-Ok-Unknown-clause-held
 returns-in-Ok-Unknown-clause-held g c = λ honest.
-    of_held c.in_ok-files.files _ _ (c.in_ok-files.ensures.read honest)
+    let found = subst (λ (f : Found). IsOfFiles (g.F.Folder.holds c.args.folder.now) c.args.place.now.top.now (IsFoundBy c.args.place.now.top.now (option_map (λ b. b.now) c.as_deref-rescue.result) (option_map (λ b. b.now) c.as_deref-journal.result) (map (λ n. n.now) c.args.names.now) c.args.only f)) c.in-Ok-Unknown.field-0-is (c.in-Ok-Unknown.ensures.held honest) in
+    of_held (option_map (λ b. b.now) c.as_deref-rescue.result) (option_map (λ b. b.now) c.as_deref-journal.result)
     (same-round _ _ _ _ _ _ (c.in_ok-round.ensures.round honest) c.as_deref-journal.ensures.value c.as_deref-rescue.ensures.value)
-    (unknown-so _ _ _ _ _ _ c.in-Ok-Unknown.line _ c.new.ensures.bytes
-    (subst (IsFoundBy _ _ _ _ _ _) c.in-Ok-Unknown.field-0-is c.in-Ok-Unknown.ensures.found))
+    (said-more (g.F.Folder.holds c.args.folder.now) c.args.place.now.top.now _ _ (unknown-so c.args.place.now.top.now (option_map (λ b. b.now) c.as_deref-rescue.result) (option_map (λ b. b.now) c.as_deref-journal.result) (map (λ n. n.now) c.args.names.now) c.args.only c.in-Ok-Unknown.line _ c.new.ensures.bytes) found)
 
 pub returns-in_err-round-clause-refused_held : goal.returns-in_err-round-clause-refused_held
 returns-in_err-round-clause-refused_held g c = λ honest.
     by-fault (IsRedoFaultHeld (g.F.Folder.holds c.args.folder.now) c.args.place.now.top.now) c.in_err-round.field-0.0
-    (held_not_answered _ (held_no_last_round _ c.in_err-round.ensures.refused))
+    (held_not_answered _ (held_no_last_round _ (c.in_err-round.ensures.refused_held honest)))
     c.from_residual.result c.from_residual.ensures.1
-
-pub returns-in_err-files-clause-refused_held : goal.returns-in_err-files-clause-refused_held
-returns-in_err-files-clause-refused_held g c = λ honest.
-    by-fault (IsRedoFaultHeld (g.F.Folder.holds c.args.folder.now) c.args.place.now.top.now) c.in_err-files.field-0.0
-    (held_not_answered _ (held_no_last_round _ (folder_not_read _ tt (input-is-file _ _ c.in_err-files.ensures.refused))))
-    c.from_residual-in_err-files.result c.from_residual-in_err-files.ensures.1
 
 pub returns-clause-refused_held : goal.returns-clause-refused_held
 returns-clause-refused_held g c = λ honest.
     held_not_answered _ (not-answered (g.F.Folder.holds c.args.folder.now) c.args.place.now.top.now _ _ _ _ _
     (c.in_ok-round.ensures.round honest) c.as_deref-journal.ensures.value c.as_deref-rescue.ensures.value c.in_ok-round.ensures.name
-    Status c.in_ok-files.files c.in-Err.fault _ (c.in_ok-files.ensures.read honest) c.in-Err.ensures.refused c.named.ensures)
+    Status c.in-Err.fault _ (c.in-Err.ensures.refused_held honest) c.named.ensures)

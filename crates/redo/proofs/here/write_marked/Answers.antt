@@ -1,8 +1,8 @@
 use Rattle.std.proofs.Common.{sym, subst}
 use Rattle.dag_main_files.specs.Beside.{IsFileFault, reading_had_no_memory}
 use Rattle.dag_main_files.proofs.RunFaults.{by-fault}
-use Rattle.dag_main_inspect.specs.Asked.{no_last_round, held_no_last_round}
-use Rattle.redo.specs.Answered.{IsRedoFault, not_answered, file_not_written, IsRedoFaultHeld, held_not_answered, held_file_not_written}
+use Rattle.dag_main_inspect.specs.Asked.{no_last_round}
+use Rattle.redo.specs.Answered.{IsRedoFault, not_answered, file_not_written, IsRedoFaultHeld, held_no_number, held_file_not_written}
 use Rattle.redo.proofs.here.write_marked.Goals as goal
 
 pub returns-in_err-next-clause-refused : goal.returns-in_err-next-clause-refused
@@ -29,7 +29,7 @@ returns-in_err-put_journal_away-clause-refused g c =
 pub returns-in_err-next-clause-refused_held : goal.returns-in_err-next-clause-refused_held
 returns-in_err-next-clause-refused_held g c = λ honest.
     by-fault (IsRedoFaultHeld (g.F.Folder.holds c.args.folder.now) c.args.place.now.top.now) c.in_err-next.field-0.0
-    (held_not_answered _ (held_no_last_round _ c.in_err-next.ensures.refused))
+    (held_no_number _ c.in_err-next.ensures.refused)
     c.from_residual.result c.from_residual.ensures.1
 
 pub returns-in_err-text-clause-refused_held : goal.returns-in_err-text-clause-refused_held

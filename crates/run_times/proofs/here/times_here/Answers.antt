@@ -1,11 +1,24 @@
-use Rattle.std.proofs.Common.{◌∙◌, ap, refl}
+use Rattle.std.proofs.Common.{◌≡◌, ◌∙◌, ℕ, Bool, List, length, ap, subst, refl, arith}
 use Rattle.splices_flat.specs.Dag.{Dag}
 use Rattle.dag_main_files.specs.Beside.{reading_had_no_memory}
 use Rattle.dag_main_check.specs.Warnings.{warning_lines}
 use Rattle.dag_main_check.specs.declared.fault.RunFault.TheVariants.{Memory}
 use Rattle.dag_main_files.proofs.RunFaults.{by-fault, input-is-file}
-use Rattle.run_times.specs.Answered.{IsTimesFault, no_graph, no_log, IsTimesFaultHeld, held_no_graph, held_no_log}
+use Rattle.run_times.specs.declared.runs.PhaseRun.{PhaseRun}
+use Rattle.run_times.specs.Reading.{IsRunsOf}
+use Rattle.run_times.specs.Answered.{IsShown, IsShownOf, IsTimesFault, no_graph, no_log, IsTimesFaultHeld, held_no_graph, held_no_log}
 use Rattle.run_times.proofs.here.times_here.Goals as goal
+
+-- what is shown of a log, by what was read and handed on
+shown-of : (log bytes : List ℕ) (svg : Bool) (text : List ℕ) (runs timed drawn : List PhaseRun) (marks given : List Bool) → bytes ≡ log → IsRunsOf bytes runs → timed ≡ runs → drawn ≡ runs
+    → given ≡ marks → length marks ≡ length timed → IsShown svg drawn given text → IsShownOf log svg text
+shown-of log bytes svg text runs timed drawn marks given log_is runs_are timed_is drawn_is given_is each shown = record {
+  runs = runs;
+  runs_are = subst (λ (b : List ℕ). IsRunsOf b runs) log_is runs_are;
+  marks = marks;
+  each = each ∙ ap length timed_is;
+  shown = subst (λ (r : List PhaseRun). IsShown svg r marks text) drawn_is (subst (λ (m : List Bool). IsShown svg drawn m text) given_is shown);
+}
 
 pub returns-in_err-files-clause-refused : goal.returns-in_err-files-clause-refused
 returns-in_err-files-clause-refused g c =
@@ -43,7 +56,9 @@ returns-clause-told g c = record {
   files = c.in_ok-files.files;
   graph = c.in_ok-graph.graph;
   is_graph = c.in_ok-graph.ensures.graph;
-  table = c.in_ok-text_of.ensures;
+  log = c.in_ok-log.log.items;
+  shown = shown-of c.in_ok-log.log.items _ c.args.svg _ c.in_ok-runs.runs.items _ _ c.in_ok-marks.marks.items _ c.as_slice.ensures.value c.in_ok-runs.ensures c.deref.ensures.value
+      c.deref-2.ensures.value c.deref-3.ensures.value (omega (arith, c.in_ok-marks.ensures, c.in_ok-marks.marks.ok)) c.in_ok-text_of.ensures;
   warnings_are = c.in_ok-warning_text.ensures ∙ ap warning_lines (c.warnings.ensures ∙ ap (λ (d : Dag). d.warnings) c.flat.ensures);
   status_is = refl;
 }
@@ -54,12 +69,13 @@ returns-clause-held g c = λ honest. record {
     files = c.in_ok-files.files;
     graph = c.in_ok-graph.graph;
     is_graph = c.in_ok-graph.ensures.graph;
-    table = c.in_ok-text_of.ensures;
+    log = c.in_ok-log.log.items;
+    shown = shown-of c.in_ok-log.log.items _ c.args.svg _ c.in_ok-runs.runs.items _ _ c.in_ok-marks.marks.items _ c.as_slice.ensures.value c.in_ok-runs.ensures c.deref.ensures.value
+        c.deref-2.ensures.value c.deref-3.ensures.value (omega (arith, c.in_ok-marks.ensures, c.in_ok-marks.marks.ok)) c.in_ok-text_of.ensures;
     warnings_are = c.in_ok-warning_text.ensures ∙ ap warning_lines (c.warnings.ensures ∙ ap (λ (d : Dag). d.warnings) c.flat.ensures);
     status_is = refl;
   };
   read = c.in_ok-files.ensures.read honest;
-  log = c.in_ok-log.log.items;
   log_is = c.in_ok-log.ensures.held honest;
 }
 

@@ -9,7 +9,7 @@ returns-in_err-path-clause-refused g c = by-fault IsJournalFault Memory peeking_
 
 pub returns-in_err-goes_by-clause-refused : goal.returns-in_err-goes_by-clause-refused
 returns-in_err-goes_by-clause-refused g c =
-    by-fault IsJournalFault c.in_err-goes_by.field-0.0 (journal_of_another _ c.in_err-goes_by.ensures)
+    by-fault IsJournalFault c.in_err-goes_by.field-0.0 (journal_of_another _ c.in_err-goes_by.ensures.refused)
     c.from_residual-in_err-goes_by.result c.from_residual-in_err-goes_by.ensures.1
 
 pub returns-in_err-disk-clause-refused : goal.returns-in_err-disk-clause-refused

@@ -33,3 +33,6 @@ returns-in-SignalValue-clause-writes g c = λ plain ok. subst (λ (hint : Hint).
 
 pub returns-in-WordsInProgram-clause-writes : goal.returns-in-WordsInProgram-clause-writes
 returns-in-WordsInProgram-clause-writes g c = λ plain ok. subst (λ (hint : Hint). HasWritten g.W.Write.write_str_gives c.args.f.now (hint_text hint) c.write-in-WordsInProgram.new.self) (sym c.in-WordsInProgram.is) (c.write-in-WordsInProgram.ensures.writes plain ok)
+
+pub returns-in-MisspelledMacro-clause-writes : goal.returns-in-MisspelledMacro-clause-writes
+returns-in-MisspelledMacro-clause-writes g c = λ plain ok. subst (λ (hint : Hint). HasWritten g.W.Write.write_str_gives c.args.f.now (hint_text hint) c.write-in-MisspelledMacro.new.self) (sym c.in-MisspelledMacro.is) (c.write-in-MisspelledMacro.ensures.writes plain ok)

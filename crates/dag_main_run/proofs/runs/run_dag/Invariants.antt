@@ -1,0 +1,5 @@
+use Rattle.dag_main_files.specs.Folder.{IsReadFrom}
+use Rattle.dag_main_run.proofs.runs.run_dag.Given as goal
+
+abbrev pub invariant-loop : goal.invariant-loop
+invariant-loop g l = g.H.Folder.honest l.site → IsReadFrom (g.H.Folder.holds l.site) l.place.top.now l.files

@@ -1,0 +1,59 @@
+-- What `report` answers.
+use Rattle.std.specs.Prelude.{◌≡◌, ◌&&◌, not, ℕ, Bool, List, Option, Some, is_some, IsTrue}
+use Rattle.splices_flat.specs.Opening.{Files}
+use Rattle.node_machine.specs.declared.Record.{Record}
+use Rattle.run_plan.specs.Plan.{Plan}
+use Rattle.sched_core.specs.Run.{chronological, is_lawful, is_over}
+use Rattle.dag_main_check.specs.Planned.{IsPlanWith}
+use Rattle.dag_main_check.specs.Warnings.{warning_lines}
+use Rattle.dag_main_files.specs.Opened.{IsOfFiles, IsOfSome}
+use Rattle.dag_main_inspect.specs.LastRound.{IsLastRound}
+use Rattle.dag_main_inspect.specs.Statused.{journal_bytes, flag_by, records_in_bytes}
+use Rattle.failure_report.specs.declared.why.Grouping.TheVariants.{ByCause}
+use Rattle.failure_report.specs.Grouped.{HasAllBy}
+use Rattle.report_page.specs.declared.values.Page.{Page}
+use Rattle.report_page.specs.Pages.{IsPageText}
+use Rattle.report_answers.specs.Rows.{AreRows, round_state_of}
+
+-- A page is that of a run of the DAG file of a path: it has the path, the version, how the round is, a row for each node, what `why` reports of all
+-- nodes in error, and the warnings of the files. It loads itself anew where that is asked for and the round has not ended.
+pub record IsPageOfRun (plan : Plan) (past : List Record) (path version : List ℕ) (begun reloads : Bool) (page : Page) : Type 0 where
+  pub path_is : page.path.now ≡ path
+  pub version_is : page.version.now ≡ version
+  pub at_work : Bool
+  pub round_is : page.round ≡ round_state_of plan past begun at_work
+  pub rows : AreRows plan past page.rows.now
+  pub why : HasAllBy ByCause plan past page.why.now
+  pub warnings_are : page.warnings.now ≡ warning_lines plan.graph.dag.warnings
+  pub reloads_is : page.reloads ≡ (reloads && not (is_over past))
+
+-- The answer: the text of such a page, the warnings of the files, and status 0.
+pub record IsPageAnswer (plan : Plan) (past : List Record) (path version : List ℕ) (begun reloads : Bool) (text warnings : List ℕ) (status : ℕ) : Type 0 where
+  pub page : Page
+  pub of_run : IsPageOfRun plan past path version begun reloads page
+  pub text_is : IsPageText page text
+  pub warnings_are : warnings ≡ warning_lines plan.graph.dag.warnings
+  pub status_is : status ≡ 0
+
+-- That is the answer of the plan of these files, with a rescue file or none, where the records of a journal or none are lawful.
+pub record IsReportPageFrom (path : List ℕ) (rescue journal : Option (List ℕ)) (version : List ℕ) (reloads : Bool) (text warnings : List ℕ) (status : ℕ)
+    (files : Files) (entries : List (List ℕ × List ℕ)) : Type 0 where
+  pub plan : Plan
+  pub planned : IsPlanWith (flag_by journal) files entries path rescue plan
+  pub past : List Record
+  pub are_records : records_in_bytes plan (journal_bytes journal) ≡ Some (chronological past)
+  pub lawful : IsTrue (is_lawful plan past)
+  pub answer : IsPageAnswer plan past path version (is_some journal) reloads text warnings status
+
+-- That is the answer for the DAG file of a path: of some files, with a rescue file or none and a journal or none.
+pub record IsReportPageOf (path version : List ℕ) (reloads : Bool) (text warnings : List ℕ) (status : ℕ) : Type 0 where
+  pub rescue : Option (List ℕ)
+  pub journal : Option (List ℕ)
+  pub answered : IsOfSome path (IsReportPageFrom path rescue journal version reloads text warnings status)
+
+-- The same where these files are held: of the DAG file and all that it names, the journal, and the rescue file that the journal's header names.
+pub record IsReportPageHeld (holds : Files) (path version : List ℕ) (reloads : Bool) (text warnings : List ℕ) (status : ℕ) : Type 0 where
+  pub rescue : Option (List ℕ)
+  pub journal : Option (List ℕ)
+  pub beside : IsLastRound holds path journal rescue
+  pub answered : IsOfFiles holds path (IsReportPageFrom path rescue journal version reloads text warnings status)

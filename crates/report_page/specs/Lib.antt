@@ -1,0 +1,9 @@
+pub mod States
+pub mod Escaped
+pub mod Times
+pub mod Rows
+pub mod Drawings
+pub mod Heads
+pub mod Style
+pub mod Script
+pub mod Pages

@@ -1,0 +1,4 @@
+mod Apart
+mod Chains
+mod Kept
+mod Levels

@@ -1,0 +1,5 @@
+//! Tests of pages of rounds, made of values.
+#![tactic(auto)]
+
+#[cfg(test)]
+mod pages;
