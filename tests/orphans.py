@@ -337,19 +337,24 @@ def child_under(tracer):
     return None
 
 
-def left_on_its_way(folder, delay):
-    """A manager that is killed once it has started a child which comes to its program so many microseconds later; the child, and who holds it up.
-
-    Until then the child has the words, the program and the environment of the manager, and its lock no more. Both are in a session of their own."""
+def held_up(folder, delay, **more):
+    """A manager that has started a child which comes to its program so many microseconds later; the manager, the child, and who holds it up."""
     sleepers(folder, "A")
     strace = ["strace", "-f", "-qqq", "-o", "/dev/null", "-e", "trace=execve", "-P", "/bin/sleep", "-e", f"inject=execve:delay_enter={delay}"]
-    traced = subprocess.Popen(
-        [*strace, folder.program, "run", "x.dag"], cwd=folder.path, stdout=subprocess.DEVNULL, stderr=subprocess.DEVNULL, start_new_session=True
-    )
+    traced = subprocess.Popen([*strace, folder.program, "run", "x.dag"], cwd=folder.path, stdout=subprocess.DEVNULL, stderr=subprocess.DEVNULL, **more)
     found = []
     wait_until(lambda: found.append(child_under(traced.pid)) or found[-1], "no child is started")
     manager, child = found[-1]
     same(words_of(child), words_of(manager))
+    return manager, child, traced
+
+
+def left_on_its_way(folder, delay):
+    """The same, where the manager is killed then; the child, and who holds it up.
+
+    Until it comes to its program the child has the words, the program and the environment of the manager, and its lock no more. Both are in a session of
+    their own."""
+    manager, child, traced = held_up(folder, delay, start_new_session=True)
     os.kill(manager, signal.SIGKILL)
     wait_until(lambda: not os.path.exists(f"/proc/{child}/fd/3"), "the child keeps the files of its manager")
     return child, traced
@@ -378,6 +383,38 @@ def never_there(folder):
     same(folder.call("run", "x.dag"), ("", "dagrun: X2 FileRefused /proc\n", 125))
     same((runs_still(child), sleeping()), (True, []))
     os.kill(child, signal.SIGKILL)
+    traced.kill()
+    traced.wait(timeout=PATIENCE)
+
+
+def held_up_elsewhere(folder):
+    """A child that doesn't come to its program refuses no run of another folder where its manager, which is gone, worked in another session: not even where
+    the file of the processes is lost, since the identifier's names the manager too."""
+    other, one = inner(folder, "d1"), inner(folder, "d2")
+    child, traced = left_on_its_way(other, 1000000000)
+    sleepers(one, "A")
+    kill_after_start(one, 1)
+    os.remove(one.at("x.dag.children"))
+    kill(begin_again(one, 1))
+    same((runs_still(child), orphans_in(one)), (True, [("A", "JOB", "0", "done=killed")]))
+    os.kill(child, signal.SIGKILL)
+    traced.kill()
+    traced.wait(timeout=PATIENCE)
+
+
+def held_up_by_a_manager_that_runs(folder):
+    """Nor where its manager still runs, whatever session that is in: here in none that is known."""
+    other, one = inner(folder, "d1"), inner(folder, "d2")
+    sleepers(one, "A")
+    kill_after_start(one, 1)
+    manager, child, traced = held_up(other, 1000000000, start_new_session=True)
+    os.remove(one.at("x.dag.children"))
+    rounds = one.read("x.dag.round").splitlines(True)
+    one.write("x.dag.round", b"".join(rounds[:-1]).decode())
+    kill(begin_again(one, 1))
+    same((runs_still(manager), runs_still(child), orphans_in(one)), (True, True, [("A", "JOB", "0", "done=killed")]))
+    for process in (manager, child):
+        os.kill(process, signal.SIGKILL)
     traced.kill()
     traced.wait(timeout=PATIENCE)
 
@@ -546,7 +583,7 @@ def what_children_inherit(folder):
     folder.shell("a", "env | grep ^DAGRUN_ | sort >> seen\ncp x.dag.round kept\n[ -e again ] || { : > again; exit 1; }\n")
     same(folder.call("run", "x.dag")[2], 0)
     same(folder.there("x.dag.round"), False)
-    [line] = folder.read("kept").decode().splitlines()
+    line, _ = folder.read("kept").decode().splitlines()
     found = os.stat(folder.path)
     same(line.split("\t")[1:], [str(found.st_dev), str(found.st_ino)])
     round_of = line.split("\t")[0]
@@ -558,12 +595,16 @@ def what_children_inherit(folder):
 
 
 def the_identifier_of_all_lives(folder):
-    """A round that is killed and gone on with has one identifier."""
+    """A round that is killed and gone on with has one identifier; the line of its manager is that of the last one."""
     sleepers(folder, "A")
     kill_after_start(folder, 1)
-    before = folder.read("x.dag.round")
-    kill(begin_again(folder, 1))
-    same(folder.read("x.dag.round"), before)
+    before = folder.read("x.dag.round").splitlines()
+    second = begin_again(folder, 1)
+    after = folder.read("x.dag.round").splitlines()
+    kill(second)
+    same((len(before), after[:-1]), (2, before[:-1]))
+    same([line.split(b"\t")[:2] for line in (before[-1], after[-1])], [[b"manager", before[-1].split(b"\t")[1]], [b"manager", str(second.pid).encode()]])
+    same(folder.read("x.dag.children").splitlines()[0], after[-1])
 
 
 ROWS = [
@@ -590,6 +631,8 @@ TRACED = [
     adopters,
     on_its_way,
     never_there,
+    held_up_elsewhere,
+    held_up_by_a_manager_that_runs,
     two_hundred,
     left_and_killed,
     some_that_can_not_be_ended,

@@ -1938,14 +1938,19 @@ def why_no_round(folder):
     same(why(folder, "B", "A"), "no round was begun\n\nB NOT_READY: waits for A (READY)\n\nA READY: its job is next, in attempt 1 of 1\n")
     same(folder.call("run", "x.dag"), (ALL_DONE, "", 0))
     same(why(folder), "no node is in error\n")
-    # What `status` refuses is refused.
-    folder.write("a.sub", "executable = /bin/true\nqueue\n")
-    refused(folder, ["why", "x.dag"], "J5 OtherInputs")
+    # What `status` refuses is refused, but for other files than those with which the round began: it is told by those, where they are kept.
     refused(folder, ["why", "y.dag"], "S1 MissingFile y.dag")
+    folder.write("a.sub", "executable = /bin/true\nqueue\n")
+    refused(folder, ["status", "x.dag"], "J5 OtherInputs")
+    same(why(folder), "no node is in error\n")
+    os.remove(folder.at("x.dag.begun"))
+    refused(folder, ["why", "x.dag"], "J5 OtherInputs")
+    refused(folder, ["report", "x.dag"], "J5 OtherInputs")
 
 
 def as_the_round_began(folder):
-    """Whatever is changed, the last round is shown as it was; what is asked for without the option goes by the files as they are."""
+    """Whatever is changed, the last round is shown as it was. Without the option `why` and `report` show it so, too, where the files can be read and
+    are others; all else that is asked for goes by the files as they are."""
     lines = "JOB A a.sub\nJOB B b.sub\nJOB C c.sub\nPARENT A CHILD B\n"
     folder.write("x.dag", lines)
     folder.write("x.dag.rescue001", "DONE C\n")
@@ -1961,15 +1966,27 @@ def as_the_round_began(folder):
     same(before[0], ("A DONE attempts=1 value=0\nB ERROR attempts=1 value=3\nC DONE attempts=0 value=-\n", "", 0))
     same(answers("--as-begun"), before)
     kept = {name: folder.read(name) for name in ("x.dag", "b.sub", "c.sub", "x.dag.rescue001")}
-    changes = (("b.sub", "executable = /bin/true\nqueue\n"), ("c.sub", None), ("x.dag", lines + "JOB D a.sub\n"), ("x.dag", "JOBB\n"), ("x.dag", None), ("x.dag.rescue001", "DONE A\n"))
-    for name, text in changes:
+    changes = (
+        ("b.sub", "executable = /bin/true\nqueue\n", True),
+        ("c.sub", None, False),
+        ("x.dag", lines + "JOB D a.sub\n", True),
+        ("x.dag", "JOBB\n", False),
+        ("x.dag", None, False),
+        ("x.dag.rescue001", "DONE A\n", True),
+    )
+    for name, text, are_others in changes:
         if text is None:
             os.remove(folder.at(name))
         else:
             folder.write(name, text)
         # The audit says of a file that it can read that the journal is of another one.
-        status, audit, why_all, why_one = [answer[2] for answer in answers()[:4]]
-        same((status, audit in (1, 125), why_all, why_one), (125, True, 125, 125))
+        found = answers()
+        status, audit, why_all, why_one = [answer[2] for answer in found[:4]]
+        same((status, audit in (1, 125)), (125, True))
+        if are_others:
+            same((found[0][1], found[2:4], found[6]), ("dagrun: J5 OtherInputs\n", before[2:4], before[6]))
+        else:
+            same((why_all, why_one, found[6][2]), (125, 125, 125))
         same(answers("--as-begun"), before)
         folder.write(name, kept[name])
     same(answers(), before)
@@ -3137,6 +3154,49 @@ def salvaged_with_samples_added(folder):
     same([folder.read(f"{name}.ran") for name in "ac"], [b"ran\n"] * 2)
 
 
+# The samples of a sweep, and the submit file of its nodes.
+SAMPLES = [f"s{number}" for number in range(8)]
+SWEEP_SUB = "executable = /bin/sh\narguments = s.sh $(JOB)\nqueue\n"
+
+
+def sweep_over(samples):
+    """The text of a sweep over these samples, and its nodes."""
+    nodes = ["first", *samples, "last"]
+    return "".join(f"JOB {node} s.sub\n" for node in nodes) + f"PARENT first CHILD {' '.join(samples)}\nPARENT {' '.join(samples)} CHILD last\n", nodes
+
+
+def changed_at_each_moment(folder):
+    """After a stop at each of 20 moments a sample is added, one is taken away, or a submit file is edited: what was done stays done, and all else runs once."""
+    whole, nodes = sweep_over(SAMPLES)
+    folder.write("x.dag", whole)
+    folder.write("s.sub", SWEEP_SUB)
+    folder.write("s.sh", "echo $1 >> ran\n")
+    same(folder.call("run", "--maxjobs", "2", "x.dag")[2], 0)
+    kept = everything(folder)
+    slots = slots_in(kept["x.dag.journal"])[0]
+    # Life, a launch and an end of each of ten nodes, and the end of the round: at 20 of them the journal is cut.
+    same(len(slots), 22)
+    for moment in range(1, 21):
+        for name, text, after in (
+            ("x.dag", *sweep_over(SAMPLES + ["s8"])),
+            ("x.dag", *sweep_over(SAMPLES[:3] + SAMPLES[4:])),
+            ("s.sub", SWEEP_SUB.replace("$(JOB)", "$(JOB) again"), nodes),
+        ):
+            put_back(folder, kept)
+            folder.cut_journal(moment)
+            done = {nodes[key[0]] for kind, key, outcome in records_in(folder.path) if kind == END}
+            folder.write(name, text)
+            os.remove(folder.at("ran"))
+            stays = [node for node in after if node in done]
+            gone = lines_of_gone([node for node in nodes if node in done and node not in after])
+            answer = f"{len(stays)} of {len(after)} nodes are done: x.dag.rescue001\nchanged since the round began: {name}\n"
+            same(folder.call("salvage", "x.dag"), (answer, gone, 0))
+            report = "".join(f"{node} DONE attempts={0 if node in done else 1} value={'-' if node in done else 0}\n" for node in after)
+            same(folder.call("run", "x.dag"), (report + "result 0\n", "", 0))
+            ran = folder.read("ran").decode().split() if folder.there("ran") else []
+            same(sorted(ran), sorted(node for node in after if node not in done))
+
+
 def put_back(folder, files):
     """Leaves just these files, and the folder's log."""
     for name in everything(folder):
@@ -4158,6 +4218,24 @@ def a_nice_launcher(folder):
     same([int(folder.read(f"{name}.nice")) for name in ("pre", "job")], [own, min(own + 5, 19)])
 
 
+def why_with_a_launcher(folder):
+    """`why` shows the words of the launcher before those of a job; a script has none, and no launcher has none."""
+    folder.write("x.dag", "JOB A a.sub\nJOB B a.sub\nSCRIPT PRE B /bin/false\n")
+    folder.shell("a", "exit 3\n")
+    here = os.path.realpath(folder.path)
+    os.symlink("/usr/bin/env", folder.at("an env"))
+
+    def lines_of(name):
+        return [line.strip() for line in why(folder, name).splitlines()[1:3]]
+
+    command, place = "command  /bin/sh a.sh", f"folder   {here}"
+    for launcher, shown in (("'./an env' X=1", f"launcher '{here}/./an env' X=1"), ("env Y=2", f"launcher {shutil.which('env')} Y=2")):
+        same(folder.call("run", "--launcher", '"' + launcher + '"', "x.dag")[2], 1)
+        same((lines_of("A"), lines_of("B")), ([command, shown], ["command  /bin/false", place]))
+    same(folder.call("run", "x.dag")[2], 1)
+    same(lines_of("A"), [command, place])
+
+
 def what_a_job_asks_for(folder):
     """A launcher has what the submit file asks of a cluster in its environment, expanded for the attempt, and empty where it asks for nothing; the job's own
     environment wins. A text that can't be expanded is there as it is written. A script, and a job without a launcher, has none of it."""
@@ -4358,6 +4436,7 @@ ROWS = [
     limits_of_the_environment,
     a_launcher,
     a_nice_launcher,
+    why_with_a_launcher,
     what_a_job_asks_for,
     words_of_a_launcher,
     a_launcher_of_the_environment,
@@ -4420,6 +4499,7 @@ ROWS = [
     salvaged_splices,
     salvaged_after_any_change,
     salvaged_with_samples_added,
+    changed_at_each_moment,
     salvaged_with_changed_splices,
     salvaged_without_its_rescue_file,
     many_nodes_that_are_gone,

@@ -781,6 +781,31 @@ def what_is_changed(folder):
     for words in (("run",), ("status",)):
         told = folder.on_terminal(*words, "my flow.dag", columns=160)
         same(told.screen.told()[:2], ["dagrun: J5 OtherInputs", "    changed since the round began: B.sub; dagrun salvage my flow.dag keeps what is done, and --as-begun shows the round"])
+    changed = "changed since the round began: B.sub"
+    cut_short = "the round was cut short: dagrun salvage my flow.dag keeps what is done"
+    for words, lines in (
+        (("why",), [f"no manager works on my flow.dag; {cut_short}", changed]),
+        (("status", "--as-begun"), [f"1 DONE, 1 ERROR; no manager works on them; {cut_short}", changed]),
+        (("graph",), [changed]),
+        (("graph", "--as-begun"), [changed]),
+        (("times",), [changed]),
+        (("report",), [changed]),
+    ):
+        told = folder.on_terminal(*words, "my flow.dag", columns=160)
+        same((told.status, told.screen.told()), (0, lines))
+    # Of a round that has ended nothing has to be kept.
+    over = folder.at("my flow.dag.journal")
+    folder.shell("B", "exit 1\n", error=False)
+    os.remove(over)
+    same(folder.call("run", "my flow.dag")[2], 1)
+    folder.write("B.sub", "executable = /bin/true\nqueue\n")
+    told = folder.on_terminal("status", "my flow.dag", columns=160)
+    same(told.screen.told()[1], "    changed since the round began: B.sub; dagrun run my flow.dag begins a new round, and --as-begun shows the last one")
+    same(folder.on_terminal("why", "my flow.dag", columns=160).screen.told(), ["no manager works on my flow.dag", changed])
+    # Nothing is said where nothing is changed.
+    folder.shell("B", "exit 1\n", error=False)
+    same(folder.on_terminal("times", "my flow.dag", columns=160).screen.told(), [])
+    same(folder.on_terminal("why", "my flow.dag", columns=160).screen.told(), ["no manager works on my flow.dag"])
 
 
 def a_refusal_in_the_middle(folder):
@@ -823,6 +848,67 @@ def hints(folder):
         answer = folder.on_terminal("check", dag, columns=200)
         same((answer.status, answer.text), (125, ""))
         same(answer.screen.told(), lines)
+    # What some editors write before the first character, and nobody sees.
+    folder.write("b.dag", "\ufeffJOB A a.sub\n")
+    lines = folder.on_terminal("check", "b.dag", columns=200).screen.told()
+    mend = "sed -i '1s/^\\xEF\\xBB\\xBF//' b.dag"
+    same((lines[0], lines[3:]), ("dagrun: L2 UnknownCommand b.dag:1:1", ["    a byte order mark is before it: " + mend, "    dagrun explain L2 says more"]))
+    subprocess.run(["sh", "-c", mend], cwd=folder.path, check=True)
+    same(folder.on_terminal("check", "b.dag", columns=200).text, "ok nodes=1 edges=0 final=no\n")
+
+
+def words_that_are_left_out(folder):
+    """Of each word of DAGMan's that is left out it is said what to write in its place, and where an example is; nothing else."""
+    folder.write("a.sub", "executable = /bin/true\nqueue\n")
+    example = "    docs/FROM_DAGMAN.md has an example."
+    program = ["    Start such a program before the run, and stop it after the run, or by the", "    job of a FINAL node."]
+    splices = ["    PARENT a CHILD b joins all ends of one splice with all beginnings of the", "    other."]
+    inline = ["    Write the lines between the braces into a submit file of their own, and", "    name it here."]
+    told = {
+        "SUBDAG EXTERNAL B inner.dag": (
+            1,
+            ["    SPLICE takes its nodes into this graph: SPLICE name inner.dag. Where the", "    file is made by a step of this run, a job calls `dagrun run inner.dag`."],
+        ),
+        "include y.dag": (1, ["    Put the files together before the run: cat a.dag b.dag >x.dag. A file of", "    nodes alone may be a splice."]),
+        "CONFIG x.config": (1, ["    Limits are options of the command line: dagrun run --maxjobs 8 --maxpre 2."]),
+        "PROVISIONER P p.sub": (1, program),
+        "SERVICE S p.sub": (1, program),
+        "CONNECT A B": (1, splices),
+        "PIN_IN A 1": (1, splices),
+        "PIN_OUT A 1": (1, splices),
+        "SAVE_POINT_FILE A": (
+            1,
+            ["    A rescue file of your own begins a run at any point: a line DONE name for", "    each node that is done, in x.dag.rescue001."],
+        ),
+        "ENV GET HOME": (
+            1,
+            ["    Take ENV GET away: jobs have the environment of dagrun. In place of ENV SET", "    write environment = \"NAME=value\" in the submit files."],
+        ),
+        "SUBMIT-DESCRIPTION d {": (1, ["    Write these lines into a submit file of their own, and name that file in", "    the JOB lines."]),
+        "REJECT": (1, ["    Take the line away: nothing marks a file as one for splices alone."]),
+        "DONE A": (1, ["    Write DONE at the end of the node's line: JOB A a.sub DONE."]),
+        "SCRIPT HOLD A x.sh": (
+            8,
+            ["    No job is ever held. One that can't be started fails with -1001, which a", "    POST script gets as $RETURN: SCRIPT POST A script $RETURN."],
+        ),
+        "SCRIPT DEFER 4 60 PRE A x.sh": (8, ["    Let the script wait by itself: until [ -e data.txt ]; do sleep 60; done."]),
+        "SCRIPT DEBUG x.log ALL PRE A x.sh": (
+            8,
+            ["    Let the script write its own log: exec >>pre.log 2>&1. Where it fails, the", "    end of what it prints is kept, and `dagrun why` shows it."],
+        ),
+        "JOB B {": (7, inline),
+        "JOB B @=end": (7, inline),
+        "RETRY A 2 \\": (
+            11,
+            ["    Write the whole line on one line, without the backslash: a line may be as", "    long as it has to be."],
+        ),
+    }
+    for line, (column, advice) in told.items():
+        folder.write("x.dag", f"JOB A a.sub\n{line}\n")
+        answer = folder.on_terminal("check", "x.dag", columns=100)
+        same((answer.status, answer.text), (125, ""))
+        shown = [f"dagrun: L3 Unsupported x.dag:2:{column}", f"    2 | {line}", "        " + " " * (column - 1) + "^"]
+        same(answer.screen.told(), [*shown, *advice, example])
 
 
 def without_words(folder):
@@ -1042,6 +1128,7 @@ ROWS = [
     a_program_elsewhere,
     a_refusal_in_the_middle,
     hints,
+    words_that_are_left_out,
     what_is_in_the_way,
     goes_on_where_it_stood,
     noops,

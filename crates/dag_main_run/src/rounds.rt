@@ -123,8 +123,14 @@ fn find_orphans<R: Files<File = File> + Clock + AllocGlobal + Clone + Drop>(
 ) -> Result<Orphans, OrphanFault> {
     let alloc = rt.alloc();
     let folder = folder_path(alloc, place)?;
-    let rounds = kept_rounds(rt, round_path(alloc, place)?.as_str(), folder.as_str())?;
-    orphans_of(rt, rounds, children_path(alloc, place)?.as_str())
+    let round = round_path(alloc, place)?;
+    let rounds = kept_rounds(rt, round.as_str(), folder.as_str())?;
+    orphans_of(
+        rt,
+        rounds,
+        children_path(alloc, place)?.as_str(),
+        round.as_str(),
+    )
 }
 
 /// The processes that an earlier manager of the round left. Nothing is done with them yet.
@@ -221,8 +227,8 @@ impl Known {
     }
 }
 
-/// The identifiers of a round: those that are kept, where it goes on, or else a new one, which is kept. Where the system refuses
-/// that, the log says so, and the round goes on.
+/// The identifiers of a round: those that are kept, where it goes on, or else a new one. They are kept with this manager. Where the
+/// system refuses that, the log says so, and the round goes on.
 fn renewed_where_new<R: Files<File = File> + Clock + AllocGlobal + Copy + Drop>(
     rt: R,
     place: &Place<'_>,
@@ -230,11 +236,9 @@ fn renewed_where_new<R: Files<File = File> + Clock + AllocGlobal + Copy + Drop>(
     kept: Kept,
     log: &mut RunWatcher<'_, R>,
 ) -> Result<Kept, AllocError> {
-    if round.journal == Journaled::Unfinished && !kept.rounds.is_empty() {
-        return Ok(kept);
-    }
     let alloc = rt.alloc();
-    let kept = kept.renewed(&rt)?;
+    let goes_on = round.journal == Journaled::Unfinished && !kept.rounds.is_empty();
+    let kept = if goes_on { kept } else { kept.renewed(&rt)? };
     let (path, folder) = (round_path(alloc, place)?, folder_path(alloc, place)?);
     if let Err(error) = keep_rounds(&rt, path.as_str(), folder.as_str(), &kept.rounds) {
         log.cannot_keep(&error);

@@ -1,18 +1,18 @@
 -- What is told of a round by the files as they are, and by those with which it began.
-use Rattle.std.proofs.Common.{◌≡◌, ℕ, Bool, true, false, List, Result, Ok, Err, IfOk}
+use Rattle.std.proofs.Common.{◌≡◌, ℕ, Bool, true, false, List, Result, Ok, Err, IfOk, subst}
 use Rattle.std.specs.Prelude.{IfErr}
 use Rattle.splices_flat.specs.Opening.{Files}
 use Rattle.dag_main_check.specs.declared.fault.RunFault.{RunFault}
 use Rattle.dag_main_check.specs.declared.warnings.Answer.{Answer}
 use Rattle.round_inputs.specs.declared.begun.Begun.{Begun}
-use Rattle.round_inputs.specs.AsBegun.{as_begun, IsBegunRound}
-use Rattle.dagrun.specs.Answered.{Said, by_held, by_begun, SaidByFiles, IsRefusedByFiles, refused_by_files, IsRefusedBySome, refused_by_some}
+use Rattle.round_inputs.specs.AsBegun.{as_begun, other_inputs, IsBegunRound}
+use Rattle.dagrun.specs.Answered.{Said, by_held, by_begun, SaidByFiles, by_asked, by_changed, SaidByFitting, IsRefusedByFiles, refused_by_files, IsRefusedBySome, refused_by_some}
 use Rattle.dagrun.proofs.Checks.{IsPlain}
 
 -- a refusal by some files
-pub some-refusal : (begun : Bool) (Refused : RunFault → Type 0) (r : Result Answer RunFault) → IfErr r Refused → IfErr r (IsRefusedBySome begun Refused)
-some-refusal begun Refused (Ok answer) why = tt
-some-refusal begun Refused (Err fault) why = refused_by_some fault why
+pub some-refusal : (begun : Bool) (path : List ℕ) (Refused : RunFault → Type 0) (r : Result Answer RunFault) → IfErr r Refused → IfErr r (IsRefusedBySome begun path Refused)
+some-refusal begun path Refused (Ok answer) why = tt
+some-refusal begun path Refused (Err fault) why = refused_by_some fault why
 
 module _ (holds : Files) (path : List ℕ) (begun : Bool) where
   -- by the files as they are
@@ -36,3 +36,15 @@ module _ (holds : Files) (path : List ℕ) (begun : Bool) where
       → IfErr r (Refused (as_begun kept holds)) → IfErr r (IsRefusedByFiles begun holds path Refused)
   begun-refusal so kept round Refused (Ok answer) why = tt
   begun-refusal so kept round Refused (Err fault) why = refused_by_files fault (by_begun so kept round why)
+
+  -- by those that it is asked for by, or by those with which it began, where the others were changed
+  pub asked-answer : (Refused : Files → RunFault → Type 0) (Answers : Files → Said) (r : Result Answer RunFault) → IfOk r (IsPlain (SaidByFiles begun holds path Answers))
+      → IfOk r (IsPlain (SaidByFitting begun holds path Refused Answers))
+  asked-answer Refused Answers (Ok answer) is = by_asked is
+  asked-answer Refused Answers (Err fault) is = tt
+
+  pub changed-answer : begun ≡ false → (Refused : Files → RunFault → Type 0) (Answers : Files → Said) (reply : Result Answer RunFault) → reply ≡ Err other_inputs
+      → IfErr reply (IsRefusedByFiles begun holds path Refused) → (answer : Answer) → IsPlain (SaidByFiles true holds path Answers) answer
+      → IsPlain (SaidByFitting begun holds path Refused Answers) answer
+  changed-answer isnt Refused Answers reply others why answer is =
+      by_changed isnt (subst (λ (r : Result Answer RunFault). IfErr r (IsRefusedByFiles begun holds path Refused)) others why) is

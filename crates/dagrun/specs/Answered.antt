@@ -36,7 +36,7 @@ use Rattle.failure_answers.specs.Answered.{IsWhyOf, IsWhyHeld, IsWhyFaultHeld}
 use Rattle.dag_main_args.specs.Matched.{version_text}
 use Rattle.report_answers.specs.Answered.{IsReportPageOf, IsReportPageHeld}
 use Rattle.round_inputs.specs.declared.begun.Begun.{Begun}
-use Rattle.round_inputs.specs.AsBegun.{as_begun, IsBegunRound, IsNotBegun}
+use Rattle.round_inputs.specs.AsBegun.{as_begun, IsBegunRound, IsNotBegun, IsNotBegunHeld, other_inputs}
 use Rattle.redo.specs.Answered.{IsRedoOf, IsRedoHeld, IsRedoFault, IsRedoFaultHeld}
 
 -- what is said of the text, the warnings and the status of an answer
@@ -165,12 +165,22 @@ SaidByFiles begun holds path Answers text warnings status = IsByFiles begun hold
 -- Why a command is refused that tells of a round: for what these files say; or, where the round is to be seen as it began, that isn't known.
 pub data IsRefusedByFiles (begun : Bool) (holds : Files) (path : List ℕ) (Refused : Files → RunFault → Type 0) : RunFault → Type 0 where
   refused_by_files : (fault : RunFault) → IsByFiles begun holds path (λ files. Refused files fault) → IsRefusedByFiles begun holds path Refused fault
-  not_begun_by_files : (fault : RunFault) → begun ≡ true → IsNotBegun fault → IsRefusedByFiles begun holds path Refused fault
+  not_begun_by_files : (fault : RunFault) → begun ≡ true → IsNotBegunHeld holds path fault → IsRefusedByFiles begun holds path Refused fault
 
 -- The same of some files.
-pub data IsRefusedBySome (begun : Bool) (Refused : RunFault → Type 0) : RunFault → Type 0 where
-  refused_by_some : (fault : RunFault) → Refused fault → IsRefusedBySome begun Refused fault
-  not_begun_by_some : (fault : RunFault) → begun ≡ true → IsNotBegun fault → IsRefusedBySome begun Refused fault
+pub data IsRefusedBySome (begun : Bool) (path : List ℕ) (Refused : RunFault → Type 0) : RunFault → Type 0 where
+  refused_by_some : (fault : RunFault) → Refused fault → IsRefusedBySome begun path Refused fault
+  not_begun_by_some : (fault : RunFault) → begun ≡ true → IsNotBegun path fault → IsRefusedBySome begun path Refused fault
+
+-- By which files `why` and `report` tell of a round: by those that it is asked for by; or, where the files that are held are others than those with which
+-- the round began, so that they give no answer, by those with which it began.
+pub data IsByFitting (begun : Bool) (holds : Files) (path : List ℕ) (Refused : Files → RunFault → Type 0) (Holds : Files → Type 0) : Type 0 where
+  by_asked : IsByFiles begun holds path Holds → IsByFitting begun holds path Refused Holds
+  by_changed : begun ≡ false → IsRefusedByFiles begun holds path Refused other_inputs → IsByFiles true holds path Holds → IsByFitting begun holds path Refused Holds
+
+-- what is said of an answer by these files
+abbrev pub SaidByFitting : (begun : Bool) → Files → (path : List ℕ) → (Files → RunFault → Type 0) → (Files → Said) → Said
+SaidByFitting begun holds path Fails Answers text warnings status = IsByFitting begun holds path Fails (λ files. Answers files text warnings status)
 
 -- nodes in error with one cause are shown once, or each by itself
 abbrev pub grouping_by : (all : Bool) → Grouping
@@ -192,16 +202,16 @@ command_of_some rounds (runs path options) = record {
   answers = IsRunWith (IsRunOf rounds path options) (IsReportHere path) (Unit {0}) options;
   refused = IsRunRefusal (IsRunFault rounds path options) (IsAnswerFault Status path) (Unit {0}) options;
 }
-command_of_some rounds (tells_status path begun trust_owner) = record { answers = IsAnswerOfRun Status path; refused = IsRefusedBySome begun (IsAnswerFault Status path) }
-command_of_some rounds (audits path begun trust_owner) = record { answers = IsAnswerOfRun Audit path; refused = IsRefusedBySome begun (IsAnswerFault Audit path) }
+command_of_some rounds (tells_status path begun trust_owner) = record { answers = IsAnswerOfRun Status path; refused = IsRefusedBySome begun path (IsAnswerFault Status path) }
+command_of_some rounds (audits path begun trust_owner) = record { answers = IsAnswerOfRun Audit path; refused = IsRefusedBySome begun path (IsAnswerFault Audit path) }
 command_of_some rounds (rehearses path outcomes limits always_post) = record {
   answers = IsRehearsalWith (λ table. IsRehearsalOfSome always_post path table limits) outcomes;
   refused = IsRehearsalRefusalWith (IsRehearsalRefusal path) outcomes;
 }
-command_of_some rounds (draws path begun trust_owner) = record { answers = IsAnswerOfRun Graph path; refused = IsRefusedBySome begun (IsAnswerFault Graph path) }
-command_of_some rounds (asks_why path nodes all begun trust_owner) = record { answers = IsWhyOf (grouping_by all) path nodes; refused = IsRefusedBySome begun (IsAnswerFault Status path) }
-command_of_some rounds (times path svg begun trust_owner) = record { answers = IsTimesOf path svg; refused = IsRefusedBySome begun (IsTimesFault path) }
-command_of_some rounds (reports path reload begun trust_owner) = record { answers = IsReportPageOf path version_text reload; refused = IsRefusedBySome begun (IsAnswerFault Status path) }
+command_of_some rounds (draws path begun trust_owner) = record { answers = IsAnswerOfRun Graph path; refused = IsRefusedBySome begun path (IsAnswerFault Graph path) }
+command_of_some rounds (asks_why path nodes all begun trust_owner) = record { answers = IsWhyOf (grouping_by all) path nodes; refused = IsRefusedBySome begun path (IsAnswerFault Status path) }
+command_of_some rounds (times path svg begun trust_owner) = record { answers = IsTimesOf path svg; refused = IsRefusedBySome begun path (IsTimesFault path) }
+command_of_some rounds (reports path reload begun trust_owner) = record { answers = IsReportPageOf path version_text reload; refused = IsRefusedBySome begun path (IsAnswerFault Status path) }
 command_of_some rounds (salvages path trust_owner) = record { answers = IsSalvageWith (IsSalvageOf path) path; refused = λ fault. IsSalvageFault path (Refused fault) }
 command_of_some rounds (redoes path nodes only trust_owner) = record { answers = IsRedoOf path nodes only; refused = IsRedoFault path }
 command_of_some rounds (shows page) = record { answers = IsPage page; refused = λ fault. ⊥ }
@@ -228,7 +238,7 @@ command_from holds has rounds (rehearses path outcomes limits always_post) = rec
 }
 command_from holds has rounds (draws path begun trust_owner) = question_from Graph holds path begun
 command_from holds has rounds (asks_why path nodes all begun trust_owner) = record {
-  answers = SaidByFiles begun holds path (λ files. IsWhyHeld (grouping_by all) files path nodes);
+  answers = SaidByFitting begun holds path (λ files. IsWhyFaultHeld files path) (λ files. IsWhyHeld (grouping_by all) files path nodes);
   refused = IsRefusedByFiles begun holds path (λ files. IsWhyFaultHeld files path);
 }
 command_from holds has rounds (times path svg begun trust_owner) = record {
@@ -236,7 +246,7 @@ command_from holds has rounds (times path svg begun trust_owner) = record {
   refused = IsRefusedByFiles begun holds path (λ files. IsTimesFaultHeld files path);
 }
 command_from holds has rounds (reports path reload begun trust_owner) = record {
-  answers = SaidByFiles begun holds path (λ files. IsReportPageHeld files path version_text reload);
+  answers = SaidByFitting begun holds path (λ files. IsWhyFaultHeld files path) (λ files. IsReportPageHeld files path version_text reload);
   refused = IsRefusedByFiles begun holds path (λ files. IsWhyFaultHeld files path);
 }
 command_from holds has rounds (salvages path trust_owner) = record { answers = IsSalvageWith (IsSalvageFrom holds path) path; refused = λ fault. IsSalvageFault path (Refused fault) }

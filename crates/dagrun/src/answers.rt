@@ -15,7 +15,9 @@ ghost use Rattle.dag_main_run.specs.Sites.{rounds_at};
 ghost use Rattle.dagrun.specs.Answered.{is_run, command_of_some, command_from, ComesTo, IsPage, IsRehearsalWith, IsRehearsalRefusalWith, IsSalvageWith, AreHints};
 
 use crate::checking::check;
-use crate::of_round::{answer_of_round, grouping_by, page_of_round, times_of_round, why_of_round};
+use crate::of_round::{
+    answer_of_round, grouping_by, page_of_last_round, times_of_round, why_of_last_round,
+};
 use answer_console::Console;
 use dag_main_args::{Request, RunOptions};
 use dag_main_check::{Answer, RunFault};
@@ -82,7 +84,7 @@ pub(crate) fn answer_in<
                 folder: seat,
                 top: dag,
             };
-            why_of_round(
+            why_of_last_round(
                 rt,
                 folder,
                 &place,
@@ -108,7 +110,7 @@ pub(crate) fn answer_in<
                 folder: seat,
                 top: dag,
             };
-            page_of_round(rt, folder, &place, reload, as_begun, trust_owner)
+            page_of_last_round(rt, folder, &place, reload, as_begun, trust_owner)
         }
         Request::Salvage { dag, trust_owner } => {
             let place = Place {

@@ -151,6 +151,10 @@ fn postscript_to<R: Clock>(rt: &R, request: &Request<'_>) -> Postscript {
         Request::Why { trust_owner, .. } => Postscript::Worker {
             trusts_owner: *trust_owner,
         },
+        Request::Audit { .. }
+        | Request::Graph { .. }
+        | Request::Times { .. }
+        | Request::Report { .. } => Postscript::Changes,
         _ => Postscript::Nothing,
     }
 }

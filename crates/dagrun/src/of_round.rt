@@ -1,13 +1,14 @@
 //! What is told of the last round of a DAG file: by the files as they are, or as they were when the round began.
 
-ghost use Rattle.std.specs.Prelude.{◌≡◌, map, IfOk, IfErr, string_bytes};
+ghost use Rattle.std.specs.Prelude.{◌≡◌, true, Err, map, IfOk, IfErr, string_bytes};
 ghost use Rattle.dag_main_inspect.specs.Asked.{IsAnswerOfRun, IsAnswerHeld, IsAnswerFault, IsAnswerFaultHeld};
 ghost use Rattle.dag_main_inspect.specs.declared.by_journal.Question.TheVariants.{Status};
 ghost use Rattle.failure_answers.specs.Answered.{IsWhyOf, IsWhyHeld, IsWhyFaultHeld};
 ghost use Rattle.dag_main_args.specs.Matched.{version_text};
 ghost use Rattle.report_answers.specs.Answered.{IsReportPageOf, IsReportPageHeld};
 ghost use Rattle.run_times.specs.Answered.{IsTimesOf, IsTimesFrom, IsTimesFault, IsTimesFaultHeld};
-ghost use Rattle.dagrun.specs.Answered.{grouping_by, SaidByFiles, IsRefusedByFiles, IsRefusedBySome};
+ghost use Rattle.dagrun.specs.Answered.{grouping_by, SaidByFiles, SaidByFitting, IsRefusedByFiles, IsRefusedBySome};
+ghost use Rattle.round_inputs.specs.AsBegun.{other_inputs};
 
 use dag_main_args::VERSION;
 use dag_main_check::{Answer, RunFault};
@@ -16,7 +17,7 @@ use dag_main_inspect::{Question, answer_here};
 use failure_answers::why_here;
 use failure_report::Grouping;
 use report_answers::{Wanted, page_here};
-use round_inputs::last_begun;
+use round_inputs::{is_of_other_files, last_begun};
 use run_times::times_here;
 use std::alloc::Global;
 use std::fs::File;
@@ -38,7 +39,7 @@ pub(crate) fn answer_of_round<F: Folder>(
     // It is that of the files that the folder holds, or of those with which the round began.
     ensures held { F.honest folder.now → IfOk result (λ answer. SaidByFiles as_begun (F.holds folder.now) dag.now
         (λ files. IsAnswerHeld files question dag.now) (string_bytes answer.text) (string_bytes answer.warnings) answer.status) }
-    ensures refused { IfErr result (IsRefusedBySome as_begun (IsAnswerFault question dag.now)) }
+    ensures refused { IfErr result (IsRefusedBySome as_begun dag.now (IsAnswerFault question dag.now)) }
     ensures refused_held { F.honest folder.now → IfErr result (IsRefusedByFiles as_begun (F.holds folder.now) dag.now
         (λ files. IsAnswerFaultHeld files question dag.now)) }
 {
@@ -60,11 +61,55 @@ pub(crate) fn grouping_by(all: bool) -> Grouping
     }
 }
 
+/// Whether a command is refused since the files are others than those with which the round began.
+fn are_others(reply: &Result<Answer, RunFault>) -> bool
+    ensures { result ≡ true → reply.now ≡ Err other_inputs }
+{
+    match reply {
+        Ok(_) => false,
+        Err(fault) => is_of_other_files(fault),
+    }
+}
+
+/// Why nodes of the last round of a DAG file are in error: by the files as they are, or, where these are others than those with which
+/// the round began, by those.
+///
+/// # Errors
+/// Those of `last_begun`, where the round is to be seen as it began; then those of `why_here`.
+pub(crate) fn why_of_last_round<R: Files<File = File> + AllocGlobal, F: Folder>(
+    rt: &R,
+    folder: &F,
+    place: &Place<'_>,
+    names: &[&str],
+    grouping: Grouping,
+    as_begun: bool,
+    trust_owner: bool,
+) -> Result<Answer, RunFault>
+    ensures answered { IfOk result (λ answer. IsWhyOf grouping place.now.top.now (map (λ n. n.now) names.now)
+        (string_bytes answer.text) (string_bytes answer.warnings) answer.status) }
+    ensures held { F.honest folder.now → IfOk result (λ answer. SaidByFitting as_begun (F.holds folder.now) place.now.top.now
+        (λ files. IsWhyFaultHeld files place.now.top.now)
+        (λ files. IsWhyHeld grouping files place.now.top.now (map (λ n. n.now) names.now))
+        (string_bytes answer.text) (string_bytes answer.warnings) answer.status) }
+    ensures refused { IfErr result (IsRefusedBySome as_begun place.now.top.now (IsAnswerFault Status place.now.top.now)) }
+    ensures refused_held { F.honest folder.now → IfErr result (IsRefusedByFiles as_begun (F.holds folder.now) place.now.top.now
+        (λ files. IsWhyFaultHeld files place.now.top.now)) }
+{
+    let reply = why_of_round(rt, folder, place, names, grouping, as_begun, trust_owner);
+    if as_begun || !are_others(&reply) {
+        return reply;
+    }
+    match why_of_round(rt, folder, place, names, grouping, true, trust_owner) {
+        Ok(answer) => Ok(answer),
+        Err(_) => reply,
+    }
+}
+
 /// Why nodes of the last round of a DAG file are in error.
 ///
 /// # Errors
 /// Those of `last_begun`, where the round is to be seen as it began; then those of `why_here`.
-pub(crate) fn why_of_round<R: Files<File = File> + AllocGlobal, F: Folder>(
+fn why_of_round<R: Files<File = File> + AllocGlobal, F: Folder>(
     rt: &R,
     folder: &F,
     place: &Place<'_>,
@@ -79,7 +124,7 @@ pub(crate) fn why_of_round<R: Files<File = File> + AllocGlobal, F: Folder>(
     ensures held { F.honest folder.now → IfOk result (λ answer. SaidByFiles as_begun (F.holds folder.now) place.now.top.now
         (λ files. IsWhyHeld grouping files place.now.top.now (map (λ n. n.now) names.now))
         (string_bytes answer.text) (string_bytes answer.warnings) answer.status) }
-    ensures refused { IfErr result (IsRefusedBySome as_begun (IsAnswerFault Status place.now.top.now)) }
+    ensures refused { IfErr result (IsRefusedBySome as_begun place.now.top.now (IsAnswerFault Status place.now.top.now)) }
     ensures refused_held { F.honest folder.now → IfErr result (IsRefusedByFiles as_begun (F.holds folder.now) place.now.top.now
         (λ files. IsWhyFaultHeld files place.now.top.now)) }
 {
@@ -106,7 +151,7 @@ pub(crate) fn times_of_round<F: Folder>(
     // It is that of the files that the folder holds, or of those with which the round began.
     ensures held { F.honest folder.now → IfOk result (λ answer. SaidByFiles as_begun (F.holds folder.now) dag.now
         (λ files. IsTimesFrom files dag.now svg) (string_bytes answer.text) (string_bytes answer.warnings) answer.status) }
-    ensures refused { IfErr result (IsRefusedBySome as_begun (IsTimesFault dag.now)) }
+    ensures refused { IfErr result (IsRefusedBySome as_begun dag.now (IsTimesFault dag.now)) }
     ensures refused_held { F.honest folder.now → IfErr result (IsRefusedByFiles as_begun (F.holds folder.now) dag.now
         (λ files. IsTimesFaultHeld files dag.now)) }
 {
@@ -117,11 +162,44 @@ pub(crate) fn times_of_round<F: Folder>(
     times_here(alloc, &seen, dag, svg)
 }
 
+/// A page of the last round of a DAG file: by the files as they are, or, where these are others than those with which the round began, by
+/// those.
+///
+/// # Errors
+/// Those of `last_begun`, where the round is to be seen as it began; then those of `page_here`.
+pub(crate) fn page_of_last_round<R: Files<File = File> + AllocGlobal, F: Folder>(
+    rt: &R,
+    folder: &F,
+    place: &Place<'_>,
+    reloads: bool,
+    as_begun: bool,
+    trust_owner: bool,
+) -> Result<Answer, RunFault>
+    ensures answered { IfOk result (λ answer. IsReportPageOf place.now.top.now version_text reloads
+        (string_bytes answer.text) (string_bytes answer.warnings) answer.status) }
+    ensures held { F.honest folder.now → IfOk result (λ answer. SaidByFitting as_begun (F.holds folder.now) place.now.top.now
+        (λ files. IsWhyFaultHeld files place.now.top.now)
+        (λ files. IsReportPageHeld files place.now.top.now version_text reloads)
+        (string_bytes answer.text) (string_bytes answer.warnings) answer.status) }
+    ensures refused { IfErr result (IsRefusedBySome as_begun place.now.top.now (IsAnswerFault Status place.now.top.now)) }
+    ensures refused_held { F.honest folder.now → IfErr result (IsRefusedByFiles as_begun (F.holds folder.now) place.now.top.now
+        (λ files. IsWhyFaultHeld files place.now.top.now)) }
+{
+    let reply = page_of_round(rt, folder, place, reloads, as_begun, trust_owner);
+    if as_begun || !are_others(&reply) {
+        return reply;
+    }
+    match page_of_round(rt, folder, place, reloads, true, trust_owner) {
+        Ok(answer) => Ok(answer),
+        Err(_) => reply,
+    }
+}
+
 /// A page of the last round of a DAG file.
 ///
 /// # Errors
 /// Those of `last_begun`, where the round is to be seen as it began; then those of `page_here`.
-pub(crate) fn page_of_round<R: Files<File = File> + AllocGlobal, F: Folder>(
+fn page_of_round<R: Files<File = File> + AllocGlobal, F: Folder>(
     rt: &R,
     folder: &F,
     place: &Place<'_>,
@@ -135,7 +213,7 @@ pub(crate) fn page_of_round<R: Files<File = File> + AllocGlobal, F: Folder>(
     ensures held { F.honest folder.now → IfOk result (λ answer. SaidByFiles as_begun (F.holds folder.now) place.now.top.now
         (λ files. IsReportPageHeld files place.now.top.now version_text reloads)
         (string_bytes answer.text) (string_bytes answer.warnings) answer.status) }
-    ensures refused { IfErr result (IsRefusedBySome as_begun (IsAnswerFault Status place.now.top.now)) }
+    ensures refused { IfErr result (IsRefusedBySome as_begun place.now.top.now (IsAnswerFault Status place.now.top.now)) }
     ensures refused_held { F.honest folder.now → IfErr result (IsRefusedByFiles as_begun (F.holds folder.now) place.now.top.now
         (λ files. IsWhyFaultHeld files place.now.top.now)) }
 {

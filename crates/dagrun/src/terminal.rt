@@ -61,6 +61,8 @@ pub(crate) enum Postscript {
     Totals { trusts_owner: bool },
     /// Who works on the DAG; the same of the log.
     Worker { trusts_owner: bool },
+    /// Which files are changed since the last round began.
+    Changes,
 }
 
 impl Postscript {
@@ -247,9 +249,8 @@ fn inputs_of<R: Files + AllocGlobal>(rt: &R, dag: &str) -> Option<Inputs> {
     inputs_in(rt.alloc(), &bytes).ok()
 }
 
-/// Which files are changed since the last round of a DAG file began, at most five of them, and what keeps what is done; nothing
-/// where it is not known.
-fn changed_since<R: Files + AllocGlobal>(rt: &R, dag: &str) -> Result<Option<String>, AllocError> {
+/// Which files are changed since the last round of a DAG file began, at most five of them; nothing where none is, or it is not known.
+fn changed_files<R: Files + AllocGlobal>(rt: &R, dag: &str) -> Result<Option<String>, AllocError> {
     let Some(inputs) = inputs_of(rt, dag) else {
         return Ok(None);
     };
@@ -270,10 +271,44 @@ fn changed_since<R: Files + AllocGlobal>(rt: &R, dag: &str) -> Result<Option<Str
     if count > MOST_CHANGED {
         write!(text, " and {} more", count - MOST_CHANGED)?;
     }
-    write!(
-        text,
-        "; dagrun salvage {dag} keeps what is done, and --as-begun shows the round"
-    )?;
+    Ok(Some(text))
+}
+
+/// Whether the last round of a DAG file has ended; none where there is none, or its journal can't be read.
+fn has_ended<R: Files<File = File> + Input + AllocGlobal + Copy + Drop>(
+    rt: &R,
+    dag: &str,
+    trusts_owner: bool,
+) -> Option<bool> {
+    let alloc = rt.alloc();
+    let here = SystemFolder {
+        rt,
+        seat: String::new(alloc),
+        has_input: false,
+        trusts_owner,
+    };
+    let peek = here.journal(alloc, dag).ok()??;
+    Some(peek.finished)
+}
+
+/// Which files are changed since the last round of a DAG file began, and what keeps what is done, or that the next round begins anew.
+fn changed_since<R: Files<File = File> + Input + AllocGlobal + Copy + Drop>(
+    rt: &R,
+    dag: &str,
+) -> Result<Option<String>, AllocError> {
+    let Some(files) = changed_files(rt, dag)? else {
+        return Ok(None);
+    };
+    let alloc = rt.alloc();
+    let text = if has_ended(rt, dag, false) == Some(true) {
+        format!(in alloc;
+            "{files}; dagrun run {dag} begins a new round, and --as-begun shows the last one"
+        )?
+    } else {
+        format!(in alloc;
+            "{files}; dagrun salvage {dag} keeps what is done, and --as-begun shows the round"
+        )?
+    };
     Ok(Some(text))
 }
 
@@ -323,7 +358,7 @@ fn place_of_node<R: Files + AllocGlobal>(
 }
 
 /// What the system said, as far as that can still be known.
-fn reason_of<R: Files + Env + AllocGlobal>(
+fn reason_of<R: Files<File = File> + Env + Input + AllocGlobal + Copy + Drop>(
     rt: &R,
     dag: Option<&str>,
     refusal: &Refusal<'_>,
@@ -341,7 +376,7 @@ fn reason_of<R: Files + Env + AllocGlobal>(
 }
 
 /// What is displayed behind the line of a refusal of a request for this DAG file.
-fn hint_of<R: Files + Env + AllocGlobal>(
+fn hint_of<R: Files<File = File> + Env + Input + AllocGlobal + Copy + Drop>(
     rt: &R,
     dag: Option<&str>,
     line: &str,
@@ -357,12 +392,10 @@ fn hint_of<R: Files + Env + AllocGlobal>(
 }
 
 /// Displays what may help behind the line of a refusal, where standard error is a terminal.
-pub(crate) fn display_hint<R: Files + Env + AllocGlobal, C: Console>(
-    rt: &R,
-    console: &mut C,
-    dag: Option<&str>,
-    line: &str,
-)
+pub(crate) fn display_hint<
+    R: Files<File = File> + Env + Input + AllocGlobal + Copy + Drop,
+    C: Console,
+>(rt: &R, console: &mut C, dag: Option<&str>, line: &str)
     ensures warned { C.honest console.new → OnlyWarnsAtTerminal (C.shown console.old) (C.shown console.new) }
     ensures back { C.honest console.new → C.honest console.old }
 {
@@ -437,28 +470,39 @@ fn worker_of<R: Files<File = File> + AllocGlobal>(
     }
 }
 
-/// How to go on, where nobody works on this DAG file and its last round has not ended.
+/// How to go on, where nobody works on this DAG file and its last round has not ended: otherwise where files are changed since it began.
 fn going_on_text<R: Files<File = File> + Input + AllocGlobal + Copy + Drop>(
     rt: &R,
     dag: &str,
     trusts_owner: bool,
     worker: &str,
+    are_changed: bool,
 ) -> Result<String, AllocError> {
     let alloc = rt.alloc();
-    let here = SystemFolder {
-        rt,
-        seat: String::new(alloc),
-        has_input: false,
-        trusts_owner,
-    };
-    if worker != NOBODY {
+    if worker != NOBODY || has_ended(rt, dag, trusts_owner) != Some(false) {
         return Ok(String::new(alloc));
     }
-    match here.journal(alloc, dag) {
-        Ok(Some(peek)) if !peek.finished => format!(in alloc;
-            "; the round was cut short: dagrun run {dag} goes on"
-        ),
-        _ => Ok(String::new(alloc)),
+    if are_changed {
+        return format!(in alloc;
+            "; the round was cut short: dagrun salvage {dag} keeps what is done"
+        );
+    }
+    format!(in alloc; "; the round was cut short: dagrun run {dag} goes on")
+}
+
+/// Who works on this DAG file, and on what, and how to go on; then which files are changed since its last round began.
+fn standing_text<R: Files<File = File> + Input + AllocGlobal + Copy + Drop>(
+    rt: &R,
+    dag: &str,
+    trusts_owner: bool,
+    what: &str,
+) -> Result<String, AllocError> {
+    let worker = worker_of(rt, dag, trusts_owner)?;
+    let changes = changed_files(rt, dag)?;
+    let further = going_on_text(rt, dag, trusts_owner, worker.as_str(), changes.is_some())?;
+    match changes {
+        Some(changes) => format!(in rt.alloc(); "{worker} works on {what}{further}\n{changes}\n"),
+        None => format!(in rt.alloc(); "{worker} works on {what}{further}\n"),
     }
 }
 
@@ -577,15 +621,14 @@ fn postscript_of<R: Files<File = File> + Clock + Env + Input + AllocGlobal + Cop
         Postscript::Hints => odd_text(rt, dag),
         Postscript::Totals { trusts_owner } => {
             let totals = totals_of(alloc, text)?;
-            let worker = worker_of(rt, dag, trusts_owner)?;
-            let further = going_on_text(rt, dag, trusts_owner, worker.as_str())?;
-            format!(in alloc; "{totals}; {worker} works on them{further}\n")
+            let standing = standing_text(rt, dag, trusts_owner, "them")?;
+            format!(in alloc; "{totals}; {standing}")
         }
-        Postscript::Worker { trusts_owner } => {
-            let worker = worker_of(rt, dag, trusts_owner)?;
-            let further = going_on_text(rt, dag, trusts_owner, worker.as_str())?;
-            format!(in alloc; "{worker} works on {dag}{further}\n")
-        }
+        Postscript::Worker { trusts_owner } => standing_text(rt, dag, trusts_owner, dag),
+        Postscript::Changes => match changed_files(rt, dag)? {
+            Some(changes) => format!(in alloc; "{changes}\n"),
+            None => Ok(String::new(alloc)),
+        },
     }
 }
 

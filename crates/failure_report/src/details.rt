@@ -41,6 +41,8 @@ pub(crate) enum Quote {
 #[derive(Drop)]
 pub(crate) struct Details {
     pub(crate) command: Option<SeenCommand>,
+    /// The words of the launcher before those of the command, as the log has them.
+    pub(crate) launcher: Option<String>,
     /// How many seconds it took, as the log says it.
     pub(crate) seconds: Option<String>,
     /// How what is wrong is mended.
@@ -112,10 +114,19 @@ fn push_stream(text: &mut String, key: &str, path: &Option<Text>) -> Result<(), 
     }
 }
 
-/// Adds the lines of a command.
-fn push_command(text: &mut String, command: &SeenCommand) -> Result<(), AllocError> {
+/// Adds the lines of a command, and the words of the launcher that started it, where one did.
+fn push_command(
+    text: &mut String,
+    command: &SeenCommand,
+    launcher: Option<&str>,
+) -> Result<(), AllocError> {
     let words = command.words.as_str();
     writeln!(text, "    command  {words}")?;
+    if let Some(launcher) = launcher {
+        text.push_str("    launcher ")?;
+        push_all_shown(text, launcher)?;
+        text.push('\n')?;
+    }
     push_path(text, "    folder   ", command.folder.as_str())?;
     if let Some(input) = &command.input {
         push_path(text, "    input    ", input.as_str())?;
@@ -155,7 +166,8 @@ fn push_quote(text: &mut String, quote: &Quote) -> Result<(), AllocError> {
 /// Want of memory.
 pub(crate) fn push_details(text: &mut String, details: &Details) -> Result<(), AllocError> {
     if let Some(command) = &details.command {
-        push_command(text, command)?;
+        let launcher = details.launcher.as_ref().map(|words| words.as_str());
+        push_command(text, command, launcher)?;
     }
     if let Some(seconds) = &details.seconds {
         text.push_str("    took     ")?;

@@ -121,6 +121,13 @@ impl<'l> Run<'_, '_, 'l> {
         }
     }
 
+    /// The words that the log has before those of the command of a phase: the launcher's. None where it has none, or doesn't say it.
+    fn launcher_at(&self, story: &Story, command: &SeenCommand) -> Option<&'l str> {
+        let started = self.notes_of(&story.key)?.command?;
+        let front = started.strip_suffix(command.words.as_str())?;
+        front.strip_suffix(' ')
+    }
+
     /// How many seconds a phase took, where the log says it of this ending.
     fn seconds_at(&self, story: &Story) -> Option<&'l str> {
         let notes = self.notes_of(&story.key)?;
@@ -196,6 +203,7 @@ pub(crate) fn push_story<R: Files<File = File> + AllocGlobal>(
         return Ok(());
     };
     let details = Details {
+        launcher: copy_of(alloc, run.launcher_at(story, &command))?,
         seconds: copy_of(alloc, run.seconds_at(story))?,
         repair: repair_at(rt, run, story, &command)?,
         quote: quote_at(rt, story, &command)?,

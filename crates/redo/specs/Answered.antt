@@ -1,5 +1,5 @@
 -- What `redo` answers, and why it is refused.
-use Rattle.std.specs.Prelude.{◌≡◌, ℕ, Bool, false, List, [], ◌++◌, Option, Some, None, IsTrue, codes, string_bytes}
+use Rattle.std.specs.Prelude.{◌≡◌, ℕ, Bool, false, List, [], ◌++◌, Option, Some, IsTrue, codes, string_bytes}
 use Rattle.splices_flat.specs.Opening.{Files}
 use Rattle.node_machine.specs.declared.Record.{Record}
 use Rattle.rescue_file.specs.Numbered.{rescue_name_of}
@@ -9,7 +9,7 @@ use Rattle.log_lines.specs.Words.{word_text}
 use Rattle.dag_main_check.specs.Planned.{IsPlanWith}
 use Rattle.dag_main_check.specs.Warnings.{warning_lines}
 use Rattle.dag_main_check.specs.declared.fault.RunFault.{RunFault}
-use Rattle.dag_main_files.specs.Beside.{journal_name_of, IsFileFault, IsRoundFault}
+use Rattle.dag_main_files.specs.Beside.{journal_name_of, IsFileFault}
 use Rattle.dag_main_files.specs.Opened.{IsOfFiles, IsOfSome}
 use Rattle.dag_main_inspect.specs.Asked.{IsAnswerFault, IsAnswerFaultHeld}
 use Rattle.dag_main_inspect.specs.LastRound.{IsLastRound}
@@ -18,7 +18,7 @@ use Rattle.dag_main_inspect.specs.declared.by_journal.Question.TheVariants.{Stat
 use Rattle.failure_report.specs.Named.{AreNumbers, IsUnknownName}
 use Rattle.salvage.specs.Salvaged.{report_line}
 use Rattle.redo.specs.Redone.{IsRedone}
-use Rattle.redo.specs.Numbers.{IsNextNumber}
+use Rattle.redo.specs.Numbers.{IsNextNumber, IsNextNumberIn, IsNoNextNumber}
 use Rattle.redo.specs.declared.here.Found.{Found}
 use Rattle.redo.specs.declared.here.Found.TheVariants.{Marked, Unknown}
 
@@ -47,36 +47,37 @@ pub record IsFoundBy (path : List ℕ) (rescue journal : Option (List ℕ)) (nam
   pub lawful : IsTrue (is_lawful plan past)
   pub found_is : IsFoundOfNames plan past path names only found
 
--- What is printed of a rescue file that marks so many nodes of so many, of the round whose journal has these bytes: that, with its name.
-pub record IsRedoReport (path journal : List ℕ) (done total : ℕ) (file_warnings text warnings : List ℕ) (status : ℕ) : Type 0 where
+-- What is printed of a rescue file that marks so many nodes of so many, where it has this number: that, with its name.
+pub record IsRedoReport (IsNumber : ℕ → Type 0) (path : List ℕ) (done total : ℕ) (file_warnings text warnings : List ℕ) (status : ℕ) : Type 0 where
   pub number : ℕ
-  pub next : IsNextNumber journal number
+  pub next : IsNumber number
   pub text_is : text ≡ report_line done total (rescue_name_of path number)
   pub warnings_are : warnings ≡ file_warnings
   pub status_is : status ≡ 0
 
 -- The answer of a run of the DAG file of a path: how many nodes stay done where those of these names run again, and the name of the rescue file
 -- that marks them; or, where a name is none of a node, the line that reports it as a warning.
-pub data IsRedoAnswer (plan : Plan) (past : List Record) (path journal : List ℕ) (names : List (List ℕ)) (only : Bool) (text warnings : List ℕ) (status : ℕ) : Type 0 where
+pub data IsRedoAnswer (IsNumber : ℕ → Type 0) (plan : Plan) (past : List Record) (path : List ℕ) (names : List (List ℕ)) (only : Bool) (text warnings : List ℕ) (status : ℕ) : Type 0 where
   stays_done_so : (numbers rescue_text : List ℕ) (done : ℕ) → AreNumbers plan names numbers → IsRedone plan past only numbers rescue_text done →
-      IsRedoReport path journal done (count_of plan) (warning_lines plan.graph.dag.warnings) text warnings status →
-      IsRedoAnswer plan past path journal names only text warnings status
-  unknown_name : IsUnknownName plan path names warnings → text ≡ [] → status ≡ 125 → IsRedoAnswer plan past path journal names only text warnings status
+      IsRedoReport IsNumber path done (count_of plan) (warning_lines plan.graph.dag.warnings) text warnings status →
+      IsRedoAnswer IsNumber plan past path names only text warnings status
+  unknown_name : IsUnknownName plan path names warnings → text ≡ [] → status ≡ 125 → IsRedoAnswer IsNumber plan past path names only text warnings status
 
--- that is the answer of the plan of these files, with a rescue file or none, where the records of a journal or none are lawful
-pub record IsRedoFrom (path : List ℕ) (rescue journal : Option (List ℕ)) (names : List (List ℕ)) (only : Bool) (text warnings : List ℕ) (status : ℕ)
+-- that is the answer of the plan of these files, with a rescue file or none, where the records of a journal or none are lawful and the journal has this next
+-- number
+pub record IsRedoFrom (IsNumber : (journal : List ℕ) → ℕ → Type 0) (path : List ℕ) (rescue journal : Option (List ℕ)) (names : List (List ℕ)) (only : Bool) (text warnings : List ℕ) (status : ℕ)
     (files : Files) (entries : List (List ℕ × List ℕ)) : Type 0 where
   pub plan : Plan
   pub planned : IsPlanWith (flag_by journal) files entries path rescue plan
   pub past : List Record
   pub are_records : records_in_bytes plan (journal_bytes journal) ≡ Some (chronological past)
   pub lawful : IsTrue (is_lawful plan past)
-  pub answer : IsRedoAnswer plan past path (journal_bytes journal) names only text warnings status
+  pub answer : IsRedoAnswer (IsNumber (journal_bytes journal)) plan past path names only text warnings status
 
 -- That is the answer for the DAG file of a path: of some files, with a rescue file or none and a journal or none; or there is no round.
 pub data IsRedoOf (path : List ℕ) (names : List (List ℕ)) (only : Bool) (text warnings : List ℕ) (status : ℕ) : Type 0 where
   has_no_round : text ≡ [] → warnings ≡ no_round_line path → status ≡ 125 → IsRedoOf path names only text warnings status
-  of_round : (rescue journal : Option (List ℕ)) → IsOfSome path (IsRedoFrom path rescue journal names only text warnings status) →
+  of_round : (rescue journal : Option (List ℕ)) → IsOfSome path (IsRedoFrom IsNextNumber path rescue journal names only text warnings status) →
       IsRedoOf path names only text warnings status
 
 -- The same where these files are held and these paths are there: of the DAG file and all that it names, the journal, and the rescue file that the
@@ -84,16 +85,24 @@ pub data IsRedoOf (path : List ℕ) (names : List (List ℕ)) (only : Bool) (tex
 pub data IsRedoHeld (holds : Files) (has : List ℕ → Bool) (path : List ℕ) (names : List (List ℕ)) (only : Bool) (text warnings : List ℕ) (status : ℕ) : Type 0 where
   held_no_round : has (journal_name_of path) ≡ false → text ≡ [] → warnings ≡ no_round_line path → status ≡ 125 → IsRedoHeld holds has path names only text warnings status
   of_held : (rescue journal : Option (List ℕ)) → IsLastRound holds path journal rescue →
-      IsOfFiles holds path (IsRedoFrom path rescue journal names only text warnings status) → IsRedoHeld holds has path names only text warnings status
+      IsOfFiles holds path (IsRedoFrom (IsNextNumberIn has path) path rescue journal names only text warnings status) → IsRedoHeld holds has path names only text warnings status
 
--- Why nothing is answered: for a cause for which `status` is refused; or the system refuses a file, or memory ran out.
+-- Why no rescue file is written behind a journal of these bytes: it has no number; or the system refuses a file, or memory ran out.
+pub data IsNotWritten (journal : List ℕ) : RunFault → Type 0 where
+  unnumbered : (fault : RunFault) → IsNoNextNumber journal fault → IsNotWritten journal fault
+  refused_file : (fault : RunFault) → IsFileFault fault → IsNotWritten journal fault
+
+-- Why nothing is answered: for a cause for which `status` is refused; or the rescue file has no number by some journal; or the system refuses a file, or
+-- memory ran out.
 pub data IsRedoFault (path : List ℕ) : RunFault → Type 0 where
   not_answered : (fault : RunFault) → IsAnswerFault Status path fault → IsRedoFault path fault
+  no_number : (journal : List ℕ) (fault : RunFault) → IsNoNextNumber journal fault → IsRedoFault path fault
   file_not_written : (fault : RunFault) → IsFileFault fault → IsRedoFault path fault
 
--- The same where these files are held: for a cause for which `status` is refused there; or it isn't found out which number the rescue file has;
+-- The same where these files are held: for a cause for which `status` is refused there; or the rescue file has no number by the journal that is held;
 -- or the system refuses a file, or memory ran out.
 pub data IsRedoFaultHeld (holds : Files) (path : List ℕ) : RunFault → Type 0 where
   held_not_answered : (fault : RunFault) → IsAnswerFaultHeld holds Status path fault → IsRedoFaultHeld holds path fault
-  held_no_number : (fault : RunFault) → IsRoundFault None fault → IsRedoFaultHeld holds path fault
+  held_no_number : (rescue journal : Option (List ℕ)) (fault : RunFault) → IsLastRound holds path journal rescue → IsNoNextNumber (journal_bytes journal) fault →
+      IsRedoFaultHeld holds path fault
   held_file_not_written : (fault : RunFault) → IsFileFault fault → IsRedoFaultHeld holds path fault

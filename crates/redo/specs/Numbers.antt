@@ -1,9 +1,14 @@
 -- The number of the next rescue file of a round.
 use Rattle.std.specs.Prelude.{◌≡◌, ◌≤◌, ℕ, Bool, false, not, List, Option, Some, None, Result, Ok, Err}
+use Rattle.rescue_file.specs.Numbered.{IsFileNumber}
 use Rattle.event_journal_log.specs.declared.fault.JournalFault.{JournalFault}
 use Rattle.event_journal_log.specs.Image.{Found, replay_of}
 use Rattle.event_journal_log.specs.Peeks.{ends_with_finish}
-use Rattle.dag_main_files.specs.Beside.{number_behind}
+use Rattle.dag_main_check.specs.declared.fault.RunFault.{RunFault}
+use Rattle.dag_main_check.specs.declared.fault.RunFault.TheVariants.{NotThere}
+use Rattle.dag_main_files.specs.Beside.{number_behind, IsFileFault}
+use Rattle.dag_main_files.specs.Folder.{IsHighestThere}
+use Rattle.dag_main_files.specs.Journals.{IsUnread}
 
 -- whether reading gives a round that was cut short
 abbrev pub is_cut_short : Result (Option Found) JournalFault → Bool
@@ -11,8 +16,23 @@ is_cut_short (Ok None) = false
 is_cut_short (Ok (Some found)) = not (ends_with_finish found.records)
 is_cut_short (Err fault) = false
 
--- That of the round whose journal has these bytes: of one that was cut short the number that its header has as the next; else the number after
--- the highest, which may be any.
-pub data IsNextNumber (journal : List ℕ) (number : ℕ) : Type 0 where
-  by_header : (found : Found) → replay_of journal ≡ Ok (Some found) → ends_with_finish found.records ≡ false → number ≡ found.header.next → IsNextNumber journal number
-  after_highest : (highest : ℕ) → highest ≤ 999 → is_cut_short (replay_of journal) ≡ false → number ≡ number_behind highest → IsNextNumber journal number
+-- That of the round whose journal has these bytes, where one number counts as the highest: of one that was cut short the number that its header has
+-- as the next; else the number after the highest.
+pub data IsNumberWith (Counts : ℕ → Type 0) (journal : List ℕ) (number : ℕ) : Type 0 where
+  by_header : (found : Found) → replay_of journal ≡ Ok (Some found) → ends_with_finish found.records ≡ false → number ≡ found.header.next → IsNumberWith Counts journal number
+  after_highest : (highest : ℕ) → Counts highest → is_cut_short (replay_of journal) ≡ false → number ≡ number_behind highest → IsNumberWith Counts journal number
+
+-- the same whatever rescue files there are
+abbrev pub IsNextNumber : (journal : List ℕ) → ℕ → Type 0
+IsNextNumber journal number = IsNumberWith (λ highest. highest ≤ 999) journal number
+
+-- the same where these paths are there: the highest is the highest number of a rescue file that is there
+abbrev pub IsNextNumberIn : (has : List ℕ → Bool) → (path journal : List ℕ) → ℕ → Type 0
+IsNextNumberIn has path journal number = IsNumberWith (IsHighestThere has path) journal number
+
+-- Why there is no such number where the journal of a round has these bytes: it can't be read; the round was cut short, and its header has a number that no
+-- rescue file has; or the system refuses the folder. Or memory ran out.
+pub data IsNoNextNumber (journal : List ℕ) : RunFault → Type 0 where
+  journal_unread : (fault : RunFault) → IsUnread journal fault → IsNoNextNumber journal fault
+  bad_number : (found : Found) → replay_of journal ≡ Ok (Some found) → ends_with_finish found.records ≡ false → ¬ (IsFileNumber found.header.next) → IsNoNextNumber journal (NotThere found.header.next)
+  folder_refused : (fault : RunFault) → IsFileFault fault → IsNoNextNumber journal fault

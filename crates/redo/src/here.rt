@@ -7,7 +7,8 @@ ghost use Rattle.salvage.specs.Salvaged.{report_line};
 ghost use Rattle.dag_main_files.specs.Opened.{IsOfFiles, IsOfSome, IsRefusedFor, IsRefusedForSome};
 ghost use Rattle.dag_main_inspect.specs.Asked.{IsNotAnsweredBy};
 ghost use Rattle.dag_main_inspect.specs.declared.by_journal.Question.TheVariants.{Status};
-ghost use Rattle.redo.specs.Answered.{no_round_line, IsMarkedOf, IsFoundOfNames, IsFoundBy, IsRedoReport, IsRedoOf, IsRedoHeld, IsRedoFault, IsRedoFaultHeld};
+ghost use Rattle.redo.specs.Answered.{no_round_line, IsMarkedOf, IsFoundOfNames, IsFoundBy, IsRedoReport, IsRedoOf, IsRedoHeld, IsNotWritten, IsRedoFault, IsRedoFaultHeld};
+ghost use Rattle.redo.specs.Numbers.{IsNextNumber, IsNextNumberIn};
 
 use crate::marks::{Redone, redone_text};
 use crate::numbers::next_number;
@@ -145,10 +146,12 @@ fn write_marked<R: Files<File = File> + AllocGlobal + Copy + Drop, F: Folder>(
     journal: &[u8],
     marked: Marked,
 ) -> Result<Answer, RunFault>
-    ensures report { IfOk result (λ answer. IsRedoReport place.now.top.now journal.now marked.redone.done marked.total (string_bytes marked.warnings)
+    ensures report { IfOk result (λ answer. IsRedoReport (IsNextNumber journal.now) place.now.top.now marked.redone.done marked.total (string_bytes marked.warnings)
         (string_bytes answer.text) (string_bytes answer.warnings) answer.status) }
-    ensures refused { IfErr result (IsRedoFault place.now.top.now) }
-    ensures refused_held { F.honest folder.now → IfErr result (IsRedoFaultHeld (F.holds folder.now) place.now.top.now) }
+    ensures held { F.honest folder.now → IfOk result (λ answer.
+        IsRedoReport (IsNextNumberIn (F.has folder.now) place.now.top.now journal.now) place.now.top.now marked.redone.done marked.total (string_bytes marked.warnings)
+        (string_bytes answer.text) (string_bytes answer.warnings) answer.status) }
+    ensures refused { IfErr result (IsNotWritten journal.now) }
 {
     let alloc = rt.alloc();
     let next = next_number(alloc, folder, place.top, journal)?;

@@ -1,11 +1,13 @@
 //! The number of the next rescue file.
 
-ghost use Rattle.std.specs.Prelude.{◌≡◌, ◌≤◌, ℕ, List, None, Some, IfOk, IfErr};
+ghost use Rattle.std.specs.Prelude.{◌≡◌, ◌≤◌, ℕ, List, Some, IfOk, IfErr};
 ghost use Rattle.event_journal_log.specs.Image.{replay_of};
 ghost use Rattle.event_journal_log.specs.Peeks.{ReadsPeek};
 ghost use Rattle.rescue_file.specs.Numbered.{IsFileNumber};
-ghost use Rattle.dag_main_files.specs.Beside.{IsRoundFault, number_behind};
-ghost use Rattle.redo.specs.Numbers.{IsNextNumber};
+ghost use Rattle.dag_main_check.specs.declared.fault.RunFault.TheVariants.{NotThere};
+ghost use Rattle.dag_main_files.specs.Beside.{IsFileFault, number_behind};
+ghost use Rattle.dag_main_files.specs.Folder.{IsHighestThere};
+ghost use Rattle.redo.specs.Numbers.{IsNextNumber, IsNextNumberIn, IsNoNextNumber};
 
 use dag_main_check::RunFault;
 use dag_main_files::{Folder, LAST_NUMBER, peek_in};
@@ -39,7 +41,7 @@ fn number_after(highest: u16) -> u16
 fn next_in_header(next: u16) -> Result<Next, RunFault>
     ensures number { IfOk result (λ found. IsFileNumber found.number) }
     ensures same { IfOk result (λ found. found.number ≡ next) }
-    ensures refused { IfErr result (IsRoundFault None) }
+    ensures refused { IfErr result (λ fault. (¬ (IsFileNumber next)) × (fault ≡ NotThere next)) }
 {
     if next < 1 || next > LAST_NUMBER {
         return Err(RunFault::NotThere(next));
@@ -57,7 +59,8 @@ fn next_in_header(next: u16) -> Result<Next, RunFault>
 fn next_in_folder<F: Folder>(alloc: Global, folder: &F, top: &str) -> Result<Next, RunFault>
     ensures number { IfOk result (λ found. IsFileNumber found.number) }
     ensures after { IfOk result (λ found. (highest : ℕ) × (highest ≤ 999) × (found.number ≡ number_behind highest)) }
-    ensures refused { IfErr result (IsRoundFault None) }
+    ensures held { F.honest folder.now → IfOk result (λ found. (highest : ℕ) × IsHighestThere (F.has folder.now) top.now highest × (found.number ≡ number_behind highest)) }
+    ensures refused { IfErr result IsFileFault }
 {
     let highest = folder.highest(alloc, top)?;
     Ok(Next {
@@ -73,7 +76,9 @@ fn next_in_folder<F: Folder>(alloc: Global, folder: &F, top: &str) -> Result<Nex
 fn next_by<F: Folder>(alloc: Global, folder: &F, top: &str, peek: &Peek) -> Result<Next, RunFault>
     ensures number { IfOk result (λ next. IsFileNumber next.number) }
     ensures next { IfOk result (λ next. (journal : List ℕ) → ReadsPeek (Some peek.now) (replay_of journal) → IsNextNumber journal next.number) }
-    ensures refused { IfErr result (IsRoundFault None) }
+    ensures held { F.honest folder.now → IfOk result (λ next. (journal : List ℕ) → ReadsPeek (Some peek.now) (replay_of journal)
+        → IsNextNumberIn (F.has folder.now) top.now journal next.number) }
+    ensures refused { IfErr result (λ fault. (journal : List ℕ) → ReadsPeek (Some peek.now) (replay_of journal) → IsNoNextNumber journal fault) }
 {
     if peek.finished {
         return next_in_folder(alloc, folder, top);
@@ -95,7 +100,8 @@ pub(crate) fn next_number<F: Folder>(
 ) -> Result<Next, RunFault>
     ensures number { IfOk result (λ next. IsFileNumber next.number) }
     ensures next { IfOk result (λ next. IsNextNumber journal.now next.number) }
-    ensures refused { IfErr result (IsRoundFault None) }
+    ensures held { F.honest folder.now → IfOk result (λ next. IsNextNumberIn (F.has folder.now) top.now journal.now next.number) }
+    ensures refused { IfErr result (IsNoNextNumber journal.now) }
 {
     match peek_in(alloc, journal)? {
         Some(peek) => next_by(alloc, folder, top, &peek),

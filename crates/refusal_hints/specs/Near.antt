@@ -1,5 +1,5 @@
 -- The word that somebody may have meant.
-use Rattle.std.specs.Prelude.{◌≡◌, ◌+◌, ◌/◌, ◌<◌, ◌≤◌, ℕ, List, [], ◌∷◌, ◌++◌, length, min, max, Option, Some, None, All, chars}
+use Rattle.std.specs.Prelude.{◌≡◌, ◌+◌, ◌/◌, ◌<◌, ◌≤◌, ℕ, List, ◌∷◌, ◌++◌, length, min, max, Option, Some, None, All, chars}
 use Rattle.strsim.specs.Edits.{osa_table}
 
 -- How many edits lead from a word to another one: a letter is put in, left out or another one, or two neighbours are swapped, and no letter is

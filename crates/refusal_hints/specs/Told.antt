@@ -1,5 +1,5 @@
 -- What is displayed behind the line of a refusal.
-use Rattle.std.specs.Prelude.{◌≡◌, ◌||◌, ℕ, Bool, false, List, [], ◌++◌, Option, Some, None, find, codes, option_map, if◌then◌else◌}
+use Rattle.std.specs.Prelude.{◌≡◌, ◌||◌, ℕ, Bool, true, false, List, [], ◌++◌, Option, Some, None, find, codes, option_map, if◌then◌else◌}
 use Rattle.std.specs.Str.{bytes_eq}
 use Rattle.fault_guide.specs.Guide.{has_code}
 use Rattle.fault_guide.specs.declared.guide.Fault.{Fault}
@@ -27,9 +27,16 @@ pub record IsGuideText (code before now : List ℕ) : Type 0 where
   pub guide : List (Bor Fault)
   pub added : now ≡ before ++ guide_text code (option_map (λ f. f.now) (find (λ f. has_code code f.now) guide))
 
+-- What is said of what to do about a fault: what some guide says of it; or, of a word of DAGMan's that is left out and that the file has at that place, what
+-- to write in place of this very word.
+pub data IsAdvice (code : List ℕ) (has_source : Bool) (before now : List ℕ) : Type 0 where
+  of_guide : IsGuideText code before now → IsAdvice code has_source before now
+  of_word : bytes_eq code (codes "L3") ≡ true → has_source ≡ true → (instead : List ℕ) →
+      now ≡ before ++ (instead ++ codes "    docs/FROM_DAGMAN.md has an example.\n") → IsAdvice code has_source before now
+
 -- What is displayed of a refusal of this code, where the system said this or nothing: what stands about the place that it names, which is
--- nothing where the file of it isn't known; what the system said; and what the guide says.
+-- nothing where the file of it isn't known; what the system said; and what to do.
 pub record IsHint (code : List ℕ) (reason : Option (List ℕ)) (has_source : Bool) (text : List ℕ) : Type 0 where
   pub about : List ℕ
   pub nothing_about : has_source ≡ false → about ≡ []
-  pub text_is : IsGuideText code (about ++ reason_line reason) text
+  pub text_is : IsAdvice code has_source (about ++ reason_line reason) text

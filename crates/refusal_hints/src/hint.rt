@@ -1,9 +1,11 @@
 //! What is displayed behind a refusal.
 
-ghost use Rattle.std.specs.Prelude.{◌≡◌, ◌++◌, [], false, is_some, option_map, IfOk, OnOk, string_bytes};
-ghost use Rattle.refusal_hints.specs.Told.{reason_line, tells_what_to_write, guide_text, IsGuideText, IsHint};
+ghost use Rattle.std.specs.Prelude.{◌≡◌, ◌++◌, [], true, false, is_some, option_map, IfOk, IfSome, OnOk, string_bytes, codes};
+ghost use Rattle.std.specs.Str.{bytes_eq};
+ghost use Rattle.refusal_hints.specs.Told.{reason_line, tells_what_to_write, guide_text, IsGuideText, IsAdvice, IsHint};
 
 use crate::excerpt::push_excerpt;
+use crate::left_out::instead_of;
 use crate::near::nearest;
 use crate::refusal::{Refusal, SourcePlace};
 use fault_guide::{Fault, fault_of, faults};
@@ -25,6 +27,9 @@ const COMMANDS: [&str; 12] = [
     "FINAL",
     "SPLICE",
 ];
+
+/// What some editors write before the first character of a file, and nobody sees.
+const BYTE_ORDER_MARK: char = '\u{feff}';
 
 /// What is known beside the line of a refusal.
 #[derive(Clone, Copy)]
@@ -108,6 +113,13 @@ fn push_meant(
     let (Some(word), Ok(lines)) = (word_at(source, place), str::from_utf8(source)) else {
         return Ok(());
     };
+    if refusal.code == "L2" && word.starts_with(BYTE_ORDER_MARK) {
+        let path = place.path;
+        return writeln!(
+            text,
+            "    a byte order mark is before it: sed -i '1s/^\\xEF\\xBB\\xBF//' {path}"
+        );
+    }
     if let Some(other) = meant(alloc, refusal, word, lines)? {
         writeln!(text, "    is {other} meant?")?;
     }
@@ -173,6 +185,35 @@ fn push_guide(alloc: Global, text: &mut String, code: &str) -> Result<(), AllocE
     push_fault(text, code, fault_of(&faults, code))
 }
 
+/// What to write in place of a word of DAGMan's that is left out, where the file has that word at the place of the refusal.
+fn instead_at(refusal: &Refusal<'_>, evidence: &Evidence<'_>) -> Option<&'static str>
+    ensures code { IfSome result (λ instead. bytes_eq refusal.now.code.now (codes "L3") ≡ true) }
+    ensures source { IfSome result (λ instead. is_some evidence.now.source ≡ true) }
+{
+    if refusal.code != "L3" {
+        return None;
+    }
+    match (evidence.source, refusal.place()) {
+        (Some(source), Some(place)) => instead_of(word_at(source, &place)?),
+        _ => None,
+    }
+}
+
+/// Adds what to do.
+fn push_advice(
+    alloc: Global,
+    text: &mut String,
+    refusal: &Refusal<'_>,
+    evidence: &Evidence<'_>,
+) -> Result<(), AllocError>
+    ensures { OnOk result (IsAdvice refusal.now.code.now (is_some evidence.now.source) (string_bytes text.old) (string_bytes text.new)) }
+{
+    match instead_at(refusal, evidence) {
+        Some(instead) => writeln!(text, "{instead}    docs/FROM_DAGMAN.md has an example."),
+        None => push_guide(alloc, text, refusal.code),
+    }
+}
+
 /// What is displayed behind the line of a refusal, each line of it behind four blanks: the line of the file at
 /// the place that it names, what may have been meant there, what the system said, and what to do.
 ///
@@ -188,6 +229,6 @@ pub fn hint_text(
 {
     let mut text = about_place(alloc, refusal, evidence)?;
     push_reason(&mut text, evidence.reason)?;
-    push_guide(alloc, &mut text, refusal.code)?;
+    push_advice(alloc, &mut text, refusal, evidence)?;
     Ok(text)
 }

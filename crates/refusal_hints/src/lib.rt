@@ -6,6 +6,7 @@
 mod checks;
 mod excerpt;
 mod hint;
+mod left_out;
 mod near;
 mod refusal;
 

@@ -1,5 +1,5 @@
 -- The files of a folder as a round saw them when it began.
-use Rattle.std.specs.Prelude.{◌≡◌, ℕ, List, Option, Some, None, slice_range, if◌then◌else◌}
+use Rattle.std.specs.Prelude.{◌≡◌, ◌≢◌, ℕ, List, Option, Some, None, slice_range, if◌then◌else◌}
 use Rattle.std.specs.Str.{bytes_eq}
 use Rattle.splices_flat.specs.Opening.{Files}
 use Rattle.splices_flat.specs.FileSet.{bytes_of, entries_of}
@@ -7,7 +7,7 @@ use Rattle.event_journal_log.specs.declared.fault.JournalFault.TheVariants as jo
 use Rattle.recovery_manager.specs.declared.fault.ManagerFault.TheVariants as manager
 use Rattle.dag_main_check.specs.declared.fault.RunFault.{RunFault}
 use Rattle.dag_main_check.specs.declared.fault.RunFault.TheVariants.{InManager}
-use Rattle.dag_main_files.specs.Beside.{IsFileFault, journal_name_of}
+use Rattle.dag_main_files.specs.Beside.{IsRefusalOf, journal_name_of}
 use Rattle.round_inputs.specs.declared.begun.Begun.{Begun}
 use Rattle.round_inputs.specs.Begun.{begun_name_of, begun_text_of, rescue_kept}
 
@@ -40,8 +40,30 @@ pub record IsBegunRound (holds : Files) (path : List ℕ) (begun : Begun) : Type
   pub journal_is : holds (journal_name_of path) ≡ Some journal
   pub same : begun.digest ≡ digest_at journal
 
--- Why it is not known what the last round was begun with: a file beside the DAG file is missing, refused or not spelled as it is written, or memory
--- runs out; or what is kept is of another round.
-pub data IsNotBegun : RunFault → Type 0 where
-  not_kept : (fault : RunFault) → IsFileFault fault → IsNotBegun fault
-  of_another_round : IsNotBegun (InManager (manager.Journal journal.OtherInputs))
+-- the files are others than those with which the last round began (J5)
+abbrev pub other_inputs : RunFault
+other_inputs = InManager (manager.Journal journal.OtherInputs)
+
+-- the system refuses the journal, or the file that keeps what its round was begun with, or that file is missing or is not spelled as it is written; or memory
+-- ran out
+pub data IsNotKept (path : List ℕ) : RunFault → Type 0 where
+  no_journal : (fault : RunFault) → IsRefusalOf (journal_name_of path) fault → IsNotKept path fault
+  not_kept : (fault : RunFault) → IsRefusalOf (begun_name_of path) fault → IsNotKept path fault
+
+-- Why it is not known what the last round was begun with: one of the two files is refused, or what is kept is of another round.
+pub data IsNotBegun (path : List ℕ) : RunFault → Type 0 where
+  not_readable : (fault : RunFault) → IsNotKept path fault → IsNotBegun path fault
+  of_another_round : IsNotBegun path other_inputs
+
+-- The file beside a DAG file keeps what a round was begun with: it is spelled so, and its digest is not that of the journal.
+pub record IsOtherRound (holds : Files) (path : List ℕ) : Type 0 where
+  pub begun : Begun
+  pub kept : holds (begun_name_of path) ≡ Some (begun_text_of begun.digest (entries_of begun.files) (rescue_kept begun.rescue))
+  pub journal : List ℕ
+  pub journal_is : holds (journal_name_of path) ≡ Some journal
+  pub differs : begun.digest ≢ digest_at journal
+
+-- The same where these files are held.
+pub data IsNotBegunHeld (holds : Files) (path : List ℕ) : RunFault → Type 0 where
+  held_not_readable : (fault : RunFault) → IsNotKept path fault → IsNotBegunHeld holds path fault
+  held_of_another_round : IsOtherRound holds path → IsNotBegunHeld holds path other_inputs

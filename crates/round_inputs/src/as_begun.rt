@@ -1,12 +1,12 @@
 //! The files of a folder as a round saw them when it began.
 
-ghost use Rattle.std.specs.Prelude.{◌≡◌, ◌≤◌, ◌↔◌, Some, IsTrue, IfOk, IfErr, length};
+ghost use Rattle.std.specs.Prelude.{◌≡◌, ◌≢◌, ◌≤◌, ◌↔◌, true, false, Some, IsTrue, IfOk, IfErr, length};
 ghost use Rattle.std.specs.Option.{option_map};
 ghost use Rattle.splices_flat.specs.FileSet.{entries_of};
 ghost use Rattle.dag_main_check.specs.declared.fault.RunFault.TheVariants.{Memory};
-ghost use Rattle.dag_main_files.specs.Beside.{IsFileFault, journal_name_of};
+ghost use Rattle.dag_main_files.specs.Beside.{IsRefusalOf, journal_name_of};
 ghost use Rattle.round_inputs.specs.Begun.{begun_name_of, begun_text_of, rescue_kept};
-ghost use Rattle.round_inputs.specs.AsBegun.{kept_at, as_begun, digest_at, IsBegunRound, IsNotBegun};
+ghost use Rattle.round_inputs.specs.AsBegun.{kept_at, as_begun, digest_at, other_inputs, IsBegunRound, IsNotBegun, IsNotBegunHeld};
 
 use crate::begun::{BadBegun, Begun, begun_in};
 use crate::listing::begun_path;
@@ -99,7 +99,7 @@ impl<'a, F: Folder> Folder for AsBegun<'a, F> {
 
 /// What is returned for a file of this path, beside a DAG file, by which nothing can be gone.
 fn refused(alloc: Global, path: &Text) -> RunFault
-    ensures { IsFileFault result }
+    ensures { IsRefusalOf path.now result }
 {
     match String::from_str(alloc, path.as_str()) {
         Ok(path) => RunFault::FileRefused(path),
@@ -113,7 +113,7 @@ fn refused(alloc: Global, path: &Text) -> RunFault
 /// `FileRefused` with its path where it is missing, the system refuses to read it, or it may be another user's; `Memory`.
 fn bytes_beside<F: Folder>(alloc: Global, folder: &F, path: &Text) -> Result<Vec<u8>, RunFault>
     ensures held { F.honest folder.now → IfOk result (λ bytes. F.holds folder.now path.now ≡ Some bytes.items) }
-    ensures refused { IfErr result IsFileFault }
+    ensures refused { IfErr result (IsRefusalOf path.now) }
 {
     match folder.beside(alloc, path.as_str())? {
         Some(bytes) => Ok(bytes),
@@ -136,7 +136,7 @@ fn is_of(journal: &[u8], digest: &[u8; 32]) -> bool
 fn journal_beside<F: Folder>(alloc: Global, folder: &F, top: &str) -> Result<Vec<u8>, RunFault>
     ensures header { IfOk result (λ bytes. 40 ≤ length bytes.items) }
     ensures held { F.honest folder.now → IfOk result (λ bytes. F.holds folder.now (journal_name_of top.now) ≡ Some bytes.items) }
-    ensures refused { IfErr result IsFileFault }
+    ensures refused { IfErr result (IsRefusalOf (journal_name_of top.now)) }
 {
     let path = journal_path(alloc, top)?;
     let journal = bytes_beside(alloc, folder, &path)?;
@@ -153,7 +153,7 @@ fn journal_beside<F: Folder>(alloc: Global, folder: &F, top: &str) -> Result<Vec
 fn begun_beside<F: Folder>(alloc: Global, folder: &F, top: &str) -> Result<Begun, RunFault>
     ensures held { F.honest folder.now → IfOk result (λ begun. F.holds folder.now (begun_name_of top.now)
         ≡ Some (begun_text_of begun.digest (entries_of begun.files) (rescue_kept begun.rescue))) }
-    ensures refused { IfErr result IsFileFault }
+    ensures refused { IfErr result (IsRefusalOf (begun_name_of top.now)) }
 {
     let path = begun_path(alloc, top)?;
     let bytes = bytes_beside(alloc, folder, &path)?;
@@ -162,6 +162,17 @@ fn begun_beside<F: Folder>(alloc: Global, folder: &F, top: &str) -> Result<Begun
         Err(BadBegun::NotSpelled) => Err(refused(alloc, &path)),
         Err(BadBegun::Memory) => Err(RunFault::Memory),
     }
+}
+
+/// Whether a command is refused since its files are others than those with which the last round began. `last_begun` shows it by those.
+pub fn is_of_other_files(fault: &RunFault) -> bool
+    ensures is { result ≡ true → fault.now ≡ other_inputs }
+    ensures isnt { result ≡ false → fault.now ≢ other_inputs }
+{
+    matches!(
+        fault,
+        RunFault::InManager(ManagerFault::Journal(JournalFault::OtherInputs))
+    )
 }
 
 /// A folder as the last round of the DAG file of this path saw it when it began, by the file beside it that keeps what the round
@@ -177,7 +188,8 @@ pub fn last_begun<'a, F: Folder>(
 ) -> Result<AsBegun<'a, F>, RunFault>
     ensures folder { IfOk result (λ seen. seen.folder.now ≡ folder.now) }
     ensures held { F.honest folder.now → IfOk result (λ seen. IsBegunRound (F.holds folder.now) top.now seen.begun) }
-    ensures refused { IfErr result IsNotBegun }
+    ensures refused { IfErr result (IsNotBegun top.now) }
+    ensures refused_held { F.honest folder.now → IfErr result (IsNotBegunHeld (F.holds folder.now) top.now) }
 {
     let journal = journal_beside(alloc, folder, top)?;
     let begun = begun_beside(alloc, folder, top)?;

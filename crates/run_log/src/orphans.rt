@@ -79,16 +79,16 @@ struct Sought<'a> {
     rounds: &'a [String],
     /// Whose processes count.
     user: Option<u32>,
-    /// The session in which the last manager worked, where that is known.
-    session: Option<u32>,
+    /// The sessions in which the last managers worked; none where they are not known.
+    sessions: &'a [u32],
 }
 
 /// The processes of a round that an earlier manager left, and by what they are known.
 #[derive(Drop)]
 pub struct Orphans {
     rounds: Vec<String>,
-    /// the session of the last manager: one that it started is in it until it has come to its program
-    session: Option<u32>,
+    /// the sessions of the last managers: one that they started is in theirs until it has come to its program
+    sessions: Vec<u32>,
     /// this process and its ancestors, which are never ended
     spared: Vec<u32>,
     found: Vec<Orphan>,
@@ -191,16 +191,34 @@ fn key_in(alloc: Global, environment: &[u8]) -> Result<String, AllocError> {
     format!(in alloc; "{node}\t{phase}\t{attempt}")
 }
 
-/// Whether a process may have been started by the last manager, and is on its way to its program: so long it has the program, the
-/// environment and the session of the manager. (It has left the manager's lock already.)
+/// Whether a process is a manager that runs: it has this program. The first process of the system is taken for none, since those go
+/// to it whose own parent has ended.
+fn is_manager<R: Files + AllocGlobal>(rt: &R, process: u32) -> Result<bool, OrphanFault> {
+    if process <= 1 {
+        return Ok(false);
+    }
+    match asked_of(rt, process)? {
+        Some(standing) if !standing.ended => has_own_program(rt, process),
+        _ => Ok(false),
+    }
+}
+
+/// Whether a process may have been started by one of the last managers, and is on its way to its program: so long it has the program,
+/// the environment and the session of the manager. (It has left the manager's lock already.) One whose parent is a manager that runs
+/// is that one's.
 fn is_started<R: Files + AllocGlobal>(
     rt: &R,
     process: u32,
     standing: &Standing,
-    session: Option<u32>,
+    sessions: &[u32],
 ) -> Result<bool, OrphanFault> {
-    let is_near = session.is_none_or(|session| session == standing.session);
-    Ok(is_near && standing.forked && has_own_program(rt, process)?)
+    let is_near = sessions.is_empty() || sessions.contains(&standing.session);
+    Ok(
+        is_near
+            && standing.forked
+            && has_own_program(rt, process)?
+            && !is_manager(rt, standing.parent)?,
+    )
 }
 
 /// Whether a process has no environment for good, that was so far with its program before it was asked for its environment, and is
@@ -218,11 +236,11 @@ fn is_bare(before: &Standing, after: &Standing) -> bool {
 fn is_coming<R: Files + AllocGlobal>(
     rt: &R,
     process: u32,
-    session: Option<u32>,
+    sessions: &[u32],
 ) -> Result<bool, OrphanFault> {
     match asked_of(rt, process)? {
         Some(standing) if standing.program == Program::Coming => is_wordless(rt, process),
-        Some(standing) => is_started(rt, process, &standing, session),
+        Some(standing) => is_started(rt, process, &standing, sessions),
         None => Ok(false),
     }
 }
@@ -235,14 +253,14 @@ fn is_coming<R: Files + AllocGlobal>(
 fn environment_at<R: Files + Clock + AllocGlobal>(
     rt: &R,
     process: u32,
-    session: Option<u32>,
+    sessions: &[u32],
 ) -> Result<Option<Vec<u8>>, OrphanFault> {
     for _ in 0..STEPS {
         let Some(before) = asked_of(rt, process)? else {
             return Ok(None);
         };
         // This is asked before the environment: what comes to its program in between has its own.
-        let is_started = is_started(rt, process, &before, session)?;
+        let is_started = is_started(rt, process, &before, sessions)?;
         let Some(environment) = environment_of(rt, process)? else {
             return Ok(None);
         };
@@ -257,7 +275,7 @@ fn environment_at<R: Files + Clock + AllocGlobal>(
         }
         thread::sleep(rt, Duration::from_micros(STEP_PAUSE));
     }
-    if is_coming(rt, process, session)? {
+    if is_coming(rt, process, sessions)? {
         return Err(OrphanFault::NotAsked);
     }
     Ok(None)
@@ -269,7 +287,7 @@ fn orphan_at<R: Files + Clock + AllocGlobal>(
     process: u32,
     sought: Sought<'_>,
 ) -> Result<Option<Orphan>, OrphanFault> {
-    let Some(environment) = environment_at(rt, process, sought.session)? else {
+    let Some(environment) = environment_at(rt, process, sought.sessions)? else {
         return Ok(None);
     };
     if !is_of_any(&environment, sought.rounds) || user_of(rt, process)? != sought.user {
@@ -410,7 +428,7 @@ impl Orphans {
         Ok(Sought {
             rounds: &self.rounds,
             user: user_of(rt, own_number(rt))?,
-            session: self.session,
+            sessions: &self.sessions,
         })
     }
 
@@ -570,26 +588,49 @@ pub(crate) fn text_at<R: Files + AllocGlobal>(
     }
 }
 
-/// The processes of the rounds of these identifiers that an earlier manager left. There are none where the manager still runs that the
-/// file of this path names last.
+/// The sessions of these managers, as far as their lines say them.
+fn sessions_of(
+    alloc: Global,
+    managers: &[Option<NotedManager<'_>>],
+) -> Result<Vec<u32>, AllocError> {
+    let mut sessions = Vec::new(alloc);
+    for manager in managers {
+        if let Some(session) = manager.and_then(|manager| manager.session) {
+            sessions.push(session)?;
+        }
+    }
+    Ok(sessions)
+}
+
+/// The processes of the rounds of these identifiers that an earlier manager left. The first path is that of the file of the
+/// managers' processes, the second one that of the file of the identifiers: each names a manager last. There are no such processes
+/// where one of these two still runs.
 ///
 /// # Errors
-/// `NotRead` where that file is there and the system refuses to read it, or it is no regular one; `NotAsked` where the system
-/// refuses to say which processes there are; `Memory`.
+/// `NotRead` where the first file is there and the system refuses to read it, or it is no regular one; `NotKnown` the same of the
+/// second; `NotAsked` where the system refuses to say which processes there are; `Memory`.
 pub fn orphans_of<R: Files<File = File> + Clock + AllocGlobal + Clone + Drop>(
     rt: &R,
     rounds: Vec<String>,
-    path: &str,
+    children: &str,
+    round: &str,
 ) -> Result<Orphans, OrphanFault> {
-    let text = text_at(rt, path, OrphanFault::NotRead)?;
-    let manager = last_manager(text.as_ref().map_or("", |text| text.as_str()));
+    let noted = text_at(rt, children, OrphanFault::NotRead)?;
+    let kept = text_at(rt, round, OrphanFault::NotKnown)?;
+    let managers = [&noted, &kept].map(|text| last_manager(
+        text.as_ref().map_or("", |text| text.as_str()),
+    ));
     let mut orphans = Orphans {
         rounds,
-        session: manager.and_then(|manager| manager.session),
+        sessions: sessions_of(rt.alloc(), &managers)?,
         spared: Vec::new(rt.alloc()),
         found: Vec::new(rt.alloc()),
     };
-    if orphans.rounds.is_empty() || manager.is_some_and(|manager| is_alive(rt, &manager)) {
+    let runs = managers
+        .iter()
+        .flatten()
+        .any(|manager| is_alive(rt, manager));
+    if orphans.rounds.is_empty() || runs {
         return Ok(orphans);
     }
     orphans.spared = own_line(rt)?;

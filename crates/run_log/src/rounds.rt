@@ -1,7 +1,8 @@
 //! The identifier of a round, and the file beside the journal that keeps it.
 
+use crate::children::manager_line;
 use crate::orphans::{OrphanFault, text_at};
-use crate::processes::own_number;
+use crate::processes::{boot_of, own_number};
 use event_journal::{PERMISSIONS, require_regular};
 use std::alloc::AllocError;
 use std::fs::{self, File, OpenOptions};
@@ -82,17 +83,24 @@ pub fn new_round<R: Files + Clock + AllocGlobal>(rt: &R) -> Result<String, Alloc
     format!(in rt.alloc(); "{seconds}-{nanoseconds}-{}", own_number(rt))
 }
 
-/// The lines of these identifiers.
-fn lines_of<R: AllocGlobal>(rt: &R, rounds: &[String], seat: Seat) -> Result<String, AllocError> {
+/// The lines of these identifiers, and that of this process, which is the manager, as far as the system says what is in it.
+fn lines_of<R: Files + AllocGlobal>(
+    rt: &R,
+    rounds: &[String],
+    seat: Seat,
+) -> Result<String, AllocError> {
     let mut text = String::new(rt.alloc());
     for round in rounds {
         writeln!(text, "{round}\t{}\t{}", seat.device, seat.number)?;
     }
+    if let Some(line) = boot_of(rt).and_then(|boot| manager_line(rt, boot.as_str())) {
+        text.push_str(line.as_str())?;
+    }
     Ok(text)
 }
 
-/// Keeps these identifiers for the round of a folder in the file of this path, in place of those that it had: they are written
-/// under another name first, so that at each moment the file has all of the one or all of the others.
+/// Keeps these identifiers for the round of a folder, and who its manager is, in the file of this path, in place of what it had:
+/// it is written under another name first, so that at each moment the file has all of the one or all of the other.
 ///
 /// # Errors
 /// What the system refuses.

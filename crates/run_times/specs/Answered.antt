@@ -1,12 +1,10 @@
 -- What `times` prints.
 use Rattle.std.specs.Prelude.{◌≡◌, ℕ, Bool, true, false, List, ◌++◌, length, Some, codes}
 use Rattle.splices_flat.specs.Opening.{Files}
-use Rattle.dag_main_files.specs.Folder.{IsReadFrom}
-use Rattle.splices_flat.specs.FileSet.{bytes_of}
-use Rattle.splices_flat.specs.declared.file_set.FileSet.{FileSet}
-use Rattle.dag_main_files.specs.Beside.{IsFileFault}
+use Rattle.dag_main_files.specs.Beside.{IsRefusalOf}
+use Rattle.dag_main_files.specs.Opened.{IsOfFiles, IsOfSome, IsRefusedFor, IsRefusedForSome, HasNoGraph}
 use Rattle.dag_graph.specs.Graph.{Network}
-use Rattle.dag_main_check.specs.Planned.{IsGraphOf, IsGraphFault}
+use Rattle.dag_main_check.specs.Planned.{IsGraphOf}
 use Rattle.dag_main_check.specs.Warnings.{warning_lines}
 use Rattle.dag_main_check.specs.declared.fault.RunFault.{RunFault}
 use Rattle.run_times.specs.declared.runs.PhaseRun.{PhaseRun}
@@ -27,15 +25,18 @@ pub record IsShownOf (log : List ℕ) (svg : Bool) (text : List ℕ) : Type 0 wh
   pub each : length marks ≡ length runs
   pub shown : IsShown svg runs marks text
 
--- This is printed of the files of a path, which make a graph, and of a log; and these are the warnings of the files.
-pub record IsTimesOf (path : List ℕ) (svg : Bool) (text warnings : List ℕ) (status : ℕ) : Type 0 where
-  pub files : FileSet
+-- This is printed of these files of a path, which make a graph, and of a log; and these are the warnings of the files.
+pub record IsTimesBy (log path : List ℕ) (svg : Bool) (text warnings : List ℕ) (status : ℕ) (files : Files) (entries : List (List ℕ × List ℕ)) : Type 0 where
   pub graph : Network
-  pub is_graph : IsGraphOf (bytes_of files) path graph
-  pub log : List ℕ
+  pub is_graph : IsGraphOf files path graph
   pub shown : IsShownOf log svg text
   pub warnings_are : warnings ≡ warning_lines graph.dag.warnings
   pub status_is : status ≡ 0
+
+-- the same of some files and a log
+pub record IsTimesOf (path : List ℕ) (svg : Bool) (text warnings : List ℕ) (status : ℕ) : Type 0 where
+  pub log : List ℕ
+  pub of_files : IsOfSome path (IsTimesBy log path svg text warnings status)
 
 -- `top.log`
 abbrev pub log_name_of : List ℕ → List ℕ
@@ -43,17 +44,16 @@ log_name_of top = top ++ codes ".log"
 
 -- the same where these files are held, and the log beside them
 pub record IsTimesFrom (holds : Files) (path : List ℕ) (svg : Bool) (text warnings : List ℕ) (status : ℕ) : Type 0 where
-  pub of_files : IsTimesOf path svg text warnings status
-  pub read : IsReadFrom holds path of_files.files
-  pub log_is : holds (log_name_of path) ≡ Some of_files.log
+  pub log : List ℕ
+  pub log_is : holds (log_name_of path) ≡ Some log
+  pub of_files : IsOfFiles holds path (IsTimesBy log path svg text warnings status)
 
--- Why nothing is printed: the files make no graph; or the log is missing or refused, or memory ran out
+-- Why nothing is printed: some files make no graph; or the log is missing or refused, or memory ran out.
 pub data IsTimesFault (path : List ℕ) : RunFault → Type 0 where
-  no_graph : (files : FileSet) (fault : RunFault) → IsGraphFault (bytes_of files) path fault → IsTimesFault path fault
-  no_log : (fault : RunFault) → IsFileFault fault → IsTimesFault path fault
+  no_graph : (fault : RunFault) → IsRefusedForSome path (HasNoGraph path) fault → IsTimesFault path fault
+  no_log : (fault : RunFault) → IsRefusalOf (log_name_of path) fault → IsTimesFault path fault
 
--- The same where these files are held: those that were read make no graph; or the log is missing or refused, or memory ran out.
+-- The same where these files are held: they make no graph; or the log is missing or refused, or memory ran out.
 pub data IsTimesFaultHeld (holds : Files) (path : List ℕ) : RunFault → Type 0 where
-  held_no_graph : (files : FileSet) (fault : RunFault) → IsReadFrom holds path files → IsGraphFault (bytes_of files) path fault →
-      IsTimesFaultHeld holds path fault
-  held_no_log : (fault : RunFault) → IsFileFault fault → IsTimesFaultHeld holds path fault
+  held_no_graph : (fault : RunFault) → IsRefusedFor holds path (HasNoGraph path) fault → IsTimesFaultHeld holds path fault
+  held_no_log : (fault : RunFault) → IsRefusalOf (log_name_of path) fault → IsTimesFaultHeld holds path fault

@@ -1,7 +1,7 @@
 //! What `times` answers.
 
 ghost use Rattle.std.specs.Prelude.{◌≡◌, Some, length, IfOk, IfErr, string_bytes};
-ghost use Rattle.dag_main_files.specs.Beside.{IsFileFault};
+ghost use Rattle.dag_main_files.specs.Beside.{IsRefusalOf};
 ghost use Rattle.run_times.specs.Answered.{log_name_of, IsShown, IsTimesOf, IsTimesFrom, IsTimesFault, IsTimesFaultHeld};
 
 use crate::critical::critical_marks;
@@ -9,8 +9,8 @@ use crate::picture::picture_text;
 use crate::reader::runs_in;
 use crate::runs::PhaseRun;
 use crate::table::table_text;
-use dag_main_check::{Answer, RunFault, graph_of, warning_text};
-use dag_main_files::{Folder, Reading, files_of};
+use dag_main_check::{Answer, RunFault, warning_text};
+use dag_main_files::{Folder, bare_plan_here};
 use dag_reader::Text;
 use std::alloc::{AllocError, Global};
 
@@ -19,9 +19,8 @@ use std::alloc::{AllocError, Global};
 /// began, or a picture.
 ///
 /// # Errors
-/// The first fault that opening the files meets (`InFiles`), a cycle (`Cycle`), a log that is missing or that
-/// the system refuses to read (`FileRefused` with its path), and want of memory. Submit files are not
-/// read.
+/// Those of `bare_plan_here`; then a log that is missing, that the system refuses to read or that may be another user's (`FileRefused` with
+/// its path), and want of memory. Submit files are not read.
 pub fn times_here<F: Folder>(
     alloc: Global,
     folder: &F,
@@ -37,11 +36,11 @@ pub fn times_here<F: Folder>(
     // The refusal too is for what the folder holds.
     ensures refused_held { F.honest folder.now → IfErr result (IsTimesFaultHeld (F.holds folder.now) top.now) }
 {
-    let files = files_of(alloc, folder, top, Reading::SplicesAlone)?;
-    let graph = graph_of(alloc, &files, top)?;
+    let plan = bare_plan_here(alloc, folder, top, false)?;
+    let graph = plan.graph();
     let log = log_of(alloc, folder, top)?;
     let runs = runs_in(alloc, log.as_slice())?;
-    let marks = critical_marks(alloc, &graph, &runs)?;
+    let marks = critical_marks(alloc, graph, &runs)?;
     Ok(Answer {
         text: text_of(alloc, &runs, &marks, svg)?,
         warnings: warning_text(alloc, graph.flat().warnings())?,
@@ -69,7 +68,7 @@ fn text_of(
 /// The bytes of the log beside a DAG file.
 fn log_of<F: Folder>(alloc: Global, folder: &F, top: &str) -> Result<Vec<u8>, RunFault>
     ensures held { F.honest folder.now → IfOk result (λ log. F.holds folder.now (log_name_of top.now) ≡ Some log.items) }
-    ensures refused { IfErr result IsFileFault }
+    ensures refused { IfErr result (IsRefusalOf (log_name_of top.now)) }
 {
     let path = Text::joined(alloc, top, ".log")?;
     if let Some(log) = folder.beside(alloc, path.as_str())? {

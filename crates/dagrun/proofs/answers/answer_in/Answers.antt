@@ -1,11 +1,11 @@
 use Rattle.std.proofs.Common.{rules, ◌≡◌, ℕ, List, Bor, IfOk, map, string_bytes, sym, subst}
-use Rattle.failure_answers.specs.Answered.{IsWhyOf, IsWhyHeld}
+use Rattle.failure_answers.specs.Answered.{IsWhyOf, IsWhyHeld, IsWhyFaultHeld}
 use Rattle.redo.specs.Answered.{IsRedoOf, IsRedoHeld}
 use Rattle.dag_main_run.specs.Sites.{rounds_at}
 use Rattle.dag_main_args.specs.declared.request.Request.{Request}
 use Rattle.dag_main_args.specs.Requests.{asked_by}
 use Rattle.failure_report.specs.declared.why.Grouping.{Grouping}
-use Rattle.dagrun.specs.Answered.{is_run, command_of_some, command_from, ComesTo, grouping_by, SaidByFiles}
+use Rattle.dagrun.specs.Answered.{is_run, command_of_some, command_from, ComesTo, grouping_by, SaidByFitting}
 use Rattle.dagrun.proofs.Worlds.{some-to, held-to}
 use Rattle.dagrun.proofs.answers.answer_in.Goals as goal
 
@@ -43,19 +43,19 @@ pub returns-in-Why-clause-some : goal.returns-in-Why-clause-some
 returns-in-Why-clause-some g c = λ run.
     let same : c.deref.result.now ≡ c.in-Why.nodes.items = search rules in
     some-to (rounds_at g.F.Journal.Disk g.F.Rescue.Disk (g.F.Site.own c.args.folder.now) (g.F.Folder.honest c.args.folder.now) (g.F.Folder.holds c.args.folder.now))
-    c.args.request _ c.in-Why.is c.why_of_round.result
-    (subst (λ (ns : List (Bor (List ℕ))). IfOk c.why_of_round.result (λ answer. IsWhyOf (grouping_by c.in-Why.all) c.in-Why.dag.now (map (λ (n : Bor (List ℕ)). n.now) ns) (string_bytes answer.text) (string_bytes answer.warnings) answer.status)) same
-    (subst (λ (grouping : Grouping). IfOk c.why_of_round.result (λ answer. IsWhyOf grouping c.in-Why.dag.now (map (λ (n : Bor (List ℕ)). n.now) c.deref.result.now) (string_bytes answer.text) (string_bytes answer.warnings) answer.status)) c.grouping_by.ensures
-    c.why_of_round.ensures.answered)) c.why_of_round.ensures.refused
+    c.args.request _ c.in-Why.is c.why_of_last_round.result
+    (subst (λ (ns : List (Bor (List ℕ))). IfOk c.why_of_last_round.result (λ answer. IsWhyOf (grouping_by c.in-Why.all) c.in-Why.dag.now (map (λ (n : Bor (List ℕ)). n.now) ns) (string_bytes answer.text) (string_bytes answer.warnings) answer.status)) same
+    (subst (λ (grouping : Grouping). IfOk c.why_of_last_round.result (λ answer. IsWhyOf grouping c.in-Why.dag.now (map (λ (n : Bor (List ℕ)). n.now) c.deref.result.now) (string_bytes answer.text) (string_bytes answer.warnings) answer.status)) c.grouping_by.ensures
+    c.why_of_last_round.ensures.answered)) c.why_of_last_round.ensures.refused
 
 pub returns-in-Why-clause-held : goal.returns-in-Why-clause-held
 returns-in-Why-clause-held g c = λ honest run.
     let same : c.deref.result.now ≡ c.in-Why.nodes.items = search rules in
     held-to (g.F.Folder.holds c.args.folder.now) (g.F.Folder.has c.args.folder.now) (rounds_at g.F.Journal.Disk g.F.Rescue.Disk (g.F.Site.own c.args.folder.now) (g.F.Folder.honest c.args.folder.now) (g.F.Folder.holds c.args.folder.now))
-    c.args.request _ c.in-Why.is c.why_of_round.result
-    (subst (λ (ns : List (Bor (List ℕ))). IfOk c.why_of_round.result (λ answer. SaidByFiles c.in-Why.as_begun (g.F.Folder.holds c.args.folder.now) c.in-Why.dag.now (λ files. IsWhyHeld (grouping_by c.in-Why.all) files c.in-Why.dag.now (map (λ (n : Bor (List ℕ)). n.now) ns)) (string_bytes answer.text) (string_bytes answer.warnings) answer.status)) same
-    (subst (λ (grouping : Grouping). IfOk c.why_of_round.result (λ answer. SaidByFiles c.in-Why.as_begun (g.F.Folder.holds c.args.folder.now) c.in-Why.dag.now (λ files. IsWhyHeld grouping files c.in-Why.dag.now (map (λ (n : Bor (List ℕ)). n.now) c.deref.result.now)) (string_bytes answer.text) (string_bytes answer.warnings) answer.status)) c.grouping_by.ensures
-    (c.why_of_round.ensures.held honest))) (c.why_of_round.ensures.refused_held honest)
+    c.args.request _ c.in-Why.is c.why_of_last_round.result
+    (subst (λ (ns : List (Bor (List ℕ))). IfOk c.why_of_last_round.result (λ answer. SaidByFitting c.in-Why.as_begun (g.F.Folder.holds c.args.folder.now) c.in-Why.dag.now (λ files. IsWhyFaultHeld files c.in-Why.dag.now) (λ files. IsWhyHeld (grouping_by c.in-Why.all) files c.in-Why.dag.now (map (λ (n : Bor (List ℕ)). n.now) ns)) (string_bytes answer.text) (string_bytes answer.warnings) answer.status)) same
+    (subst (λ (grouping : Grouping). IfOk c.why_of_last_round.result (λ answer. SaidByFitting c.in-Why.as_begun (g.F.Folder.holds c.args.folder.now) c.in-Why.dag.now (λ files. IsWhyFaultHeld files c.in-Why.dag.now) (λ files. IsWhyHeld grouping files c.in-Why.dag.now (map (λ (n : Bor (List ℕ)). n.now) c.deref.result.now)) (string_bytes answer.text) (string_bytes answer.warnings) answer.status)) c.grouping_by.ensures
+    (c.why_of_last_round.ensures.held honest))) (c.why_of_last_round.ensures.refused_held honest)
 
 pub returns-in-Times-clause-some : goal.returns-in-Times-clause-some
 returns-in-Times-clause-some g c = λ run.
@@ -70,12 +70,12 @@ returns-in-Times-clause-held g c = λ honest run.
 pub returns-in-Report-clause-some : goal.returns-in-Report-clause-some
 returns-in-Report-clause-some g c = λ run.
     some-to (rounds_at g.F.Journal.Disk g.F.Rescue.Disk (g.F.Site.own c.args.folder.now) (g.F.Folder.honest c.args.folder.now) (g.F.Folder.holds c.args.folder.now))
-    c.args.request _ c.in-Report.is c.page_of_round.result c.page_of_round.ensures.answered c.page_of_round.ensures.refused
+    c.args.request _ c.in-Report.is c.page_of_last_round.result c.page_of_last_round.ensures.answered c.page_of_last_round.ensures.refused
 
 pub returns-in-Report-clause-held : goal.returns-in-Report-clause-held
 returns-in-Report-clause-held g c = λ honest run.
     held-to (g.F.Folder.holds c.args.folder.now) (g.F.Folder.has c.args.folder.now) (rounds_at g.F.Journal.Disk g.F.Rescue.Disk (g.F.Site.own c.args.folder.now) (g.F.Folder.honest c.args.folder.now) (g.F.Folder.holds c.args.folder.now))
-    c.args.request _ c.in-Report.is c.page_of_round.result (c.page_of_round.ensures.held honest) (c.page_of_round.ensures.refused_held honest)
+    c.args.request _ c.in-Report.is c.page_of_last_round.result (c.page_of_last_round.ensures.held honest) (c.page_of_last_round.ensures.refused_held honest)
 
 pub returns-in-Salvage-clause-some : goal.returns-in-Salvage-clause-some
 returns-in-Salvage-clause-some g c = λ run.

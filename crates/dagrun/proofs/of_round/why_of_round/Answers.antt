@@ -15,7 +15,7 @@ returns-then-not-as_begun-clause-held g c = λ honest.
     (λ files. IsWhyHeld c.args.grouping files c.args.place.now.top.now (map (λ (n : Bor (List ℕ)). n.now) c.args.names.now)) c.why_here.result (c.why_here.ensures.held honest)
 
 pub returns-then-not-as_begun-clause-refused : goal.returns-then-not-as_begun-clause-refused
-returns-then-not-as_begun-clause-refused g c = some-refusal c.args.as_begun _ c.why_here.result c.why_here.ensures.refused
+returns-then-not-as_begun-clause-refused g c = some-refusal c.args.as_begun c.args.place.now.top.now _ c.why_here.result c.why_here.ensures.refused
 
 pub returns-then-not-as_begun-clause-refused_held : goal.returns-then-not-as_begun-clause-refused_held
 returns-then-not-as_begun-clause-refused_held g c = λ honest.
@@ -23,13 +23,13 @@ returns-then-not-as_begun-clause-refused_held g c = λ honest.
     (λ files. IsWhyFaultHeld files c.args.place.now.top.now) c.why_here.result (c.why_here.ensures.refused_held honest)
 
 pub returns-in_err-seen-clause-refused : goal.returns-in_err-seen-clause-refused
-returns-in_err-seen-clause-refused g c = by-fault (IsRefusedBySome c.args.as_begun (IsAnswerFault Status c.args.place.now.top.now)) c.in_err-seen.field-0.0
+returns-in_err-seen-clause-refused g c = by-fault (IsRefusedBySome c.args.as_begun c.args.place.now.top.now (IsAnswerFault Status c.args.place.now.top.now)) c.in_err-seen.field-0.0
     (not_begun_by_some _ c.if-not-as_begun.false c.in_err-seen.ensures.refused) c.from_residual.result c.from_residual.ensures.1
 
 pub returns-in_err-seen-clause-refused_held : goal.returns-in_err-seen-clause-refused_held
 returns-in_err-seen-clause-refused_held g c = λ honest.
     by-fault (IsRefusedByFiles c.args.as_begun (g.F.Folder.holds c.args.folder.now) c.args.place.now.top.now (λ files. IsWhyFaultHeld files c.args.place.now.top.now)) c.in_err-seen.field-0.0
-    (not_begun_by_files _ c.if-not-as_begun.false c.in_err-seen.ensures.refused) c.from_residual.result c.from_residual.ensures.1
+    (not_begun_by_files _ c.if-not-as_begun.false (c.in_err-seen.ensures.refused_held honest)) c.from_residual.result c.from_residual.ensures.1
 
 pub returns-clause-held : goal.returns-clause-held
 returns-clause-held g c = λ honest.
@@ -39,7 +39,7 @@ returns-clause-held g c = λ honest.
     c.in_ok-seen.ensures.folder (c.why_here-2.ensures.held (subst g.F.Folder.honest (sym c.in_ok-seen.ensures.folder) honest)))
 
 pub returns-clause-refused : goal.returns-clause-refused
-returns-clause-refused g c = some-refusal c.args.as_begun _ c.why_here-2.result c.why_here-2.ensures.refused
+returns-clause-refused g c = some-refusal c.args.as_begun c.args.place.now.top.now _ c.why_here-2.result c.why_here-2.ensures.refused
 
 pub returns-clause-refused_held : goal.returns-clause-refused_held
 returns-clause-refused_held g c = λ honest.

@@ -6,9 +6,11 @@ use Rattle.dag_main_files.proofs.RunFaults.{by-fault}
 use Rattle.dag_main_inspect.specs.Asked.{no_last_round, not_told, held_no_last_round}
 use Rattle.dag_main_inspect.specs.declared.by_journal.Question.TheVariants.{Status}
 use Rattle.dag_main_inspect.proofs.Rounds.{same-round, not-answered}
-use Rattle.redo.specs.Answered.{IsFoundBy, IsRedoReport, IsRedoFault, not_answered, of_round, of_held, IsRedoFaultHeld, held_not_answered}
+use Rattle.redo.specs.Numbers.{IsNextNumber, IsNextNumberIn}
+use Rattle.redo.specs.Answered.{IsFoundBy, IsRedoReport, IsNotWritten, IsRedoFault, not_answered, of_round, of_held, IsRedoFaultHeld, held_not_answered}
 use Rattle.redo.specs.declared.here.Found.{Found}
-use Rattle.redo.proofs.Answers.{redone-so, unknown-so}
+use Rattle.dag_main_check.proofs.Refusals.{weaker}
+use Rattle.redo.proofs.Answers.{redone-so, unknown-so, not-written, not-written-held}
 use Rattle.dag_main_files.specs.Opened.{IsOfFiles, IsOfSome}
 use Rattle.dag_main_files.proofs.OpenedFiles.{said-more}
 use Rattle.redo.proofs.here.redo_locked.Goals as goal
@@ -29,8 +31,8 @@ returns-in-Ok-Marked-clause-redone g c =
     IfOk-weaker c.write_marked.result _ _ (λ answer r. of_round (option_map (λ b. b.now) c.as_deref-rescue.result) (option_map (λ b. b.now) c.as_deref-journal.result) (
       found.0,
       said-more found.0 c.args.place.now.top.now _ _
-          (redone-so c.args.place.now.top.now (option_map (λ b. b.now) c.as_deref-rescue.result) (option_map (λ b. b.now) c.as_deref-journal.result) (map (λ n. n.now) c.args.names.now) c.args.only c.in-Ok-Marked.marked _ _ _
-          (subst (λ (b : List ℕ). IsRedoReport c.args.place.now.top.now b c.in-Ok-Marked.marked.redone.done c.in-Ok-Marked.marked.total (string_bytes c.in-Ok-Marked.marked.warnings) (string_bytes answer.text) (string_bytes answer.warnings) answer.status) c.bytes_in.ensures r)) found.1,
+          (redone-so IsNextNumber c.args.place.now.top.now (option_map (λ b. b.now) c.as_deref-rescue.result) (option_map (λ b. b.now) c.as_deref-journal.result) (map (λ n. n.now) c.args.names.now) c.args.only c.in-Ok-Marked.marked _ _ _
+          (subst (λ (b : List ℕ). IsRedoReport (IsNextNumber b) c.args.place.now.top.now c.in-Ok-Marked.marked.redone.done c.in-Ok-Marked.marked.total (string_bytes c.in-Ok-Marked.marked.warnings) (string_bytes answer.text) (string_bytes answer.warnings) answer.status) c.bytes_in.ensures r)) found.1,
     )) c.write_marked.ensures.report
 
 pub returns-in-Ok-Marked-clause-held : goal.returns-in-Ok-Marked-clause-held
@@ -39,20 +41,31 @@ returns-in-Ok-Marked-clause-held g c = λ honest.
     IfOk-weaker c.write_marked.result _ _ (λ answer r. of_held (option_map (λ b. b.now) c.as_deref-rescue.result) (option_map (λ b. b.now) c.as_deref-journal.result)
     (same-round _ _ _ _ _ _ (c.in_ok-round.ensures.round honest) c.as_deref-journal.ensures.value c.as_deref-rescue.ensures.value)
     (said-more (g.F.Folder.holds c.args.folder.now) c.args.place.now.top.now _ _
-    (redone-so c.args.place.now.top.now (option_map (λ b. b.now) c.as_deref-rescue.result) (option_map (λ b. b.now) c.as_deref-journal.result) (map (λ n. n.now) c.args.names.now) c.args.only c.in-Ok-Marked.marked _ _ _
-    (subst (λ (b : List ℕ). IsRedoReport c.args.place.now.top.now b c.in-Ok-Marked.marked.redone.done c.in-Ok-Marked.marked.total (string_bytes c.in-Ok-Marked.marked.warnings) (string_bytes answer.text) (string_bytes answer.warnings) answer.status) c.bytes_in.ensures r)) found)) c.write_marked.ensures.report
+    (redone-so (IsNextNumberIn (g.F.Folder.has c.args.folder.now) c.args.place.now.top.now) c.args.place.now.top.now (option_map (λ b. b.now) c.as_deref-rescue.result) (option_map (λ b. b.now) c.as_deref-journal.result) (map (λ n. n.now) c.args.names.now) c.args.only c.in-Ok-Marked.marked _ _ _
+    (subst (λ (b : List ℕ). IsRedoReport (IsNextNumberIn (g.F.Folder.has c.args.folder.now) c.args.place.now.top.now b) c.args.place.now.top.now c.in-Ok-Marked.marked.redone.done c.in-Ok-Marked.marked.total (string_bytes c.in-Ok-Marked.marked.warnings) (string_bytes answer.text) (string_bytes answer.warnings) answer.status) c.bytes_in.ensures r)) found)) (c.write_marked.ensures.held honest)
+
+pub returns-in-Ok-Marked-clause-refused : goal.returns-in-Ok-Marked-clause-refused
+returns-in-Ok-Marked-clause-refused g c =
+    weaker (IsRedoFault c.args.place.now.top.now) c.write_marked.result c.write_marked.ensures.refused (λ fault why. not-written c.args.place.now.top.now c.bytes_in.result.now fault why)
+
+pub returns-in-Ok-Marked-clause-refused_held : goal.returns-in-Ok-Marked-clause-refused_held
+returns-in-Ok-Marked-clause-refused_held g c = λ honest.
+    weaker (IsRedoFaultHeld (g.F.Folder.holds c.args.folder.now) c.args.place.now.top.now) c.write_marked.result c.write_marked.ensures.refused
+    (λ fault why. not-written-held (g.F.Folder.holds c.args.folder.now) c.args.place.now.top.now (option_map (λ b. b.now) c.as_deref-rescue.result) (option_map (λ b. b.now) c.as_deref-journal.result)
+    (same-round _ _ _ _ _ _ (c.in_ok-round.ensures.round honest) c.as_deref-journal.ensures.value c.as_deref-rescue.ensures.value) fault
+    (subst (λ (b : List ℕ). IsNotWritten b fault) c.bytes_in.ensures why))
 
 pub returns-in-Ok-Unknown-clause-redone : goal.returns-in-Ok-Unknown-clause-redone
 returns-in-Ok-Unknown-clause-redone g c =
     let found = subst (λ (f : Found). IsOfSome c.args.place.now.top.now (IsFoundBy c.args.place.now.top.now (option_map (λ b. b.now) c.as_deref-rescue.result) (option_map (λ b. b.now) c.as_deref-journal.result) (map (λ n. n.now) c.args.names.now) c.args.only f)) c.in-Ok-Unknown.field-0-is c.in-Ok-Unknown.ensures.found in
-    of_round (option_map (λ b. b.now) c.as_deref-rescue.result) (option_map (λ b. b.now) c.as_deref-journal.result) (found.0, said-more found.0 c.args.place.now.top.now _ _ (unknown-so c.args.place.now.top.now (option_map (λ b. b.now) c.as_deref-rescue.result) (option_map (λ b. b.now) c.as_deref-journal.result) (map (λ n. n.now) c.args.names.now) c.args.only c.in-Ok-Unknown.line _ c.new.ensures.bytes) found.1)
+    of_round (option_map (λ b. b.now) c.as_deref-rescue.result) (option_map (λ b. b.now) c.as_deref-journal.result) (found.0, said-more found.0 c.args.place.now.top.now _ _ (unknown-so IsNextNumber c.args.place.now.top.now (option_map (λ b. b.now) c.as_deref-rescue.result) (option_map (λ b. b.now) c.as_deref-journal.result) (map (λ n. n.now) c.args.names.now) c.args.only c.in-Ok-Unknown.line _ c.new.ensures.bytes) found.1)
 
 pub returns-in-Ok-Unknown-clause-held : goal.returns-in-Ok-Unknown-clause-held
 returns-in-Ok-Unknown-clause-held g c = λ honest.
     let found = subst (λ (f : Found). IsOfFiles (g.F.Folder.holds c.args.folder.now) c.args.place.now.top.now (IsFoundBy c.args.place.now.top.now (option_map (λ b. b.now) c.as_deref-rescue.result) (option_map (λ b. b.now) c.as_deref-journal.result) (map (λ n. n.now) c.args.names.now) c.args.only f)) c.in-Ok-Unknown.field-0-is (c.in-Ok-Unknown.ensures.held honest) in
     of_held (option_map (λ b. b.now) c.as_deref-rescue.result) (option_map (λ b. b.now) c.as_deref-journal.result)
     (same-round _ _ _ _ _ _ (c.in_ok-round.ensures.round honest) c.as_deref-journal.ensures.value c.as_deref-rescue.ensures.value)
-    (said-more (g.F.Folder.holds c.args.folder.now) c.args.place.now.top.now _ _ (unknown-so c.args.place.now.top.now (option_map (λ b. b.now) c.as_deref-rescue.result) (option_map (λ b. b.now) c.as_deref-journal.result) (map (λ n. n.now) c.args.names.now) c.args.only c.in-Ok-Unknown.line _ c.new.ensures.bytes) found)
+    (said-more (g.F.Folder.holds c.args.folder.now) c.args.place.now.top.now _ _ (unknown-so (IsNextNumberIn (g.F.Folder.has c.args.folder.now) c.args.place.now.top.now) c.args.place.now.top.now (option_map (λ b. b.now) c.as_deref-rescue.result) (option_map (λ b. b.now) c.as_deref-journal.result) (map (λ n. n.now) c.args.names.now) c.args.only c.in-Ok-Unknown.line _ c.new.ensures.bytes) found)
 
 pub returns-in_err-round-clause-refused_held : goal.returns-in_err-round-clause-refused_held
 returns-in_err-round-clause-refused_held g c = λ honest.

@@ -1,18 +1,19 @@
 use Rattle.std.proofs.Common.{◌∙◌, ap, sym}
 use Rattle.std.specs.Option.{option_map}
-use Rattle.dag_main_files.specs.Beside.{IsFileFault, file_refused, reading_had_no_memory}
+use Rattle.dag_main_files.specs.Beside.{IsRefusalOf, path_refused, refusing_had_no_memory}
 use Rattle.dag_main_check.specs.declared.fault.RunFault.TheVariants.{Memory}
 use Rattle.dag_main_files.proofs.RunFaults.{by-fault}
+use Rattle.run_times.specs.Answered.{log_name_of}
 use Rattle.run_times.proofs.here.log_of.Goals as goal
 
 pub returns-in_err-path-clause-refused : goal.returns-in_err-path-clause-refused
-returns-in_err-path-clause-refused g c = by-fault IsFileFault Memory reading_had_no_memory c.from_residual.result c.from_residual.ensures.1
+returns-in_err-path-clause-refused g c = by-fault (IsRefusalOf (log_name_of c.args.top.now)) Memory refusing_had_no_memory c.from_residual.result c.from_residual.ensures.1
 
 pub returns-in_err-from_str-clause-refused : goal.returns-in_err-from_str-clause-refused
-returns-in_err-from_str-clause-refused g c = by-fault IsFileFault Memory reading_had_no_memory c.from_residual-in_err-from_str.result c.from_residual-in_err-from_str.ensures.1
+returns-in_err-from_str-clause-refused g c = by-fault (IsRefusalOf (log_name_of c.args.top.now)) Memory refusing_had_no_memory c.from_residual-in_err-from_str.result c.from_residual-in_err-from_str.ensures.1
 
 pub returns-clause-refused : goal.returns-clause-refused
-returns-clause-refused g c = file_refused c.in_ok-from_str.field-0
+returns-clause-refused g c = path_refused c.in_ok-from_str.field-0 (c.in_ok-from_str.ensures.ok ∙ c.as_str-2.ensures ∙ c.in_ok-path.ensures)
 
 pub returns-in-Some-clause-held : goal.returns-in-Some-clause-held
 returns-in-Some-clause-held g c = λ honest.

@@ -1,12 +1,17 @@
-use Rattle.std.proofs.Common.{◌≡◌, ◌∙◌, ℕ, Bool, List, length, ap, subst, refl, arith}
+use Rattle.std.proofs.Common.{◌≡◌, ◌∙◌, ℕ, Bool, false, List, length, ap, subst, refl, arith}
 use Rattle.splices_flat.specs.Dag.{Dag}
-use Rattle.dag_main_files.specs.Beside.{reading_had_no_memory}
+use Rattle.splices_flat.specs.Opening.{Files}
+use Rattle.dag_graph.specs.Graph.{Network}
+use Rattle.run_plan.specs.Plan.{Plan}
+use Rattle.dag_main_files.specs.Beside.{refusing_had_no_memory}
+use Rattle.dag_main_files.specs.Opened.{HasBarePlan}
+use Rattle.dag_main_files.proofs.OpenedFiles.{said-more}
 use Rattle.dag_main_check.specs.Warnings.{warning_lines}
 use Rattle.dag_main_check.specs.declared.fault.RunFault.TheVariants.{Memory}
-use Rattle.dag_main_files.proofs.RunFaults.{by-fault, input-is-file}
+use Rattle.dag_main_files.proofs.RunFaults.{by-fault}
 use Rattle.run_times.specs.declared.runs.PhaseRun.{PhaseRun}
 use Rattle.run_times.specs.Reading.{IsRunsOf}
-use Rattle.run_times.specs.Answered.{IsShown, IsShownOf, IsTimesFault, no_graph, no_log, IsTimesFaultHeld, held_no_graph, held_no_log}
+use Rattle.run_times.specs.Answered.{IsShown, IsShownOf, IsTimesBy, IsTimesFault, no_graph, no_log, IsTimesFaultHeld, held_no_graph, held_no_log}
 use Rattle.run_times.proofs.here.times_here.Goals as goal
 
 -- what is shown of a log, by what was read and handed on
@@ -20,15 +25,21 @@ shown-of log bytes svg text runs timed drawn marks given log_is runs_are timed_i
   shown = subst (λ (r : List PhaseRun). IsShown svg r marks text) drawn_is (subst (λ (m : List Bool). IsShown svg drawn m text) given_is shown);
 }
 
-pub returns-in_err-files-clause-refused : goal.returns-in_err-files-clause-refused
-returns-in_err-files-clause-refused g c =
-    by-fault (IsTimesFault c.args.top.now) c.in_err-files.field-0.0 (no_log _ (input-is-file _ _ c.in_err-files.ensures.refused))
-    c.from_residual.result c.from_residual.ensures.1
+-- what is printed of the files of a plan
+timed-by : (log path : List ℕ) (svg : Bool) (text warnings : List ℕ) (plan : Plan) → IsShownOf log svg text → warnings ≡ warning_lines plan.graph.dag.warnings → (files : Files)
+    (entries : List (List ℕ × List ℕ)) → HasBarePlan false path plan files entries → IsTimesBy log path svg text warnings 0 files entries
+timed-by log path svg text warnings plan shown warned files entries planned = record {
+  graph = plan.graph;
+  is_graph = record { is_dag = planned.is_dag; acyclic = planned.acyclic };
+  shown = shown;
+  warnings_are = warned;
+  status_is = refl;
+}
 
-pub returns-in_err-graph-clause-refused : goal.returns-in_err-graph-clause-refused
-returns-in_err-graph-clause-refused g c =
-    by-fault (IsTimesFault c.args.top.now) c.in_err-graph.field-0.0 (no_graph c.in_ok-files.files _ c.in_err-graph.ensures.refused)
-    c.from_residual-in_err-graph.result c.from_residual-in_err-graph.ensures.1
+pub returns-in_err-plan-clause-refused : goal.returns-in_err-plan-clause-refused
+returns-in_err-plan-clause-refused g c =
+    by-fault (IsTimesFault c.args.top.now) c.in_err-plan.field-0.0 (no_graph _ c.in_err-plan.ensures.refused)
+    c.from_residual.result c.from_residual.ensures.1
 
 pub returns-in_err-log-clause-refused : goal.returns-in_err-log-clause-refused
 returns-in_err-log-clause-refused g c =
@@ -37,58 +48,50 @@ returns-in_err-log-clause-refused g c =
 
 pub returns-in_err-runs-clause-refused : goal.returns-in_err-runs-clause-refused
 returns-in_err-runs-clause-refused g c =
-    by-fault (IsTimesFault c.args.top.now) Memory (no_log _ reading_had_no_memory) c.from_residual-in_err-runs.result c.from_residual-in_err-runs.ensures.1
+    by-fault (IsTimesFault c.args.top.now) Memory (no_log _ refusing_had_no_memory) c.from_residual-in_err-runs.result c.from_residual-in_err-runs.ensures.1
 
 pub returns-in_err-marks-clause-refused : goal.returns-in_err-marks-clause-refused
 returns-in_err-marks-clause-refused g c =
-    by-fault (IsTimesFault c.args.top.now) Memory (no_log _ reading_had_no_memory) c.from_residual-in_err-marks.result c.from_residual-in_err-marks.ensures.1
+    by-fault (IsTimesFault c.args.top.now) Memory (no_log _ refusing_had_no_memory) c.from_residual-in_err-marks.result c.from_residual-in_err-marks.ensures.1
 
 pub returns-in_err-text_of-clause-refused : goal.returns-in_err-text_of-clause-refused
 returns-in_err-text_of-clause-refused g c =
-    by-fault (IsTimesFault c.args.top.now) Memory (no_log _ reading_had_no_memory) c.from_residual-in_err-text_of.result c.from_residual-in_err-text_of.ensures.1
+    by-fault (IsTimesFault c.args.top.now) Memory (no_log _ refusing_had_no_memory) c.from_residual-in_err-text_of.result c.from_residual-in_err-text_of.ensures.1
 
 pub returns-in_err-warning_text-clause-refused : goal.returns-in_err-warning_text-clause-refused
 returns-in_err-warning_text-clause-refused g c =
-    by-fault (IsTimesFault c.args.top.now) Memory (no_log _ reading_had_no_memory) c.from_residual-in_err-warning_text.result c.from_residual-in_err-warning_text.ensures.1
+    by-fault (IsTimesFault c.args.top.now) Memory (no_log _ refusing_had_no_memory) c.from_residual-in_err-warning_text.result c.from_residual-in_err-warning_text.ensures.1
 
 pub returns-clause-told : goal.returns-clause-told
-returns-clause-told g c = record {
-  files = c.in_ok-files.files;
-  graph = c.in_ok-graph.graph;
-  is_graph = c.in_ok-graph.ensures.graph;
-  log = c.in_ok-log.log.items;
-  shown = shown-of c.in_ok-log.log.items _ c.args.svg _ c.in_ok-runs.runs.items _ _ c.in_ok-marks.marks.items _ c.as_slice.ensures.value c.in_ok-runs.ensures c.deref.ensures.value
-      c.deref-2.ensures.value c.deref-3.ensures.value (omega (arith, c.in_ok-marks.ensures, c.in_ok-marks.marks.ok)) c.in_ok-text_of.ensures;
-  warnings_are = c.in_ok-warning_text.ensures ∙ ap warning_lines (c.warnings.ensures ∙ ap (λ (d : Dag). d.warnings) c.flat.ensures);
-  status_is = refl;
-}
+returns-clause-told g c =
+    let shown = shown-of c.in_ok-log.log.items _ c.args.svg _ c.in_ok-runs.runs.items _ _ c.in_ok-marks.marks.items _ c.as_slice.ensures.value c.in_ok-runs.ensures c.deref.ensures.value
+    c.deref-2.ensures.value c.deref-3.ensures.value (omega (arith, c.in_ok-marks.ensures, c.in_ok-marks.marks.ok)) c.in_ok-text_of.ensures in
+    let warned = c.in_ok-warning_text.ensures ∙ ap warning_lines (c.warnings.ensures ∙ ap (λ (d : Dag). d.warnings) (c.flat.ensures ∙ ap (λ (n : Network). n.dag) c.graph-graph.ensures.is)) in
+    record {
+      log = c.in_ok-log.log.items;
+      of_files = (
+        c.in_ok-plan.ensures.plan.0,
+        said-more c.in_ok-plan.ensures.plan.0 c.args.top.now _ _ (timed-by c.in_ok-log.log.items c.args.top.now c.args.svg _ _ c.in_ok-plan.plan shown warned) c.in_ok-plan.ensures.plan.1,
+      );
+    }
 
 pub returns-clause-held : goal.returns-clause-held
-returns-clause-held g c = λ honest. record {
-  of_files = record {
-    files = c.in_ok-files.files;
-    graph = c.in_ok-graph.graph;
-    is_graph = c.in_ok-graph.ensures.graph;
-    log = c.in_ok-log.log.items;
-    shown = shown-of c.in_ok-log.log.items _ c.args.svg _ c.in_ok-runs.runs.items _ _ c.in_ok-marks.marks.items _ c.as_slice.ensures.value c.in_ok-runs.ensures c.deref.ensures.value
-        c.deref-2.ensures.value c.deref-3.ensures.value (omega (arith, c.in_ok-marks.ensures, c.in_ok-marks.marks.ok)) c.in_ok-text_of.ensures;
-    warnings_are = c.in_ok-warning_text.ensures ∙ ap warning_lines (c.warnings.ensures ∙ ap (λ (d : Dag). d.warnings) c.flat.ensures);
-    status_is = refl;
-  };
-  read = c.in_ok-files.ensures.read honest;
-  log_is = c.in_ok-log.ensures.held honest;
-}
+returns-clause-held g c = λ honest.
+    let shown = shown-of c.in_ok-log.log.items _ c.args.svg _ c.in_ok-runs.runs.items _ _ c.in_ok-marks.marks.items _ c.as_slice.ensures.value c.in_ok-runs.ensures c.deref.ensures.value
+    c.deref-2.ensures.value c.deref-3.ensures.value (omega (arith, c.in_ok-marks.ensures, c.in_ok-marks.marks.ok)) c.in_ok-text_of.ensures in
+    let warned = c.in_ok-warning_text.ensures ∙ ap warning_lines (c.warnings.ensures ∙ ap (λ (d : Dag). d.warnings) (c.flat.ensures ∙ ap (λ (n : Network). n.dag) c.graph-graph.ensures.is)) in
+    record {
+      log = c.in_ok-log.log.items;
+      log_is = c.in_ok-log.ensures.held honest;
+      of_files =
+          said-more (g.F.Folder.holds c.args.folder.now) c.args.top.now _ _ (timed-by c.in_ok-log.log.items c.args.top.now c.args.svg _ _ c.in_ok-plan.plan shown warned)
+          (c.in_ok-plan.ensures.held honest);
+    }
 
-pub returns-in_err-files-clause-refused_held : goal.returns-in_err-files-clause-refused_held
-returns-in_err-files-clause-refused_held g c = λ honest.
-    by-fault (IsTimesFaultHeld (g.F.Folder.holds c.args.folder.now) c.args.top.now) c.in_err-files.field-0.0 (held_no_log _ (input-is-file _ _ c.in_err-files.ensures.refused))
+pub returns-in_err-plan-clause-refused_held : goal.returns-in_err-plan-clause-refused_held
+returns-in_err-plan-clause-refused_held g c = λ honest.
+    by-fault (IsTimesFaultHeld (g.F.Folder.holds c.args.folder.now) c.args.top.now) c.in_err-plan.field-0.0 (held_no_graph _ (c.in_err-plan.ensures.refused_held honest))
     c.from_residual.result c.from_residual.ensures.1
-
-pub returns-in_err-graph-clause-refused_held : goal.returns-in_err-graph-clause-refused_held
-returns-in_err-graph-clause-refused_held g c = λ honest.
-    by-fault (IsTimesFaultHeld (g.F.Folder.holds c.args.folder.now) c.args.top.now) c.in_err-graph.field-0.0
-    (held_no_graph c.in_ok-files.files _ (c.in_ok-files.ensures.read honest) c.in_err-graph.ensures.refused)
-    c.from_residual-in_err-graph.result c.from_residual-in_err-graph.ensures.1
 
 pub returns-in_err-log-clause-refused_held : goal.returns-in_err-log-clause-refused_held
 returns-in_err-log-clause-refused_held g c = λ honest.
@@ -97,16 +100,16 @@ returns-in_err-log-clause-refused_held g c = λ honest.
 
 pub returns-in_err-runs-clause-refused_held : goal.returns-in_err-runs-clause-refused_held
 returns-in_err-runs-clause-refused_held g c = λ honest.
-    by-fault (IsTimesFaultHeld (g.F.Folder.holds c.args.folder.now) c.args.top.now) Memory (held_no_log _ reading_had_no_memory) c.from_residual-in_err-runs.result c.from_residual-in_err-runs.ensures.1
+    by-fault (IsTimesFaultHeld (g.F.Folder.holds c.args.folder.now) c.args.top.now) Memory (held_no_log _ refusing_had_no_memory) c.from_residual-in_err-runs.result c.from_residual-in_err-runs.ensures.1
 
 pub returns-in_err-marks-clause-refused_held : goal.returns-in_err-marks-clause-refused_held
 returns-in_err-marks-clause-refused_held g c = λ honest.
-    by-fault (IsTimesFaultHeld (g.F.Folder.holds c.args.folder.now) c.args.top.now) Memory (held_no_log _ reading_had_no_memory) c.from_residual-in_err-marks.result c.from_residual-in_err-marks.ensures.1
+    by-fault (IsTimesFaultHeld (g.F.Folder.holds c.args.folder.now) c.args.top.now) Memory (held_no_log _ refusing_had_no_memory) c.from_residual-in_err-marks.result c.from_residual-in_err-marks.ensures.1
 
 pub returns-in_err-text_of-clause-refused_held : goal.returns-in_err-text_of-clause-refused_held
 returns-in_err-text_of-clause-refused_held g c = λ honest.
-    by-fault (IsTimesFaultHeld (g.F.Folder.holds c.args.folder.now) c.args.top.now) Memory (held_no_log _ reading_had_no_memory) c.from_residual-in_err-text_of.result c.from_residual-in_err-text_of.ensures.1
+    by-fault (IsTimesFaultHeld (g.F.Folder.holds c.args.folder.now) c.args.top.now) Memory (held_no_log _ refusing_had_no_memory) c.from_residual-in_err-text_of.result c.from_residual-in_err-text_of.ensures.1
 
 pub returns-in_err-warning_text-clause-refused_held : goal.returns-in_err-warning_text-clause-refused_held
 returns-in_err-warning_text-clause-refused_held g c = λ honest.
-    by-fault (IsTimesFaultHeld (g.F.Folder.holds c.args.folder.now) c.args.top.now) Memory (held_no_log _ reading_had_no_memory) c.from_residual-in_err-warning_text.result c.from_residual-in_err-warning_text.ensures.1
+    by-fault (IsTimesFaultHeld (g.F.Folder.holds c.args.folder.now) c.args.top.now) Memory (held_no_log _ refusing_had_no_memory) c.from_residual-in_err-warning_text.result c.from_residual-in_err-warning_text.ensures.1
