@@ -147,14 +147,14 @@ def installed_and_removed(folder):
     os.mkdir(bare)
     for name in ["bash", "env", *COREUTILS]:
         os.symlink(shutil.which(name), f"{bare}/{name}")
-    settings = dict(with_path(bare), HOME=f"{folder}/home")
-    write(f"{folder}/home/.local/bin/other", "stays")
+    settings = dict(with_path(bare), HOME=f"{folder}/user")
+    write(f"{folder}/user/.local/bin/other", "stays")
     said = call(folder, f"{TOP}/install.sh", env=settings)
-    prefix = f"{folder}/home/.local"
+    prefix = f"{folder}/user/.local"
     path_line = f'{prefix}/bin is not on the PATH: export PATH="{prefix}/bin:$PATH"\n'
     same(said, (f"dagrun is installed: {prefix}/bin/dagrun\n{path_line}", "", 0))
     same(files_below(prefix), sorted(INSTALLED + ["bin/other"]))
-    settings = dict(with_path(f"{prefix}/bin", bare), HOME=f"{folder}/home")
+    settings = dict(with_path(f"{prefix}/bin", bare), HOME=f"{folder}/user")
     same(call(folder, "dagrun", input="JOB A a.sub\n", stdin=None, env=settings), ("A DONE attempts=1 value=0\nresult 0\n", "", 0))
     # Once more over itself, and no line on the PATH where it is there.
     same(call(folder, f"{TOP}/install.sh", env=settings), (f"dagrun is installed: {prefix}/bin/dagrun\n", "", 0))
