@@ -2490,11 +2490,13 @@ def outputs_are_synced(folder):
 def outputs_of_endings_together(folder):
     """Endings that are seen together are recorded in one batch; before that each file of the outputs is synced once, and then each folder once."""
     folder.write("x.dag", "JOB A a.sub\nJOB B a.sub\nJOB C c.sub\nVARS A name=\"a\"\nVARS B name=\"b\"\n")
-    # A and B wait until C has stopped the manager, which goes on once all three have ended: nobody has asked for their ends then.
+    # A and B wait until C has stopped the manager, which goes on once all three have ended: nobody has asked for their ends then. It is stopped once
+    # the signal is no longer pending: a look at the children that is under way until then sees only those that have ended so far.
     folder.write("a.sh", "echo $$ > $1.new\nmv $1.new $1.process\nuntil [ -e stopped ]; do sleep 0.01; done\n")
     folder.write("c.sh", """
 until [ -e a.process ] && [ -e b.process ]; do sleep 0.01; done
 kill -STOP $PPID
+while grep -q '^ShdPnd:.*[4-7c-f].\\{4\\}$' /proc/$PPID/status; do sleep 0.01; done
 : > stopped
 (
     for process in $(cat a.process b.process) $$; do while grep -q '^State:.[^Z]' /proc/$process/status; do sleep 0.01; done; done
