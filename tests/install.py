@@ -347,14 +347,14 @@ def completion_of_bash(folder):
     same(completed(folder, "dagrun run --"), ["--always-run-post", "--autorescue", "--dorescuefrom", "--help", "--launcher", "--launcher-final", "--launcher-grace", "--log-limit", "--maxjobs", "--maxpost", "--maxpre", "--orphans", "--progress", "--resume", "--script-output", "--stop-at-first-error", "--sync-output", "--trust-owner"])
     same(completed(folder, "dagrun rehearse --max"), ["--maxjobs", "--maxpost", "--maxpre"])
     same(completed(folder, "dagrun status --m"), [])
-    same(completed(folder, "dagrun times --"), ["--as-begun", "--help", "--svg", "--trust-owner"])
+    same(completed(folder, "dagrun times --"), ["--as-begun", "--help", "--json", "--svg", "--trust-owner"])
     same(completed(folder, "dagrun report --"), ["--as-begun", "--help", "--reload", "--trust-owner"])
     same(completed(folder, "dagrun redo --"), ["--help", "--only", "--trust-owner"])
     same(completed(folder, "dagrun why --"), ["--all", "--as-begun", "--help", "--trust-owner"])
     same(completed(folder, "dagrun check --"), ["--all", "--condor", "--help", "--hints"])
     same(completed(folder, "dagrun salvage --"), ["--help", "--trust-owner"])
-    for name in ("audit", "graph", "status"):
-        same(completed(folder, f"dagrun {name} --"), ["--as-begun", "--help", "--trust-owner"])
+    for name, more in (("audit", []), ("graph", ["--as-is"]), ("status", ["--json"])):
+        same(completed(folder, f"dagrun {name} --"), sorted(["--as-begun", "--help", "--trust-owner", *more]))
     same(completed(folder, "dagrun run --autorescue "), ["0", "1"])
     same(completed(folder, "dagrun run --autorescue="), ["0", "1"])
     same(completed(folder, "dagrun run --maxjobs "), [])

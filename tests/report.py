@@ -42,7 +42,7 @@ class Page(HTMLParser):
     def __init__(self, text):
         super().__init__(convert_charrefs=True)
         self.faults, self.open, self.rows, self.refresh, self.title = [], [], [], [], ""
-        self.texts = {}
+        self.texts, self.words = {}, ""
         self.feed(text)
         self.close()
         if self.open:
@@ -81,6 +81,8 @@ class Page(HTMLParser):
         self.texts.setdefault(where, []).append(data)
         if "td" in self.open:
             self.rows[-1][1][-1] += data
+        if "p" in self.open:
+            self.words += data
 
     def handle_comment(self, data):
         self.faults.append("a comment")
@@ -142,6 +144,20 @@ def rows_are_those_of_status(folder, page):
     same("words of the counts", words, [word for word, _ in counts])
 
 
+CONFIRMED = "dagrun audit confirms this round: by its journal alone its nodes came to these states."
+ABORTED = "dagrun audit does not confirm this round: it was aborted."
+
+
+def has_been_audited(folder, page, wanted):
+    """What it says of `audit`, which says so itself; and the digest in the journal's header."""
+    found = [sentence for sentence in (CONFIRMED, ABORTED) if sentence in page.words]
+    same("what it says of the audit", found, wanted)
+    answer = folder.call("audit", "x.dag")[1].splitlines()[-1:]
+    same("the audit", answer, {CONFIRMED: ["audit ok"], ABORTED: ["audit no F5 Aborted"]}[wanted[0]] if wanted else answer)
+    with open(os.path.join(folder.place.name, "x.dag.journal"), "rb") as journal:
+        has("the page", page.words, f"The digest of its files is {journal.read()[8:40].hex()}.")
+
+
 def ended(program):
     folder = Folder(program, ODD)
     same("status of the run", folder.call("run", "x.dag")[0], 1)
@@ -160,6 +176,16 @@ def ended(program):
     has("the version", page.all_of("p"), folder.call("--version")[1].strip())
     same("refreshes", page.refresh, [])
     same("refreshes of a round that ended", folder.page("--reload").refresh, [])
+    has_been_audited(folder, page, [CONFIRMED])
+
+
+def aborted(program):
+    folder = Folder(program, {**ODD, "x.dag": ODD["x.dag"] + "ABORT-DAG-ON B 3\n"})
+    same("status of the run", folder.call("run", "x.dag")[0], 3)
+    page = folder.page()
+    rows_are_those_of_status(folder, page)
+    has("the page", page.all_of("p"), "The round ended with exit status 3.")
+    has_been_audited(folder, page, [ABORTED])
 
 
 def not_begun(program):
@@ -205,6 +231,7 @@ def cut_short(program):
     page = folder.page()
     rows_are_those_of_status(folder, page)
     has("the page", page.all_of("p"), "The round was cut short: it has no end, and no manager runs it.")
+    has_been_audited(folder, page, [])
     with open(os.path.join(folder.place.name, "x.dag.children"), encoding="utf-8") as children:
         for line in children:
             if line.split("\t")[0].isdigit():
@@ -236,7 +263,7 @@ def many(program):
     print(f"     {nodes} nodes: {len(text)} bytes in {took:.1f} s")
 
 
-ROWS = [("a round that ended", ended), ("no round", not_begun), ("a round that runs", runs), ("a round that was cut short", cut_short), ("a refusal", refused), ("5,000 nodes", many)]
+ROWS = [("a round that ended", ended), ("an aborted round", aborted), ("no round", not_begun), ("a round that runs", runs), ("a round that was cut short", cut_short), ("a refusal", refused), ("5,000 nodes", many)]
 
 
 def main():

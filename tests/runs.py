@@ -10,6 +10,7 @@ import dataclasses
 import datetime
 import fcntl
 import hashlib
+import json
 import os
 import random
 import re
@@ -1137,11 +1138,19 @@ def a_picture_of_a_run(folder):
     text, told, status = folder.call("graph", "x.dag")
     same((drawn(text), told, status), (behind, "", 0))
     same(re.findall(r'^    "(.)" -> "(.)";$', text, re.M), [("A", "B"), ("A", "C"), ("B", "D"), ("C", "D")])
-    # Of another DAG the journal says nothing, and of other bytes neither.
+    # Of another DAG the journal says nothing, and of other bytes neither: the round is drawn as it began, where that is known, and the files as they are
+    # where that is asked for.
     folder.write("x.dag", lines + "JOB E a.sub\n")
     same(folder.call("status", "x.dag"), ("", "dagrun: J5 OtherInputs\n", 125))
+    other = [(name, "") for name in "ABCDPEF"]
+    for words, nodes in (((), behind), (("--as-begun",), behind), (("--as-is",), other)):
+        text, told, status = folder.call("graph", *words, "x.dag")
+        same((drawn(text), told, status), (nodes, "", 0))
+    text, told, status = folder.call("graph", "--as-is", "--as-begun", "x.dag")
+    same((text, "cannot be used with" in told, status), ("", True, 125))
+    os.remove(folder.at("x.dag.begun"))
     text, told, status = folder.call("graph", "x.dag")
-    same((drawn(text), told, status), ([(name, "") for name in "ABCDPEF"], "", 0))
+    same((drawn(text), told, status), (other, "", 0))
     folder.write("x.dag", lines)
     folder.write("x.dag.journal", changed(journal, HEADER + SLOT + 1, 9))
     same(folder.call("graph", "x.dag"), ("", "dagrun: J9 BadSlot 1\n", 125))
@@ -1949,8 +1958,8 @@ def why_no_round(folder):
 
 
 def as_the_round_began(folder):
-    """Whatever is changed, the last round is shown as it was. Without the option `why` and `report` show it so, too, where the files can be read and
-    are others; all else that is asked for goes by the files as they are."""
+    """Whatever is changed, the last round is shown as it was. Without the option `why`, `graph`, `times` and `report` show it so, too, where the files can
+    be read and are others; all else that is asked for goes by the files as they are."""
     lines = "JOB A a.sub\nJOB B b.sub\nJOB C c.sub\nPARENT A CHILD B\n"
     folder.write("x.dag", lines)
     folder.write("x.dag.rescue001", "DONE C\n")
@@ -1984,7 +1993,7 @@ def as_the_round_began(folder):
         status, audit, why_all, why_one = [answer[2] for answer in found[:4]]
         same((status, audit in (1, 125)), (125, True))
         if are_others:
-            same((found[0][1], found[2:4], found[6]), ("dagrun: J5 OtherInputs\n", before[2:4], before[6]))
+            same((found[0][1], found[2:]), ("dagrun: J5 OtherInputs\n", before[2:]))
         else:
             same((why_all, why_one, found[6][2]), (125, 125, 125))
         same(answers("--as-begun"), before)
@@ -4157,6 +4166,95 @@ def a_picture_of_many_steps(folder):
     same(bars[1].row, bars[2].row)
 
 
+def as_lines(told):
+    """The lines of `status` that its JSON stands for."""
+    dash = lambda value: "-" if value is None else str(value)
+    return "".join(f"{node['name']} {node['state']} attempts={node['attempts']} value={dash(node['value'])}\n" for node in told["nodes"])
+
+
+def as_rows(told):
+    """The rows of `times` that its JSON stands for."""
+    seconds = lambda ms: f"{ms // 1000}.{ms % 1000:03}"
+    ended = lambda run: " ".join(str(word) for word in (run["ended"], run["exit_code"], run["signal"]) if word is not None)
+    row = lambda run: [run["node"], run["phase"], str(run["attempt"]), seconds(run["begin_ms"]), seconds(run["ms"]), ended(run), "*" if run["critical"] else "-"]
+    return ["node", "phase", "attempt", "begin", "seconds", "ended", "path"], *(row(run) for run in told["phases"])
+
+
+def json_of(folder, command, dag):
+    """What a command prints as JSON: one line, with all members of each object once and in the order of their keys."""
+    text, faults, status = folder.call(command, "--json", dag)
+    same((text.count("\n"), text[-1:], faults, status), (1, "\n", "", 0))
+
+    def in_order(members):
+        keys = [key for key, _ in members]
+        same(keys, sorted(set(keys)))
+        return dict(members)
+
+    return json.loads(text, object_pairs_hook=in_order)
+
+
+def json_is_the_text(folder):
+    """What `status` and `times` print as JSON is what they print as text, of generated rounds."""
+    rolls = random.Random(62)
+    for end, code in (("good", 0), ("bad", 3), ("worse", 255)):
+        folder.write(f"{end}.sub", f"executable = /bin/sh\narguments = \"-c 'exit {code}'\"\nqueue\n")
+    folder.write("gone.sub", "executable = /nowhere/at/all\nqueue\n")
+    folder.shell("killed", "kill -9 $$\n")
+    names = ["A", "B-1", 'quo"te', "back\\slash", "\u00e9t\u00e9", "\u96ea", "a*b", "tab_", "X'y"]
+    for turn in range(60):
+        chosen = rolls.sample(names, rolls.randint(1, len(names)))
+        lines = [f"JOB {name} {rolls.choice(['good', 'good', 'good', 'bad', 'worse', 'gone', 'killed'])}.sub" for name in chosen]
+        lines += [f"RETRY {name} {rolls.randint(1, 2)}" for name in chosen if rolls.random() < 0.2]
+        lines += [f"SCRIPT {rolls.choice(['PRE', 'POST'])} {name} /bin/{rolls.choice(['true', 'false'])}" for name in chosen if rolls.random() < 0.3]
+        lines += [f"PARENT {chosen[rolls.randrange(it)]} CHILD {chosen[it]}" for it in range(1, len(chosen)) if rolls.random() < 0.6]
+        lines += ["FINAL Last good.sub"] * (turn % 3 == 0)
+        dag = f"{turn}.dag"
+        folder.write(dag, "\n".join(lines) + "\n")
+        folder.call("run", "--maxjobs", "3", dag)
+        told = json_of(folder, "status", dag)
+        same((told["dag"], as_lines(told)), (dag, folder.call("status", dag)[0]))
+        # Without a tab in a name a row has as many fields as the head.
+        rows = [line.split("\t") for line in folder.call("times", dag)[0].splitlines()]
+        same(list(as_rows(json_of(folder, "times", dag))), rows)
+    # What JSON has no text for in the words of the table: a phase that runs has neither a code nor a signal.
+    folder.write("y.dag", "JOB A a.sub\n")
+    folder.shell("a", "mv x.new begun\nexec sleep 1000\n")
+    folder.write("x.new", "")
+    manager = folder.start("run", "y.dag")
+    folder.wait_for("begun")
+    folder.wait_for_start("y.dag", "A")
+    (run,) = json_of(folder, "times", "y.dag")["phases"]
+    same((run["ended"], run["exit_code"], run["signal"], run["critical"]), ("runs", None, None, True))
+    same(json_of(folder, "status", "y.dag"), {"dag": "y.dag", "nodes": [{"name": "A", "state": "SUBMITTED", "attempts": 0, "value": None}]})
+    manager.terminate()
+    manager.wait(timeout=PATIENCE)
+    # What is refused is refused with and without it, and it is not given with a picture.
+    for words in (("status", "none.dag"), ("times", "none.dag")):
+        same(folder.call(words[0], "--json", words[1]), folder.call(*words))
+    text, faults, status = folder.call("times", "--json", "--svg", "y.dag")
+    same((text, "cannot be used with" in faults, status), ("", True, 125))
+
+
+def times_of_changed_files(folder):
+    """The critical path of a round is by the files with which it began, where others are there now and they are kept; and without that by those."""
+    folder.write("x.dag", "JOB A a.sub\nJOB B b.sub\nJOB C b.sub\nPARENT A CHILD B\n")
+    folder.shell("a", f"{until('x.dag.log', 'end', 'C')}exit 0\n")
+    folder.shell("b", "sleep 0.02\n")
+    same(folder.call("run", "x.dag")[2], 0)
+    marks = lambda *words: {tuple(line.split("\t")[0::6]) for line in folder.call("times", *words, "x.dag")[0].splitlines()[1:]}
+    as_it_was, as_it_is = {("A", "*"), ("B", "*"), ("C", "-")}, {("A", "-"), ("B", "*"), ("C", "*")}
+    same(marks(), as_it_was)
+    folder.write("x.dag", "JOB A a.sub\nJOB B b.sub\nJOB C b.sub\nPARENT C CHILD B\n")
+    same(folder.call("status", "x.dag"), ("", "dagrun: J5 OtherInputs\n", 125))
+    same((marks(), marks("--as-begun")), (as_it_was, as_it_was))
+    # A fault of the files as they are is what counts, as for `why`.
+    folder.write("x.dag", "JOBB A a.sub\n")
+    same(folder.call("times", "x.dag"), ("", "dagrun: L2 UnknownCommand x.dag:1:1\n", 125))
+    folder.write("x.dag", "JOB A a.sub\nJOB B b.sub\nJOB C b.sub\nPARENT C CHILD B\n")
+    os.remove(folder.at("x.dag.begun"))
+    same(marks(), as_it_is)
+
+
 def times_without_a_log(folder):
     folder.write("x.dag", "JOB A a.sub\n")
     refused(folder, ("times", "x.dag"), "X2 FileRefused x.dag.log")
@@ -4427,6 +4525,8 @@ ROWS = [
     inputs_of_many_bytes,
     a_report_again,
     when_the_steps_ran,
+    json_is_the_text,
+    times_of_changed_files,
     times_without_a_log,
     a_picture_of_many_steps,
     endings_that_nobody_is_told,

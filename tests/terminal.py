@@ -786,7 +786,8 @@ def what_is_changed(folder):
     for words, lines in (
         (("why",), [f"no manager works on my flow.dag; {cut_short}", changed]),
         (("status", "--as-begun"), [f"1 DONE, 1 ERROR; no manager works on them; {cut_short}", changed]),
-        (("graph",), [changed]),
+        (("graph",), [f"{changed}; dagrun graph --as-is my flow.dag draws the files as they are"]),
+        (("graph", "--as-is"), []),
         (("graph", "--as-begun"), [changed]),
         (("times",), [changed]),
         (("report",), [changed]),

@@ -34,16 +34,16 @@ _dagrun() {
     case $command in
         '') options='run status why times report salvage redo audit check rehearse graph explain help version --help' ;;
         run) options='--maxjobs --maxpre --maxpost --autorescue --dorescuefrom --always-run-post --stop-at-first-error --sync-output --script-output --log-limit --launcher --launcher-final --launcher-grace --orphans --progress --resume --trust-owner --help' ;;
-        status) options='--as-begun --trust-owner --help' ;;
+        status) options='--json --as-begun --trust-owner --help' ;;
         why) options='--all --as-begun --trust-owner --help' ;;
-        times) options='--svg --as-begun --trust-owner --help' ;;
+        times) options='--svg --json --as-begun --trust-owner --help' ;;
         report) options='--reload --as-begun --trust-owner --help' ;;
         salvage) options='--trust-owner --help' ;;
         redo) options='--only --trust-owner --help' ;;
         audit) options='--as-begun --trust-owner --help' ;;
         check) options='--all --hints --condor --help' ;;
         rehearse) options='--maxjobs --maxpre --maxpost --always-run-post --help' ;;
-        graph) options='--as-begun --trust-owner --help' ;;
+        graph) options='--as-is --as-begun --trust-owner --help' ;;
         explain) options='--help' ;;
         help) options='--help' ;;
         version) options='--help' ;;

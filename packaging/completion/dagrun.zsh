@@ -62,6 +62,7 @@ _dagrun() {
         status)
             _arguments \
                 '(-h --help)'{-h,--help}'[Print help]' \
+                '--json[The same as JSON, for other programs]' \
                 '--as-begun[Goes by the files with which the round began, as x.dag.begun keeps them, whatever was changed since]' \
                 '--trust-owner[Root goes by the journal, the rescue files and the lock of another user, and others by those of root]' \
                 '1:DAG:_files -g "*.dag"'
@@ -79,6 +80,7 @@ _dagrun() {
             _arguments \
                 '(-h --help)'{-h,--help}'[Print help]' \
                 '--svg[A picture of the run over time, in place of a table]' \
+                '--json[The phases as JSON, for other programs, in place of a table]' \
                 '--as-begun[Goes by the files with which the round began, as x.dag.begun keeps them, whatever was changed since]' \
                 '--trust-owner[Root goes by the journal, the rescue files and the lock of another user, and others by those of root]' \
                 '1:DAG:_files -g "*.dag"'
@@ -133,6 +135,7 @@ _dagrun() {
         graph)
             _arguments \
                 '(-h --help)'{-h,--help}'[Print help]' \
+                '--as-is[Draws the files as they are, also where they were changed since the round began]' \
                 '--as-begun[Goes by the files with which the round began, as x.dag.begun keeps them, whatever was changed since]' \
                 '--trust-owner[Root goes by the journal, the rescue files and the lock of another user, and others by those of root]' \
                 '1:DAG:_files -g "*.dag"'

@@ -14,3 +14,4 @@ mod search;
 
 pub use fault::GraphFault;
 pub use graph::Graph;
+pub use search::Search;

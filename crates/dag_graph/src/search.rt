@@ -1,4 +1,4 @@
-//! A search for the ancestors of a node.
+//! Searches in a graph, as for the ancestors of a node.
 
 ghost use Rattle.std.specs.Prelude.{◌≡◌, ◌<◌, ℕ, [], true, false, IfOk, OnOk, IsTrue, ◌↔◌, length, replicate, slice_index, slice_index_or};
 ghost use Rattle.std.specs.List.{All};
@@ -10,9 +10,9 @@ use splices_flat::FlatDag;
 use std::alloc::{AllocError, Global};
 use std::marker::Model;
 
-/// The nodes that were met.
+/// A search in a graph of so many nodes: those that were met so far, each once.
 #[derive(Drop)]
-struct Search {
+pub struct Search {
     met: Vec<bool>,
     /// These nodes in the order in which they were met.
     found: Vec<u32>,
@@ -27,8 +27,11 @@ impl Model for Search {
 }
 
 impl Search {
-    /// No node was met.
-    fn new(alloc: Global, count: usize) -> Result<Search, AllocError>
+    /// A search in a graph of so many nodes, of which none was met.
+    ///
+    /// # Errors
+    /// Want of memory.
+    pub fn new(alloc: Global, count: usize) -> Result<Search, AllocError>
         ensures { IfOk result (λ s. s ≡ record { met = replicate count false; found = [] }) }
     {
         Ok(Search {
@@ -37,22 +40,22 @@ impl Search {
         })
     }
 
-    /// Which nodes were met.
-    fn into_marks(self) -> Vec<bool>
+    /// A mark for each node: whether it was met.
+    pub fn into_marks(self) -> Vec<bool>
         ensures { result.items ≡ self.met }
     {
         self.met
     }
 
     /// The number of nodes that were met.
-    fn count(&self) -> usize
+    pub fn count(&self) -> usize
         ensures { result ≡ length self.now.found }
     {
         self.found.len()
     }
 
-    /// The node that was met at this place.
-    fn node_at(&self, place: usize) -> u32
+    /// The node that was met at this place, from 0.
+    pub fn node_at(&self, place: usize) -> u32
         requires { place < length self.now.found }
         ensures { result ≡ slice_index self.now.found place }
     {
@@ -71,8 +74,11 @@ impl Search {
         Ok(())
     }
 
-    /// Nodes are met.
-    fn meet_all(&mut self, nodes: &[u32]) -> Result<(), AllocError>
+    /// Nodes are met, in this order; those that were met before change nothing.
+    ///
+    /// # Errors
+    /// Want of memory.
+    pub fn meet_all(&mut self, nodes: &[u32]) -> Result<(), AllocError>
         requires search { IsSearch self.old }
         requires below { All (λ n. n < length self.old.met) nodes.now }
         ensures { OnOk result (MeetsNodes nodes.now self.old self.new) }

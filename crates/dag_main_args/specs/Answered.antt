@@ -1,5 +1,5 @@
 -- What is answered to the words of a command line.
-use Rattle.std.specs.Prelude.{◌≡◌, ◌⊎◌, ◌&&◌, Bool, true, false, List, [], Option, Some, None, codes, is_some}
+use Rattle.std.specs.Prelude.{◌≡◌, ◌⊎◌, ◌&&◌, ◌||◌, Bool, true, false, List, [], Option, Some, None, codes, is_some}
 use Rattle.std.specs.Option.{option_map_or}
 use Rattle.clap.specs.Walk.{Row, Text, first_of}
 use Rattle.clap.specs.Simple.{App, subcommand_of}
@@ -12,9 +12,15 @@ use Rattle.dag_main_args.specs.Pages.{IsUnexplained}
 use Rattle.dag_main_args.specs.Matched.{IsRequestOf, is_set}
 use Rattle.dag_main_args.specs.Table.{IsDagrunApp}
 
--- a run is to go on where the last round has ended, and to go back to a rescue file: one can't stand beside the other
+-- A run is to go on where the last round has ended, and to go back to a rescue file; or phases are asked for as a picture and as JSON; or files are to be
+-- drawn as they are and as they were.
+abbrev pub has_clash : List Row → Bool
+has_clash rows = (is_set (codes "resume") rows && is_some (first_of (codes "dorescuefrom") rows)) || (is_set (codes "json") rows && is_set (codes "svg") rows)
+    || (is_set (codes "as-is") rows && is_set (codes "as-begun") rows)
+
+-- the rows that are matched have two options of which one can't be given with the other
 abbrev pub clashes : Option (Text × List Row) → Bool
-clashes matched = option_map_or (λ p. is_set (codes "resume") p.1 && is_some (first_of (codes "dorescuefrom") p.1)) matched false
+clashes matched = option_map_or (λ p. has_clash p.1) matched false
 
 -- the request is what the words ask for: clap finds no fault in them by the program's table, and matches them to a command, which asks for it
 pub record IsAskedFor (words : List Text) (request : Request) : Type 0 where

@@ -141,16 +141,17 @@ abbrev pub IsRequestOf : Text → List Row → Request → Type 0
 IsRequestOf command rows (Check dag all hints condor) = (command ≡ codes "check") × (dag.now ≡ dag_path rows) × (all ≡ is_set (codes "all") rows)
     × (hints ≡ is_set (codes "hints") rows) × (condor ≡ is_set (codes "condor") rows)
 IsRequestOf command rows (Run dag options) = (command ≡ codes "run") × (dag.now ≡ dag_path rows) × AreOptionsOf rows options
-IsRequestOf command rows (Status dag as_begun trust_owner) = (command ≡ codes "status") × TellsOfRound rows dag.now as_begun trust_owner
+IsRequestOf command rows (Status dag json as_begun trust_owner) = (command ≡ codes "status") × (json ≡ is_set (codes "json") rows)
+    × TellsOfRound rows dag.now as_begun trust_owner
 IsRequestOf command rows (Audit dag as_begun trust_owner) = (command ≡ codes "audit") × TellsOfRound rows dag.now as_begun trust_owner
 IsRequestOf command rows (Rehearse dag outcomes limits always_post) = (command ≡ codes "rehearse") × (dag.now ≡ dag_path rows)
     × (option_map (λ t. t.now) outcomes ≡ first_of (codes "OUTCOMES") rows) × (limits ≡ limits_asked rows)
     × (always_post ≡ is_set (codes "always-run-post") rows)
-IsRequestOf command rows (Graph dag as_begun trust_owner) = (command ≡ codes "graph") × TellsOfRound rows dag.now as_begun trust_owner
+IsRequestOf command rows (Graph dag as_is as_begun trust_owner) = (command ≡ codes "graph") × (as_is ≡ is_set (codes "as-is") rows) × TellsOfRound rows dag.now as_begun trust_owner
 IsRequestOf command rows (Why dag nodes all as_begun trust_owner) = (command ≡ codes "why") × (map (λ n. n.now) nodes.items ≡ nodes_asked rows)
     × (all ≡ is_set (codes "all") rows) × TellsOfRound rows dag.now as_begun trust_owner
-IsRequestOf command rows (Times dag svg as_begun trust_owner) = (command ≡ codes "times") × (svg ≡ is_set (codes "svg") rows)
-    × TellsOfRound rows dag.now as_begun trust_owner
+IsRequestOf command rows (Times dag svg json as_begun trust_owner) = (command ≡ codes "times") × (svg ≡ is_set (codes "svg") rows)
+    × (json ≡ is_set (codes "json") rows) × TellsOfRound rows dag.now as_begun trust_owner
 IsRequestOf command rows (Report dag reload as_begun trust_owner) = (command ≡ codes "report") × (reload ≡ is_set (codes "reload") rows)
     × TellsOfRound rows dag.now as_begun trust_owner
 IsRequestOf command rows (Salvage dag trust_owner) = (command ≡ codes "salvage") × (dag.now ≡ dag_path rows) × (trust_owner ≡ trusts_owner rows)

@@ -6,17 +6,17 @@ use Rattle.dag_main_args.specs.declared.request.RunOptions.{RunOptions}
 use Rattle.dag_main_args.specs.declared.request.Request.{Request}
 use Rattle.dag_main_args.specs.declared.request.Request.TheVariants.{Check, Run, Status, Audit, Rehearse, Graph, Why, Times, Report, Salvage, Redo, Page}
 
--- a command with its words: the path of the DAG file first; of a check also whether all faults of lines are asked for, and whether hints are; of `why` whether each node is asked for by itself; of `report` whether the page loads itself again; of a command that reads what stands beside
+-- a command with its words: the path of the DAG file first; of a check also whether all faults of lines are asked for, and whether hints are; of `why` whether each node is asked for by itself; of `report` whether the page loads itself again; of `status` and `times` whether it is for other programs; of `graph` whether the files are drawn as they are; of a command that reads what stands beside
 -- that file last whether its owner is trusted, and of one that tells of a round whether by the files with which this began; or the page that is to be printed, which the words alone determine
 pub data Asked : Type 0 where
   checks : List ℕ → (all hinted : Bool) → Asked
   runs : List ℕ → RunOptions → Asked
-  tells_status : List ℕ → (as_begun trust_owner : Bool) → Asked
+  tells_status : List ℕ → (json as_begun trust_owner : Bool) → Asked
   audits : List ℕ → (as_begun trust_owner : Bool) → Asked
   rehearses : List ℕ → Option (List ℕ) → Limits → Bool → Asked
-  draws : List ℕ → (as_begun trust_owner : Bool) → Asked
+  draws : List ℕ → (as_is as_begun trust_owner : Bool) → Asked
   asks_why : List ℕ → List (List ℕ) → (all as_begun trust_owner : Bool) → Asked
-  times : List ℕ → (svg as_begun trust_owner : Bool) → Asked
+  times : List ℕ → (svg json as_begun trust_owner : Bool) → Asked
   reports : List ℕ → (reload as_begun trust_owner : Bool) → Asked
   salvages : List ℕ → (trust_owner : Bool) → Asked
   redoes : List ℕ → List (List ℕ) → (only trust_owner : Bool) → Asked
@@ -26,12 +26,12 @@ pub data Asked : Type 0 where
 abbrev pub asked_by : Request → Asked
 asked_by (Check dag all hints condor) = checks dag.now all (hints || condor)
 asked_by (Run dag options) = runs dag.now options
-asked_by (Status dag as_begun trust_owner) = tells_status dag.now as_begun trust_owner
+asked_by (Status dag json as_begun trust_owner) = tells_status dag.now json as_begun trust_owner
 asked_by (Audit dag as_begun trust_owner) = audits dag.now as_begun trust_owner
 asked_by (Rehearse dag outcomes limits always_post) = rehearses dag.now (option_map (λ t. t.now) outcomes) limits always_post
-asked_by (Graph dag as_begun trust_owner) = draws dag.now as_begun trust_owner
+asked_by (Graph dag as_is as_begun trust_owner) = draws dag.now as_is as_begun trust_owner
 asked_by (Why dag nodes all as_begun trust_owner) = asks_why dag.now (map (λ n. n.now) nodes.items) all as_begun trust_owner
-asked_by (Times dag svg as_begun trust_owner) = times dag.now svg as_begun trust_owner
+asked_by (Times dag svg json as_begun trust_owner) = times dag.now svg json as_begun trust_owner
 asked_by (Report dag reload as_begun trust_owner) = reports dag.now reload as_begun trust_owner
 asked_by (Salvage dag trust_owner) = salvages dag.now trust_owner
 asked_by (Redo dag nodes only trust_owner) = redoes dag.now (map (λ n. n.now) nodes.items) only trust_owner
@@ -52,12 +52,12 @@ pub record AreLimits (limits : Limits) : Type 0 where
 abbrev pub limits_in : Asked → Option Limits
 limits_in (checks dag all hinted) = None
 limits_in (runs dag options) = Some options.limits
-limits_in (tells_status dag as_begun trust_owner) = None
+limits_in (tells_status dag json as_begun trust_owner) = None
 limits_in (audits dag as_begun trust_owner) = None
 limits_in (rehearses dag outcomes limits always_post) = Some limits
-limits_in (draws dag as_begun trust_owner) = None
+limits_in (draws dag as_is as_begun trust_owner) = None
 limits_in (asks_why dag nodes all as_begun trust_owner) = None
-limits_in (times dag svg as_begun trust_owner) = None
+limits_in (times dag svg json as_begun trust_owner) = None
 limits_in (reports dag reload as_begun trust_owner) = None
 limits_in (salvages dag trust_owner) = None
 limits_in (redoes dag nodes only trust_owner) = None

@@ -85,16 +85,16 @@ rehearsal_rules = dag ∷ optional (codes "OUTCOMES") ∷ number (codes "maxjobs
 -- the commands of the program, each with what it may be given
 abbrev pub commands : (is_tied : Bool) → (orphans progress : Bor (List (Bor Text))) → List Shape
 commands is_tied orphans progress = command (codes "run") (run_rules is_tied orphans progress)
-    ∷ of_round (codes "status")
+    ∷ command (codes "status") (dag ∷ flag (codes "json") ∷ as_it_began ∷ trust_owner ∷ [])
     ∷ command (codes "why") (dag ∷ many (codes "NODE") ∷ flag (codes "all") ∷ as_it_began ∷ trust_owner ∷ [])
-    ∷ command (codes "times") (dag ∷ flag (codes "svg") ∷ as_it_began ∷ trust_owner ∷ [])
+    ∷ command (codes "times") (dag ∷ flag (codes "svg") ∷ tied_flag is_tied (codes "json") ∷ as_it_began ∷ trust_owner ∷ [])
     ∷ command (codes "report") (dag ∷ flag (codes "reload") ∷ as_it_began ∷ trust_owner ∷ [])
     ∷ command (codes "salvage") (dag ∷ trust_owner ∷ [])
     ∷ command (codes "redo") (dag ∷ many (codes "NODE") ∷ flag (codes "only") ∷ trust_owner ∷ [])
     ∷ of_round (codes "audit")
     ∷ command (codes "check") (dag ∷ flag (codes "all") ∷ flag (codes "hints") ∷ flag (codes "condor") ∷ [])
     ∷ command (codes "rehearse") rehearsal_rules
-    ∷ of_round (codes "graph")
+    ∷ command (codes "graph") (dag ∷ tied_flag is_tied (codes "as-is") ∷ as_it_began ∷ trust_owner ∷ [])
     ∷ command (codes "explain") (optional (codes "CODE") ∷ [])
     ∷ command (codes "help") (optional (codes "COMMAND") ∷ [])
     ∷ command (codes "version") []

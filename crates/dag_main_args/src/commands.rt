@@ -41,12 +41,11 @@ struct ArgumentRow {
     help: &'static str,
 }
 
-/// A command: its name, its line in the help, its arguments, and lines that show how it is called.
+/// A command: its name, its line in the help, and its arguments.
 struct CommandRow {
     name: &'static str,
     about: &'static str,
     arguments: &'static [ArgumentRow],
-    examples: &'static str,
 }
 
 const FILE: ArgumentRow = ArgumentRow {
@@ -187,6 +186,24 @@ const SVG: ArgumentRow = ArgumentRow {
     help: "A picture of the run over time, in place of a table",
 };
 
+const AS_IS: ArgumentRow = ArgumentRow {
+    name: "as-is",
+    kind: Kind::FlagWithout("as-begun"),
+    help: "Draws the files as they are, also where they were changed since the round began",
+};
+
+const STATUS_JSON: ArgumentRow = ArgumentRow {
+    name: "json",
+    kind: Kind::Flag,
+    help: "The same as JSON, for other programs",
+};
+
+const TIMES_JSON: ArgumentRow = ArgumentRow {
+    name: "json",
+    kind: Kind::FlagWithout("svg"),
+    help: "The phases as JSON, for other programs, in place of a table",
+};
+
 const RELOAD: ArgumentRow = ArgumentRow {
     name: "reload",
     kind: Kind::Flag,
@@ -265,115 +282,169 @@ static COMMANDS: [CommandRow; 14] = [
             RESUME,
             TRUST_OWNER,
         ],
-        examples: "  dagrun run x.dag                    runs x.dag, or goes on with its round
+    },
+    CommandRow {
+        name: "status",
+        about: "Says where each node of a run stands, by its journal",
+        arguments: &[FILE, STATUS_JSON, AS_BEGUN, TRUST_OWNER],
+    },
+    CommandRow {
+        name: "why",
+        about: "Says why nodes are in error, and for whom others wait",
+        arguments: &[FILE, NODES, EACH, AS_BEGUN, TRUST_OWNER],
+    },
+    CommandRow {
+        name: "times",
+        about: "Says when each phase of a run began and how long it took, by its log",
+        arguments: &[FILE, SVG, TIMES_JSON, AS_BEGUN, TRUST_OWNER],
+    },
+    CommandRow {
+        name: "report",
+        about: "Writes one HTML page of the last round, on standard output",
+        arguments: &[FILE, RELOAD, AS_BEGUN, TRUST_OWNER],
+    },
+    CommandRow {
+        name: "salvage",
+        about: "Makes a rescue file of a round that was cut short, whose submit files were changed since",
+        arguments: &[FILE, TRUST_OWNER],
+    },
+    CommandRow {
+        name: "redo",
+        about: "Makes a rescue file of the last round by which nodes run again that are done",
+        arguments: &[FILE, REDONE, ONLY, TRUST_OWNER],
+    },
+    CommandRow {
+        name: "audit",
+        about: "Says whether a journal is that of a finished run, and what its nodes came to",
+        arguments: &[FILE, AS_BEGUN, TRUST_OWNER],
+    },
+    CommandRow {
+        name: "check",
+        about: "Reads a DAG file with its splices, and says whether it is right",
+        arguments: &[FILE_OR_INPUT, ALL, HINTS, CONDOR],
+    },
+    CommandRow {
+        name: "rehearse",
+        about: "Runs a DAG file at the outcomes of a table, and starts no program",
+        arguments: &[FILE_OR_INPUT, TABLE, JOBS, PRE, POST, ALWAYS_POST],
+    },
+    CommandRow {
+        name: "graph",
+        about: "Draws the graph of a DAG, coloured by where its nodes stand, for graphviz",
+        arguments: &[FILE, AS_IS, AS_BEGUN, TRUST_OWNER],
+    },
+    CommandRow {
+        name: "explain",
+        about: "Says what the code of a fault means, with an example, and what to do",
+        arguments: &[CODE],
+    },
+    CommandRow {
+        name: "help",
+        about: "Says how a command is called, with examples",
+        arguments: &[COMMAND],
+    },
+    CommandRow {
+        name: "version",
+        about: "Says which version this is",
+        arguments: &[],
+    },
+];
+
+/// What shows how a command is called.
+struct Examples {
+    command: &'static str,
+    text: &'static str,
+}
+
+// They are apart from the rows of the commands: the proof that these are the program's table takes them as they are, texts and all.
+static EXAMPLES: [Examples; 14] = [
+    Examples {
+        command: "run",
+        text: "  dagrun run x.dag                    runs x.dag, or goes on with its round
   dagrun run --maxjobs 4 x.dag        with 4 jobs at once at most
   dagrun run --dorescuefrom 1 x.dag   goes back to x.dag.rescue001
   dagrun run --resume x.dag           begins no round behind one that has ended
   dagrun run --launcher \"srun -n1\" x.dag   with each job on a Slurm cluster
 ",
     },
-    CommandRow {
-        name: "status",
-        about: "Says where each node of a run stands, by its journal",
-        arguments: &[FILE, AS_BEGUN, TRUST_OWNER],
-        examples: "  dagrun status x.dag                 where each node stands, also while it runs
+    Examples {
+        command: "status",
+        text: "  dagrun status x.dag                 where each node stands, also while it runs
   watch dagrun status x.dag           again and again
+  dagrun status --json x.dag | jq .   the same for other programs
 ",
     },
-    CommandRow {
-        name: "why",
-        about: "Says why nodes are in error, and for whom others wait",
-        arguments: &[FILE, NODES, EACH, AS_BEGUN, TRUST_OWNER],
-        examples: "  dagrun why x.dag                    all nodes in error, those first that hold up most
+    Examples {
+        command: "why",
+        text: "  dagrun why x.dag                    all nodes in error, those first that hold up most
   dagrun why --all x.dag              the same, each by itself where many have one cause
   dagrun why x.dag Report             why Report is in error, or for whom it waits
 ",
     },
-    CommandRow {
-        name: "times",
-        about: "Says when each phase of a run began and how long it took, by its log",
-        arguments: &[FILE, SVG, AS_BEGUN, TRUST_OWNER],
-        examples: "  dagrun times x.dag                  a table, for a spreadsheet
+    Examples {
+        command: "times",
+        text: "  dagrun times x.dag                  a table, for a spreadsheet
   dagrun times --svg x.dag > x.svg    a picture of the run over time
+  dagrun times --json x.dag | jq .    the phases for other programs
 ",
     },
-    CommandRow {
-        name: "report",
-        about: "Writes one HTML page of the last round, on standard output",
-        arguments: &[FILE, RELOAD, AS_BEGUN, TRUST_OWNER],
-        examples: "  dagrun report x.dag > x.html        a page for a browser, which needs no other file
+    Examples {
+        command: "report",
+        text: "  dagrun report x.dag > x.html        a page for a browser, which needs no other file
   dagrun report --reload x.dag > x.html   the same; while the round runs, it loads itself again
 ",
     },
-    CommandRow {
-        name: "salvage",
-        about: "Makes a rescue file of a round that was cut short, whose submit files were changed since",
-        arguments: &[FILE, TRUST_OWNER],
-        examples: "  dagrun salvage x.dag                keeps what is done; `dagrun run x.dag` starts the rest
+    Examples {
+        command: "salvage",
+        text: "  dagrun salvage x.dag                keeps what is done; `dagrun run x.dag` starts the rest
 ",
     },
-    CommandRow {
-        name: "redo",
-        about: "Makes a rescue file of the last round by which nodes run again that are done",
-        arguments: &[FILE, REDONE, ONLY, TRUST_OWNER],
-        examples: "  dagrun redo x.dag Fit               `dagrun run x.dag` runs Fit and all that come after it
+    Examples {
+        command: "redo",
+        text: "  dagrun redo x.dag Fit               `dagrun run x.dag` runs Fit and all that come after it
   dagrun redo --only x.dag Fit Plot   these two alone
 ",
     },
-    CommandRow {
-        name: "audit",
-        about: "Says whether a journal is that of a finished run, and what its nodes came to",
-        arguments: &[FILE, AS_BEGUN, TRUST_OWNER],
-        examples: "  dagrun audit x.dag                  what the journal of the last round stands for
+    Examples {
+        command: "audit",
+        text: "  dagrun audit x.dag                  what the journal of the last round stands for
 ",
     },
-    CommandRow {
-        name: "check",
-        about: "Reads a DAG file with its splices, and says whether it is right",
-        arguments: &[FILE_OR_INPUT, ALL, HINTS, CONDOR],
-        examples: "  dagrun check x.dag                  whether x.dag and its submit files are right
+    Examples {
+        command: "check",
+        text: "  dagrun check x.dag                  whether x.dag and its submit files are right
   make-dag | dagrun check -           the same of a DAG that a program writes
   dagrun check --all x.dag            all faults of lines at once
   dagrun check --hints x.dag          also what is odd in them, as a misspelled name
   dagrun check --condor x.dag         also what would be otherwise under HTCondor
 ",
     },
-    CommandRow {
-        name: "rehearse",
-        about: "Runs a DAG file at the outcomes of a table, and starts no program",
-        arguments: &[FILE_OR_INPUT, TABLE, JOBS, PRE, POST, ALWAYS_POST],
-        examples: "  dagrun rehearse x.dag               the course of a run in which all goes well
+    Examples {
+        command: "rehearse",
+        text: "  dagrun rehearse x.dag               the course of a run in which all goes well
   dagrun rehearse x.dag table         the same, where table has the line: A 0 JOB 1
 ",
     },
-    CommandRow {
-        name: "graph",
-        about: "Draws the graph of a DAG, coloured by where its nodes stand, for graphviz",
-        arguments: &[FILE, AS_BEGUN, TRUST_OWNER],
-        examples: "  dagrun graph x.dag | dot -Tsvg > x.svg   a picture, by graphviz
+    Examples {
+        command: "graph",
+        text: "  dagrun graph x.dag | dot -Tsvg > x.svg   a picture, by graphviz
 ",
     },
-    CommandRow {
-        name: "explain",
-        about: "Says what the code of a fault means, with an example, and what to do",
-        arguments: &[CODE],
-        examples: "  dagrun explain                      the codes of all faults
+    Examples {
+        command: "explain",
+        text: "  dagrun explain                      the codes of all faults
   dagrun explain L2                   what L2 says, an example, and what to do
 ",
     },
-    CommandRow {
-        name: "help",
-        about: "Says how a command is called, with examples",
-        arguments: &[COMMAND],
-        examples: "  dagrun help                         the commands
+    Examples {
+        command: "help",
+        text: "  dagrun help                         the commands
   dagrun help run                     the options of run
 ",
     },
-    CommandRow {
-        name: "version",
-        about: "Says which version this is",
-        arguments: &[],
-        examples: "  dagrun version                      the version of this program
+    Examples {
+        command: "version",
+        text: "  dagrun version                      the version of this program
 ",
     },
 ];
@@ -457,8 +528,8 @@ fn examples_of(command: Option<&str>) -> &'static str {
     let Some(name) = command else {
         return FIRST_EXAMPLES;
     };
-    match COMMANDS.iter().find(|row| row.name == name) {
-        Some(row) => row.examples,
+    match EXAMPLES.iter().find(|row| row.command == name) {
+        Some(row) => row.text,
         None => "",
     }
 }

@@ -132,9 +132,11 @@ pub enum Request<'a> {
     },
 
     /// `status DAG`: the path of the DAG file; and, as in those below that tell of a round, whether it is by the files with
-    /// which the round began, and whether the owner of the files beside the DAG file is trusted, as `RunOptions` says it.
+    /// which the round began, and whether the owner of the files beside the DAG file is trusted, as `RunOptions` says it. Here
+    /// also whether it is for other programs (JSON).
     Status {
         dag: &'a str,
+        json: bool,
         as_begun: bool,
         trust_owner: bool,
     },
@@ -156,9 +158,11 @@ pub enum Request<'a> {
         always_post: bool,
     },
 
-    /// `graph DAG`: the path of the DAG file.
+    /// `graph DAG`: the path of the DAG file, and whether its files are drawn as they are, also where they were changed since the round
+    /// began.
     Graph {
         dag: &'a str,
+        as_is: bool,
         as_begun: bool,
         trust_owner: bool,
     },
@@ -177,6 +181,7 @@ pub enum Request<'a> {
     Times {
         dag: &'a str,
         svg: bool,
+        json: bool,
         as_begun: bool,
         trust_owner: bool,
     },
@@ -496,12 +501,14 @@ fn drawn_of_round<'a>(
     match command {
         "graph" => Ok(Request::Graph {
             dag,
+            as_is: is_set(found, "as-is"),
             as_begun,
             trust_owner,
         }),
         "times" => Ok(Request::Times {
             dag,
             svg: is_set(found, "svg"),
+            json: is_set(found, "json"),
             as_begun,
             trust_owner,
         }),
@@ -534,6 +541,7 @@ fn told_of_round<'a>(
     match command {
         "status" => Ok(Request::Status {
             dag,
+            json: is_set(found, "json"),
             as_begun,
             trust_owner,
         }),
@@ -593,12 +601,26 @@ fn request_of<'a>(alloc: Global, matches: &ArgMatches<'a>) -> Result<Request<'a>
     }
 }
 
-/// Whether `--resume` stands beside `--dorescuefrom`, beside which it can't stand.
+/// Whether two options are given of which one can't be given with the other: `--resume` and `--dorescuefrom`, `--json` and `--svg`, or
+/// `--as-is` and `--as-begun`.
+fn has_clash(found: &ArgMatches<'_>) -> bool
+    ensures { result ≡ answered.has_clash (rows_of (found_of found.now)) }
+{
+    if is_set(found, "resume") && value_of(found, "dorescuefrom").is_some() {
+        return true;
+    }
+    if is_set(found, "json") && is_set(found, "svg") {
+        return true;
+    }
+    is_set(found, "as-is") && is_set(found, "as-begun")
+}
+
+/// The same of the command that was matched.
 fn clashes(matches: &ArgMatches<'_>) -> bool
     ensures { result ≡ answered.clashes (subcommand_rows_of matches.now) }
 {
     match matches.subcommand() {
-        Some((_, found)) => { is_set(found, "resume") && value_of(found, "dorescuefrom").is_some() }
+        Some((_, found)) => has_clash(found),
         None => false,
     }
 }

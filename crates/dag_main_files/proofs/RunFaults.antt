@@ -4,7 +4,7 @@ use Rattle.std.specs.Prelude.{IsErrAnd}
 use Rattle.dag_main_check.specs.declared.fault.RunFault.{RunFault}
 use Rattle.dag_main_check.specs.declared.fault.RunFault.TheVariants.{Memory}
 use Rattle.dag_main_check.proofs.Refusals.{handed-on}
-use Rattle.dag_main_files.specs.Beside.{IsFileFault, file_refused, reading_had_no_memory, IsInputFault, input_refused, input_had_no_memory}
+use Rattle.dag_main_files.specs.Beside.{IsFileFault, file_refused, reading_had_no_memory, IsRefusalOf, path_refused, refusing_had_no_memory, IsInputFault, input_refused, input_had_no_memory}
 
 -- a cause that is handed on
 pub by-fault : {A : Type 0} (P : RunFault → Type 0) (given : RunFault) → P given → (r : Result A RunFault) → IsErrAnd r (λ fault. fault ≡ given) → IfErr r P
@@ -19,3 +19,8 @@ memory-alone P is (Err fault) h = subst P (sym h) is
 pub input-is-file : (path : List ℕ) (fault : RunFault) → IsInputFault path fault → IsFileFault fault
 input-is-file path fault (input_refused file asked is) = file_refused file
 input-is-file path fault input_had_no_memory = reading_had_no_memory
+
+-- a refusal of the file of a path is one of some file
+pub refusal-is-file : (path : List ℕ) (fault : RunFault) → IsRefusalOf path fault → IsFileFault fault
+refusal-is-file path fault (path_refused file is) = file_refused file
+refusal-is-file path fault refusing_had_no_memory = reading_had_no_memory

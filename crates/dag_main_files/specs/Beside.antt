@@ -17,6 +17,10 @@ use Rattle.dag_main_check.specs.declared.fault.RunFault.TheVariants.{NotThere, U
 abbrev pub journal_name_of : List ℕ → List ℕ
 journal_name_of top = top ++ codes ".journal"
 
+-- `top.lock`, the file that a manager locks
+abbrev pub lock_name_of : List ℕ → List ℕ
+lock_name_of top = top ++ codes ".lock"
+
 -- How many bytes the name of a file has by its path: those behind the last slash, or all where there is none.
 pub data IsNameLength (path : List ℕ) : ℕ → Type 0 where
   no_slash : ((place : ℕ) → place < length path → slice_index path place ≢ 47) → IsNameLength path (length path)

@@ -4,7 +4,7 @@ ghost use Rattle.std.specs.Prelude.{◌≡◌, ◌≤◌, IfOk, IfErr};
 ghost use Rattle.rescue_file.specs.Numbered.{IsFileNumber, rescue_name_of};
 ghost use Rattle.splices_flat.specs.Paths.{join};
 ghost use Rattle.dag_main_check.specs.declared.fault.RunFault.TheVariants.{Memory};
-ghost use Rattle.dag_main_files.specs.Beside.{journal_name_of, IsFileFault, IsRefusalOf, IsNameLength, HasRoomForNames, IsRoomFault};
+ghost use Rattle.dag_main_files.specs.Beside.{journal_name_of, lock_name_of, IsFileFault, IsRefusalOf, IsNameLength, HasRoomForNames, IsRoomFault};
 
 use crate::locking::{Lock, is_locked, lock_in_time, lock_opened};
 use crate::owners::is_trusted;
@@ -59,7 +59,9 @@ pub fn journal_path(alloc: Global, top: &str) -> Result<Text, AllocError>
 }
 
 /// The path of the file that a manager locks.
-fn lock_path(alloc: Global, top: &str) -> Result<Text, AllocError> {
+fn lock_path(alloc: Global, top: &str) -> Result<Text, AllocError>
+    ensures { IfOk result (λ name. name ≡ lock_name_of top.now) }
+{
     Text::joined(alloc, top, ".lock")
 }
 
@@ -170,7 +172,7 @@ impl<'a> Place<'a> {
         &self,
         rt: &R,
     ) -> Result<Lock, RunFault>
-        ensures { IfErr result IsFileFault }
+        ensures { IfErr result (IsRefusalOf (lock_name_of self.now.top.now)) }
     {
         let alloc = rt.alloc();
         let path = lock_path(alloc, self.top)?;
@@ -212,7 +214,7 @@ impl<'a> Place<'a> {
         rt: &R,
         lock: &mut Lock,
     ) -> Result<(), RunFault>
-        ensures { IfErr result IsFileFault }
+        ensures { IfErr result (IsRefusalOf (lock_name_of self.now.top.now)) }
     {
         let alloc = rt.alloc();
         lock.frees_journal();
@@ -301,9 +303,9 @@ impl<'a> Place<'a> {
         }
     }
 
-    /// What is returned where another manager runs the DAG.
+    /// What is returned where another manager runs the DAG: `FileRefused` with the path of the lock, or `Memory`.
     pub fn taken(&self, alloc: Global) -> RunFault
-        ensures { IsFileFault result }
+        ensures { IsRefusalOf (lock_name_of self.now.top.now) result }
     {
         let Ok(path) = lock_path(alloc, self.top) else {
             return RunFault::Memory;

@@ -1,4 +1,5 @@
 mod StatusFaults
+mod StatusTexts
 mod AuditTexts
 mod Pictures
 pub mod Rounds

@@ -1,8 +1,9 @@
 -- What is answered of the plan of the files that are held is answered of these files.
-use Rattle.std.proofs.Common.{◌≡◌, ℕ, Bool, false, List, Option, Some, None, Result, Ok, Err, IfOk, IfErr, IfSome, string_bytes, subst, sym}
+use Rattle.std.proofs.Common.{◌≡◌, ℕ, Bool, false, List, Option, Some, None, Result, Ok, Err, IfOk, IfSome, string_bytes, subst, sym}
 use Rattle.std.specs.Prelude.{IfNone}
 use Rattle.splices_flat.specs.Opening.{Files}
 use Rattle.run_plan.specs.Plan.{Plan}
+use Rattle.node_machine.specs.declared.Record.{Record}
 use Rattle.dag_main_check.specs.ByPlan.{IsAnswerByPlan}
 use Rattle.dag_main_check.specs.Planned.{opening_had_no_memory}
 use Rattle.dag_main_check.specs.Warnings.{warning_lines}
@@ -12,7 +13,7 @@ use Rattle.dag_main_check.specs.declared.warnings.Answer.{Answer}
 use Rattle.dag_main_files.specs.Opened.{IsOfFiles, IsRefusedFor, for_files, HasPlan, HasNoPlan, HasBarePlan, HasNoGraph}
 use Rattle.dag_main_files.proofs.OpenedFiles.{refused-more}
 use Rattle.graph_text.specs.Picture.{dot_text_of, unknown}
-use Rattle.dag_main_inspect.specs.Statused.{journal_bytes, flag_by, IsStatusText, IsStatusTextOf, IsRecordsFault, IsStatusFault, no_plan, no_records}
+use Rattle.dag_main_inspect.specs.Statused.{journal_bytes, flag_by, IsStatusBy, IsStatusOf, IsRecordsFault, IsStatusFault, no_plan, no_records}
 use Rattle.dag_main_inspect.specs.Audited.{IsAuditText, IsAuditedAs, IsAuditFault, no_plan as unaudited, auditing_had_no_memory}
 use Rattle.dag_main_inspect.specs.Drawn.{IsPicture, IsBareDrawn, IsDrawnOf, IsDrawnFault, IsJournalDrawnFault, no_graph, no_plan as undrawn, not_drawn}
 use Rattle.dag_main_inspect.specs.Reported.{IsReport, HasNotEnded, IsReportOf, IsUnendedRun}
@@ -26,13 +27,14 @@ module _ (holds : Files) (path : List ℕ) (rescue : Option (List ℕ)) where
       record { files = planned.files; read = planned.read; says = record { plan = plan; planned = planned.says; answered = is; warnings_are = warnings } }
 
   module _ (journal : Option (List ℕ)) (plan : Plan) (planned : IsOfFiles holds path (HasPlan (flag_by journal) path rescue plan)) where
-    pub status : (bytes : List ℕ) → bytes ≡ journal_bytes journal → (answer : Result Answer RunFault) → IfOk answer (λ (a : Answer). IsStatusText plan bytes (string_bytes a.text) a.status)
+    pub status : (text_of : Plan → List Record → List ℕ) (bytes : List ℕ) → bytes ≡ journal_bytes journal → (answer : Result Answer RunFault)
+        → IfOk answer (λ (a : Answer). IsStatusBy text_of plan bytes (string_bytes a.text) a.status)
         → IfOk answer (λ (a : Answer). string_bytes a.warnings ≡ warning_lines plan.graph.dag.warnings)
-        → IfOk answer (λ (a : Answer). IsOfFiles holds path (λ files entries. IsStatusTextOf files entries path rescue journal (string_bytes a.text) (string_bytes a.warnings) a.status))
-    status bytes same (Ok a) is warnings =
-        by-plan (flag_by journal) plan planned (λ p (b : Answer). IsStatusText p (journal_bytes journal) (string_bytes b.text) b.status) a
-        (subst (λ (x : List ℕ). IsStatusText plan x (string_bytes a.text) a.status) same is) warnings
-    status bytes same (Err fault) is warnings = tt
+        → IfOk answer (λ (a : Answer). IsOfFiles holds path (λ files entries. IsStatusOf text_of files entries path rescue journal (string_bytes a.text) (string_bytes a.warnings) a.status))
+    status text_of bytes same (Ok a) is warnings =
+        by-plan (flag_by journal) plan planned (λ p (b : Answer). IsStatusBy text_of p (journal_bytes journal) (string_bytes b.text) b.status) a
+        (subst (λ (x : List ℕ). IsStatusBy text_of plan x (string_bytes a.text) a.status) same is) warnings
+    status text_of bytes same (Err fault) is warnings = tt
 
     pub no-status : (bytes : List ℕ) → bytes ≡ journal_bytes journal → (fault : RunFault) → IsRecordsFault plan bytes fault
         → IsRefusedFor holds path (λ files entries. IsStatusFault files entries path rescue journal) fault

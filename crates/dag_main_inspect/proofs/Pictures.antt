@@ -1,7 +1,6 @@
 -- What a graph answers, and why there is none.
-use Rattle.std.proofs.Common.{◌≡◌, ◌⊎◌, inl, inr, ℕ, List, Option, Some, None, Result, Ok, Err, IfOk, string_bytes, true, false, ◌∙◌, refl, sym, ap, subst}
+use Rattle.std.proofs.Common.{◌≡◌, ◌⊎◌, inl, inr, ℕ, List, Some, None, Result, Ok, Err, IfOk, string_bytes, true, ◌∙◌, refl, sym, ap, subst}
 use Rattle.std.proofs.lemmas.Bool.{false≢true}
-use Rattle.splices_flat.specs.Opening.{Files}
 use Rattle.run_plan.specs.Plan.{Plan}
 use Rattle.node_machine.specs.declared.Record.{Record}
 use Rattle.sched_core.specs.Core.{Progress}
@@ -9,13 +8,12 @@ use Rattle.sched_core.specs.Run.{chronological, is_lawful}
 use Rattle.event_journal_log.specs.declared.fault.JournalFault.TheVariants as journal
 use Rattle.recovery_manager.specs.Inputs.{replay_by}
 use Rattle.graph_text.specs.Picture.{unknown, known, dot_text_of}
-use Rattle.dag_main_check.specs.Planned.{IsGraphFault, opening_had_no_memory, IsPlanOf, IsPlanWith}
 use Rattle.dag_main_check.specs.Warnings.{warning_lines}
 use Rattle.dag_main_check.specs.declared.fault.RunFault.{RunFault}
 use Rattle.dag_main_check.specs.declared.fault.RunFault.TheVariants.{Memory}
 use Rattle.dag_main_check.specs.declared.warnings.Answer.{Answer}
-use Rattle.dag_main_inspect.specs.Statused.{flag_by, records_read, records_in_bytes, IsRecordsFault, no_journal, foreign_record, reading_had_no_memory}
-use Rattle.dag_main_inspect.specs.Drawn.{IsPicture, of_run, of_others, of_other_flag, IsBarePicture, IsDrawnOf, tells_of_others, IsJournalDrawnFault, no_records, drawing_had_no_memory}
+use Rattle.dag_main_inspect.specs.Statused.{records_read, records_in_bytes, IsRecordsFault, no_journal, foreign_record, reading_had_no_memory}
+use Rattle.dag_main_inspect.specs.Drawn.{IsPicture, of_run, of_others, of_other_flag, tells_of_others, IsJournalDrawnFault, no_records, drawing_had_no_memory}
 
 -- the picture by a journal
 module _ (plan : Plan) (bytes : List ℕ) where

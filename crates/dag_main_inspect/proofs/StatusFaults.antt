@@ -5,7 +5,6 @@ use Rattle.run_plan.specs.Plan.{Plan}
 use Rattle.node_machine.specs.declared.Record.{Record}
 use Rattle.sched_core.specs.Core.{Progress}
 use Rattle.sched_core.specs.Run.{chronological, is_lawful}
-use Rattle.status_report.specs.Text.{status_text_of}
 use Rattle.event_journal_log.specs.declared.fault.JournalFault.{JournalFault}
 use Rattle.event_journal_log.specs.declared.fault.JournalFault.TheVariants as journal
 use Rattle.event_journal_log.specs.Groups.{IsSlotAt}
@@ -18,7 +17,7 @@ use Rattle.recovery_manager.specs.declared.fault.ManagerFault.TheVariants as man
 use Rattle.recovery_manager.specs.Inputs.{replay_by}
 use Rattle.dag_main_check.specs.declared.fault.RunFault.{RunFault}
 use Rattle.dag_main_check.specs.declared.fault.RunFault.TheVariants.{InManager, Memory}
-use Rattle.dag_main_inspect.specs.Statused.{records_read, records_in_bytes, bytes_fault, IsStatusText, IsRecordsFault, no_journal, foreign_record, reading_had_no_memory}
+use Rattle.dag_main_inspect.specs.Statused.{records_read, records_in_bytes, bytes_fault, IsStatusBy, IsRecordsFault, no_journal, foreign_record, reading_had_no_memory}
 
 -- the records of a journal
 pub owed-memory : (plan : Plan) (bytes : List ℕ) (fault : RunFault) → fault ≡ Memory → IsRecordsFault plan bytes fault
@@ -68,13 +67,14 @@ foreign-fault plan bytes records place slot is why at =
     let f = found-at (replay_by plan bytes) records place first.entry is first.is in
     foreign_record slot (foreign_in plan bytes f.0 place slot f.1 (subst (λ (l : List Record). IsFirstForeign plan l place) f.2 first) at)
 
--- the status text of a core of these records
-pub status-text : (plan : Plan) (bytes : List ℕ) (records : List Record) (core : Progress) → records_in_bytes plan bytes ≡ Some records → core.plan ≡ plan
-    → records ≡ chronological core.past → is_lawful core.plan core.past ≡ true → (text : List ℕ) → text ≡ status_text_of core.plan core.past → IsStatusText plan bytes text 0
-status-text plan bytes records core are p r lawful text is = record {
+-- the text that is made of a core of these records
+pub status-by : (text_of : Plan → List Record → List ℕ) (plan : Plan) (bytes : List ℕ) (records : List Record) (core : Progress) → records_in_bytes plan bytes ≡ Some records
+    → core.plan ≡ plan → records ≡ chronological core.past → is_lawful core.plan core.past ≡ true → (text : List ℕ) → text ≡ text_of core.plan core.past
+    → IsStatusBy text_of plan bytes text 0
+status-by text_of plan bytes records core are p r lawful text is = record {
   past = core.past;
   are_records = are ∙ ap (λ (rs : List Record). Some rs) r;
   lawful = subst (λ (q : Plan). is_lawful q core.past ≡ true) p lawful;
-  text_is = is ∙ (λ j. status_text_of (p j) core.past);
+  text_is = is ∙ (λ j. text_of (p j) core.past);
   status_is = refl;
 }

@@ -2,7 +2,8 @@
 use Rattle.std.specs.Prelude.{ℕ, List, Option, None}
 use Rattle.splices_flat.specs.Opening.{Files}
 use Rattle.dag_main_check.specs.Planned.{in_line, named_by}
-use Rattle.dag_main_inspect.specs.Statused.{IsStatusTextOf, IsStatusFault}
+use Rattle.dag_main_inspect.specs.StatusData.{status_json_of}
+use Rattle.dag_main_inspect.specs.Statused.{IsStatusOf, IsStatusTextOf, IsStatusFault}
 use Rattle.dag_main_inspect.specs.Audited.{IsAuditedAs, IsAuditFault}
 use Rattle.dag_main_inspect.specs.Drawn.{IsDrawnOf, IsDrawnFault}
 use Rattle.dag_main_check.specs.declared.fault.RunFault.{RunFault}
@@ -10,17 +11,19 @@ use Rattle.dag_main_files.specs.Beside.{IsRoundFault}
 use Rattle.dag_main_files.specs.Opened.{IsOfFiles, IsOfSome, IsRefusedFor, IsRefusedForSome}
 use Rattle.dag_main_inspect.specs.LastRound.{IsLastRound, IsNoLastRound, used_by, used_name}
 use Rattle.dag_main_inspect.specs.declared.by_journal.Question.{Question}
-use Rattle.dag_main_inspect.specs.declared.by_journal.Question.TheVariants.{Status, Audit, Graph}
+use Rattle.dag_main_inspect.specs.declared.by_journal.Question.TheVariants.{Status, StatusJson, Audit, Graph}
 
 -- the answer to a question, by the files of a path, a rescue file and a journal
 abbrev pub IsAskAnswered : Question → Files → List (List ℕ × List ℕ) → List ℕ → Option (List ℕ) → Option (List ℕ) → List ℕ → List ℕ → ℕ → Type 0
 IsAskAnswered Status files entries path rescue journal text warnings status = IsStatusTextOf files entries path rescue journal text warnings status
+IsAskAnswered StatusJson files entries path rescue journal text warnings status = IsStatusOf (status_json_of path) files entries path rescue journal text warnings status
 IsAskAnswered Audit files entries path rescue journal text warnings status = IsAuditedAs files entries path rescue journal text warnings status
 IsAskAnswered Graph files entries path rescue journal text warnings status = IsDrawnOf files entries path rescue journal text warnings status
 
 -- why there is none
 abbrev pub IsNotAnswered : Question → Files → List (List ℕ × List ℕ) → List ℕ → Option (List ℕ) → Option (List ℕ) → RunFault → Type 0
 IsNotAnswered Status files entries path rescue journal fault = IsStatusFault files entries path rescue journal fault
+IsNotAnswered StatusJson files entries path rescue journal fault = IsStatusFault files entries path rescue journal fault
 IsNotAnswered Audit files entries path rescue journal fault = IsAuditFault files entries path rescue fault
 IsNotAnswered Graph files entries path rescue journal fault = IsDrawnFault files entries path rescue journal fault
 

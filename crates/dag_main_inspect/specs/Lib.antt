@@ -1,3 +1,4 @@
+pub mod StatusData
 pub mod Statused
 pub mod Reported
 pub mod Audited

@@ -16,6 +16,9 @@ use Rattle.dag_main_check.specs.Planned.{IsPlanWith, IsPlanWithFault}
 use Rattle.dag_main_check.specs.ByPlan.{IsAnswerByPlan}
 use Rattle.dag_main_check.specs.declared.fault.RunFault.{RunFault}
 use Rattle.dag_main_check.specs.declared.fault.RunFault.TheVariants.{InManager, Memory}
+use Rattle.dag_main_inspect.specs.StatusData.{status_json_of}
+use Rattle.dag_main_inspect.specs.declared.statuses.Form.{Form}
+use Rattle.dag_main_inspect.specs.declared.statuses.Form.TheVariants.{Lines, Json}
 
 -- a journal that is not there has no bytes
 abbrev pub journal_bytes : Option (List ℕ) → List ℕ
@@ -49,12 +52,17 @@ bytes_fault journal.SlotsFull = InManager (manager.Journal journal.SlotsFull)
 bytes_fault journal.Broken = InManager (manager.Journal journal.Broken)
 bytes_fault (journal.BadSlot slot) = InManager (manager.Journal (journal.BadSlot slot))
 
--- The status text of the records of a journal that has these bytes, which are lawful; and the exit status.
-pub record IsStatusText (plan : Plan) (bytes text : List ℕ) (status : ℕ) : Type 0 where
+-- the text of a status in a form, where the DAG file has this path: the status text, or its JSON
+abbrev pub form_text : Form → List ℕ → Plan → List Record → List ℕ
+form_text Lines path = status_text_of
+form_text Json path = status_json_of path
+
+-- The text that is made so of the records of a journal that has these bytes, which are lawful; and the exit status.
+pub record IsStatusBy (text_of : Plan → List Record → List ℕ) (plan : Plan) (bytes text : List ℕ) (status : ℕ) : Type 0 where
   pub past : List Record
   pub are_records : records_in_bytes plan bytes ≡ Some (chronological past)
   pub lawful : IsTrue (is_lawful plan past)
-  pub text_is : text ≡ status_text_of plan past
+  pub text_is : text ≡ text_of plan past
   pub status_is : status ≡ 0
 
 -- Why there is none: the bytes are no journal of this plan; a record may not follow those before it; memory ran out.
@@ -64,10 +72,14 @@ pub data IsRecordsFault (plan : Plan) (bytes : List ℕ) : RunFault → Type 0 w
       IsRecordsFault plan bytes (InManager (manager.Foreign slot))
   reading_had_no_memory : IsRecordsFault plan bytes Memory
 
+-- the text that is made so of the plan of these files, at the records of the journal
+abbrev pub IsStatusOf : (Plan → List Record → List ℕ) → Files → List (List ℕ × List ℕ) → List ℕ → Option (List ℕ) → Option (List ℕ) → List ℕ → List ℕ → ℕ → Type 0
+IsStatusOf text_of files entries path rescue journal text warnings status =
+    IsAnswerByPlan (flag_by journal) files entries path rescue (λ plan. IsStatusBy text_of plan (journal_bytes journal) text status) warnings
+
 -- the status text of the plan of these files, at the records of the journal
 abbrev pub IsStatusTextOf : Files → List (List ℕ × List ℕ) → List ℕ → Option (List ℕ) → Option (List ℕ) → List ℕ → List ℕ → ℕ → Type 0
-IsStatusTextOf files entries path rescue journal text warnings status =
-    IsAnswerByPlan (flag_by journal) files entries path rescue (λ plan. IsStatusText plan (journal_bytes journal) text status) warnings
+IsStatusTextOf = IsStatusOf status_text_of
 
 -- why it is refused: there is no plan, or its journal has no records of a run
 pub data IsStatusFault (files : Files) (entries : List (List ℕ × List ℕ)) (path : List ℕ) (rescue journal : Option (List ℕ)) : RunFault → Type 0 where

@@ -13,7 +13,7 @@ ghost use Rattle.dag_main_inspect.specs.declared.by_journal.Question.TheVariants
 use crate::audits::audit_here;
 use crate::graphs::graph_here;
 use crate::reports::reported;
-use crate::statuses::{bytes_in, status_here};
+use crate::statuses::{Form, bytes_in, status_here};
 use dag_main_check::{Answer, RunFault};
 use dag_main_files::{Folder, LAST_NUMBER, journal_path, named, rescue_path};
 use dag_reader::Text;
@@ -161,8 +161,10 @@ pub fn last_round<F: Folder>(alloc: Global, folder: &F, top: &str) -> Result<Las
 /// What is asked of a run's journal.
 #[derive(Clone, Copy, Debug, PartialEq, Eq)]
 pub enum Question {
-    /// Where each node stands.
+    /// Where each node is.
     Status,
+    /// Where each node is, as JSON.
+    StatusJson,
     /// Whether it is that of a finished run, and what its nodes came to.
     Audit,
     /// A picture of the graph, with where each node stands.
@@ -193,7 +195,8 @@ fn asked<F: Folder>(
         (option_map (λ b. b.now) rescue.entry) (option_map (λ b. b.now) journal.entry))) }
 {
     match question {
-        Question::Status => status_here(alloc, folder, top, rescue, journal),
+        Question::Status => status_here(alloc, folder, top, rescue, journal, Form::Lines),
+        Question::StatusJson => status_here(alloc, folder, top, rescue, journal, Form::Json),
         Question::Audit => audit_here(alloc, folder, top, rescue, journal),
         Question::Graph => graph_here(alloc, folder, top, rescue, journal),
     }

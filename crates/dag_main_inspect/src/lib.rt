@@ -6,6 +6,7 @@ mod audits;
 mod by_journal;
 mod graphs;
 mod reports;
+mod status_data;
 mod statuses;
 
 pub use audits::audit_of;

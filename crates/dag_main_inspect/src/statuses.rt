@@ -8,8 +8,9 @@ ghost use Rattle.dag_main_check.specs.Planned.{IsPlanWith, IsPlanWithFault};
 ghost use Rattle.dag_main_check.specs.declared.fault.RunFault.TheVariants.{Memory};
 ghost use Rattle.dag_main_check.specs.Warnings.{warning_lines};
 ghost use Rattle.dag_main_files.specs.Opened.{IsOfFiles, IsOfSome, IsRefusedFor, IsRefusedForSome, HasPlan, HasNoPlan};
-ghost use Rattle.dag_main_inspect.specs.Statused.{journal_bytes, flag_by, records_in_bytes, bytes_fault, IsStatusText, IsRecordsFault, IsStatusTextOf, IsStatusFault};
+ghost use Rattle.dag_main_inspect.specs.Statused.{journal_bytes, flag_by, records_in_bytes, bytes_fault, form_text, IsStatusBy, IsRecordsFault, IsStatusOf, IsStatusTextOf, IsStatusFault};
 
+use crate::status_data::status_json;
 use dag_main_check::{Answer, RunFault, plan_with, warning_text};
 use dag_main_files::{Folder, plan_here};
 use event_journal_log::{JournalFault, flag_in, read_journal, slot_of};
@@ -20,7 +21,16 @@ use run_plan::Plan;
 use sched_core::Core;
 use splices_flat::FileSet;
 use status_report::status_text;
-use std::alloc::Global;
+use std::alloc::{AllocError, Global};
+
+/// The form of a status.
+#[derive(Clone, Copy)]
+pub(crate) enum Form {
+    /// The status text: a line for each node.
+    Lines,
+    /// The same as JSON.
+    Json,
+}
 
 /// The status of the run of the DAG file of this path whose journal has these bytes: a line for each
 /// node, in plan order. The DAG file, those of its splices and the submit files of its nodes stand in
@@ -46,10 +56,10 @@ pub fn status_of(
         (option_map (λ b. b.now) rescue.entry) (option_map (λ b. b.now) journal.entry)) }
 {
     let plan = plan_by(alloc, files, path, rescue, journal)?;
-    status_plan(alloc, &plan, bytes_in(journal))
+    status_plan(alloc, &plan, bytes_in(journal), Form::Lines, path)
 }
 
-/// The status of the last round of the DAG file of this path, which read this rescue file and has this journal.
+/// The status of the last round of the DAG file of this path, which read this rescue file and has this journal, in a form.
 ///
 /// # Errors
 /// Those of `plan_here`, then that of the journal or its first record that may not follow (`InManager`).
@@ -59,11 +69,12 @@ pub(crate) fn status_here<F: Folder>(
     top: &str,
     rescue: Option<&[u8]>,
     journal: Option<&[u8]>,
+    form: Form,
 ) -> Result<Answer, RunFault>
-    ensures status { IfOk result (λ answer. IsOfSome top.now (λ files entries. IsStatusTextOf files entries top.now
+    ensures status { IfOk result (λ answer. IsOfSome top.now (λ files entries. IsStatusOf (form_text form top.now) files entries top.now
         (option_map (λ b. b.now) rescue.entry) (option_map (λ b. b.now) journal.entry)
         (string_bytes answer.text) (string_bytes answer.warnings) answer.status)) }
-    ensures held { F.honest folder.now → IfOk result (λ answer. IsOfFiles (F.holds folder.now) top.now (λ files entries. IsStatusTextOf files entries top.now
+    ensures held { F.honest folder.now → IfOk result (λ answer. IsOfFiles (F.holds folder.now) top.now (λ files entries. IsStatusOf (form_text form top.now) files entries top.now
         (option_map (λ b. b.now) rescue.entry) (option_map (λ b. b.now) journal.entry)
         (string_bytes answer.text) (string_bytes answer.warnings) answer.status)) }
     ensures refused { IfErr result (IsRefusedForSome top.now (λ files entries. IsStatusFault files entries top.now
@@ -72,7 +83,7 @@ pub(crate) fn status_here<F: Folder>(
         (option_map (λ b. b.now) rescue.entry) (option_map (λ b. b.now) journal.entry))) }
 {
     let plan = plan_of_round(alloc, folder, top, rescue, journal)?;
-    status_plan(alloc, &plan, bytes_in(journal))
+    status_plan(alloc, &plan, bytes_in(journal), form, top)
 }
 
 /// The plan of the last round of the DAG file of this path, which read this rescue file and has this journal: POST scripts run after
@@ -144,9 +155,15 @@ fn flag_of(alloc: Global, journal: Option<&[u8]>) -> Result<bool, RunFault>
     }
 }
 
-/// The status of the run of a plan whose journal has these bytes.
-fn status_plan(alloc: Global, plan: &Plan, bytes: &[u8]) -> Result<Answer, RunFault>
-    ensures says { IfOk result (λ answer. IsStatusText plan.now bytes.now (string_bytes answer.text) answer.status) }
+/// The status of the run of a plan whose journal has these bytes, in a form; the DAG file has this path.
+fn status_plan(
+    alloc: Global,
+    plan: &Plan,
+    bytes: &[u8],
+    form: Form,
+    path: &str,
+) -> Result<Answer, RunFault>
+    ensures says { IfOk result (λ answer. IsStatusBy (form_text form path.now) plan.now bytes.now (string_bytes answer.text) answer.status) }
     ensures warnings { IfOk result (λ answer. string_bytes answer.warnings ≡ warning_lines plan.now.graph.dag.warnings) }
     ensures refused { IfErr result (IsRecordsFault plan.now bytes.now) }
 {
@@ -154,10 +171,20 @@ fn status_plan(alloc: Global, plan: &Plan, bytes: &[u8]) -> Result<Answer, RunFa
     let core = core_of(alloc, plan, bytes, &records)?;
     core.keeps_the_law();
     Ok(Answer {
-        text: status_text(alloc, &core)?,
+        text: text_in(alloc, &core, form, path)?,
         warnings: warning_text(alloc, plan.graph().flat().warnings())?,
         status: 0,
     })
+}
+
+/// The text of a status in a form; the DAG file has this path.
+fn text_in(alloc: Global, core: &Core<'_>, form: Form, path: &str) -> Result<String, AllocError>
+    ensures { IfOk result (λ text. string_bytes text ≡ form_text form path.now core.now.plan core.now.past) }
+{
+    match form {
+        Form::Lines => status_text(alloc, core),
+        Form::Json => status_json(alloc, core, path),
+    }
 }
 
 /// Why bytes that can't be read are refused.

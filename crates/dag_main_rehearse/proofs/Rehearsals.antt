@@ -89,7 +89,7 @@ module _ (plan : Plan) (table entries : List Entry) (same : SameOutcomes table e
   same-outcome : (key : Key) → scripted_outcome plan table key ≡ scripted_outcome plan entries key
   same-outcome key = λ j. if nat_le key.node (count_of plan) then same (node_at plan key.node).name key.attempt key.phase j else Exit 0
 
-  same-script : AllowsNoMore (IsScripted plan entries []) (IsScripted plan table [])
+  pub same-script : AllowsNoMore (IsScripted plan entries []) (IsScripted plan table [])
   same-script = ((λ told key outcome is. record { by_table = is.by_table ∙ same-outcome key; oldest_first = is.oldest_first }), (λ is. is), (λ is. is))
 
   pub same-run : (limits : Limits) (past : List Record) → IsRehearsed limits plan table past → IsRehearsed limits plan entries past

@@ -13,6 +13,7 @@ use Rattle.dag_main_rehearse.specs.Refusals.{ReportsRun}
 use Rattle.dag_main_check.specs.declared.fault.RunFault.{RunFault}
 use Rattle.dag_main_check.specs.Warnings.{warning_lines}
 use Rattle.dag_main_rehearse.proofs.Rehearsals.{same-run}
+use Rattle.dag_main_rehearse.proofs.TooLongRuns.{same-too-long}
 
 pub rehearsal-of : (always_post : Bool) (files : Files) (path : List ℕ) (outcomes : Option (List ℕ)) (limits : Limits) (plan : Plan) (table : List Entry) → IsPlanOf always_post files path plan
     → (entries : List Entry) × HasEntries outcomes entries × SameOutcomes table entries
@@ -39,13 +40,16 @@ answered P R Q (Ok answer) more p r = more answer p r
 answered P R Q (Err fault) more p r = tt
 
 -- a rehearsal is stopped for too many records, or for want of memory
-stopped-rehearsal : (always_post : Bool) (files : Files) (path : List ℕ) (outcomes : Option (List ℕ)) (plan : Plan) (fault : RunFault) → IsPlanOf always_post files path plan
-    → IsTableRunFault plan fault → IsRehearsalFault files path outcomes fault
-stopped-rehearsal always_post files path outcomes plan _ is (has_too_many_records long) =
-    is_too_long always_post plan.graph.dag plan.graph.order is.is_dag is.is_order (subst IsTooLong is.made long)
-stopped-rehearsal always_post files path outcomes plan _ is running_had_no_memory = rehearsing_had_no_memory
+stopped-rehearsal : (always_post : Bool) (files : Files) (path : List ℕ) (outcomes : Option (List ℕ)) (limits : Limits) (plan : Plan) (table : List Entry) (fault : RunFault) → IsPlanOf always_post files path plan
+    → (entries : List Entry) × HasEntries outcomes entries × SameOutcomes table entries
+    → IsTableRunFault limits plan table fault → IsRehearsalFault always_post files path outcomes limits fault
+stopped-rehearsal always_post files path outcomes limits plan table _ is (entries, has, same) (has_too_many_records long) =
+    is_too_long plan.graph.dag plan.graph.order entries is.is_dag is.is_order has
+    (same-too-long limits (bare_plan always_post plan.graph) table entries same (subst (λ (p : Plan). IsTooLong limits p table) is.made long))
+stopped-rehearsal always_post files path outcomes limits plan table _ is (entries, has, same) running_had_no_memory = rehearsing_had_no_memory
 
-pub rehearsal-stopped : {A : Type 0} (always_post : Bool) (files : Files) (path : List ℕ) (outcomes : Option (List ℕ)) (plan : Plan) (result : Result A RunFault) → IsPlanOf always_post files path plan
-    → IfErr result (IsTableRunFault plan) → IfErr result (IsRehearsalFault files path outcomes)
-rehearsal-stopped always_post files path outcomes plan (Ok answer) is why = tt
-rehearsal-stopped always_post files path outcomes plan (Err fault) is why = stopped-rehearsal always_post files path outcomes plan fault is why
+pub rehearsal-stopped : {A : Type 0} (always_post : Bool) (files : Files) (path : List ℕ) (outcomes : Option (List ℕ)) (limits : Limits) (plan : Plan) (table : List Entry) (result : Result A RunFault)
+    → IsPlanOf always_post files path plan → (entries : List Entry) × HasEntries outcomes entries × SameOutcomes table entries
+    → IfErr result (IsTableRunFault limits plan table) → IfErr result (IsRehearsalFault always_post files path outcomes limits)
+rehearsal-stopped always_post files path outcomes limits plan table (Ok answer) is by_text why = tt
+rehearsal-stopped always_post files path outcomes limits plan table (Err fault) is by_text why = stopped-rehearsal always_post files path outcomes limits plan table fault is by_text why

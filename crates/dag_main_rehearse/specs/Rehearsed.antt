@@ -74,12 +74,12 @@ pub record IsFatedReport (always_post : Bool) (files : Files) (path : List ℕ) 
   pub text_is : text ≡ fated_report (bare_plan_by always_post dag order) fates status
   pub status_is : status ≡ fated_status (bare_plan_by always_post dag order) fates
 
--- Why a rehearsal is refused: the files make no graph; the text of outcomes is no table; the run has more records than its journal has slots;
--- or memory ran out.
-pub data IsRehearsalFault (files : Files) (path : List ℕ) (outcomes : Option (List ℕ)) : RunFault → Type 0 where
-  has_no_graph : (fault : RunFault) → IsGraphFault files path fault → IsRehearsalFault files path outcomes fault
+-- Why a rehearsal is refused: the files make no graph; the text of outcomes is no table; the run of the DAG under the limits, at the outcomes
+-- of the entries, has more records than its journal has slots; or memory ran out.
+pub data IsRehearsalFault (always_post : Bool) (files : Files) (path : List ℕ) (outcomes : Option (List ℕ)) (limits : Limits) : RunFault → Type 0 where
+  has_no_graph : (fault : RunFault) → IsGraphFault files path fault → IsRehearsalFault always_post files path outcomes limits fault
   has_no_table : (dag : Dag) (fault : RunFault) → dag_at files path ≡ Ok dag → IsAcyclic dag.edges → IsTableFault outcomes fault →
-      IsRehearsalFault files path outcomes fault
-  is_too_long : (always_post : Bool) (dag : Dag) (order : List ℕ) → dag_at files path ≡ Ok dag → IsOrderOf dag order →
-      IsTooLong (bare_plan_by always_post dag order) → IsRehearsalFault files path outcomes (InManager no_slot)
-  rehearsing_had_no_memory : IsRehearsalFault files path outcomes Memory
+      IsRehearsalFault always_post files path outcomes limits fault
+  is_too_long : (dag : Dag) (order : List ℕ) (entries : List Entry) → dag_at files path ≡ Ok dag → IsOrderOf dag order → HasEntries outcomes entries →
+      IsTooLong limits (bare_plan_by always_post dag order) entries → IsRehearsalFault always_post files path outcomes limits (InManager no_slot)
+  rehearsing_had_no_memory : IsRehearsalFault always_post files path outcomes limits Memory

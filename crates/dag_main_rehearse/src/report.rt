@@ -48,9 +48,9 @@ pub fn rehearse_text(
         (option_map (λ b. b.now) outcomes.entry) limits
         (string_bytes answer.text) (string_bytes answer.warnings) answer.status) }
 
-    // It is refused only where an input is, for a run of too many records, or for want of memory.
-    ensures refused { IfErr result
-        (IsRehearsalFault (bytes_of files.now) path.now (option_map (λ b. b.now) outcomes.entry)) }
+    // It is refused only where an input is, where this run needs more slots than there are, or for want of memory.
+    ensures refused { IfErr result (IsRehearsalFault always_post (bytes_of files.now) path.now
+        (option_map (λ b. b.now) outcomes.entry) limits) }
 {
     let plan = plan_of(alloc, files, path, always_post)?;
     let table = table_of(alloc, outcomes)?;
@@ -69,7 +69,7 @@ fn rehearse_plan(
         ReportsRun limits plan.now table.now (string_bytes answer.text) answer.status) }
     ensures warnings { IfOk result (λ answer.
         string_bytes answer.warnings ≡ warning_lines plan.now.graph.dag.warnings) }
-    ensures refused { IfErr result (IsTableRunFault plan.now) }
+    ensures refused { IfErr result (IsTableRunFault limits plan.now table.now) }
 {
     let run = run_table(alloc, plan, table, limits)?;
     Ok(Answer {

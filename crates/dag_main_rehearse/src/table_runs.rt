@@ -121,7 +121,7 @@ pub fn run_table<'a>(
     ensures text { IfOk result (λ run.
         string_bytes run.text ≡ run_text plan.now (past_of run.manager) run.status) }
     ensures status { IfOk result (λ run. run.status ≡ exit_status plan.now (past_of run.manager)) }
-    ensures refused { IfErr result (IsTableRunFault plan.now) }
+    ensures refused { IfErr result (IsTableRunFault limits plan.now table.now) }
 {
     let mut manager = begin(alloc, plan, limits)?;
     let mut starter = ScriptedStarter::new(alloc, plan, table, in_order(alloc));

@@ -12,7 +12,7 @@ use Rattle.dag_main_run.specs.Sites.{Rounds}
 use Rattle.dag_main_files.specs.declared.rounds.Round.{Round}
 use Rattle.splices_flat.specs.Opening.{Files}
 use Rattle.dag_main_files.specs.Folder.{IsReadFrom, IsRoundFrom, rescue_in}
-use Rattle.dag_main_files.specs.Beside.{IsFileFault, IsRoomFault, IsRoundFault, IsRoundBy, IsRescueOf, IsRescueReadFault}
+use Rattle.dag_main_files.specs.Beside.{lock_name_of, IsFileFault, IsRefusalOf, IsRoomFault, IsRoundFault, IsRoundBy, IsRescueOf, IsRescueReadFault}
 use Rattle.dag_main_check.specs.Planned.{IsGraphOf, IsGraphFault, IsPlanBy, IsPlanByFault, in_line, named_by}
 use Rattle.dag_main_check.specs.ByPlan.{IsAnswerByPlan}
 use Rattle.dag_main_check.specs.declared.fault.RunFault.{RunFault}
@@ -57,7 +57,7 @@ pub data IsFindingFault (options : RunOptions) : RunFault → Type 0 where
 -- as above.
 pub data IsLockedFault (path : List ℕ) (options : RunOptions) : RunFault → Type 0 where
   no_room_for_lock : (fault : RunFault) → IsRoomFault path fault → IsLockedFault path options fault
-  lock_refused : (fault : RunFault) → IsFileFault fault → IsLockedFault path options fault
+  lock_refused : (fault : RunFault) → IsRefusalOf (lock_name_of path) fault → IsLockedFault path options fault
   not_found_locked : (fault : RunFault) → IsFindingFault options fault → IsLockedFault path options fault
 
 -- The same as it is found first: a file beside the DAG file may be another user's, or is no regular one, or memory ran out; then as above,
@@ -86,10 +86,10 @@ pub data IsStopFault (IsDeaf : Type 0) (Stopped : RunFault → Type 0) : RunFaul
 
 -- Why the round is not led to its end once the lock is held, the first cause first: it is not found again which round this is, or it is
 -- another one by now; or it is stopped.
-pub data IsHeldFault (options : RunOptions) (IsDeaf : Type 0) (Stopped : RunFault → Type 0) : RunFault → Type 0 where
-  not_found_again : (fault : RunFault) → IsFindingFault options fault → IsHeldFault options IsDeaf Stopped fault
-  another_was_at_work : (fault : RunFault) → IsFileFault fault → IsHeldFault options IsDeaf Stopped fault
-  not_led : (fault : RunFault) → IsStopFault IsDeaf Stopped fault → IsHeldFault options IsDeaf Stopped fault
+pub data IsHeldFault (path : List ℕ) (options : RunOptions) (IsDeaf : Type 0) (Stopped : RunFault → Type 0) : RunFault → Type 0 where
+  not_found_again : (fault : RunFault) → IsFindingFault options fault → IsHeldFault path options IsDeaf Stopped fault
+  another_was_at_work : (fault : RunFault) → IsRefusalOf (lock_name_of path) fault → IsHeldFault path options IsDeaf Stopped fault
+  not_led : (fault : RunFault) → IsStopFault IsDeaf Stopped fault → IsHeldFault path options IsDeaf Stopped fault
 
 -- The plan of the round that the options ask for, by what is known of the files that were read and of the round.
 pub record IsPlannedFor (says : FileSet → Files) (IsRead : FileSet → Type 0) (IsRound : Round → Type 0) (path : List ℕ) : Type 0 where
@@ -114,9 +114,9 @@ pub data IsRunFaultWhere (says : FileSet → Files) (IsRead : FileSet → Type 0
       IsRunFaultWhere says IsRead IsRound rounds path options fault
   no_launcher : (fault : RunFault) → IsPlannedFor says IsRead IsRound path → IsLauncherFault options.launcher fault → IsRunFaultWhere says IsRead IsRound rounds path options fault
   no_room : (fault : RunFault) → IsPlannedFor says IsRead IsRound path → IsRoomFault path fault → IsRunFaultWhere says IsRead IsRound rounds path options fault
-  not_alone : (fault : RunFault) → IsPlannedFor says IsRead IsRound path → IsFileFault fault → IsRunFaultWhere says IsRead IsRound rounds path options fault
+  not_alone : (fault : RunFault) → IsPlannedFor says IsRead IsRound path → IsRefusalOf (lock_name_of path) fault → IsRunFaultWhere says IsRead IsRound rounds path options fault
   not_held : (planned : IsPlannedFor says IsRead IsRound path) (fault : RunFault) →
-      IsHeldFault options rounds.is_deaf (rounds.stopped path options.limits planned.plan planned.round) fault → IsRunFaultWhere says IsRead IsRound rounds path options fault
+      IsHeldFault path options rounds.is_deaf (rounds.stopped path options.limits planned.plan planned.round) fault → IsRunFaultWhere says IsRead IsRound rounds path options fault
   no_memory : IsRunFaultWhere says IsRead IsRound rounds path options Memory
 
 -- of some files, and a round that the options ask for

@@ -454,7 +454,7 @@ fn run_locked<
     ensures led { IfOk result (λ answer. IsRoundLedAt H.Journal.Disk H.Rescue.Disk (H.own site.now) (H.honest site.now) (H.holds site.now)
         place.now.top.now options.now.limits plan.now found.now.0 (string_bytes answer.text) answer.status) }
     ensures warnings { IfOk result (λ answer. string_bytes answer.warnings ≡ warning_lines plan.now.graph.dag.warnings) }
-    ensures refused { IfErr result (IsHeldFault options.now (H.own site.now).is_deaf (IsRoundStoppedAt H.Journal.Disk H.Rescue.Disk (H.own site.now)
+    ensures refused { IfErr result (IsHeldFault place.now.top.now options.now (H.own site.now).is_deaf (IsRoundStoppedAt H.Journal.Disk H.Rescue.Disk (H.own site.now)
         (H.honest site.now) (H.holds site.now) place.now.top.now options.now.limits plan.now found.now.0)) }
 {
     let alloc = rt.alloc();

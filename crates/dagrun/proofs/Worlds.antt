@@ -85,8 +85,8 @@ module _ (rounds known : Rounds) (told : AreToldAs rounds known) where
   stop-fault path limits plan round _ leading_had_no_memory = leading_had_no_memory
 
   held-fault : (options : RunOptions) (path : List ℕ) (plan : Plan) (round : Round) (fault : RunFault)
-      → IsHeldFault options rounds.is_deaf (rounds.stopped path options.limits plan round) fault
-      → IsHeldFault options known.is_deaf (known.stopped path options.limits plan round) fault
+      → IsHeldFault path options rounds.is_deaf (rounds.stopped path options.limits plan round) fault
+      → IsHeldFault path options known.is_deaf (known.stopped path options.limits plan round) fault
   held-fault options path plan round _ (not_found_again fault why) = not_found_again fault why
   held-fault options path plan round _ (another_was_at_work fault why) = another_was_at_work fault why
   held-fault options path plan round _ (not_led fault why) = not_led fault (stop-fault path options.limits plan round fault why)
@@ -112,12 +112,12 @@ module _ (rounds known : Rounds) (told : AreToldAs rounds known) where
   told-some (checks path all hinted) r is = is
   told-some (runs path options) (Ok answer) is = run-with _ _ _ _ _ _ path options _ _ _ is
   told-some (runs path options) (Err fault) is = run-refusal _ _ _ _ _ path options fault is
-  told-some (tells_status path begun owned) r is = is
+  told-some (tells_status path json begun owned) r is = is
   told-some (audits path begun owned) r is = is
   told-some (rehearses path outcomes limits always_post) r is = is
-  told-some (draws path begun owned) r is = is
+  told-some (draws path as_is begun owned) r is = is
   told-some (asks_why path nodes all begun owned) r is = is
-  told-some (times path svg begun owned) r is = is
+  told-some (times path svg json begun owned) r is = is
   told-some (reports path reload begun owned) r is = is
   told-some (salvages path owned) r is = is
   told-some (redoes path nodes only owned) r is = is
@@ -128,12 +128,12 @@ module _ (rounds known : Rounds) (told : AreToldAs rounds known) where
   told-from holds has (checks path all hinted) r is = is
   told-from holds has (runs path options) (Ok answer) is = run-with _ _ _ _ _ _ path options _ _ _ is
   told-from holds has (runs path options) (Err fault) is = run-refusal _ _ _ _ _ path options fault is
-  told-from holds has (tells_status path begun owned) r is = is
+  told-from holds has (tells_status path json begun owned) r is = is
   told-from holds has (audits path begun owned) r is = is
   told-from holds has (rehearses path outcomes limits always_post) r is = is
-  told-from holds has (draws path begun owned) r is = is
+  told-from holds has (draws path as_is begun owned) r is = is
   told-from holds has (asks_why path nodes all begun owned) r is = is
-  told-from holds has (times path svg begun owned) r is = is
+  told-from holds has (times path svg json begun owned) r is = is
   told-from holds has (reports path reload begun owned) r is = is
   told-from holds has (salvages path owned) r is = is
   told-from holds has (redoes path nodes only owned) r is = is
@@ -154,12 +154,12 @@ pub unbeside-some : (rounds known : Rounds) (asked : Asked) → is_beside asked 
     → ComesTo (command_of_some known asked) r
 unbeside-some rounds known (checks path all hinted) isnt r is = is
 unbeside-some rounds known (runs path options) isnt r is = absurd (false≢true (sym isnt))
-unbeside-some rounds known (tells_status path begun owned) isnt r is = is
+unbeside-some rounds known (tells_status path json begun owned) isnt r is = is
 unbeside-some rounds known (audits path begun owned) isnt r is = is
 unbeside-some rounds known (rehearses path outcomes limits always_post) isnt r is = is
-unbeside-some rounds known (draws path begun owned) isnt r is = is
+unbeside-some rounds known (draws path as_is begun owned) isnt r is = is
 unbeside-some rounds known (asks_why path nodes all begun owned) isnt r is = is
-unbeside-some rounds known (times path svg begun owned) isnt r is = is
+unbeside-some rounds known (times path svg json begun owned) isnt r is = is
 unbeside-some rounds known (reports path reload begun owned) isnt r is = is
 unbeside-some rounds known (salvages path owned) isnt r is = is
 unbeside-some rounds known (redoes path nodes only owned) isnt r is = is
@@ -169,14 +169,14 @@ pub unbeside-from : (holds : Files) (has there : List ℕ → Bool) (rounds know
     → ComesTo (command_from holds has rounds asked) r → ComesTo (command_from holds there known asked) r
 unbeside-from holds has there rounds known (checks path all hinted) isnt r is = is
 unbeside-from holds has there rounds known (runs path options) isnt r is = absurd (false≢true (sym isnt))
-unbeside-from holds has there rounds known (tells_status path begun owned) isnt r is = is
+unbeside-from holds has there rounds known (tells_status path json begun owned) isnt r is = is
 unbeside-from holds has there rounds known (audits path begun owned) isnt r is = is
 unbeside-from holds has there rounds known (rehearses path outcomes limits always_post) isnt r is = is
-unbeside-from holds has there rounds known (draws path begun owned) isnt r is = is
+unbeside-from holds has there rounds known (draws path as_is begun owned) isnt r is = is
 unbeside-from holds has there rounds known (asks_why path nodes all begun owned) isnt r is = is
-unbeside-from holds has there rounds known (times path svg begun owned) isnt r is = is
+unbeside-from holds has there rounds known (times path svg json begun owned) isnt r is = is
 unbeside-from holds has there rounds known (reports path reload begun owned) isnt r is = is
-unbeside-from holds has there rounds known (salvages path owned) isnt r is = is
+unbeside-from holds has there rounds known (salvages path owned) isnt r is = absurd (false≢true (sym isnt))
 unbeside-from holds has there rounds known (redoes path nodes only owned) isnt r is = absurd (false≢true (sym isnt))
 unbeside-from holds has there rounds known (shows page) isnt r is = is
 
@@ -194,12 +194,12 @@ input-reply Honest IsLost world rounds known holds has asked isnt reply same som
 pub unasked : {P : Type 0} (asked : Asked) → is_beside asked ≡ false → is_run asked ≡ true → P
 unasked (checks path all hinted) isnt run = absurd (false≢true run)
 unasked (runs path options) isnt run = absurd (false≢true (sym isnt))
-unasked (tells_status path begun owned) isnt run = absurd (false≢true run)
+unasked (tells_status path json begun owned) isnt run = absurd (false≢true run)
 unasked (audits path begun owned) isnt run = absurd (false≢true run)
 unasked (rehearses path outcomes limits always_post) isnt run = absurd (false≢true run)
-unasked (draws path begun owned) isnt run = absurd (false≢true run)
+unasked (draws path as_is begun owned) isnt run = absurd (false≢true run)
 unasked (asks_why path nodes all begun owned) isnt run = absurd (false≢true run)
-unasked (times path svg begun owned) isnt run = absurd (false≢true run)
+unasked (times path svg json begun owned) isnt run = absurd (false≢true run)
 unasked (reports path reload begun owned) isnt run = absurd (false≢true run)
 unasked (salvages path owned) isnt run = absurd (false≢true run)
 unasked (redoes path nodes only owned) isnt run = absurd (false≢true run)

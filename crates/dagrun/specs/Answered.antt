@@ -1,6 +1,6 @@
 -- What the program answers to a request, and its exit status (docs/MANUAL.md, "The command line").
 use Rattle.std.specs.Global.{Global}
-use Rattle.std.specs.Prelude.{◌≡◌, String, ◌<◌, ◌≤◌, ℕ, Bool, true, false, List, [], ◌++◌, Option, Some, None, Result, Ok, Err, codes, length, is_some, string_bytes, IfSome}
+use Rattle.std.specs.Prelude.{◌≡◌, ◌≢◌, String, ◌<◌, ◌≤◌, ℕ, Bool, true, false, List, [], ◌++◌, Option, Some, None, Result, Ok, Err, codes, length, is_some, string_bytes, IfSome}
 use Rattle.splices_flat.specs.Opening.{Files}
 use Rattle.splices_flat.specs.FileSet.{bytes_of}
 use Rattle.splices_flat.specs.declared.file_set.FileSet.{FileSet}
@@ -24,10 +24,13 @@ use Rattle.dag_main_inspect.specs.Asked.{IsAnswerOfRun, IsAnswerHeld, IsAnswerFa
 use Rattle.dag_main_inspect.specs.Reported.{IsReportHere, IsReportFrom, IsNoReportFrom}
 use Rattle.run_times.specs.Answered.{IsTimesOf, IsTimesFrom, IsTimesFault, IsTimesFaultHeld}
 use Rattle.dag_main_inspect.specs.declared.by_journal.Question.{Question}
-use Rattle.dag_main_inspect.specs.declared.by_journal.Question.TheVariants.{Status, Audit, Graph}
+use Rattle.dag_main_inspect.specs.declared.by_journal.Question.TheVariants.{Status, StatusJson, Audit, Graph}
+use Rattle.run_times.specs.declared.form.Form.{Form}
+use Rattle.run_times.specs.declared.form.Form.TheVariants.{Table, Picture, Json}
 use Rattle.salvage.specs.Answered.{IsSalvageOf, IsSalvageFrom}
 use Rattle.salvage.specs.Faults.{fault_text}
 use Rattle.salvage.specs.declared.fault.SalvageFault.{SalvageFault}
+use Rattle.salvage.specs.Sight.{any_files, held_files}
 use Rattle.salvage.specs.Refused.{IsSalvageFault}
 use Rattle.salvage.specs.declared.fault.SalvageFault.TheVariants.{Refused}
 use Rattle.failure_report.specs.declared.why.Grouping.{Grouping}
@@ -61,9 +64,9 @@ IsWarnedCause fault warnings = (line : List ℕ) × (fault_text fault ≡ Some l
 
 -- What `salvage` answers: what it made of a round that was cut short; or the line of a cause that no other command has, as a warning, with
 -- nothing printed and exit status 125.
-pub data IsSalvageWith (Salvaged : Said) (path : List ℕ) : (text warnings : List ℕ) → (status : ℕ) → Type 0 where
-  salvaged : (text warnings : List ℕ) (status : ℕ) → Salvaged text warnings status → IsSalvageWith Salvaged path text warnings status
-  not_salvaged : (fault : SalvageFault) (warnings : List ℕ) → IsSalvageFault path fault → IsWarnedCause fault warnings → IsSalvageWith Salvaged path [] warnings 125
+pub data IsSalvageWith (Salvaged : Said) (NotSalvaged : SalvageFault → Type 0) : (text warnings : List ℕ) → (status : ℕ) → Type 0 where
+  salvaged : (text warnings : List ℕ) (status : ℕ) → Salvaged text warnings status → IsSalvageWith Salvaged NotSalvaged text warnings status
+  not_salvaged : (fault : SalvageFault) (warnings : List ℕ) → NotSalvaged fault → IsWarnedCause fault warnings → IsSalvageWith Salvaged NotSalvaged [] warnings 125
 
 -- The faults of lines that are listed where these files are held: of the files that are; or of those that were read once, for hints too.
 pub data IsCheckOfAllHeld (holds : Files) (path text warnings : List ℕ) (status : ℕ) : Type 0 where
@@ -111,11 +114,11 @@ is_beside _ = true
 -- whether the owner of the files beside the DAG file is trusted
 abbrev pub is_owner_trusted : Asked → Bool
 is_owner_trusted (runs path options) = options.trust_owner
-is_owner_trusted (tells_status path begun trust_owner) = trust_owner
+is_owner_trusted (tells_status path json begun trust_owner) = trust_owner
 is_owner_trusted (audits path begun trust_owner) = trust_owner
-is_owner_trusted (draws path begun trust_owner) = trust_owner
+is_owner_trusted (draws path as_is begun trust_owner) = trust_owner
 is_owner_trusted (asks_why path nodes all begun trust_owner) = trust_owner
-is_owner_trusted (times path svg begun trust_owner) = trust_owner
+is_owner_trusted (times path svg json begun trust_owner) = trust_owner
 is_owner_trusted (reports path reload begun trust_owner) = trust_owner
 is_owner_trusted (salvages path trust_owner) = trust_owner
 is_owner_trusted (redoes path nodes only trust_owner) = trust_owner
@@ -172,15 +175,39 @@ pub data IsRefusedBySome (begun : Bool) (path : List ℕ) (Refused : RunFault �
   refused_by_some : (fault : RunFault) → Refused fault → IsRefusedBySome begun path Refused fault
   not_begun_by_some : (fault : RunFault) → begun ≡ true → IsNotBegun path fault → IsRefusedBySome begun path Refused fault
 
--- By which files `why` and `report` tell of a round: by those that it is asked for by; or, where the files that are held are others than those with which
--- the round began, so that they give no answer, by those with which it began.
+-- By which files `why`, `times`, `graph` and `report` tell of a round: by those that it is asked for by; or, where the files that are held are others than those with
+-- which the round began, so that `why` or `status` is refused for that, by those with which it began.
 pub data IsByFitting (begun : Bool) (holds : Files) (path : List ℕ) (Refused : Files → RunFault → Type 0) (Holds : Files → Type 0) : Type 0 where
   by_asked : IsByFiles begun holds path Holds → IsByFitting begun holds path Refused Holds
   by_changed : begun ≡ false → IsRefusedByFiles begun holds path Refused other_inputs → IsByFiles true holds path Holds → IsByFitting begun holds path Refused Holds
 
+-- Why `why` and `report` are refused: for what those files say by which they are asked for, but not since these are others than those with which the round
+-- began; or for that, where they are refused by those with which it began, too.
+pub data IsRefusedByFitting (begun : Bool) (holds : Files) (path : List ℕ) (Refused : Files → RunFault → Type 0) : RunFault → Type 0 where
+  refused_as_asked : (fault : RunFault) → (begun ≡ false → fault ≢ other_inputs) → IsRefusedByFiles begun holds path Refused fault →
+      IsRefusedByFitting begun holds path Refused fault
+  refused_by_both : (fault : RunFault) → begun ≡ false → IsRefusedByFiles begun holds path Refused other_inputs → IsRefusedByFiles true holds path Refused fault →
+      IsRefusedByFitting begun holds path Refused other_inputs
+
 -- what is said of an answer by these files
 abbrev pub SaidByFitting : (begun : Bool) → Files → (path : List ℕ) → (Files → RunFault → Type 0) → (Files → Said) → Said
 SaidByFitting begun holds path Fails Answers text warnings status = IsByFitting begun holds path Fails (λ files. Answers files text warnings status)
+
+-- What `graph` draws: by those files, unless the files are to be drawn as they are.
+abbrev pub SaidOfGraph : (as_is begun : Bool) → Files → (path : List ℕ) → Said
+SaidOfGraph true begun holds path = SaidByFiles begun holds path (λ files. IsAnswerHeld files Graph path)
+SaidOfGraph false begun holds path = SaidByFitting begun holds path (λ files. IsAnswerFaultHeld files Status path) (λ files. IsAnswerHeld files Graph path)
+
+-- what `status` asks: where each node is, as lines or as JSON
+abbrev pub status_question : (json : Bool) → Question
+status_question false = Status
+status_question true = StatusJson
+
+-- how `times` shows the phases; a picture and JSON are never asked for together
+abbrev pub times_form : (svg json : Bool) → Form
+times_form true json = Picture
+times_form false true = Json
+times_form false false = Table
 
 -- nodes in error with one cause are shown once, or each by itself
 abbrev pub grouping_by : (all : Bool) → Grouping
@@ -202,17 +229,23 @@ command_of_some rounds (runs path options) = record {
   answers = IsRunWith (IsRunOf rounds path options) (IsReportHere path) (Unit {0}) options;
   refused = IsRunRefusal (IsRunFault rounds path options) (IsAnswerFault Status path) (Unit {0}) options;
 }
-command_of_some rounds (tells_status path begun trust_owner) = record { answers = IsAnswerOfRun Status path; refused = IsRefusedBySome begun path (IsAnswerFault Status path) }
+command_of_some rounds (tells_status path json begun trust_owner) = record {
+  answers = IsAnswerOfRun (status_question json) path;
+  refused = IsRefusedBySome begun path (IsAnswerFault (status_question json) path);
+}
 command_of_some rounds (audits path begun trust_owner) = record { answers = IsAnswerOfRun Audit path; refused = IsRefusedBySome begun path (IsAnswerFault Audit path) }
 command_of_some rounds (rehearses path outcomes limits always_post) = record {
   answers = IsRehearsalWith (λ table. IsRehearsalOfSome always_post path table limits) outcomes;
-  refused = IsRehearsalRefusalWith (IsRehearsalRefusal path) outcomes;
+  refused = IsRehearsalRefusalWith (λ table. IsRehearsalRefusal always_post path table limits) outcomes;
 }
-command_of_some rounds (draws path begun trust_owner) = record { answers = IsAnswerOfRun Graph path; refused = IsRefusedBySome begun path (IsAnswerFault Graph path) }
+command_of_some rounds (draws path as_is begun trust_owner) = record { answers = IsAnswerOfRun Graph path; refused = IsRefusedBySome begun path (IsAnswerFault Graph path) }
 command_of_some rounds (asks_why path nodes all begun trust_owner) = record { answers = IsWhyOf (grouping_by all) path nodes; refused = IsRefusedBySome begun path (IsAnswerFault Status path) }
-command_of_some rounds (times path svg begun trust_owner) = record { answers = IsTimesOf path svg; refused = IsRefusedBySome begun path (IsTimesFault path) }
+command_of_some rounds (times path svg json begun trust_owner) = record { answers = IsTimesOf path (times_form svg json); refused = IsRefusedBySome begun path (IsTimesFault path) }
 command_of_some rounds (reports path reload begun trust_owner) = record { answers = IsReportPageOf path version_text reload; refused = IsRefusedBySome begun path (IsAnswerFault Status path) }
-command_of_some rounds (salvages path trust_owner) = record { answers = IsSalvageWith (IsSalvageOf path) path; refused = λ fault. IsSalvageFault path (Refused fault) }
+command_of_some rounds (salvages path trust_owner) = record {
+  answers = IsSalvageWith (IsSalvageOf path) (IsSalvageFault any_files path);
+  refused = λ fault. IsSalvageFault any_files path (Refused fault);
+}
 command_of_some rounds (redoes path nodes only trust_owner) = record { answers = IsRedoOf path nodes only; refused = IsRedoFault path }
 command_of_some rounds (shows page) = record { answers = IsPage page; refused = λ fault. ⊥ }
 
@@ -230,26 +263,32 @@ command_from holds has rounds (runs path options) = record {
   answers = IsRunWith (IsRunFrom holds has rounds path options) (IsReportFrom holds path) (IsNoReportFrom holds path) options;
   refused = IsRunRefusal (IsRunFaultFrom holds has rounds path options) (IsAnswerFaultHeld holds Status path) (IsNoReportFrom holds path) options;
 }
-command_from holds has rounds (tells_status path begun trust_owner) = question_from Status holds path begun
+command_from holds has rounds (tells_status path json begun trust_owner) = question_from (status_question json) holds path begun
 command_from holds has rounds (audits path begun trust_owner) = question_from Audit holds path begun
 command_from holds has rounds (rehearses path outcomes limits always_post) = record {
   answers = IsRehearsalWith (λ table. IsRehearsalOf always_post holds path table limits) outcomes;
-  refused = IsRehearsalRefusalWith (IsRehearsalRefusalFrom holds path) outcomes;
+  refused = IsRehearsalRefusalWith (λ table. IsRehearsalRefusalFrom always_post holds path table limits) outcomes;
 }
-command_from holds has rounds (draws path begun trust_owner) = question_from Graph holds path begun
+command_from holds has rounds (draws path as_is begun trust_owner) = record {
+  answers = SaidOfGraph as_is begun holds path;
+  refused = IsRefusedByFiles begun holds path (λ files. IsAnswerFaultHeld files Graph path);
+}
 command_from holds has rounds (asks_why path nodes all begun trust_owner) = record {
   answers = SaidByFitting begun holds path (λ files. IsWhyFaultHeld files path) (λ files. IsWhyHeld (grouping_by all) files path nodes);
-  refused = IsRefusedByFiles begun holds path (λ files. IsWhyFaultHeld files path);
+  refused = IsRefusedByFitting begun holds path (λ files. IsWhyFaultHeld files path);
 }
-command_from holds has rounds (times path svg begun trust_owner) = record {
-  answers = SaidByFiles begun holds path (λ files. IsTimesFrom files path svg);
+command_from holds has rounds (times path svg json begun trust_owner) = record {
+  answers = SaidByFitting begun holds path (λ files. IsAnswerFaultHeld files Status path) (λ files. IsTimesFrom files path (times_form svg json));
   refused = IsRefusedByFiles begun holds path (λ files. IsTimesFaultHeld files path);
 }
 command_from holds has rounds (reports path reload begun trust_owner) = record {
   answers = SaidByFitting begun holds path (λ files. IsWhyFaultHeld files path) (λ files. IsReportPageHeld files path version_text reload);
-  refused = IsRefusedByFiles begun holds path (λ files. IsWhyFaultHeld files path);
+  refused = IsRefusedByFitting begun holds path (λ files. IsWhyFaultHeld files path);
 }
-command_from holds has rounds (salvages path trust_owner) = record { answers = IsSalvageWith (IsSalvageFrom holds path) path; refused = λ fault. IsSalvageFault path (Refused fault) }
+command_from holds has rounds (salvages path trust_owner) = record {
+  answers = IsSalvageWith (IsSalvageFrom holds path) (IsSalvageFault (held_files holds has path) path);
+  refused = λ fault. IsSalvageFault (held_files holds has path) path (Refused fault);
+}
 command_from holds has rounds (redoes path nodes only trust_owner) = record { answers = IsRedoHeld holds has path nodes only; refused = IsRedoFaultHeld holds path }
 command_from holds has rounds (shows page) = record { answers = IsPage page; refused = λ fault. ⊥ }
 

@@ -10,13 +10,15 @@ ghost use Rattle.dag_main_check.specs.declared.fault.RunFault.TheVariants.{Memor
 ghost use Rattle.salvage.specs.Faults.{fault_text};
 ghost use Rattle.salvage.specs.Answered.{IsSalvageOf, IsSalvageFrom};
 ghost use Rattle.salvage.specs.Refused.{IsSalvageFault};
+ghost use Rattle.salvage.specs.Sight.{any_files, held_files};
 ghost use Rattle.salvage.specs.declared.fault.SalvageFault.TheVariants.{Refused};
 ghost use Rattle.dag_main_run.specs.Sites.{rounds_at};
 ghost use Rattle.dagrun.specs.Answered.{is_run, command_of_some, command_from, ComesTo, IsPage, IsRehearsalWith, IsRehearsalRefusalWith, IsSalvageWith, AreHints};
 
 use crate::checking::check;
 use crate::of_round::{
-    answer_of_round, grouping_by, page_of_last_round, times_of_round, why_of_last_round,
+    answer_of_round, graph_of_last_round, grouping_by, page_of_last_round, status_question,
+    times_form, times_of_last_round, why_of_last_round,
 };
 use answer_console::Console;
 use dag_main_args::{Request, RunOptions};
@@ -24,8 +26,8 @@ use dag_main_check::{Answer, RunFault};
 use dag_main_files::{Folder, Place, read_input, refused};
 use dag_main_inspect::{Question, report_here};
 use dag_main_run::{Screen, Site, run_dag};
+use file_hints::Wanted;
 use folder_answers::rehearse_here;
-use hint_answers::Wanted;
 use redo::redo_here;
 use salvage::{SalvageFault, salvage_here};
 use std::alloc::Global;
@@ -64,15 +66,21 @@ pub(crate) fn answer_in<
     let seat = folder.seat();
     match request {
         Request::Run { dag, options } => run_in(rt, folder, dag, &options),
-        Request::Status { dag, as_begun, .. } => {
-            answer_of_round(alloc, folder, dag, Question::Status, as_begun)
-        }
+        Request::Status {
+            dag,
+            json,
+            as_begun,
+            ..
+        } => answer_of_round(alloc, folder, dag, status_question(json), as_begun),
         Request::Audit { dag, as_begun, .. } => {
             answer_of_round(alloc, folder, dag, Question::Audit, as_begun)
         }
-        Request::Graph { dag, as_begun, .. } => {
-            answer_of_round(alloc, folder, dag, Question::Graph, as_begun)
-        }
+        Request::Graph {
+            dag,
+            as_is,
+            as_begun,
+            ..
+        } => graph_of_last_round(alloc, folder, dag, as_is, as_begun),
         Request::Why {
             dag,
             nodes,
@@ -97,9 +105,10 @@ pub(crate) fn answer_in<
         Request::Times {
             dag,
             svg,
+            json,
             as_begun,
             ..
-        } => times_of_round(alloc, folder, dag, svg, as_begun),
+        } => times_of_last_round(alloc, folder, dag, times_form(svg, json), as_begun),
         Request::Report {
             dag,
             reload,
@@ -213,11 +222,15 @@ fn salvage_in<R: Files<File = File> + Clock + AllocGlobal + Copy + Drop, F: Fold
     place: &Place<'_>,
     trust_owner: bool,
 ) -> Result<Answer, RunFault>
-    ensures answered { IfOk result (λ answer. IsSalvageWith (IsSalvageOf place.now.top.now) place.now.top.now
+    ensures answered { IfOk result (λ answer. IsSalvageWith (IsSalvageOf place.now.top.now)
+        (IsSalvageFault any_files place.now.top.now)
         (string_bytes answer.text) (string_bytes answer.warnings) answer.status) }
-    ensures held { F.honest folder.now → IfOk result (λ answer. IsSalvageWith (IsSalvageFrom (F.holds folder.now) place.now.top.now) place.now.top.now
+    ensures held { F.honest folder.now → IfOk result (λ answer. IsSalvageWith (IsSalvageFrom (F.holds folder.now) place.now.top.now)
+        (IsSalvageFault (held_files (F.holds folder.now) (F.has folder.now) place.now.top.now) place.now.top.now)
         (string_bytes answer.text) (string_bytes answer.warnings) answer.status) }
-    ensures refused { IfErr result (λ fault. IsSalvageFault place.now.top.now (Refused fault)) }
+    ensures refused { IfErr result (λ fault. IsSalvageFault any_files place.now.top.now (Refused fault)) }
+    ensures refused_held { F.honest folder.now → IfErr result (λ fault. IsSalvageFault (held_files (F.holds folder.now) (F.has folder.now) place.now.top.now)
+        place.now.top.now (Refused fault)) }
 {
     match salvage_here(*rt, folder, place, trust_owner) {
         Ok(answer) => Ok(answer),
@@ -241,8 +254,8 @@ fn rehearse<R: Files + AllocGlobal, F: Folder>(
         (option_map (λ t. t.now) outcomes.entry) (string_bytes answer.text) (string_bytes answer.warnings) answer.status) }
     ensures held { F.honest folder.now → IfOk result (λ answer. IsRehearsalWith (λ table. IsRehearsalOf always_post (F.holds folder.now) dag.now table limits)
         (option_map (λ t. t.now) outcomes.entry) (string_bytes answer.text) (string_bytes answer.warnings) answer.status) }
-    ensures refused { IfErr result (IsRehearsalRefusalWith (IsRehearsalRefusal dag.now) (option_map (λ t. t.now) outcomes.entry)) }
-    ensures refused_held { F.honest folder.now → IfErr result (IsRehearsalRefusalWith (IsRehearsalRefusalFrom (F.holds folder.now) dag.now)
+    ensures refused { IfErr result (IsRehearsalRefusalWith (λ table. IsRehearsalRefusal always_post dag.now table limits) (option_map (λ t. t.now) outcomes.entry)) }
+    ensures refused_held { F.honest folder.now → IfErr result (IsRehearsalRefusalWith (λ table. IsRehearsalRefusalFrom always_post (F.holds folder.now) dag.now table limits)
         (option_map (λ t. t.now) outcomes.entry)) }
 {
     let table = outcomes_of(rt, outcomes)?;

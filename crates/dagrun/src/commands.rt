@@ -145,12 +145,21 @@ fn postscript_to<R: Clock>(rt: &R, request: &Request<'_>) -> Postscript {
             condor: false,
             ..
         } => Postscript::Hints,
-        Request::Status { trust_owner, .. } => Postscript::Totals {
+        Request::Status {
+            json: false,
+            trust_owner,
+            ..
+        } => Postscript::Totals {
             trusts_owner: *trust_owner,
         },
         Request::Why { trust_owner, .. } => Postscript::Worker {
             trusts_owner: *trust_owner,
         },
+        Request::Graph { as_is: true, .. } => Postscript::Nothing,
+        Request::Graph {
+            as_begun: false,
+            ..
+        } => Postscript::ChangesDrawn,
         Request::Audit { .. }
         | Request::Graph { .. }
         | Request::Times { .. }

@@ -1,13 +1,13 @@
 //! What is told of the last round of a DAG file: by the files as they are, or as they were when the round began.
 
-ghost use Rattle.std.specs.Prelude.{◌≡◌, true, Err, map, IfOk, IfErr, string_bytes};
+ghost use Rattle.std.specs.Prelude.{◌≡◌, ◌≢◌, true, false, Err, map, IfOk, IfErr, string_bytes};
 ghost use Rattle.dag_main_inspect.specs.Asked.{IsAnswerOfRun, IsAnswerHeld, IsAnswerFault, IsAnswerFaultHeld};
-ghost use Rattle.dag_main_inspect.specs.declared.by_journal.Question.TheVariants.{Status};
+ghost use Rattle.dag_main_inspect.specs.declared.by_journal.Question.TheVariants.{Status, Graph};
 ghost use Rattle.failure_answers.specs.Answered.{IsWhyOf, IsWhyHeld, IsWhyFaultHeld};
 ghost use Rattle.dag_main_args.specs.Matched.{version_text};
 ghost use Rattle.report_answers.specs.Answered.{IsReportPageOf, IsReportPageHeld};
 ghost use Rattle.run_times.specs.Answered.{IsTimesOf, IsTimesFrom, IsTimesFault, IsTimesFaultHeld};
-ghost use Rattle.dagrun.specs.Answered.{grouping_by, SaidByFiles, SaidByFitting, IsRefusedByFiles, IsRefusedBySome};
+ghost use Rattle.dagrun.specs.Answered.{grouping_by, status_question, times_form, SaidByFiles, SaidOfGraph, SaidByFitting, IsRefusedByFiles, IsRefusedByFitting, IsRefusedBySome};
 ghost use Rattle.round_inputs.specs.AsBegun.{other_inputs};
 
 use dag_main_args::VERSION;
@@ -18,7 +18,7 @@ use failure_answers::why_here;
 use failure_report::Grouping;
 use report_answers::{Wanted, page_here};
 use round_inputs::{is_of_other_files, last_begun};
-use run_times::times_here;
+use run_times::{Form, times_here};
 use std::alloc::Global;
 use std::fs::File;
 use std::rt::Files;
@@ -61,9 +61,32 @@ pub(crate) fn grouping_by(all: bool) -> Grouping
     }
 }
 
+/// The question of `status`: where each node is, as lines or as JSON.
+pub(crate) fn status_question(json: bool) -> Question
+    ensures { result ≡ status_question json }
+{
+    if json {
+        Question::StatusJson
+    } else {
+        Question::Status
+    }
+}
+
+/// How `times` shows the phases; a picture and JSON are never asked for together.
+pub(crate) fn times_form(svg: bool, json: bool) -> Form
+    ensures { result ≡ times_form svg json }
+{
+    match (svg, json) {
+        (true, _) => Form::Picture,
+        (false, true) => Form::Json,
+        (false, false) => Form::Table,
+    }
+}
+
 /// Whether a command is refused since the files are others than those with which the round began.
 fn are_others(reply: &Result<Answer, RunFault>) -> bool
-    ensures { result ≡ true → reply.now ≡ Err other_inputs }
+    ensures are { result ≡ true → reply.now ≡ Err other_inputs }
+    ensures arent { result ≡ false → IfErr reply.now (λ fault. fault ≢ other_inputs) }
 {
     match reply {
         Ok(_) => false,
@@ -92,16 +115,19 @@ pub(crate) fn why_of_last_round<R: Files<File = File> + AllocGlobal, F: Folder>(
         (λ files. IsWhyHeld grouping files place.now.top.now (map (λ n. n.now) names.now))
         (string_bytes answer.text) (string_bytes answer.warnings) answer.status) }
     ensures refused { IfErr result (IsRefusedBySome as_begun place.now.top.now (IsAnswerFault Status place.now.top.now)) }
-    ensures refused_held { F.honest folder.now → IfErr result (IsRefusedByFiles as_begun (F.holds folder.now) place.now.top.now
+    ensures refused_held { F.honest folder.now → IfErr result (IsRefusedByFitting as_begun (F.holds folder.now) place.now.top.now
         (λ files. IsWhyFaultHeld files place.now.top.now)) }
 {
     let reply = why_of_round(rt, folder, place, names, grouping, as_begun, trust_owner);
-    if as_begun || !are_others(&reply) {
+    if as_begun {
+        return reply;
+    }
+    if !are_others(&reply) {
         return reply;
     }
     match why_of_round(rt, folder, place, names, grouping, true, trust_owner) {
         Ok(answer) => Ok(answer),
-        Err(_) => reply,
+        Err(_more) => reply,
     }
 }
 
@@ -143,23 +169,102 @@ pub(crate) fn times_of_round<F: Folder>(
     alloc: Global,
     folder: &F,
     dag: &str,
-    svg: bool,
+    form: Form,
     as_begun: bool,
 ) -> Result<Answer, RunFault>
     ensures answered { IfOk result (λ answer.
-        IsTimesOf dag.now svg (string_bytes answer.text) (string_bytes answer.warnings) answer.status) }
+        IsTimesOf dag.now form (string_bytes answer.text) (string_bytes answer.warnings) answer.status) }
     // It is that of the files that the folder holds, or of those with which the round began.
     ensures held { F.honest folder.now → IfOk result (λ answer. SaidByFiles as_begun (F.holds folder.now) dag.now
-        (λ files. IsTimesFrom files dag.now svg) (string_bytes answer.text) (string_bytes answer.warnings) answer.status) }
+        (λ files. IsTimesFrom files dag.now form) (string_bytes answer.text) (string_bytes answer.warnings) answer.status) }
     ensures refused { IfErr result (IsRefusedBySome as_begun dag.now (IsTimesFault dag.now)) }
     ensures refused_held { F.honest folder.now → IfErr result (IsRefusedByFiles as_begun (F.holds folder.now) dag.now
         (λ files. IsTimesFaultHeld files dag.now)) }
 {
     if !as_begun {
-        return times_here(alloc, folder, dag, svg);
+        return times_here(alloc, folder, dag, form);
     }
     let seen = last_begun(alloc, folder, dag)?;
-    times_here(alloc, &seen, dag, svg)
+    times_here(alloc, &seen, dag, form)
+}
+
+/// Whether the files of a DAG file are others than those with which its last round began: its status is refused for that.
+fn are_changed<F: Folder>(alloc: Global, folder: &F, dag: &str) -> bool
+    ensures { F.honest folder.now → result ≡ true → IsAnswerFaultHeld (F.holds folder.now) Status dag.now other_inputs }
+{
+    let status = answer_here(alloc, folder, dag, Question::Status);
+    are_others(&status)
+}
+
+/// A picture of the graph of a DAG file, with where its nodes are in the last round: by the files as they are, or, where these are others than
+/// those with which the round began, by those, unless the files are to be drawn as they are. Where it isn't known what the round began with,
+/// it is by the files as they are.
+///
+/// # Errors
+/// Those of `last_begun`, where the round is to be seen as it began; then those of `answer_here`.
+pub(crate) fn graph_of_last_round<F: Folder>(
+    alloc: Global,
+    folder: &F,
+    dag: &str,
+    as_is: bool,
+    as_begun: bool,
+) -> Result<Answer, RunFault>
+    ensures answered { IfOk result (λ answer.
+        IsAnswerOfRun Graph dag.now (string_bytes answer.text) (string_bytes answer.warnings) answer.status) }
+    ensures held { F.honest folder.now → IfOk result (λ answer. SaidOfGraph as_is as_begun (F.holds folder.now) dag.now
+        (string_bytes answer.text) (string_bytes answer.warnings) answer.status) }
+    ensures refused { IfErr result (IsRefusedBySome as_begun dag.now (IsAnswerFault Graph dag.now)) }
+    ensures refused_held { F.honest folder.now → IfErr result (IsRefusedByFiles as_begun (F.holds folder.now) dag.now
+        (λ files. IsAnswerFaultHeld files Graph dag.now)) }
+{
+    let reply = answer_of_round(alloc, folder, dag, Question::Graph, as_begun);
+    if as_is {
+        return reply;
+    }
+    if as_begun {
+        return reply;
+    }
+    if !are_changed(alloc, folder, dag) {
+        return reply;
+    }
+    match answer_of_round(alloc, folder, dag, Question::Graph, true) {
+        Ok(answer) => Ok(answer),
+        Err(_more) => reply,
+    }
+}
+
+/// When the phases of the last round of a DAG file ran: by the files as they are, or, where these are others than those with which the
+/// round began, by those. Where it isn't known what the round began with, it is by the files as they are.
+///
+/// # Errors
+/// Those of `last_begun`, where the round is to be seen as it began; then those of `times_here`.
+pub(crate) fn times_of_last_round<F: Folder>(
+    alloc: Global,
+    folder: &F,
+    dag: &str,
+    form: Form,
+    as_begun: bool,
+) -> Result<Answer, RunFault>
+    ensures answered { IfOk result (λ answer.
+        IsTimesOf dag.now form (string_bytes answer.text) (string_bytes answer.warnings) answer.status) }
+    ensures held { F.honest folder.now → IfOk result (λ answer. SaidByFitting as_begun (F.holds folder.now) dag.now
+        (λ files. IsAnswerFaultHeld files Status dag.now)
+        (λ files. IsTimesFrom files dag.now form) (string_bytes answer.text) (string_bytes answer.warnings) answer.status) }
+    ensures refused { IfErr result (IsRefusedBySome as_begun dag.now (IsTimesFault dag.now)) }
+    ensures refused_held { F.honest folder.now → IfErr result (IsRefusedByFiles as_begun (F.holds folder.now) dag.now
+        (λ files. IsTimesFaultHeld files dag.now)) }
+{
+    let reply = times_of_round(alloc, folder, dag, form, as_begun);
+    if as_begun {
+        return reply;
+    }
+    if !are_changed(alloc, folder, dag) {
+        return reply;
+    }
+    match times_of_round(alloc, folder, dag, form, true) {
+        Ok(answer) => Ok(answer),
+        Err(_more) => reply,
+    }
 }
 
 /// A page of the last round of a DAG file: by the files as they are, or, where these are others than those with which the round began, by
@@ -182,16 +287,19 @@ pub(crate) fn page_of_last_round<R: Files<File = File> + AllocGlobal, F: Folder>
         (λ files. IsReportPageHeld files place.now.top.now version_text reloads)
         (string_bytes answer.text) (string_bytes answer.warnings) answer.status) }
     ensures refused { IfErr result (IsRefusedBySome as_begun place.now.top.now (IsAnswerFault Status place.now.top.now)) }
-    ensures refused_held { F.honest folder.now → IfErr result (IsRefusedByFiles as_begun (F.holds folder.now) place.now.top.now
+    ensures refused_held { F.honest folder.now → IfErr result (IsRefusedByFitting as_begun (F.holds folder.now) place.now.top.now
         (λ files. IsWhyFaultHeld files place.now.top.now)) }
 {
     let reply = page_of_round(rt, folder, place, reloads, as_begun, trust_owner);
-    if as_begun || !are_others(&reply) {
+    if as_begun {
+        return reply;
+    }
+    if !are_others(&reply) {
         return reply;
     }
     match page_of_round(rt, folder, place, reloads, true, trust_owner) {
         Ok(answer) => Ok(answer),
-        Err(_) => reply,
+        Err(_more) => reply,
     }
 }
 

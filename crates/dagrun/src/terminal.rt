@@ -6,9 +6,9 @@ use crate::answers::REFUSED;
 use crate::declared::{Declared, declaration_of, declared_with};
 use answer_console::Console;
 use dag_main_files::{Folder, Place, Reading, SystemFolder, files_of, read_input};
-use hint_answers::{Wanted, hints_of};
+use fault_guide::{Evidence, Refusal, hint_text};
+use file_hints::{Wanted, hints_of};
 use log_lines::{read_line, unquoted, whole_lines};
-use refusal_hints::{Evidence, Refusal, hint_text};
 use round_inputs::{Inputs, Listed, inputs_in, list_file};
 use std::alloc::{AllocError, Global};
 use std::env;
@@ -63,6 +63,8 @@ pub(crate) enum Postscript {
     Worker { trusts_owner: bool },
     /// Which files are changed since the last round began.
     Changes,
+    /// The same behind a drawing that is by the files with which it began, and how they are drawn as they are.
+    ChangesDrawn,
 }
 
 impl Postscript {
@@ -627,6 +629,12 @@ fn postscript_of<R: Files<File = File> + Clock + Env + Input + AllocGlobal + Cop
         Postscript::Worker { trusts_owner } => standing_text(rt, dag, trusts_owner, dag),
         Postscript::Changes => match changed_files(rt, dag)? {
             Some(changes) => format!(in alloc; "{changes}\n"),
+            None => Ok(String::new(alloc)),
+        },
+        Postscript::ChangesDrawn => match changed_files(rt, dag)? {
+            Some(changes) => format!(in alloc;
+                "{changes}; dagrun graph --as-is {dag} draws the files as they are\n"
+            ),
             None => Ok(String::new(alloc)),
         },
     }

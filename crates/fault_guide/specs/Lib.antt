@@ -1,1 +1,3 @@
 pub mod Guide
+pub mod Near
+pub mod Told

@@ -1,7 +1,7 @@
 -- The names that may have been meant: of commands, and of macros.
 use Rattle.std.specs.Prelude.{◌≡◌, ◌==◌, ◌&&◌, not, ℕ, List, [], ◌∷◌, ◌++◌, Option, Some, None, map, find, option_and_then, if◌then◌else◌}
 use Rattle.std.specs.Str.{str_to_ascii_lowercase}
-use Rattle.refusal_hints.specs.Near.{IsNearest}
+use Rattle.fault_guide.specs.Near.{IsNearest}
 use Rattle.submit_file.specs.declared.submit.Assignment.{Assignment}
 use Rattle.submit_file.specs.declared.placed.PlacedAssignment.{PlacedAssignment}
 use Rattle.file_hints.specs.Submitted.{is_same_word}

@@ -3,17 +3,25 @@
 #![tactic(auto)]
 
 mod commands;
+mod findings;
 mod hint;
+mod job_outputs;
+mod jobs;
+mod looking;
 mod macros;
 mod meant;
 mod names;
 mod notes;
+mod opened;
 mod outputs;
 mod programs;
+mod scripts;
 mod submit;
+mod told;
 
 pub use commands::dag_notes;
 pub use hint::{Finding, Hint, finding_line};
+pub use looking::{folder_of, look_at_folder, look_at_program};
 pub use macros::{Reference, references};
 pub use meant::{with_meant, with_meant_macros};
 pub use names::{CommandNames, command_names};
@@ -21,3 +29,4 @@ pub use notes::{comment_notes, submit_notes};
 pub use outputs::{Clash, Writer, clashes};
 pub use programs::{ProgramState, folder_hint, program_hint, state_by};
 pub use submit::submit_hints;
+pub use told::{Wanted, hints_of};

@@ -8,7 +8,7 @@ use crate::hint::{Finding, Hint};
 use crate::names::CommandNames;
 use crate::submit::is_word;
 use dag_reader::Text;
-use refusal_hints::nearest;
+use fault_guide::nearest;
 use std::alloc::{AllocError, Global};
 use submit_file::{Assignment, PlacedAssignment};
 

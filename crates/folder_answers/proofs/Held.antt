@@ -31,12 +31,12 @@ module _ (set holds : Files) (held : (path bytes : List ℕ) → set path ≡ So
     warnings_are = is.warnings_are;
   }
 
-  rehearsal-refused : (top : List ℕ) (table : Option (List ℕ)) (fault : RunFault) → ((path : List ℕ) → missing_in fault ≡ Some path → holds path ≡ None)
-      → IsRehearsalFault set top table fault → IsRehearsalFault holds top table fault
-  rehearsal-refused top table fault none (has_no_graph why is) = has_no_graph why (graph-refused set holds held top why none is)
-  rehearsal-refused top table fault none (has_no_table dag why is acyclic bad) = has_no_table dag why (found-dag set holds held top dag is) acyclic bad
-  rehearsal-refused top table fault none (is_too_long always dag order is ordered long) = is_too_long always dag order (found-dag set holds held top dag is) ordered long
-  rehearsal-refused top table fault none rehearsing_had_no_memory = rehearsing_had_no_memory
+  rehearsal-refused : (always_post : Bool) (top : List ℕ) (table : Option (List ℕ)) (limits : Limits) (fault : RunFault) → ((path : List ℕ) → missing_in fault ≡ Some path → holds path ≡ None)
+      → IsRehearsalFault always_post set top table limits fault → IsRehearsalFault always_post holds top table limits fault
+  rehearsal-refused always_post top table limits fault none (has_no_graph why is) = has_no_graph why (graph-refused set holds held top why none is)
+  rehearsal-refused always_post top table limits fault none (has_no_table dag why is acyclic bad) = has_no_table dag why (found-dag set holds held top dag is) acyclic bad
+  rehearsal-refused always_post top table limits fault none (is_too_long dag order entries is ordered has long) = is_too_long dag order entries (found-dag set holds held top dag is) ordered has long
+  rehearsal-refused always_post top table limits fault none rehearsing_had_no_memory = rehearsing_had_no_memory
 
 -- a refusal whose fault stays where files are asked for once more
 pub still-refused : (holds : Files) (top : List ℕ) (files : FileSet) → IsReadFrom holds top files → (fault told : RunFault) → IsCheckFault (bytes_of files) top fault
@@ -49,16 +49,17 @@ pub refused-of-some : (top : List ℕ) (files : FileSet) (fault told : RunFault)
 refused-of-some top files fault told why (still_missing none) = (bytes_of files, held_not_checked fault why)
 refused-of-some top files fault told why asking_had_no_memory = (bytes_of files, held_not_checked Memory checking_had_no_memory)
 
-pub still-not-rehearsed : (holds : Files) (top : List ℕ) (table : Option (List ℕ)) (files : FileSet) → IsReadFrom holds top files → (fault told : RunFault)
-    → IsRehearsalFault (bytes_of files) top table fault → IsStill holds fault told → IsRehearsalRefusalFrom holds top table told
-still-not-rehearsed holds top table files read fault told why (still_missing none) =
-    held_not_rehearsed fault (rehearsal-refused (bytes_of files) holds read.held top table fault none why)
-still-not-rehearsed holds top table files read fault told why asking_had_no_memory = held_not_rehearsed Memory rehearsing_had_no_memory
+pub still-not-rehearsed : (always_post : Bool) (holds : Files) (top : List ℕ) (table : Option (List ℕ)) (limits : Limits) (files : FileSet) → IsReadFrom holds top files → (fault told : RunFault)
+    → IsRehearsalFault always_post (bytes_of files) top table limits fault → IsStill holds fault told → IsRehearsalRefusalFrom always_post holds top table limits told
+still-not-rehearsed always_post holds top table limits files read fault told why (still_missing none) =
+    held_not_rehearsed fault (rehearsal-refused (bytes_of files) holds read.held always_post top table limits fault none why)
+still-not-rehearsed always_post holds top table limits files read fault told why asking_had_no_memory = held_not_rehearsed Memory rehearsing_had_no_memory
 
-pub not-rehearsed-of-some : (top : List ℕ) (table : Option (List ℕ)) (files : FileSet) (fault told : RunFault) → IsRehearsalFault (bytes_of files) top table fault → IsStill (λ _. None) fault told
-    → (holds : Files) × IsRehearsalRefusalFrom holds top table told
-not-rehearsed-of-some top table files fault told why (still_missing none) = (bytes_of files, held_not_rehearsed fault why)
-not-rehearsed-of-some top table files fault told why asking_had_no_memory = (bytes_of files, held_not_rehearsed Memory rehearsing_had_no_memory)
+pub not-rehearsed-of-some : (always_post : Bool) (top : List ℕ) (table : Option (List ℕ)) (limits : Limits) (files : FileSet) (fault told : RunFault)
+    → IsRehearsalFault always_post (bytes_of files) top table limits fault → IsStill (λ _. None) fault told
+    → (holds : Files) × IsRehearsalRefusalFrom always_post holds top table limits told
+not-rehearsed-of-some always_post top table limits files fault told why (still_missing none) = (bytes_of files, held_not_rehearsed fault why)
+not-rehearsed-of-some always_post top table limits files fault told why asking_had_no_memory = (bytes_of files, held_not_rehearsed Memory rehearsing_had_no_memory)
 
 -- a refusal whose fault is confirmed, for some files and for those that are held
 pub by-some : (top : List ℕ) (files : FileSet) → IsReadFrom (bytes_of files) top files → (fault told : RunFault) → IsCheckFault (bytes_of files) top fault → IsConfirmed (λ _. None) fault told

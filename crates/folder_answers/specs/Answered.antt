@@ -61,10 +61,10 @@ IsRehearsalOfSome always_post path table limits text warnings status =
     (files : FileSet) × IsRehearsalOf always_post (bytes_of files) path table limits text warnings status
 
 -- Why it is refused where these files are held: standard input is, or memory ran out; or for what the files and the table say.
-pub data IsRehearsalRefusalFrom (holds : Files) (path : List ℕ) (table : Option (List ℕ)) : RunFault → Type 0 where
-  held_input_not_read : (fault : RunFault) → IsInputFault path fault → IsRehearsalRefusalFrom holds path table fault
-  held_not_rehearsed : (fault : RunFault) → IsRehearsalFault holds path table fault → IsRehearsalRefusalFrom holds path table fault
+pub data IsRehearsalRefusalFrom (always_post : Bool) (holds : Files) (path : List ℕ) (table : Option (List ℕ)) (limits : Limits) : RunFault → Type 0 where
+  held_input_not_read : (fault : RunFault) → IsInputFault path fault → IsRehearsalRefusalFrom always_post holds path table limits fault
+  held_not_rehearsed : (fault : RunFault) → IsRehearsalFault always_post holds path table limits fault → IsRehearsalRefusalFrom always_post holds path table limits fault
 
 -- the same of some files
-abbrev pub IsRehearsalRefusal : (path : List ℕ) → (table : Option (List ℕ)) → RunFault → Type 0
-IsRehearsalRefusal path table fault = (holds : Files) × IsRehearsalRefusalFrom holds path table fault
+abbrev pub IsRehearsalRefusal : (always_post : Bool) → (path : List ℕ) → (table : Option (List ℕ)) → Limits → RunFault → Type 0
+IsRehearsalRefusal always_post path table limits fault = (holds : Files) × IsRehearsalRefusalFrom always_post holds path table limits fault

@@ -104,12 +104,12 @@ pub fn rehearse_here<F: Folder>(
 ) -> Result<Answer, RunFault>
     ensures report { IfOk result (λ answer. IsRehearsalOfSome always_post top.now (option_map (λ b. b.now) table.entry) limits
         (string_bytes answer.text) (string_bytes answer.warnings) answer.status) }
-    ensures refused { IfErr result (IsRehearsalRefusal top.now (option_map (λ b. b.now) table.entry)) }
+    ensures refused { IfErr result (IsRehearsalRefusal always_post top.now (option_map (λ b. b.now) table.entry) limits) }
     // It is that of what the folder holds, and the refusal too.
     ensures held { F.honest folder.now → IfOk result (λ answer. IsRehearsalOf always_post (F.holds folder.now) top.now
         (option_map (λ b. b.now) table.entry) limits (string_bytes answer.text) (string_bytes answer.warnings) answer.status) }
     ensures refused_held { F.honest folder.now
-        → IfErr result (IsRehearsalRefusalFrom (F.holds folder.now) top.now (option_map (λ b. b.now) table.entry)) }
+        → IfErr result (IsRehearsalRefusalFrom always_post (F.holds folder.now) top.now (option_map (λ b. b.now) table.entry) limits) }
 {
     let mut files = files_of(alloc, folder, top, Reading::SplicesAlone)?;
     for _ in 0..MOST_COME {

@@ -206,16 +206,16 @@ module _ (limits : Limits) (plan : Plan) (may : Telling) (past : List Record) (c
   halted-endings after last h = but-newest after last h.keys h.owed h.steps
 
   -- so do those that a fault cut off
-  pub by-fault-endings : (fault : DriveFault) (after : List Record) (last : List Call) → IsHaltedBy limits plan may past call_log fault after last → RecordsEachButNewest past after call_log last
-  by-fault-endings fault after last h = but-newest after last h.keys h.owed h.steps
+  pub by-fault-endings : (fault : DriveFault) (refused after : List Record) (last : List Call) → IsHaltedBy limits plan may past call_log fault refused after last → RecordsEachButNewest past after call_log last
+  by-fault-endings fault refused after last h = but-newest after last h.keys h.owed h.steps
 
 kills-same : (call_log last : List Call) → Kills call_log last → endings_in last ≡ endings_in call_log
 kills-same call_log _ nobody = refl
 kills-same call_log _ (one_killed {later_log = later_log} {key = key} before ran) = kills-same call_log later_log before
 
 -- so do those that were stopped
-pub stopped-endings : (limits : Limits) (plan : Plan) (may : Telling) (past : List Record) (call_log : List Call) (fault : DriveFault) (after : List Record) (last : List Call)
-    → IsStopped limits plan may past call_log fault after last → RecordsEachButNewest past after call_log last
-stopped-endings limits plan may past call_log fault after last s =
-    let h = by-fault-endings limits plan may past call_log fault after s.rest s.halted in
+pub stopped-endings : (limits : Limits) (plan : Plan) (may : Telling) (past : List Record) (call_log : List Call) (fault : DriveFault) (refused after : List Record) (last : List Call)
+    → IsStopped limits plan may past call_log fault refused after last → RecordsEachButNewest past after call_log last
+stopped-endings limits plan may past call_log fault refused after last s =
+    let h = by-fault-endings limits plan may past call_log fault refused after s.rest s.halted in
     record { own = h.own; are = h.are; met = h.met; newest = h.newest; few = h.few; endings = kills-same s.rest last s.kills ∙ h.endings; recorded = h.recorded }

@@ -161,16 +161,16 @@ module _ (limits : Limits) (plan : Plan) (may : Telling) (past : List Record) (c
   halted-hands after last h = to-some after last h.keys h.owed h.steps
 
   -- so do those that a fault cut off
-  pub by-fault-hands : (fault : DriveFault) (after : List Record) (last : List Call) → IsHaltedBy limits plan may past call_log fault after last → SpawnsAllButSome plan past after call_log last
-  by-fault-hands fault after last h = to-some after last h.keys h.owed h.steps
+  pub by-fault-hands : (fault : DriveFault) (refused after : List Record) (last : List Call) → IsHaltedBy limits plan may past call_log fault refused after last → SpawnsAllButSome plan past after call_log last
+  by-fault-hands fault refused after last h = to-some after last h.keys h.owed h.steps
 
 kills-same : (call_log last : List Call) → Kills call_log last → spawned last ≡ spawned call_log
 kills-same call_log _ nobody = refl
 kills-same call_log _ (one_killed {later_log = later_log} {key = key} before ran) = kills-same call_log later_log before
 
 -- so do those that were stopped
-pub stopped : (limits : Limits) (plan : Plan) (may : Telling) (past : List Record) (call_log : List Call) (fault : DriveFault) (after : List Record) (last : List Call)
-    → IsStopped limits plan may past call_log fault after last → SpawnsAllButSome plan past after call_log last
-stopped limits plan may past call_log fault after last s =
-    let h = by-fault-hands limits plan may past call_log fault after s.rest s.halted in
+pub stopped : (limits : Limits) (plan : Plan) (may : Telling) (past : List Record) (call_log : List Call) (fault : DriveFault) (refused after : List Record) (last : List Call)
+    → IsStopped limits plan may past call_log fault refused after last → SpawnsAllButSome plan past after call_log last
+stopped limits plan may past call_log fault refused after last s =
+    let h = by-fault-hands limits plan may past call_log fault refused after s.rest s.halted in
     record { own = h.own; are = kills-same s.rest last s.kills ∙ h.are; rest = h.rest; few = h.few; commands = h.commands }

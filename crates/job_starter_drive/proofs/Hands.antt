@@ -44,10 +44,10 @@ module _ (limits : Limits) (plan : Plan) (may : Telling) (past : List Record) (c
       (begun _ (one_more no_step (spawn_failed child h.is may_be))))
 
   -- memory was refused for its child or its command
-  pub unhanded : (fault : DriveFault) → IsUnspawned fault → starts_child (node_at plan key.node) key.phase ≡ true → IsStoppedAt limits plan fault (At past call_log all owed)
-  unhanded fault is child = subst (λ (l : List Key). IsStoppedAt limits plan fault (At past call_log l owed)) (sym first) (of-unhanded fault is)
+  pub unhanded : (fault : DriveFault) → IsUnspawned fault → starts_child (node_at plan key.node) key.phase ≡ true → IsStoppedAt limits plan fault (At past call_log all owed) []
+  unhanded fault is child = subst (λ (l : List Key). IsStoppedAt limits plan fault (At past call_log l owed) []) (sym first) (of-unhanded fault is)
     where
-      of-unhanded : (f : DriveFault) → IsUnspawned f → IsStoppedAt limits plan f (At past call_log (key ∷ keys) owed)
+      of-unhanded : (f : DriveFault) → IsUnspawned f → IsStoppedAt limits plan f (At past call_log (key ∷ keys) owed) []
       of-unhanded (drives.Manager f) is_one = absurd is_one
       of-unhanded drives.StartMemory is_one = child_refused child
       of-unhanded drives.WaitFault is_one = absurd is_one

@@ -36,7 +36,7 @@ use Rattle.job_starter_drive.specs.Calls.{running}
 use Rattle.job_starter_drive.specs.Drives.{AreInStep}
 use Rattle.job_starter_drive.specs.Moments.{CountsOn}
 use Rattle.job_starter_drive.proofs.Disks.{keeps_on, counts_on}
-use Rattle.job_starter_drive.specs.Causes.{IsOfRun, AreRefused, IsDriveFault, no_memory_for_child, no_ending_logged, no_memory_for_command, no_memory_for_round, records_refused, run_halted}
+use Rattle.job_starter_drive.specs.Causes.{AreRefused, IsDriveFault, no_memory_for_child, no_ending_logged, no_memory_for_command, no_memory_for_round, records_refused, run_halted}
 
 -- an ending of what is outstanding is lawful
 pub end-may-follow : (plan : Plan) (past : List Record) (key : Key) (outcome : Outcome)
@@ -99,18 +99,16 @@ children-start plan (other ∷ keys) key all is = go (is_same key other) refl is
     go false same some rest = rest some
 
 -- why a run is stopped is so as long as the counts stand
-pub fault-on : {D : Type 0} (disks : Ghosts D) (before now later : ℕ) (old manager : Managed D) (fault : DriveFault) → later ≡ now
-    → IsDriveFault disks before now old manager fault → IsDriveFault disks before later old manager fault
-fault-on disks before now later old manager fault same why =
-    subst (λ (count : ℕ). IsDriveFault disks before count old manager fault) (sym same) why
+pub fault-on : {D : Type 0} (disks : Ghosts D) (before now later : ℕ) (old manager : Managed D) (refused : List Record) (fault : DriveFault) → later ≡ now
+    → IsDriveFault disks before now old manager refused fault → IsDriveFault disks before later old manager refused fault
+fault-on disks before now later old manager refused fault same why =
+    subst (λ (count : ℕ). IsDriveFault disks before count old manager refused fault) (sym same) why
 
 -- records are refused for a call that began earlier too
-pub refused-since : {D : Type 0} (disks : Ghosts D) (is_own : Record → Type 0) (old mid manager : Managed D) (fault : ManagerFault)
+pub refused-since : {D : Type 0} (disks : Ghosts D) (refused : List Record) (old mid manager : Managed D) (fault : ManagerFault)
     → KeepsDisk disks old.journal mid.journal → CountsOn old mid
-    → AreRefused disks is_own mid manager fault → AreRefused disks is_own old manager fault
-refused-since disks is_own old mid manager fault keeps counts r = record {
-  entries = r.entries;
-  own = r.own;
+    → AreRefused disks refused mid manager fault → AreRefused disks refused old manager fault
+refused-since disks refused old mid manager fault keeps counts r = record {
   then_was = r.then_was;
   same = r.same;
   disk = keeps_on disks old mid r.then_was keeps r.disk;
@@ -120,16 +118,16 @@ refused-since disks is_own old mid manager fault keeps counts r = record {
 }
 
 -- however the manager stood earlier, where nothing was refused since
-pub fault-before : {D : Type 0} (disks : Ghosts D) (earlier before now : ℕ) (old mid manager : Managed D) (fault : DriveFault) → before ≡ earlier
+pub fault-before : {D : Type 0} (disks : Ghosts D) (earlier before now : ℕ) (old mid manager : Managed D) (refused : List Record) (fault : DriveFault) → before ≡ earlier
     → KeepsDisk disks old.journal mid.journal → CountsOn old mid
-    → IsDriveFault disks before now mid manager fault → IsDriveFault disks earlier now old manager fault
-fault-before disks earlier before now old mid manager _ same keeps counts (no_memory_for_child more) = no_memory_for_child (subst (λ (count : ℕ). IsOneMore count now) same more)
-fault-before disks earlier before now old mid manager _ same keeps counts (no_ending_logged more) = no_ending_logged (subst (λ (count : ℕ). IsOneMore count now) same more)
-fault-before disks earlier before now old mid manager _ same keeps counts (no_memory_for_command still) = no_memory_for_command (still ∙ same)
-fault-before disks earlier before now old mid manager _ same keeps counts (no_memory_for_round still) = no_memory_for_round (still ∙ same)
-fault-before disks earlier before now old mid manager _ same keeps counts (run_halted still) = run_halted (still ∙ same)
-fault-before disks earlier before now old mid manager _ same keeps counts (records_refused {fault = fault} still refused) =
-    records_refused (still ∙ same) (refused-since disks IsOfRun old mid manager fault keeps counts refused)
+    → IsDriveFault disks before now mid manager refused fault → IsDriveFault disks earlier now old manager refused fault
+fault-before disks earlier before now old mid manager _ _ same keeps counts (no_memory_for_child more) = no_memory_for_child (subst (λ (count : ℕ). IsOneMore count now) same more)
+fault-before disks earlier before now old mid manager _ _ same keeps counts (no_ending_logged more) = no_ending_logged (subst (λ (count : ℕ). IsOneMore count now) same more)
+fault-before disks earlier before now old mid manager _ _ same keeps counts (no_memory_for_command still) = no_memory_for_command (still ∙ same)
+fault-before disks earlier before now old mid manager _ _ same keeps counts (no_memory_for_round still) = no_memory_for_round (still ∙ same)
+fault-before disks earlier before now old mid manager _ _ same keeps counts (run_halted still) = run_halted (still ∙ same)
+fault-before disks earlier before now old mid manager _ _ same keeps counts (records_refused {refused = refused} {fault = fault} still why) =
+    records_refused (still ∙ same) (refused-since disks refused old mid manager fault keeps counts why)
 
 pub open-begun : (past : List Record) → is_begun past ≡ true → is_over past ≡ false → is_open past ≡ true
 open-begun [] begun over = absurd (false≢true begun)

@@ -1,6 +1,5 @@
 -- Stretches of a run, one behind another.
 use Rattle.std.proofs.Common.{inl, inr, arith, ◌≡◌, ℕ, ◌≤◌, ◌<◌, true, false, Bool, List, [], ◌∷◌, length, Option, Some, None, refl, sym, ap, ◌∙◌, subst}
-use Rattle.std.specs.List.{All}
 use Rattle.std.proofs.lemmas.Bool.{false≢true}
 use Rattle.event_journal_log.specs.declared.disk.Disk.{Ghosts}
 use Rattle.node_machine.specs.declared.Key.{Key}
@@ -22,7 +21,7 @@ use Rattle.job_starter_drive.specs.declared.Call.{Call}
 use Rattle.job_starter_drive.specs.declared.driving.DriveFault.{DriveFault}
 use Rattle.job_starter_drive.specs.declared.driving.DriveFault.TheVariants as drives
 use Rattle.job_starter_drive.specs.Calls.{AllowsNoMore, AsksForHalt, Telling}
-use Rattle.job_starter_drive.specs.Causes.{IsOfRun, IsDriveFault, records_refused}
+use Rattle.job_starter_drive.specs.Causes.{IsDriveFault, records_refused}
 use Rattle.job_starter_drive.specs.Drives.{most_at_once, Standing, At, at_rest, drive_records, calls_of, limits_of, IsStep, ends_recorded, Goes, no_step, one_more, IsStoppedAt, end_refused}
 use Rattle.job_starter_drive.specs.Moments.{IsOlderPart, IsMore, MayHold, MayStand, IsMomentFrom, IsLastFrom, AtAnyMoment, StaysAcknowledged, CountsOn}
 use Rattle.job_starter_drive.proofs.CallImages.{ReadsBy}
@@ -86,6 +85,7 @@ module _ {D : Type 0} (disks : Ghosts D) where
       keys = second.keys;
       owed = second.owed;
       steps = goes-then limits plan may may' first.allows_no_more from via (At (past_of new) last second.keys second.owed) first.steps second.steps;
+      refused = second.refused;
       stop = second.stop;
       any_moment = λ h header was.
           moments.joined disks (disk_of old) (disk_of mid) (disk_of new) (IsMomentFrom limits plan may from (Some fault) (past_of new) last header)
@@ -103,7 +103,7 @@ module _ {D : Type 0} (disks : Ghosts D) where
           (λ later h header was. later (first.disk.keeps h) header (first.acknowledged h header was)) second.acknowledged;
       disk = keeps_on disks old mid new first.disk second.disk;
       later = (let later = second.later in let same = first.unrefused in omega (arith, later, same));
-      refused = fault-before disks before between now old mid new fault first.unrefused first.disk first.counts second.refused;
+      cause = fault-before disks before between now old mid new second.refused fault first.unrefused first.disk first.counts second.cause;
       allows_no_more = allows-then may may' may'' first.allows_no_more second.allows_no_more;
     }
 
@@ -159,14 +159,15 @@ module _ {D : Type 0} (disks : Ghosts D) where
 
     -- a fault by which nothing is written
     pub cut-still : (keys : List Key) (owed : List (Key × Outcome)) (last : List Call) (fault : DriveFault) → Goes limits plan may from (At (past_of manager) last keys owed)
-        → IsStoppedAt limits plan fault (At (past_of manager) last keys owed) → before ≤ now → IsDriveFault disks before now manager manager fault
+        → IsStoppedAt limits plan fault (At (past_of manager) last keys owed) [] → before ≤ now → IsDriveFault disks before now manager manager [] fault
         → Cut limits plan may may' before now manager manager from last fault
-    cut-still keys owed last fault steps stop later refused = record {
+    cut-still keys owed last fault steps stop later cause = record {
       plan_is = plan_is;
       limits_are = limits_are;
       keys = keys;
       owed = owed;
       steps = steps;
+      refused = [];
       stop = stop;
       any_moment = λ h header was.
           still disks only_now manager (disk_of manager) header (IsMomentFrom limits plan may from (Some fault) (past_of manager) last header) refl h was
@@ -178,7 +179,7 @@ module _ {D : Type 0} (disks : Ghosts D) where
       acknowledged = inr (λ h header was. was);
       disk = keeps_still disks manager;
       later = later;
-      refused = refused;
+      cause = cause;
       allows_no_more = allows_no_more;
     }
 
@@ -226,16 +227,17 @@ module _ {D : Type 0} (disks : Ghosts D) where
 
     -- it was refused
     pub cut-recorded : (counts_now : (disk : D) (t : ℕ) (c : List ℕ) → disks.honest disk → t ≤ disks.moment disk → disks.may_leave disk c → disks.left_since disk t c)
-        → (entries : List Record) (fault : ManagerFault) → IsStoppedAt limits plan (drives.Manager fault) from → past_of new ≡ past_of old
-        → length entries ≤ most_at_once → drive_records to ≡ added (past_of old) entries → All IsOfRun entries → may_follow_all plan (past_of old) entries ≡ true
+        → (entries : List Record) (fault : ManagerFault) → IsStoppedAt limits plan (drives.Manager fault) from entries → past_of new ≡ past_of old
+        → length entries ≤ most_at_once → drive_records to ≡ added (past_of old) entries → may_follow_all plan (past_of old) entries ≡ true
         → IsUnwritten disks entries old.journal new.journal fault → Cut limits plan may may count count old new from call_log (drives.Manager fault)
-    cut-recorded counts_now entries fault stop kept few is own follows why = record {
+    cut-recorded counts_now entries fault stop kept few is follows why = record {
       plan_is = plan_is;
       limits_are = limits_are;
       keys = keys;
       owed = owed;
       steps = subst (λ (l : List Record). Goes limits plan may from (At l call_log keys owed)) (sym kept) no_step;
-      stop = subst (λ (l : List Record). IsStoppedAt limits plan (drives.Manager fault) (At l call_log keys owed)) (sym kept) stop;
+      refused = entries;
+      stop = subst (λ (l : List Record). IsStoppedAt limits plan (drives.Manager fault) (At l call_log keys owed) entries) (sym kept) stop;
       any_moment = λ h header was.
           moments.weaker disks (disk_of old) (disk_of new) (ReadsBy (Some (drives.Manager fault)) header (past_of old) (drive_records to))
           (IsMomentFrom limits plan may from (Some (drives.Manager fault)) (past_of new) call_log header)
@@ -248,9 +250,7 @@ module _ {D : Type 0} (disks : Ghosts D) where
       acknowledged = refused_stays disks only_now old new entries fault kept why;
       disk = disk;
       later = omega arith;
-      refused = records_refused refl (record {
-        entries = entries;
-        own = own;
+      cause = records_refused refl (record {
         then_was = old;
         same = sym kept;
         disk = keeps_still disks old;
@@ -290,6 +290,6 @@ settle-step limits plan may past call_log [] some = absurd (omega (arith, some))
 settle-step limits plan may past call_log (end ∷ owed) some = ends_recorded
 
 pub settle-stop : (limits : Limits) (plan : Plan) (fault : ManagerFault) (past : List Record) (call_log : List Call) (owed : List (Key × Outcome)) → 0 < length owed
-    → IsStoppedAt limits plan (drives.Manager fault) (At past call_log [] owed)
+    → IsStoppedAt limits plan (drives.Manager fault) (At past call_log [] owed) (up_to_abort plan past (ends_of owed))
 settle-stop limits plan fault past call_log [] some = absurd (omega (arith, some))
 settle-stop limits plan fault past call_log (end ∷ owed) some = end_refused

@@ -1,8 +1,7 @@
 -- What launches and endings make of a run's records.
 use Rattle.std.proofs.Common.{arith, ◌≡◌, ◌==◌, ◌<◌, ◌≤◌, ◌+◌, ◌++◌, ℕ, zero, suc, Bool, true, false, not, ◌&&◌, eqb-true, List, [], ◌∷◌, Some, None, length, refl, sym, ap, ◌∙◌, subst, append_assoc, if◌then◌else◌}
-use Rattle.std.specs.List.{All, list_all}
+use Rattle.std.specs.List.{list_all}
 use Rattle.std.specs.Prelude.{is_some}
-use Rattle.std.proofs.lemmas.List.Elements.{All-nil, All-cons}
 use Rattle.std.proofs.lemmas.Bool.{and_parts, and_from, not-true, false≢true}
 use Rattle.node_machine.specs.declared.Key.{Key}
 use Rattle.node_machine.specs.declared.Outcome.{Outcome}
@@ -13,7 +12,7 @@ use Rattle.node_machine.specs.declared.Record.{Record}
 use Rattle.node_machine.specs.declared.Record.TheVariants.{End}
 use Rattle.sched_core.specs.Run.{history, setting_is_met, has_abort_value, is_open, is_lawful, is_among, outstanding, without, is_aborted, may_follow}
 use Rattle.sched_core.specs.Bound.{records_left}
-use Rattle.sched_core.specs.Ahead.{launch_of, launched, launches, AreChosen, may_launch_all, may_follow_all, added, up_to_abort, fitting, ends_of, ended_in}
+use Rattle.sched_core.specs.Ahead.{launch_of, launched, AreChosen, may_launch_all, may_follow_all, added, up_to_abort, fitting, ends_of, ended_in}
 use Rattle.sched_core.specs.Commands.{is_launch}
 use Rattle.sched_core.specs.Looks.{stops}
 use Rattle.sched_core.proofs.Alone.{alone, among-ordinary}
@@ -21,7 +20,6 @@ use Rattle.sched_core.proofs.Best.{chosen-follows}
 use Rattle.sched_core.proofs.Bounds.{launch-lowers, end-lowers}
 use Rattle.sched_core.proofs.Sweeps.{all_below-not}
 use Rattle.sched_core.proofs.Added.{up-some}
-use Rattle.job_starter_drive.specs.Causes.{IsOfRun}
 use Rattle.job_starter_drive.specs.Drives.{without_all, MayEndAll, IsRoundOf, IsNearerEnd, AbortsAtLast, is_aborted_between}
 use Rattle.job_starter_drive.specs.Moments.{IsOlderPart}
 use Rattle.job_starter_drive.proofs.Steps.{end-may-follow}
@@ -82,19 +80,6 @@ launched-older past keys = let more = launched-onto past keys in (more.0, more.1
 
 pub added-older : (past entries : List Record) → IsOlderPart past (added past entries)
 added-older past entries = let more = added-onto past entries in (more.0, more.1)
-
-pub launches-own : (past : List Record) (keys : List Key) → All IsOfRun (launches past keys)
-launches-own past [] = All-nil IsOfRun
-launches-own past (key ∷ keys) = All-cons IsOfRun (launch_of past key) (launches (launch_of past key ∷ past) keys) tt (launches-own (launch_of past key ∷ past) keys)
-
-pub ends-own : (plan : Plan) (past : List Record) (ends : List (Key × Outcome)) → All IsOfRun (up_to_abort plan past (ends_of ends))
-ends-own plan past [] = All-nil IsOfRun
-ends-own plan past (end ∷ ends) = go (stops plan past (End end.0 end.1)) (ends-own plan (End end.0 end.1 ∷ past) ends)
-  where
-    go : (b : Bool) → All IsOfRun (up_to_abort plan (End end.0 end.1 ∷ past) (ends_of ends))
-        → All IsOfRun (if b then End end.0 end.1 ∷ [] else End end.0 end.1 ∷ up_to_abort plan (End end.0 end.1 ∷ past) (ends_of ends))
-    go true rest = All-cons IsOfRun (End end.0 end.1) [] tt (All-nil IsOfRun)
-    go false rest = All-cons IsOfRun (End end.0 end.1) (up_to_abort plan (End end.0 end.1 ∷ past) (ends_of ends)) tt rest
 
 -- an ending that did not abort the run takes its phase away, one that did takes all
 pub end-kept : (plan : Plan) (past : List Record) (key : Key) (outcome : Outcome) → stops plan past (End key outcome) ≡ false

@@ -17,7 +17,7 @@ use Rattle.node_machine.specs.declared.Record.{Record}
 use Rattle.node_machine.specs.declared.Record.TheVariants.{End}
 use Rattle.sched_core.specs.Run.{outstanding, is_among, is_nothing, is_aborted, is_open, is_lawful, without}
 use Rattle.sched_core.specs.Bound.{records_left}
-use Rattle.sched_core.specs.Ahead.{launched, AreChosen, NothingToStart, added, up_to_abort, ends_of, ended_in}
+use Rattle.sched_core.specs.Ahead.{launched, launches, AreChosen, NothingToStart, added, up_to_abort, ends_of, ended_in}
 use Rattle.sched_core.specs.Commands.{facts_in}
 use Rattle.sched_core.specs.Looks.{stops}
 use Rattle.recovery_manager.specs.Managed.{Managed}
@@ -165,25 +165,26 @@ abbrev pub final_verdict : Choice → Option ℕ
 final_verdict (choices.Finish verdict) = Some verdict
 final_verdict _ = None
 
--- Where each fault stops a run. Memory was refused for a child, or for its command: it and those behind it in its round are launched
--- and not handed over. Memory was refused for the list of a round, or, as the call began, for that of the endings that will be owed:
--- nothing is launched or waited for. Where no ending was reported, nothing is launched and some phase is outstanding. The manager
--- refused to record a round, or what is owed. A halt was seen, and no phase is outstanding.
-pub data IsStoppedAt (limits : Limits) (plan : Plan) : DriveFault → Standing → Type 0 where
+-- Where each fault stops a run, and the records that the manager was handed there and refused, the oldest first. Memory was refused for a
+-- child, or for its command: it and those after it in its round are launched and not handed over. Memory was refused for the list of a round,
+-- or, as the call began, for that of the endings that will be owed: nothing is launched or waited for. Where no ending was reported, nothing
+-- is launched and some phase is outstanding. A halt was seen, and no phase is outstanding. In all of these the manager refused no record.
+-- Or it refused the launches of a round, or the ends that are owed, up to the first that aborts the run.
+pub data IsStoppedAt (limits : Limits) (plan : Plan) : DriveFault → Standing → List Record → Type 0 where
   child_refused : {past : List Record} {call_log : List Call} {key : Key} {keys : List Key} {owed : List (Key × Outcome)}
-      → IsTrue (starts_child (node_at plan key.node) key.phase) → IsStoppedAt limits plan drives.StartMemory (At past call_log (key ∷ keys) owed)
+      → IsTrue (starts_child (node_at plan key.node) key.phase) → IsStoppedAt limits plan drives.StartMemory (At past call_log (key ∷ keys) owed) []
   command_refused : {past : List Record} {call_log : List Call} {key : Key} {keys : List Key} {owed : List (Key × Outcome)}
-      → IsTrue (starts_child (node_at plan key.node) key.phase) → IsStoppedAt limits plan drives.Memory (At past call_log (key ∷ keys) owed)
-  list_refused : {past : List Record} {call_log : List Call} → IsStoppedAt limits plan drives.Memory (At past call_log [] [])
-  round_refused : {past : List Record} {call_log : List Call} → IsStoppedAt limits plan (drives.Manager faults.Memory) (At past call_log [] [])
+      → IsTrue (starts_child (node_at plan key.node) key.phase) → IsStoppedAt limits plan drives.Memory (At past call_log (key ∷ keys) owed) []
+  list_refused : {past : List Record} {call_log : List Call} → IsStoppedAt limits plan drives.Memory (At past call_log [] []) []
+  round_refused : {past : List Record} {call_log : List Call} → IsStoppedAt limits plan (drives.Manager faults.Memory) (At past call_log [] []) []
   launch_refused : {past : List Record} {call_log : List Call} {keys : List Key} {fault : ManagerFault} → IsRoundOf limits plan past keys
-      → IsStoppedAt limits plan (drives.Manager fault) (At past call_log [] [])
+      → IsStoppedAt limits plan (drives.Manager fault) (At past call_log [] []) (launches past keys)
   end_refused : {past : List Record} {call_log : List Call} {end : Key × Outcome} {owed : List (Key × Outcome)} {fault : ManagerFault}
-      → IsStoppedAt limits plan (drives.Manager fault) (At past call_log [] (end ∷ owed))
+      → IsStoppedAt limits plan (drives.Manager fault) (At past call_log [] (end ∷ owed)) (up_to_abort plan past (ends_of (end ∷ owed)))
   none_told : {past : List Record} {call_log : List Call} → IsHeld limits plan past call_log → IsFalse (is_nothing (outstanding plan past))
-      → IsStoppedAt limits plan drives.WaitFault (At past call_log [] [])
+      → IsStoppedAt limits plan drives.WaitFault (At past call_log [] []) []
   halted : {past : List Record} {call_log : List Call} → IsTrue (is_halt_seen call_log) → IsTrue (is_nothing (outstanding plan past))
-      → IsStoppedAt limits plan drives.Halted (At past call_log [] [])
+      → IsStoppedAt limits plan drives.Halted (At past call_log [] []) []
 
 -- children were to be started, and a halt may have been seen; none ended and none was killed
 pub data Starts (call_log : List Call) : List Call → Type 0 where
@@ -228,15 +229,15 @@ pub record IsTurn (plan : Plan) (past after : List Record) (last : List Call) : 
   pub empty : IsTrue (is_aborted_between plan past after) → outstanding plan after ≡ []
   pub stays : IsTrue (is_aborted plan past) → IsTrue (is_aborted plan after)
 
--- behind a fault: any number of steps, to where that fault stops a run
-pub record IsHaltedBy (limits : Limits) (plan : Plan) (may : Telling) (past : List Record) (call_log : List Call) (fault : DriveFault) (after : List Record) (last : List Call) : Type 0 where
+-- After a fault: any number of steps, to where that fault stops a run. The manager was handed these records there and refused them.
+pub record IsHaltedBy (limits : Limits) (plan : Plan) (may : Telling) (past : List Record) (call_log : List Call) (fault : DriveFault) (refused after : List Record) (last : List Call) : Type 0 where
   pub keys : List Key
   pub owed : List (Key × Outcome)
   pub steps : Goes limits plan may (at_rest past call_log) (At after last keys owed)
-  pub stop : IsStoppedAt limits plan fault (At after last keys owed)
+  pub stop : IsStoppedAt limits plan fault (At after last keys owed) refused
 
--- behind a fault: the same, and all children that still ran are killed
-pub record IsStopped (limits : Limits) (plan : Plan) (may : Telling) (past : List Record) (call_log : List Call) (fault : DriveFault) (after : List Record) (last : List Call) : Type 0 where
+-- after a fault: the same, and all children that still ran are killed
+pub record IsStopped (limits : Limits) (plan : Plan) (may : Telling) (past : List Record) (call_log : List Call) (fault : DriveFault) (refused after : List Record) (last : List Call) : Type 0 where
   pub rest : List Call
-  pub halted : IsHaltedBy limits plan may past call_log fault after rest
+  pub halted : IsHaltedBy limits plan may past call_log fault refused after rest
   pub kills : Kills rest last

@@ -3,6 +3,7 @@ use Rattle.std.specs.Prelude.{◌≡◌, ℕ, ◌≤◌, List, Some, None}
 use Rattle.event_journal_log.specs.declared.disk.Disk.{Ghosts}
 use Rattle.node_machine.specs.declared.Key.{Key}
 use Rattle.node_machine.specs.declared.Outcome.{Outcome}
+use Rattle.node_machine.specs.declared.Record.{Record}
 use Rattle.throttles.specs.declared.Limits.{Limits}
 use Rattle.run_plan.specs.Plan.{Plan}
 use Rattle.recovery_manager.specs.Managed.{Managed, plan_of, past_of, KeepsDisk}
@@ -27,8 +28,9 @@ pub record IsStretch {D : Type 0} (disks : Ghosts D) (limits : Limits) (plan : P
   pub unrefused : now ≡ before
   pub allows_no_more : AllowsNoMore may may_now
 
--- A stretch that a fault cut short: steps, to where that fault stops a run. A crash at any moment leaves what was recorded until some
--- moment of it, or, where the disk refused records, perhaps those too; behind the call none of its records is missing.
+-- A stretch that a fault cut short: steps, to where that fault stops a run, and the cause; the records that the manager was handed there are
+-- those that it refused. A crash at any moment leaves what was recorded until some moment of it, or, where the disk refused records, perhaps
+-- those too; after the call none of its records is missing.
 pub record IsCutShort {D : Type 0} (disks : Ghosts D) (limits : Limits) (plan : Plan) (may may_now : Telling) (before now : ℕ) (old new : Managed D) (from : Standing) (last : List Call)
     (fault : DriveFault) : Type 0 where
   pub plan_is : plan_of new ≡ plan
@@ -36,11 +38,12 @@ pub record IsCutShort {D : Type 0} (disks : Ghosts D) (limits : Limits) (plan : 
   pub keys : List Key
   pub owed : List (Key × Outcome)
   pub steps : Goes limits plan may from (At (past_of new) last keys owed)
-  pub stop : IsStoppedAt limits plan fault (At (past_of new) last keys owed)
+  pub refused : List Record
+  pub stop : IsStoppedAt limits plan fault (At (past_of new) last keys owed) refused
   pub any_moment : AtAnyMoment disks old new (IsMomentFrom limits plan may from (Some fault) (past_of new) last)
   pub left : AtTheEnd disks old new (IsLastFrom limits plan may from (Some fault) (past_of new) last)
   pub acknowledged : UnlessDiskFault (Some fault) (StaysAcknowledged disks old new)
   pub disk : KeepsDisk disks old.journal new.journal
   pub later : before ≤ now
-  pub refused : IsDriveFault disks before now old new fault
+  pub cause : IsDriveFault disks before now old new refused fault
   pub allows_no_more : AllowsNoMore may may_now

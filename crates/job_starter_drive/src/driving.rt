@@ -8,8 +8,8 @@ ghost use Rattle.sched_core.specs.declared.Choice.TheVariants.{Start};
 ghost use Rattle.sched_core.specs.Choices.{IsChoice};
 ghost use Rattle.recovery_manager.specs.Managed.{plan_of, past_of, KeepsDisk};
 ghost use Rattle.job_starter_drive.specs.Calls.{running, AllowsNoMore};
-ghost use Rattle.job_starter_drive.specs.Drives.{limits_of, most_at_once, At, at_rest, Goes, AreInStep, AreUnderWay, IsHeld, IsNearerEnd, IsTurn, final_verdict, Drives, Kills, IsStopped};
-ghost use Rattle.job_starter_drive.specs.Causes.{IsDriveFault};
+ghost use Rattle.job_starter_drive.specs.Drives.{limits_of, most_at_once, At, at_rest, Goes, AreInStep, AreUnderWay, IsHeld, IsNearerEnd, IsTurn, final_verdict, Drives, Kills};
+ghost use Rattle.job_starter_drive.specs.Causes.{IsStoppedFor};
 ghost use Rattle.job_starter_drive.specs.Moments.{fault_in, IsMomentOfRun, IsLastMoment, AtAnyMoment, AtTheEnd, UnlessDiskFault, StaysAcknowledged, CountsOn};
 ghost use Rattle.job_starter_drive.specs.Stretches.{IsStretch, IsCutShort};
 
@@ -327,16 +327,15 @@ pub fn drive<D: Disk + Drop, S: Starter>(
     // Without abort the run shows the fates that the recursion over parents reads from its endings.
     ensures fates { IfOk result (λ end. IsFalse end.aborted → AreFates (plan_of manager.old)
         (table_of (past_of manager.new)) (shown (plan_of manager.old) (past_of manager.new))) }
-    // Behind a fault: steps, what this fault leaves of one, and kills.
-    ensures stopped { IfErr result (λ fault. IsStopped (limits_of manager.old) (plan_of manager.old) (S.may_return starter.old)
-        (past_of manager.old) (S.call_log starter.old) fault (past_of manager.new) (S.call_log starter.new)) }
+    // After a fault: steps to where this fault stops a run, and kills; and the cause, the starter's refusal or the manager's, who
+    // refused the records that it was handed there.
+    ensures stopped { IfErr result (IsStoppedFor D.Disk (S.faults starter.old) (S.faults starter.new) (S.may_return starter.old)
+        manager.old manager.new (S.call_log starter.old) (S.call_log starter.new)) }
     // No child runs, however the call returns.
     ensures none_left { running (S.call_log starter.new) ≡ [] }
     // The starter's refusal alone is counted, once.
     ensures unrefused { OnOk result (S.faults starter.new ≡ S.faults starter.old) }
     ensures later { S.faults starter.old ≤ S.faults starter.new }
-    ensures refused { IfErr result (IsDriveFault D.Disk
-        (S.faults starter.old) (S.faults starter.new) manager.old manager.new) }
     // On an honest disk each image that a crash may leave meanwhile has what was recorded until some
     // moment of the call; where the disk refused a record, perhaps that one too.
     ensures any_moment { AtAnyMoment D.Disk

@@ -37,11 +37,11 @@ pub fn hand_over<S: Starter>()
         (call_log : List Call) (after : List Record) (last : List Call) →
         IsHalted limits plan (S.may_return starter) past call_log after last → SpawnsAllButSome plan past after call_log last }
     ensures halted_by { (limits : Limits) (plan : Plan) (starter : S) (past : List Record)
-        (call_log : List Call) (fault : DriveFault) (after : List Record) (last : List Call) →
-        IsHaltedBy limits plan (S.may_return starter) past call_log fault after last → SpawnsAllButSome plan past after call_log last }
+        (call_log : List Call) (fault : DriveFault) (refused after : List Record) (last : List Call) →
+        IsHaltedBy limits plan (S.may_return starter) past call_log fault refused after last → SpawnsAllButSome plan past after call_log last }
     ensures stopped { (limits : Limits) (plan : Plan) (starter : S) (past : List Record)
-        (call_log : List Call) (fault : DriveFault) (after : List Record) (last : List Call) →
-        IsStopped limits plan (S.may_return starter) past call_log fault after last → SpawnsAllButSome plan past after call_log last }
+        (call_log : List Call) (fault : DriveFault) (refused after : List Record) (last : List Call) →
+        IsStopped limits plan (S.may_return starter) past call_log fault refused after last → SpawnsAllButSome plan past after call_log last }
 {}
 
 /// What `drive` and `launch_round` ensure of their steps makes them record each ending that a child was reported to have, in the
@@ -55,11 +55,11 @@ pub fn record_endings<S: Starter>()
         (call_log : List Call) (after : List Record) (last : List Call) →
         IsHalted limits plan (S.may_return starter) past call_log after last → RecordsEachButNewest past after call_log last }
     ensures halted_by { (limits : Limits) (plan : Plan) (starter : S) (past : List Record)
-        (call_log : List Call) (fault : DriveFault) (after : List Record) (last : List Call) →
-        IsHaltedBy limits plan (S.may_return starter) past call_log fault after last → RecordsEachButNewest past after call_log last }
+        (call_log : List Call) (fault : DriveFault) (refused after : List Record) (last : List Call) →
+        IsHaltedBy limits plan (S.may_return starter) past call_log fault refused after last → RecordsEachButNewest past after call_log last }
     ensures stopped { (limits : Limits) (plan : Plan) (starter : S) (past : List Record)
-        (call_log : List Call) (fault : DriveFault) (after : List Record) (last : List Call) →
-        IsStopped limits plan (S.may_return starter) past call_log fault after last → RecordsEachButNewest past after call_log last }
+        (call_log : List Call) (fault : DriveFault) (refused after : List Record) (last : List Call) →
+        IsStopped limits plan (S.may_return starter) past call_log fault refused after last → RecordsEachButNewest past after call_log last }
 {}
 
 /// A run that a manager began or went on with stopped at some moment of `launch_round` or `drive`,

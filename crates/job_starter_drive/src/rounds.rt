@@ -46,7 +46,7 @@ fn hand_over<D: Disk + Drop, S: Starter>(
     ensures unrefused { OnOk result (S.faults starter.new ≡ S.faults starter.old) }
     ensures later { S.faults starter.old ≤ S.faults starter.new }
     ensures refused { (old : Managed D) → IfErr result (IsDriveFault D.Disk
-        (S.faults starter.old) (S.faults starter.new) old manager.now) }
+        (S.faults starter.old) (S.faults starter.new) old manager.now []) }
     ensures unhanded { IfErr result IsUnspawned }
     ensures may { AllowsNoMore (S.may_return starter.old) (S.may_return starter.new) }
 {

@@ -1,9 +1,10 @@
 -- What `report` answers.
-use Rattle.std.specs.Prelude.{◌≡◌, ◌&&◌, not, ℕ, Bool, List, Option, Some, is_some, IsTrue}
+use Rattle.std.specs.Prelude.{◌≡◌, ◌&&◌, not, ℕ, Bool, List, Option, Some, None, is_some, IsTrue, if◌then◌else◌}
 use Rattle.splices_flat.specs.Opening.{Files}
 use Rattle.node_machine.specs.declared.Record.{Record}
 use Rattle.run_plan.specs.Plan.{Plan}
-use Rattle.sched_core.specs.Run.{chronological, is_lawful, is_over}
+use Rattle.hex.specs.Hex.{encode_lower}
+use Rattle.sched_core.specs.Run.{chronological, is_aborted, is_lawful, is_over}
 use Rattle.dag_main_check.specs.Planned.{IsPlanWith}
 use Rattle.dag_main_check.specs.Warnings.{warning_lines}
 use Rattle.dag_main_files.specs.Opened.{IsOfFiles, IsOfSome}
@@ -15,8 +16,13 @@ use Rattle.report_page.specs.declared.values.Page.{Page}
 use Rattle.report_page.specs.Pages.{IsPageText}
 use Rattle.report_answers.specs.Rows.{AreRows, round_state_of}
 
+-- `audit` confirms a round that has ended where it was not aborted: its journal is that of a finished run, and each node came to its fate.
+abbrev pub confirmed_by : Plan → List Record → Option Bool
+confirmed_by plan past = if is_over past then Some (not (is_aborted plan past)) else None
+
 -- A page is that of a run of the DAG file of a path: it has the path, the version, how the round is, a row for each node, what `why` reports of all
--- nodes in error, and the warnings of the files. It loads itself anew where that is asked for and the round has not ended.
+-- nodes in error, the warnings of the files, their digest, and where it has ended whether `audit` confirms it. It loads itself anew where that is asked for and the
+-- round has not ended.
 pub record IsPageOfRun (plan : Plan) (past : List Record) (path version : List ℕ) (begun reloads : Bool) (page : Page) : Type 0 where
   pub path_is : page.path.now ≡ path
   pub version_is : page.version.now ≡ version
@@ -26,6 +32,8 @@ pub record IsPageOfRun (plan : Plan) (past : List Record) (path version : List �
   pub why : HasAllBy ByCause plan past page.why.now
   pub warnings_are : page.warnings.now ≡ warning_lines plan.graph.dag.warnings
   pub reloads_is : page.reloads ≡ (reloads && not (is_over past))
+  pub digest_is : page.digest.now ≡ encode_lower plan.digest
+  pub confirmed_is : page.confirmed ≡ confirmed_by plan past
 
 -- The answer: the text of such a page, the warnings of the files, and status 0.
 pub record IsPageAnswer (plan : Plan) (past : List Record) (path version : List ℕ) (begun reloads : Bool) (text warnings : List ℕ) (status : ℕ) : Type 0 where

@@ -5,7 +5,8 @@ ghost use Rattle.sched_core.specs.Run.{is_over};
 ghost use Rattle.dag_main_check.specs.Warnings.{warning_lines};
 ghost use Rattle.failure_report.specs.declared.why.Grouping.TheVariants.{ByCause};
 ghost use Rattle.failure_report.specs.Grouped.{HasAllBy};
-ghost use Rattle.report_answers.specs.Answered.{IsPageAnswer};
+ghost use Rattle.hex.specs.Hex.{encode_lower};
+ghost use Rattle.report_answers.specs.Answered.{confirmed_by, IsPageAnswer};
 
 use crate::bars::{bars_of, length_of};
 use crate::jobs::{first_time, seen_in};
@@ -64,6 +65,24 @@ fn loads_anew(core: &Core<'_>, wanted: bool) -> bool
     wanted && !core.is_over()
 }
 
+/// Whether `audit` confirms a run that is over.
+fn confirmed_by(core: &Core<'_>) -> Option<bool>
+    ensures { result ≡ confirmed_by core.now.plan core.now.past }
+{
+    if core.is_over() {
+        Some(!core.aborted())
+    } else {
+        None
+    }
+}
+
+/// The digest of the files of a run, in hexadecimal digits.
+fn digest_of(alloc: Global, core: &Core<'_>) -> Result<String, AllocError>
+    ensures { IfOk result (λ text. string_bytes text ≡ encode_lower core.now.plan.digest) }
+{
+    hex::encode(alloc, *core.plan().digest())
+}
+
 /// The page of a run, of which this is the log.
 ///
 /// # Errors
@@ -86,6 +105,7 @@ pub(crate) fn page_of<R: Files<File = File> + AllocGlobal>(
     let phases = bars_of(alloc, &runs)?;
     let why = failures_of(rt, core, place, log)?;
     let warnings = warnings_of(alloc, core)?;
+    let digest = digest_of(alloc, core)?;
     let text = page_text(
         alloc,
         &Page {
@@ -98,6 +118,8 @@ pub(crate) fn page_of<R: Files<File = File> + AllocGlobal>(
             rows: rows.as_slice(),
             phases: phases.as_slice(),
             why: why.as_str(),
+            digest: digest.as_str(),
+            confirmed: confirmed_by(core),
             reloads: loads_anew(core, wanted.reloads),
         },
     )?;

@@ -1,5 +1,5 @@
 -- The text of a page.
-use Rattle.std.specs.Prelude.{◌≡◌, ℕ, ◌==◌, Bool, List, [], ◌++◌, length, codes, if◌then◌else◌}
+use Rattle.std.specs.Prelude.{◌≡◌, ℕ, ◌==◌, Bool, List, [], ◌++◌, length, codes, Option, Some, None, if◌then◌else◌}
 use Rattle.report_page.specs.declared.values.PhaseBar.{PhaseBar}
 use Rattle.report_page.specs.declared.values.Page.{Page}
 use Rattle.report_page.specs.declared.shapes.Drawing.{Drawing}
@@ -41,16 +41,31 @@ unfoldable pub nodes_text : Page → (graph timeline : Drawing) → List ℕ
 nodes_text page graph timeline =
     codes "<h2>Graph</h2>\n" ++ (drawing_text (codes "graph") graph ++ (codes "<h2>Timeline</h2>\n" ++ (timeline_text page.phases.now timeline ++ (codes "<h2>Nodes</h2>\n" ++ table_text page.rows.now))))
 
+-- what `audit` says of a round that has ended
+unfoldable pub confirmed_text : Option Bool → List ℕ
+confirmed_text None = []
+confirmed_text (Some confirmed) =
+    if confirmed then codes "<p><code>dagrun audit</code> confirms this round: by its journal alone its nodes came to these states.</p>\n"
+    else codes "<p><code>dagrun audit</code> does not confirm this round: it was aborted.</p>\n"
+
+-- the digest of the files by which the round is
+unfoldable pub shown_digest : List ℕ → List ℕ
+shown_digest digest = codes "<p>The digest of its files is <code>" ++ (escaped_text digest ++ codes "</code>.</p>\n")
+
 -- the version of the program, and the script
 unfoldable pub last_text : (version : List ℕ) → List ℕ
 last_text version =
     codes "<p>Made by " ++ (escaped_text version ++ (codes "</p>\n<script>\n" ++ (script_text ++ codes "</script>\n</body>\n</html>\n")))
 
+-- what comes after the nodes: what `audit` says, the digest, and the version
+unfoldable pub closing_text : Page → List ℕ
+closing_text page = confirmed_text page.confirmed ++ (shown_digest page.digest.now ++ last_text page.version.now)
+
 -- The text of a page, with a drawing of its graph and one of its timeline: what the round is, how many nodes are in each state, the failures, the
--- warnings, the drawings, and a row for each node.
+-- warnings, the drawings, a row for each node, what `audit` says and the digest.
 unfoldable pub page_of : Page → (graph timeline : Drawing) → List ℕ
 page_of page graph timeline =
-    page_head page ++ (title_text page ++ (counts_text page.rows.now ++ (why_text page.why.now ++ (warnings_text page.warnings.now ++ (nodes_text page graph timeline ++ last_text page.version.now)))))
+    page_head page ++ (title_text page ++ (counts_text page.rows.now ++ (why_text page.why.now ++ (warnings_text page.warnings.now ++ (nodes_text page graph timeline ++ closing_text page)))))
 
 -- a text is that of a page, with some drawings
 pub record IsPageText (page : Page) (text : List ℕ) : Type 0 where

@@ -1,7 +1,7 @@
 //! The text of a page.
 
 ghost use Rattle.std.specs.Prelude.{◌≡◌, ◌++◌, OnOk, IfOk, string_bytes};
-ghost use Rattle.report_page.specs.Pages.{first_text, refresh_text, window_text, styled_text, page_head, timeline_text, nodes_text, last_text, page_of, IsPageText};
+ghost use Rattle.report_page.specs.Pages.{first_text, refresh_text, window_text, styled_text, page_head, timeline_text, nodes_text, confirmed_text, shown_digest, last_text, closing_text, page_of, IsPageText};
 
 use crate::drawings::push_drawing;
 use crate::escaped::{push_escaped, push_own};
@@ -104,6 +104,32 @@ fn push_nodes(
     push_table(text, page.rows)
 }
 
+/// Adds what `audit` says of a round that has ended.
+#[tactic(auto, unfolding(crate::specs::Pages::confirmed_text))]
+fn push_confirmed(text: &mut String, confirmed: Option<bool>) -> Result<(), AllocError>
+    ensures { OnOk result (string_bytes text.new ≡ string_bytes text.old ++ confirmed_text confirmed) }
+{
+    match confirmed {
+        Some(true) => text.push_str(
+            "<p><code>dagrun audit</code> confirms this round: by its journal alone its nodes came to these states.</p>\n",
+        ),
+        Some(false) => text.push_str(
+            "<p><code>dagrun audit</code> does not confirm this round: it was aborted.</p>\n",
+        ),
+        None => Ok(()),
+    }
+}
+
+/// Adds the digest of the files by which the round is.
+#[tactic(auto, unfolding(crate::specs::Pages::shown_digest))]
+fn push_digest(text: &mut String, digest: &str) -> Result<(), AllocError>
+    ensures { OnOk result (string_bytes text.new ≡ string_bytes text.old ++ shown_digest digest.now) }
+{
+    push_own(text, "<p>The digest of its files is <code>")?;
+    push_escaped(text, digest)?;
+    push_own(text, "</code>.</p>\n")
+}
+
 /// Adds the version of the program, and the script.
 #[tactic(auto, unfolding(crate::specs::Pages::last_text))]
 fn push_last(text: &mut String, version: &str) -> Result<(), AllocError>
@@ -114,6 +140,16 @@ fn push_last(text: &mut String, version: &str) -> Result<(), AllocError>
     text.push_str("</p>\n<script>\n")?;
     push_script(text)?;
     text.push_str("</script>\n</body>\n</html>\n")
+}
+
+/// Adds what comes after the nodes.
+#[tactic(auto, unfolding(crate::specs::Pages::closing_text))]
+fn push_end(text: &mut String, page: &Page<'_>) -> Result<(), AllocError>
+    ensures { OnOk result (string_bytes text.new ≡ string_bytes text.old ++ closing_text page.now) }
+{
+    push_confirmed(text, page.confirmed)?;
+    push_digest(text, page.digest)?;
+    push_last(text, page.version)
 }
 
 /// The text of a page, with these drawings of its graph and of its timeline.
@@ -133,7 +169,7 @@ fn text_with(
     push_why(&mut text, page.why)?;
     push_warnings(&mut text, page.warnings)?;
     push_nodes(&mut text, page, graph, timeline)?;
-    push_last(&mut text, page.version)?;
+    push_end(&mut text, page)?;
     Ok(text)
 }
 

@@ -2,8 +2,9 @@
 
 use crate::fitting::{LETTER, fitting, letters_in};
 use crate::shapes::{Align, Caption, Drawing, Label, Omission, Panel, Rule, Shape};
-use crate::ticks::{step_of, tick};
+use crate::ticks::tick;
 use crate::values::PhaseBar;
+use log_lines::step_of;
 use std::alloc::{AllocError, Global};
 
 /// How many phases have a row at most.

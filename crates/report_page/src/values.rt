@@ -213,6 +213,10 @@ pub struct Page<'a> {
     pub phases: &'a [PhaseBar<'a>],
     /// What `why` prints.
     pub why: &'a str,
+    /// The digest of the files by which the round is, in hexadecimal digits.
+    pub digest: &'a str,
+    /// Where the round has ended, whether `audit` confirms it.
+    pub confirmed: Option<bool>,
     /// Whether the page loads itself anew every five seconds.
     pub reloads: bool,
 }

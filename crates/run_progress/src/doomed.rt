@@ -3,8 +3,7 @@
 use crate::shown::push_shown;
 use crate::watcher::Watched;
 use dag_reader::Text;
-use file_hints::Hint;
-use hint_answers::{folder_of, look_at_folder, look_at_program};
+use file_hints::{Hint, folder_of, look_at_folder, look_at_program};
 use node_machine::{Key, Phase};
 use run_plan::Plan;
 use run_plan_node::{ChildCommand, PhaseFacts};

@@ -87,9 +87,9 @@ to-end limits plan plan' same may past between records call_log later_log status
   ended = is ∙ ap (λ (p : Plan). Finish (exit_status p between) ∷ between) same ∙ ap (λ (n : ℕ). Finish n ∷ between) (sym chosen.2);
 }
 
-pub stopped-adds : (limits : Limits) (plan : Plan) (may : Telling) (past : List Record) (call_log : List Call) (fault : DriveFault) (after : List Record) (last : List Call)
-    → IsStopped limits plan may past call_log fault after last → IsSuffix past after
-stopped-adds limits plan may past call_log fault after last s =
+pub stopped-adds : (limits : Limits) (plan : Plan) (may : Telling) (past : List Record) (call_log : List Call) (fault : DriveFault) (refused after : List Record) (last : List Call)
+    → IsStopped limits plan may past call_log fault refused after last → IsSuffix past after
+stopped-adds limits plan may past call_log fault refused after last s =
     goes-records limits plan may (at_rest past call_log) (At after s.rest s.halted.keys s.halted.owed) s.halted.steps
 
 -- the record of the end hands nothing over

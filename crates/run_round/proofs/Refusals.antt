@@ -1,7 +1,6 @@
 -- Why a run isn't led to its end.
 use Rattle.std.proofs.Common.{arith, ◌≡◌, ℕ, true, false, inl, inr, List, [], ◌∷◌, length, refl, sym, ◌∙◌, subst}
 use Rattle.std.specs.Prelude.{IsTrue, IfErr, Result, Ok, Err, Option, Some, None}
-use Rattle.std.proofs.lemmas.List.Elements.{All-nil, All-cons}
 use Rattle.std.proofs.lemmas.Bool.{and_parts, and_from, false≢true, not-true}
 use Rattle.event_journal_log.specs.declared.disk.Disk.{Ghosts}
 use Rattle.run_plan.specs.Plan.{Plan}
@@ -20,7 +19,7 @@ use Rattle.recovery_manager.specs.declared.fault.ManagerFault.{ManagerFault}
 use Rattle.job_starter_drive.specs.Causes.{AreRefused}
 use Rattle.job_starter_drive.specs.Moments.{CountsOn}
 use Rattle.run_round.specs.RunToEnd.{StaysHonest}
-use Rattle.run_round.specs.Causes.{IsEndOf, IsSealFault, text_had_no_memory, rescue_failed, rescue_had_no_room}
+use Rattle.run_round.specs.Causes.{IsSealFault, text_had_no_memory, rescue_failed, rescue_had_no_room}
 
 open-going : (past : List Record) → is_open past ≡ true → is_over past ≡ false
 open-going [] h = absurd (false≢true h)
@@ -69,20 +68,15 @@ pub end-refused : {D : Type 0} (disks : Ghosts D) (old mid new : Managed D) (fau
     → KeepsDisk disks old.journal mid.journal → CountsOn old mid
     → plan_of new ≡ plan_of mid → past_of new ≡ past_of mid → may_end (plan_of mid) (past_of mid) ≡ true
     → IsUnwritten disks (Finish (exit_status (plan_of mid) (past_of mid)) ∷ []) mid.journal new.journal fault
-    → (refused : AreRefused disks (IsEndOf (plan_of new) (past_of new)) old new fault) × (refused.entries ≡ Finish (exit_status (plan_of new) (past_of new)) ∷ [])
-end-refused disks old mid new fault keeps counts same kept ends why = (
-  record {
-    entries = Finish (exit_status (plan_of mid) (past_of mid)) ∷ [];
-    own = All-cons (IsEndOf (plan_of new) (past_of new)) (Finish (exit_status (plan_of mid) (past_of mid))) [] (λ j. Finish (exit_status (sym same j) (sym kept j))) (All-nil (IsEndOf (plan_of new) (past_of new)));
-    then_was = mid;
-    same = sym kept;
-    disk = keeps;
-    counts = counts;
-    lawful = and_from _ _ ((λ j. may_follow (same j) (kept j) (Finish (exit_status (plan_of mid) (past_of mid)))) ∙ ends) refl;
-    cause = why;
-  },
-  λ j. Finish (exit_status (sym same j) (sym kept j)) ∷ [],
-)
+    → AreRefused disks (Finish (exit_status (plan_of new) (past_of new)) ∷ []) old new fault
+end-refused disks old mid new fault keeps counts same kept ends why = record {
+  then_was = mid;
+  same = sym kept;
+  disk = keeps;
+  counts = counts;
+  lawful = and_from _ _ ((λ j. may_follow (same j) (kept j) (Finish (exit_status (same j) (kept j)))) ∙ ends) refl;
+  cause = subst (λ (l : List Record). IsUnwritten disks l mid.journal new.journal fault) (λ j. Finish (exit_status (sym same j) (sym kept j)) ∷ []) why;
+}
 
 -- what is known of one fault makes another thing known of it
 pub of-fault : {X E : Type 0} (P Q : E → Type 0) (result : Result X E) → ((fault : E) → P fault → Q fault) → IfErr result P → IfErr result Q

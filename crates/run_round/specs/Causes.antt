@@ -21,8 +21,8 @@ use Rattle.recovery_manager.specs.declared.fault.ManagerFault.TheVariants as fau
 use Rattle.recovery.specs.Recovery.{IsUntouched}
 use Rattle.job_starter_drive.specs.declared.Call.{Call}
 use Rattle.job_starter_drive.specs.Calls.{Telling}
-use Rattle.job_starter_drive.specs.Drives.{limits_of, IsStopped}
-use Rattle.job_starter_drive.specs.Causes.{IsDriveFault, AreRefused}
+use Rattle.job_starter_drive.specs.Drives.{limits_of}
+use Rattle.job_starter_drive.specs.Causes.{IsStoppedFor, AreRefused}
 use Rattle.job_starter_drive.specs.Moments.{IsMomentOfRun, IsLastMoment, AtAnyMoment, AtTheEnd, StaysAcknowledged}
 use Rattle.job_starter_drive.specs.declared.driving.DriveFault.{DriveFault}
 use Rattle.job_starter_drive.specs.declared.driving.DriveFault.TheVariants as drives
@@ -39,10 +39,6 @@ pub data IsSealFault {R : Type 0} (disks : Ghosts R) (plan : Plan) (past : List 
   rescue_had_no_room : disks.capacity disk < length (rescue_text_for plan past) →
       IsSealFault disks plan past disk left (faults.Journal journal.DiskFull)
 
--- the record of a run's end
-abbrev pub IsEndOf : Plan → List Record → Record → Type 0
-IsEndOf plan past entry = entry ≡ Finish (exit_status plan past)
-
 -- The rescue file's disk has nothing to do with the journal: where that one fails, a crash leaves of the journal, at any moment and behind the call,
 -- what it leaves of a run without a fault, and all that was recorded stays.
 pub record IsJournalKept {D : Type 0} (disks : Ghosts D) (may : Telling) (old manager : Managed D) (call_log later_log : List Call) : Type 0 where
@@ -51,13 +47,12 @@ pub record IsJournalKept {D : Type 0} (disks : Ghosts D) (may : Telling) (old ma
   pub acknowledged : StaysAcknowledged disks old manager
 
 -- Why a run isn't led to its end, by the starter's counts of refusals, and by the manager and the disk for the rescue file that were
--- there and that are left; and what was recorded and answered so far. It was stopped on the way, and no rescue file was begun; or, behind
--- all its steps, the rescue file that it needs isn't written, and the journal is as it was; or that file is written, and the run's end was refused, one record; or it ended, and
--- memory was refused for its report. A run that needs no rescue file leaves none behind its steps.
+-- there and that are left; and what was recorded and answered so far. It was stopped on the way, and no rescue file was begun; or, after
+-- all its steps, the rescue file that it needs isn't written, and the journal is as it was; or that file is written, and the record of the run's
+-- end was refused, alone; or it ended, and memory was refused for its report. A run that needs no rescue file leaves none after its steps.
 pub data IsRunToEndFault {D R : Type 0} (disks : Ghosts D) (rescues : Ghosts R) (before now : ℕ)
     (may : Telling) (old manager : Managed D) (call_log later_log : List Call) (disk : R) (left : Option R) : DriveFault → Type 0 where
-  stopped : {fault : DriveFault} → IsDriveFault disks before now old manager fault →
-      IsStopped (limits_of old) (plan_of old) may (past_of old) call_log fault (past_of manager) later_log → left ≡ Some disk →
+  stopped : {fault : DriveFault} → IsStoppedFor disks before now may old manager call_log later_log fault → left ≡ Some disk →
       IsRunToEndFault disks rescues before now may old manager call_log later_log disk left fault
   not_sealed : {fault : ManagerFault} (rest : R) → left ≡ Some rest → IsAtEnd (limits_of old) (plan_of old) may (past_of old) call_log (past_of manager) later_log →
       IsTrue (needs_rescue_now (plan_of manager) (past_of manager)) →
@@ -65,8 +60,7 @@ pub data IsRunToEndFault {D R : Type 0} (disks : Ghosts D) (rescues : Ghosts R) 
       IsJournalKept disks may old manager call_log later_log →
       IsRunToEndFault disks rescues before now may old manager call_log later_log disk left (drives.Manager fault)
   end_refused : {fault : ManagerFault} → IsAtEnd (limits_of old) (plan_of old) may (past_of old) call_log (past_of manager) later_log →
-      (why : AreRefused disks (IsEndOf (plan_of manager) (past_of manager)) old manager fault) →
-      why.entries ≡ Finish (exit_status (plan_of manager) (past_of manager)) ∷ [] →
+      AreRefused disks (Finish (exit_status (plan_of manager) (past_of manager)) ∷ []) old manager fault →
       IsRescued rescues (plan_of manager) (past_of manager) left →
       IsRunToEndFault disks rescues before now may old manager call_log later_log disk left (drives.Manager fault)
   no_memory_for_report : DrivesToEnd (limits_of old) (plan_of old) may (past_of old) call_log (past_of manager) later_log →

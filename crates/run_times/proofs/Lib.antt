@@ -2,3 +2,4 @@ mod Apart
 mod Chains
 mod Kept
 mod Levels
+mod TimesPhases

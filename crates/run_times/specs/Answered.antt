@@ -1,5 +1,5 @@
 -- What `times` prints.
-use Rattle.std.specs.Prelude.{◌≡◌, ℕ, Bool, true, false, List, ◌++◌, length, Some, codes}
+use Rattle.std.specs.Prelude.{◌≡◌, ℕ, Bool, List, ◌++◌, length, Some, codes}
 use Rattle.splices_flat.specs.Opening.{Files}
 use Rattle.dag_main_files.specs.Beside.{IsRefusalOf}
 use Rattle.dag_main_files.specs.Opened.{IsOfFiles, IsOfSome, IsRefusedFor, IsRefusedForSome, HasNoGraph}
@@ -7,46 +7,50 @@ use Rattle.dag_graph.specs.Graph.{Network}
 use Rattle.dag_main_check.specs.Planned.{IsGraphOf}
 use Rattle.dag_main_check.specs.Warnings.{warning_lines}
 use Rattle.dag_main_check.specs.declared.fault.RunFault.{RunFault}
+use Rattle.run_times.specs.declared.form.Form.{Form}
+use Rattle.run_times.specs.declared.form.Form.TheVariants.{Table, Picture, Json}
 use Rattle.run_times.specs.declared.runs.PhaseRun.{PhaseRun}
 use Rattle.run_times.specs.Table.{table_text_of}
 use Rattle.run_times.specs.Reading.{IsRunsOf}
 use Rattle.run_times.specs.Picture.{IsTimesPicture}
+use Rattle.run_times.specs.TimesData.{times_json_of}
 
--- phases with marks are shown as a table, or as a picture if one is asked for
-pub record IsShown (svg : Bool) (runs : List PhaseRun) (marks : List Bool) (text : List ℕ) : Type 0 where
-  pub table : svg ≡ false → text ≡ table_text_of runs marks
-  pub picture : svg ≡ true → IsTimesPicture runs marks text
+-- phases with marks are shown in the form that is asked for
+abbrev pub IsShown : Form → List PhaseRun → List Bool → List ℕ → Type 0
+IsShown Table runs marks text = text ≡ table_text_of runs marks
+IsShown Picture runs marks text = IsTimesPicture runs marks text
+IsShown Json runs marks text = text ≡ times_json_of runs marks
 
 -- This is shown of a log: the phases that reading it gives, with a mark for each. Which of them are on the critical path is left open.
-pub record IsShownOf (log : List ℕ) (svg : Bool) (text : List ℕ) : Type 0 where
+pub record IsShownOf (log : List ℕ) (form : Form) (text : List ℕ) : Type 0 where
   pub runs : List PhaseRun
   pub runs_are : IsRunsOf log runs
   pub marks : List Bool
   pub each : length marks ≡ length runs
-  pub shown : IsShown svg runs marks text
+  pub shown : IsShown form runs marks text
 
 -- This is printed of these files of a path, which make a graph, and of a log; and these are the warnings of the files.
-pub record IsTimesBy (log path : List ℕ) (svg : Bool) (text warnings : List ℕ) (status : ℕ) (files : Files) (entries : List (List ℕ × List ℕ)) : Type 0 where
+pub record IsTimesBy (log path : List ℕ) (form : Form) (text warnings : List ℕ) (status : ℕ) (files : Files) (entries : List (List ℕ × List ℕ)) : Type 0 where
   pub graph : Network
   pub is_graph : IsGraphOf files path graph
-  pub shown : IsShownOf log svg text
+  pub shown : IsShownOf log form text
   pub warnings_are : warnings ≡ warning_lines graph.dag.warnings
   pub status_is : status ≡ 0
 
 -- the same of some files and a log
-pub record IsTimesOf (path : List ℕ) (svg : Bool) (text warnings : List ℕ) (status : ℕ) : Type 0 where
+pub record IsTimesOf (path : List ℕ) (form : Form) (text warnings : List ℕ) (status : ℕ) : Type 0 where
   pub log : List ℕ
-  pub of_files : IsOfSome path (IsTimesBy log path svg text warnings status)
+  pub of_files : IsOfSome path (IsTimesBy log path form text warnings status)
 
 -- `top.log`
 abbrev pub log_name_of : List ℕ → List ℕ
 log_name_of top = top ++ codes ".log"
 
 -- the same where these files are held, and the log beside them
-pub record IsTimesFrom (holds : Files) (path : List ℕ) (svg : Bool) (text warnings : List ℕ) (status : ℕ) : Type 0 where
+pub record IsTimesFrom (holds : Files) (path : List ℕ) (form : Form) (text warnings : List ℕ) (status : ℕ) : Type 0 where
   pub log : List ℕ
   pub log_is : holds (log_name_of path) ≡ Some log
-  pub of_files : IsOfFiles holds path (IsTimesBy log path svg text warnings status)
+  pub of_files : IsOfFiles holds path (IsTimesBy log path form text warnings status)
 
 -- Why nothing is printed: some files make no graph; or the log is missing or refused, or memory ran out.
 pub data IsTimesFault (path : List ℕ) : RunFault → Type 0 where

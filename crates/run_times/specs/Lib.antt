@@ -7,4 +7,5 @@ pub mod Names
 pub mod Bars
 pub mod Load
 pub mod Picture
+pub mod TimesData
 pub mod Answered

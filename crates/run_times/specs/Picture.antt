@@ -6,7 +6,7 @@ use Rattle.node_machine.specs.declared.Phase.TheVariants.{Pre, Job, Post}
 use Rattle.log_lines.specs.Phases.{phase_word}
 use Rattle.run_times.specs.declared.canvas.TheConstants.{LOAD, MARKS, WIDTH}
 use Rattle.run_times.specs.declared.style.TheConstants.{STYLE}
-use Rattle.run_times.specs.declared.ticks.TheConstants.{DAY, HOUR, MINUTE, SECOND}
+use Rattle.log_lines.specs.declared.steps.TheConstants.{DAY, HOUR, MINUTE, SECOND}
 use Rattle.run_times.specs.declared.runs.PhaseRun.{PhaseRun}
 use Rattle.run_times.specs.declared.canvas.Canvas.{Canvas}
 use Rattle.run_times.specs.declared.canvas.Frame.{Frame}

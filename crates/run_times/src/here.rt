@@ -5,10 +5,12 @@ ghost use Rattle.dag_main_files.specs.Beside.{IsRefusalOf};
 ghost use Rattle.run_times.specs.Answered.{log_name_of, IsShown, IsTimesOf, IsTimesFrom, IsTimesFault, IsTimesFaultHeld};
 
 use crate::critical::critical_marks;
+use crate::form::Form;
 use crate::picture::picture_text;
 use crate::reader::runs_in;
 use crate::runs::PhaseRun;
 use crate::table::table_text;
+use crate::times_data::times_json;
 use dag_main_check::{Answer, RunFault, warning_text};
 use dag_main_files::{Folder, bare_plan_here};
 use dag_reader::Text;
@@ -16,7 +18,7 @@ use std::alloc::{AllocError, Global};
 
 /// When each phase of the last round of the DAG file of this path began, of the files in this folder, and how long
 /// it took, by the log that stands beside it: a table with a row for each phase, in the order in which they
-/// began, or a picture.
+/// began, a picture, or JSON.
 ///
 /// # Errors
 /// Those of `bare_plan_here`; then a log that is missing, that the system refuses to read or that may be another user's (`FileRefused` with
@@ -25,12 +27,12 @@ pub fn times_here<F: Folder>(
     alloc: Global,
     folder: &F,
     top: &str,
-    svg: bool,
+    form: Form,
 ) -> Result<Answer, RunFault>
     ensures told { IfOk result (λ answer.
-        IsTimesOf top.now svg (string_bytes answer.text) (string_bytes answer.warnings) answer.status) }
+        IsTimesOf top.now form (string_bytes answer.text) (string_bytes answer.warnings) answer.status) }
     // These are the files and the log that the folder holds.
-    ensures held { F.honest folder.now → IfOk result (λ answer. IsTimesFrom (F.holds folder.now) top.now svg
+    ensures held { F.honest folder.now → IfOk result (λ answer. IsTimesFrom (F.holds folder.now) top.now form
         (string_bytes answer.text) (string_bytes answer.warnings) answer.status) }
     ensures refused { IfErr result (IsTimesFault top.now) }
     // The refusal too is for what the folder holds.
@@ -42,26 +44,26 @@ pub fn times_here<F: Folder>(
     let runs = runs_in(alloc, log.as_slice())?;
     let marks = critical_marks(alloc, graph, &runs)?;
     Ok(Answer {
-        text: text_of(alloc, &runs, &marks, svg)?,
+        text: text_of(alloc, &runs, &marks, form)?,
         warnings: warning_text(alloc, graph.flat().warnings())?,
         status: 0,
     })
 }
 
-/// What is printed of these phases: a table, or a picture.
+/// What is printed of these phases, in this form.
 fn text_of(
     alloc: Global,
     runs: &[PhaseRun<'_>],
     marks: &[bool],
-    svg: bool,
+    form: Form,
 ) -> Result<String, AllocError>
     requires { length marks.now ≡ length runs.now }
-    ensures { IfOk result (λ text. IsShown svg runs.now marks.now (string_bytes text)) }
+    ensures { IfOk result (λ text. IsShown form runs.now marks.now (string_bytes text)) }
 {
-    if svg {
-        picture_text(alloc, runs, marks)
-    } else {
-        table_text(alloc, runs, marks)
+    match form {
+        Form::Table => table_text(alloc, runs, marks),
+        Form::Picture => picture_text(alloc, runs, marks),
+        Form::Json => times_json(alloc, runs, marks),
     }
 }
 

@@ -15,8 +15,8 @@ use crate::runs::PhaseRun;
 use crate::slots::slots_of;
 use crate::style::STYLE;
 use crate::table::{push_ending, push_seconds};
-use crate::ticks::{marks_of, push_tick, step_of};
-use log_lines::phase_word;
+use crate::ticks::{marks_of, push_tick};
+use log_lines::{phase_word, step_of};
 use node_machine::Phase;
 use std::alloc::{AllocError, Global};
 

@@ -3,4 +3,5 @@ pub mod CutShort
 pub mod Changes
 pub mod Results
 pub mod Refusals
+pub mod Sights
 pub mod NameLists

@@ -29,8 +29,10 @@ use Rattle.splices_flat.specs.declared.file_set.FileSet.{FileSet}
 use Rattle.splices_flat.specs.FileSet.{bytes_of}
 use Rattle.salvage.specs.Round.{IsUnfinishedRound, IsSame, IsSameRescue}
 use Rattle.salvage.specs.Salvaged.{IsReplayOf}
+use Rattle.salvage.specs.Sight.{Sight, IsRescueSeen, IsListSeen}
+use Rattle.dag_main_files.specs.Beside.{journal_name_of}
 use Rattle.dag_main_files.specs.Journals.{read_fault}
-use Rattle.salvage.specs.Refused.{IsNoNumber, IsNotCutShort, has_ended, no_such_number, IsUnsalvaged, no_records, of_other_flag, foreign_record, salvaging_had_no_memory, IsUnmade, unplanned, unsalvaged, IsNotCarried, not_kept, kept_refused, not_graphed, not_replayed, other_files, other_rescue, no_plan, not_of_plan, no_new_graph, not_of_begun, IsSalvageFault, round_refused, system_refuses}
+use Rattle.salvage.specs.Refused.{IsNoNumber, IsNotCutShort, has_ended, no_such_number, IsUnsalvaged, no_records, of_other_flag, foreign_record, salvaging_had_no_memory, IsUnmade, unplanned, unsalvaged, IsNotCarried, not_kept, kept_refused, not_graphed, not_replayed, other_files, other_rescue, no_plan, not_of_plan, keeping_refused, no_new_graph, not_of_begun, IsSalvageFault, round_refused}
 use Rattle.salvage.specs.Others.{IsOtherFile, IsFirstOther, IsOther, other_file, other_marks}
 use Rattle.round_inputs.specs.declared.inputs.Listed.{Listed}
 use Rattle.salvage.specs.declared.fault.SalvageFault.{SalvageFault}
@@ -158,28 +160,22 @@ first-other listed set yielded t u file fault all next same other = record {
 }
 
 -- nothing is made of a round that was cut short: by the files that are as they were, and by those that are not
-pub same-refused : (top journal digest : List ℕ) (used next : ℕ) (always_post : Bool) (listed : List Listed) (files : FileSet) (rescue : Option (List ℕ)) (fault : RunFault)
-    → IsUnfinishedRound journal digest used next always_post → All (IsSame listed) (entries_of files) → IsSameRescue listed top used rescue
-    → IsUnmade always_post (bytes_of files) top used rescue journal fault → IsSalvageFault top (Refused fault)
-same-refused top journal digest used next always_post listed files rescue fault cut same marks (unplanned cause why) =
-    round_refused _ _ _ _ _ _ cut (no_plan listed files rescue cause same marks why)
-same-refused top journal digest used next always_post listed files rescue fault cut same marks (unsalvaged plan cause is why) =
-    round_refused _ _ _ _ _ _ cut (not_of_plan listed files rescue plan cause same marks is why)
+module _ (sight : Sight) (top journal digest : List ℕ) (used next : ℕ) (always_post : Bool) (listed : List Listed) (files : FileSet)
+    (held : sight.has (journal_name_of top) journal) (cut : IsUnfinishedRound journal digest used next always_post) (seen : IsListSeen sight top digest listed files) where
+  pub same-refused : (rescue : Option (List ℕ)) (fault : RunFault) → All (IsSame listed) (entries_of files) → IsRescueSeen sight top used rescue → IsSameRescue listed top used rescue
+      → IsUnmade always_post (bytes_of files) top used rescue journal fault → IsSalvageFault sight top (Refused fault)
+  same-refused rescue fault same marks as_it_was (unplanned cause why) = round_refused _ _ _ _ _ _ held cut (no_plan listed files rescue cause seen same marks as_it_was why)
+  same-refused rescue fault same marks as_it_was (unsalvaged plan cause is why) =
+      round_refused _ _ _ _ _ _ held cut (not_of_plan listed files rescue plan cause seen same marks as_it_was is why)
 
-pub other-refused : (top journal digest : List ℕ) (used next : ℕ) (always_post : Bool) (listed : List Listed) (files : FileSet) (fault : SalvageFault)
-    → IsUnfinishedRound journal digest used next always_post → IsOther listed top used files fault → IsSalvageFault top fault
-other-refused top journal digest used next always_post listed files fault cut (other_file cause why) =
-    round_refused _ _ _ _ _ _ cut (other_files listed files cause why)
-other-refused top journal digest used next always_post listed files fault cut (other_marks cause same why) =
-    round_refused _ _ _ _ _ _ cut (other_rescue listed files cause same why)
+  pub other-refused : (fault : SalvageFault) → IsOther sight listed top used files fault → IsSalvageFault sight top fault
+  other-refused fault (other_file cause why) = round_refused _ _ _ _ _ _ held cut (other_files listed files cause seen why)
+  other-refused fault (other_marks cause same why) = round_refused _ _ _ _ _ _ held cut (other_rescue listed files cause seen same why)
 
-pub change-refused : (top journal digest : List ℕ) (used next : ℕ) (always_post : Bool) (listed : List Listed) (files : FileSet) (other fault : SalvageFault)
-    → IsUnfinishedRound journal digest used next always_post → IsOther listed top used files other
-    → IsNotCarried always_post (bytes_of files) top digest journal other fault → IsSalvageFault top fault
-change-refused top journal digest used next always_post listed files other fault cut is not_kept =
-    other-refused top journal digest used next always_post listed files other cut is
-change-refused top journal digest used next always_post listed files other fault cut is (kept_refused refusal why) = system_refuses refusal why
-change-refused top journal digest used next always_post listed files other fault cut is (not_graphed refusal why) =
-    round_refused _ _ _ _ _ _ cut (no_new_graph listed files other refusal is why)
-change-refused top journal digest used next always_post listed files other fault cut is (not_replayed begun old refusal planned why) =
-    round_refused _ _ _ _ _ _ cut (not_of_begun listed files other begun old refusal is planned why)
+  pub change-refused : (other fault : SalvageFault) → IsOther sight listed top used files other
+      → IsNotCarried sight always_post (bytes_of files) top digest journal other fault → IsSalvageFault sight top fault
+  change-refused other fault is not_kept = other-refused other is
+  change-refused other fault is (kept_refused refusal why) = round_refused _ _ _ _ _ _ held cut (keeping_refused listed files other refusal seen is why)
+  change-refused other fault is (not_graphed refusal why) = round_refused _ _ _ _ _ _ held cut (no_new_graph listed files other refusal seen is why)
+  change-refused other fault is (not_replayed begun old refusal kept planned why) =
+      round_refused _ _ _ _ _ _ held cut (not_of_begun listed files other begun old refusal seen is kept planned why)

@@ -14,6 +14,7 @@ use Rattle.round_inputs.specs.Begun.{begun_name_of}
 use Rattle.round_inputs.specs.Inputs.{inputs_name_of, inputs_text_of}
 use Rattle.round_inputs.specs.declared.inputs.Listed.{Listed}
 use Rattle.salvage.specs.Round.{IsUnfinishedRound}
+use Rattle.salvage.specs.Sight.{any_files}
 use Rattle.salvage.specs.Others.{IsOther}
 use Rattle.salvage.specs.Faults.{fault_text}
 use Rattle.salvage.specs.Salvaged.{IsBarePlan, IsSalvaged, IsReadRound, AreChanges, any_change, IsChangeFrom, report_line}
@@ -69,7 +70,7 @@ pub record IsChangedRound (path : List ℕ) (next : ℕ) (listed : List Listed) 
   pub other : SalvageFault
   pub begun : List ℕ
   pub cut_short : IsUnfinishedRound journal digest used next always_post
-  pub is_other : IsOther listed path used files other
+  pub is_other : IsOther any_files listed path used files other
   pub is_change : IsTrue (is_some (fault_text other))
   pub made : IsMadeOfChanged (λ text. text ≡ begun) always_post (bytes_of files) path digest journal rescue_text done total warnings
 

@@ -6,8 +6,9 @@ use Rattle.splices_flat.specs.declared.file_set.FileSet.{FileSet}
 use Rattle.rescue_file.specs.Numbered.{rescue_name_of}
 use Rattle.dag_main_check.specs.declared.fault.RunFault.{RunFault}
 use Rattle.dag_main_check.specs.declared.fault.RunFault.TheVariants.{Memory}
-use Rattle.dag_main_files.specs.Beside.{IsFileFault}
+use Rattle.dag_main_files.specs.Beside.{IsRefusalOf}
 use Rattle.salvage.specs.Round.{sum_in, IsSame}
+use Rattle.salvage.specs.Sight.{Sight}
 use Rattle.round_inputs.specs.declared.inputs.Listed.{Listed}
 use Rattle.salvage.specs.declared.fault.SalvageFault.{SalvageFault}
 use Rattle.salvage.specs.declared.fault.SalvageFault.TheVariants.{Refused, Changed, NotListed}
@@ -30,12 +31,15 @@ pub record IsFirstOther (listed : List Listed) (files : List (List ℕ × List �
 
 -- Why the rescue file of this number, which the round read, is not the one that it was: it is missing, and is in the list; it is another one; or
 -- the system refuses it.
-pub data IsOtherRescue (listed : List Listed) (top : List ℕ) (used : ℕ) : SalvageFault → Type 0 where
-  rescue_missing : (sum : List ℕ) → used ≢ 0 → sum_in listed (rescue_name_of top used) ≡ Some sum → IsOtherRescue listed top used (Changed (rescue_name_of top used))
-  rescue_changed : (bytes : List ℕ) (fault : SalvageFault) → used ≢ 0 → IsOtherFile listed (rescue_name_of top used, bytes) fault → IsOtherRescue listed top used fault
-  rescue_refused : (fault : RunFault) → IsFileFault fault → IsOtherRescue listed top used (Refused fault)
+pub data IsOtherRescue (sight : Sight) (listed : List Listed) (top : List ℕ) (used : ℕ) : SalvageFault → Type 0 where
+  rescue_missing : (sum : List ℕ) → used ≢ 0 → sight.lacks (rescue_name_of top used) → sum_in listed (rescue_name_of top used) ≡ Some sum →
+      IsOtherRescue sight listed top used (Changed (rescue_name_of top used))
+  rescue_changed : (bytes : List ℕ) (fault : SalvageFault) → used ≢ 0 → sight.has (rescue_name_of top used) bytes →
+      IsOtherFile listed (rescue_name_of top used, bytes) fault → IsOtherRescue sight listed top used fault
+  rescue_refused : (fault : RunFault) → IsRefusalOf (rescue_name_of top used) fault → IsOtherRescue sight listed top used (Refused fault)
 
 -- Why a round is not as it was, the first cause first: a DAG file is not, or else the rescue file that it read.
-pub data IsOther (listed : List Listed) (top : List ℕ) (used : ℕ) (files : FileSet) : SalvageFault → Type 0 where
-  other_file : (fault : SalvageFault) → IsFirstOther listed (entries_of files) fault → IsOther listed top used files fault
-  other_marks : (fault : SalvageFault) → All (IsSame listed) (entries_of files) → IsOtherRescue listed top used fault → IsOther listed top used files fault
+pub data IsOther (sight : Sight) (listed : List Listed) (top : List ℕ) (used : ℕ) (files : FileSet) : SalvageFault → Type 0 where
+  other_file : (fault : SalvageFault) → IsFirstOther listed (entries_of files) fault → IsOther sight listed top used files fault
+  other_marks : (fault : SalvageFault) → All (IsSame listed) (entries_of files) → IsOtherRescue sight listed top used fault →
+      IsOther sight listed top used files fault

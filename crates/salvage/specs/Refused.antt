@@ -1,4 +1,4 @@
--- Why a round is not salvaged.
+-- Why a round is not salvaged, by what is known of the files.
 use Rattle.std.specs.Prelude.{◌≡◌, ◌≢◌, ◌<◌, ◌≤◌, ℕ, Bool, true, false, List, [], Option, Some, None, Ok, Err, All}
 use Rattle.splices_flat.specs.Opening.{Files}
 use Rattle.splices_flat.specs.FileSet.{bytes_of, entries_of}
@@ -19,10 +19,12 @@ use Rattle.recovery_manager.specs.declared.fault.ManagerFault.TheVariants as man
 use Rattle.dag_main_check.specs.declared.fault.RunFault.{RunFault}
 use Rattle.dag_main_check.specs.declared.fault.RunFault.TheVariants.{InPlan, NotThere, InManager, Memory}
 use Rattle.dag_main_check.specs.Planned.{IsGraphOf, IsGraphFault, rescue_line, named_by}
-use Rattle.dag_main_files.specs.Beside.{journal_name_of, IsFileFault}
+use Rattle.dag_main_files.specs.Beside.{journal_name_of, lock_name_of, IsFileFault, IsRefusalOf}
 use Rattle.dag_main_files.specs.Journals.{IsUnread}
+use Rattle.round_inputs.specs.Begun.{begun_name_of}
 use Rattle.round_inputs.specs.Inputs.{inputs_name_of, inputs_text_of}
 use Rattle.salvage.specs.Round.{IsUnfinishedRound, IsSame, IsSameRescue}
+use Rattle.salvage.specs.Sight.{Sight, IsRescueSeen, IsListSeen}
 use Rattle.salvage.specs.Others.{IsFirstOther, IsOtherRescue, IsOther}
 use Rattle.salvage.specs.Salvaged.{IsBarePlan}
 use Rattle.salvage.specs.Carried.{IsBegunPlan}
@@ -45,19 +47,20 @@ pub data IsNotCutShort (path journal : List ℕ) : SalvageFault → Type 0 where
       IsNoNumber found.header.used found.header.next fault → IsNotCutShort path journal (Refused fault)
 
 -- Why no round of the DAG file of this path was cut short: it has no journal; the system refuses it; or its bytes tell of none.
-pub data IsNoRound (top : List ℕ) : SalvageFault → Type 0 where
-  has_no_journal : IsNoRound top (NoJournal (journal_name_of top))
-  journal_refused : (fault : RunFault) → IsFileFault fault → IsNoRound top (Refused fault)
-  not_cut_short : (journal : List ℕ) (fault : SalvageFault) → IsNotCutShort (journal_name_of top) journal fault → IsNoRound top fault
+pub data IsNoRound (sight : Sight) (top : List ℕ) : SalvageFault → Type 0 where
+  has_no_journal : sight.lacks (journal_name_of top) → IsNoRound sight top (NoJournal (journal_name_of top))
+  journal_refused : (fault : RunFault) → IsRefusalOf (journal_name_of top) fault → IsNoRound sight top (Refused fault)
+  not_cut_short : (journal : List ℕ) (fault : SalvageFault) → sight.has (journal_name_of top) journal →
+      IsNotCutShort (journal_name_of top) journal fault → IsNoRound sight top fault
 
 -- Why it is not known what the round of this digest was begun with: the file is missing that says it, or the system refuses it; it is not spelled
 -- as that file is; or it says it of another digest.
-pub data IsNoInputs (top digest : List ℕ) : SalvageFault → Type 0 where
-  has_no_inputs : IsNoInputs top digest (NoInputs (inputs_name_of top))
-  inputs_refused : (fault : RunFault) → IsFileFault fault → IsNoInputs top digest (Refused fault)
-  not_spelled : IsNoInputs top digest (BadInputs (inputs_name_of top))
-  of_another_round : (other : List ℕ) (listed : List Listed) (bytes : List ℕ) → inputs_text_of other listed ≡ bytes → other ≢ digest →
-      IsNoInputs top digest (OtherRound (inputs_name_of top))
+pub data IsNoInputs (sight : Sight) (top digest : List ℕ) : SalvageFault → Type 0 where
+  has_no_inputs : sight.lacks (inputs_name_of top) → IsNoInputs sight top digest (NoInputs (inputs_name_of top))
+  inputs_refused : (fault : RunFault) → IsRefusalOf (inputs_name_of top) fault → IsNoInputs sight top digest (Refused fault)
+  not_spelled : (bytes : List ℕ) → sight.has (inputs_name_of top) bytes → IsNoInputs sight top digest (BadInputs (inputs_name_of top))
+  of_another_round : (other : List ℕ) (listed : List Listed) → sight.has (inputs_name_of top) (inputs_text_of other listed) → other ≢ digest →
+      IsNoInputs sight top digest (OtherRound (inputs_name_of top))
 
 -- Why there is no plan of the files of a path and of a rescue file of this number, 0 for none: the files make no graph; or the rescue file can't
 -- be read, which is returned with its path.
@@ -88,38 +91,42 @@ pub data IsUnmade (always_post : Bool) (files : Files) (path : List ℕ) (used :
 -- Why nothing is made of files of a path that are not as they were, which this cause says: nothing keeps what the round of this digest was begun
 -- with, and the cause is returned; the system refuses the file that keeps it; the files as they are now make no graph; or the journal has no records
 -- of a run of the plan of the files that are kept.
-pub data IsNotCarried (always_post : Bool) (files : Files) (path digest journal : List ℕ) (other : SalvageFault) : SalvageFault → Type 0 where
-  not_kept : IsNotCarried always_post files path digest journal other other
-  kept_refused : (fault : RunFault) → IsFileFault fault → IsNotCarried always_post files path digest journal other (Refused fault)
-  not_graphed : (fault : RunFault) → IsGraphFault files path fault → IsNotCarried always_post files path digest journal other (Refused fault)
-  not_replayed : (begun : List ℕ) (old : Plan) (fault : RunFault) → IsBegunPlan always_post path digest begun old → IsUnsalvaged old journal fault →
-      IsNotCarried always_post files path digest journal other (Refused fault)
+pub data IsNotCarried (sight : Sight) (always_post : Bool) (files : Files) (path digest journal : List ℕ) (other : SalvageFault) : SalvageFault → Type 0 where
+  not_kept : IsNotCarried sight always_post files path digest journal other other
+  kept_refused : (fault : RunFault) → IsRefusalOf (begun_name_of path) fault → IsNotCarried sight always_post files path digest journal other (Refused fault)
+  not_graphed : (fault : RunFault) → IsGraphFault files path fault → IsNotCarried sight always_post files path digest journal other (Refused fault)
+  not_replayed : (begun : List ℕ) (old : Plan) (fault : RunFault) → sight.has (begun_name_of path) begun → IsBegunPlan always_post path digest begun old →
+      IsUnsalvaged old journal fault → IsNotCarried sight always_post files path digest journal other (Refused fault)
 
 -- Why a round that was cut short, with this journal, is not salvaged, the first cause first: it is not known what it was begun with; a DAG file is
 -- not as it was, or else the rescue file that it read; these have no plan; the journal has no records of a run of the plan. Or one of these files
--- is not as it was, and the DAG files make no graph now, or the journal has no records of a run of the plan of the files that are kept.
-pub data IsCutShortFault (top journal digest : List ℕ) (used : ℕ) (always_post : Bool) : SalvageFault → Type 0 where
-  no_inputs : (fault : SalvageFault) → IsNoInputs top digest fault → IsCutShortFault top journal digest used always_post fault
-  other_files : (listed : List Listed) (files : FileSet) (fault : SalvageFault) → IsFirstOther listed (entries_of files) fault →
-      IsCutShortFault top journal digest used always_post fault
-  other_rescue : (listed : List Listed) (files : FileSet) (fault : SalvageFault) → All (IsSame listed) (entries_of files) →
-      IsOtherRescue listed top used fault → IsCutShortFault top journal digest used always_post fault
-  no_plan : (listed : List Listed) (files : FileSet) (rescue : Option (List ℕ)) (fault : RunFault) → All (IsSame listed) (entries_of files) →
-      IsSameRescue listed top used rescue → IsBarePlanFault always_post (bytes_of files) top used rescue fault →
-      IsCutShortFault top journal digest used always_post (Refused fault)
-  not_of_plan : (listed : List Listed) (files : FileSet) (rescue : Option (List ℕ)) (plan : Plan) (fault : RunFault) → All (IsSame listed) (entries_of files) →
-      IsSameRescue listed top used rescue → IsBarePlan always_post (bytes_of files) top rescue plan → IsUnsalvaged plan journal fault →
-      IsCutShortFault top journal digest used always_post (Refused fault)
-  no_new_graph : (listed : List Listed) (files : FileSet) (other : SalvageFault) (fault : RunFault) → IsOther listed top used files other →
-      IsGraphFault (bytes_of files) top fault → IsCutShortFault top journal digest used always_post (Refused fault)
+-- is not as it was, and the system refuses the file that keeps them, the DAG files make no graph now, or the journal has no records of a run of the
+-- plan of the files that are kept.
+pub data IsCutShortFault (sight : Sight) (top journal digest : List ℕ) (used : ℕ) (always_post : Bool) : SalvageFault → Type 0 where
+  no_inputs : (fault : SalvageFault) → IsNoInputs sight top digest fault → IsCutShortFault sight top journal digest used always_post fault
+  other_files : (listed : List Listed) (files : FileSet) (fault : SalvageFault) → IsListSeen sight top digest listed files →
+      IsFirstOther listed (entries_of files) fault → IsCutShortFault sight top journal digest used always_post fault
+  other_rescue : (listed : List Listed) (files : FileSet) (fault : SalvageFault) → IsListSeen sight top digest listed files →
+      All (IsSame listed) (entries_of files) → IsOtherRescue sight listed top used fault → IsCutShortFault sight top journal digest used always_post fault
+  no_plan : (listed : List Listed) (files : FileSet) (rescue : Option (List ℕ)) (fault : RunFault) → IsListSeen sight top digest listed files →
+      All (IsSame listed) (entries_of files) → IsRescueSeen sight top used rescue → IsSameRescue listed top used rescue →
+      IsBarePlanFault always_post (bytes_of files) top used rescue fault → IsCutShortFault sight top journal digest used always_post (Refused fault)
+  not_of_plan : (listed : List Listed) (files : FileSet) (rescue : Option (List ℕ)) (plan : Plan) (fault : RunFault) → IsListSeen sight top digest listed files →
+      All (IsSame listed) (entries_of files) → IsRescueSeen sight top used rescue → IsSameRescue listed top used rescue →
+      IsBarePlan always_post (bytes_of files) top rescue plan → IsUnsalvaged plan journal fault → IsCutShortFault sight top journal digest used always_post (Refused fault)
+  keeping_refused : (listed : List Listed) (files : FileSet) (other : SalvageFault) (fault : RunFault) → IsListSeen sight top digest listed files →
+      IsOther sight listed top used files other → IsRefusalOf (begun_name_of top) fault → IsCutShortFault sight top journal digest used always_post (Refused fault)
+  no_new_graph : (listed : List Listed) (files : FileSet) (other : SalvageFault) (fault : RunFault) → IsListSeen sight top digest listed files →
+      IsOther sight listed top used files other → IsGraphFault (bytes_of files) top fault → IsCutShortFault sight top journal digest used always_post (Refused fault)
   not_of_begun : (listed : List Listed) (files : FileSet) (other : SalvageFault) (begun : List ℕ) (old : Plan) (fault : RunFault) →
-      IsOther listed top used files other → IsBegunPlan always_post top digest begun old → IsUnsalvaged old journal fault →
-      IsCutShortFault top journal digest used always_post (Refused fault)
+      IsListSeen sight top digest listed files → IsOther sight listed top used files other → sight.has (begun_name_of top) begun →
+      IsBegunPlan always_post top digest begun old → IsUnsalvaged old journal fault → IsCutShortFault sight top journal digest used always_post (Refused fault)
 
--- Why no round of the DAG file of this path is salvaged: none was cut short, by its journal; or one was, and what stands beside it says why; or the
--- system refuses a file, as the lock that another manager has; or a file may be another user's; or memory ran out.
-pub data IsSalvageFault (top : List ℕ) : SalvageFault → Type 0 where
-  no_round : (fault : SalvageFault) → IsNoRound top fault → IsSalvageFault top fault
-  round_refused : (journal digest : List ℕ) (used next : ℕ) (always_post : Bool) (fault : SalvageFault) → IsUnfinishedRound journal digest used next always_post →
-      IsCutShortFault top journal digest used always_post fault → IsSalvageFault top fault
-  system_refuses : (fault : RunFault) → IsFileFault fault → IsSalvageFault top (Refused fault)
+-- Why no round of the DAG file of this path is salvaged: none was cut short, by its journal; or one was, and what is beside it says why; or another
+-- manager has the lock, or the system refuses it; or the system refuses another file, or that one may be another user's; or memory ran out.
+pub data IsSalvageFault (sight : Sight) (top : List ℕ) : SalvageFault → Type 0 where
+  no_round : (fault : SalvageFault) → IsNoRound sight top fault → IsSalvageFault sight top fault
+  round_refused : (journal digest : List ℕ) (used next : ℕ) (always_post : Bool) (fault : SalvageFault) → sight.has (journal_name_of top) journal →
+      IsUnfinishedRound journal digest used next always_post → IsCutShortFault sight top journal digest used always_post fault → IsSalvageFault sight top fault
+  another_is_at_work : (fault : RunFault) → IsRefusalOf (lock_name_of top) fault → IsSalvageFault sight top (Refused fault)
+  system_refuses : (fault : RunFault) → IsFileFault fault → IsSalvageFault sight top (Refused fault)

@@ -3,11 +3,12 @@
 ghost use Rattle.std.specs.Prelude.{◌≡◌, ◌↔◌, ℕ, List, IsTrue, Some, IfOk, IfErr, IfSome, string_bytes};
 ghost use Rattle.splices_flat.specs.FileSet.{bytes_of, entries_of};
 ghost use Rattle.dag_main_check.specs.declared.fault.RunFault.TheVariants.{Memory};
-ghost use Rattle.dag_main_files.specs.Beside.{IsFileFault};
+ghost use Rattle.dag_main_files.specs.Beside.{IsRefusalOf};
 ghost use Rattle.round_inputs.specs.Begun.{begun_name_of, begun_text_of, rescue_kept};
 ghost use Rattle.salvage.specs.Carried.{IsBegunPlan};
 ghost use Rattle.salvage.specs.Answered.{IsMadeOfChanged};
 ghost use Rattle.salvage.specs.Refused.{IsNotCarried};
+ghost use Rattle.salvage.specs.Sight.{held_files_if};
 
 use crate::carried::{carry_over, warnings_of};
 use crate::fault::SalvageFault;
@@ -50,7 +51,7 @@ fn begun_with<F: Folder>(
     // The file that the folder holds spells them.
     ensures held { F.honest folder.now → IfOk result (λ begun. IfSome begun (λ found.
         F.holds folder.now (begun_name_of top.now) ≡ Some (begun_text_of found.digest (entries_of found.files) (rescue_kept found.rescue)))) }
-    ensures refused { IfErr result IsFileFault }
+    ensures refused { IfErr result (IsRefusalOf (begun_name_of top.now)) }
 {
     let name = begun_path(alloc, top)?;
     let Some(bytes) = folder.beside(alloc, name.as_str())? else {
@@ -81,7 +82,7 @@ fn old_plan<F: Folder>(
     ensures plan { IfOk result (λ plan. IfSome plan (λ old. (begun : List ℕ)
         × IsBegunPlan round.now.always_post top.now round.now.digest begun old
         × (F.honest folder.now → F.holds folder.now (begun_name_of top.now) ≡ Some begun))) }
-    ensures refused { IfErr result IsFileFault }
+    ensures refused { IfErr result (IsRefusalOf (begun_name_of top.now)) }
 {
     let Some(begun) = begun_with(alloc, folder, top, &round.digest)? else {
         return Ok(None);
@@ -115,8 +116,8 @@ pub(crate) fn made_of_changed<F: Folder>(
     ensures made { IfOk result (λ made. IsMadeOfChanged (λ begun. F.honest folder.now → F.holds folder.now (begun_name_of top.now) ≡ Some begun)
         round.now.always_post (bytes_of files.now) top.now round.now.digest round.now.journal.items
         (string_bytes made.text) made.done made.total (string_bytes made.warnings)) }
-    ensures refused { IfErr result (IsNotCarried round.now.always_post (bytes_of files.now) top.now round.now.digest
-        round.now.journal.items other) }
+    ensures refused { IfErr result (IsNotCarried (held_files_if (F.honest folder.now) (F.holds folder.now) (F.has folder.now) top.now)
+        round.now.always_post (bytes_of files.now) top.now round.now.digest round.now.journal.items other) }
 {
     let Some(old) = old_plan(alloc, folder, top, round)? else {
         return Err(other);

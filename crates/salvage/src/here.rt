@@ -13,6 +13,7 @@ ghost use Rattle.salvage.specs.Round.{IsUnfinishedRound};
 ghost use Rattle.salvage.specs.Salvaged.{IsBarePlan, change_line, IsChangeFrom, any_change, AreChanges, report_line};
 ghost use Rattle.salvage.specs.Answered.{IsMadeOfSame, IsMadeOf, IsHeldMade, IsSalvageOf, IsSalvageFrom};
 ghost use Rattle.salvage.specs.Refused.{IsBarePlanFault, IsUnmade, IsSalvageFault};
+ghost use Rattle.salvage.specs.Sight.{held_files_if};
 
 use crate::changed::{Made, made_of_changed};
 use crate::fault::SalvageFault;
@@ -230,7 +231,7 @@ fn made_of_round<F: Folder>(
         made.done made.total (string_bytes made.warnings))
         × (F.honest folder.now → IsHeldMade (F.holds folder.now) top.now round.now.next inputs.now.files.items (string_bytes made.text)
         made.done made.total (string_bytes made.warnings) is)) }
-    ensures refused { IfErr result (IsSalvageFault top.now) }
+    ensures refused { IfErr result (IsSalvageFault (held_files_if (F.honest folder.now) (F.holds folder.now) (F.has folder.now) top.now) top.now) }
 {
     let other = match rescue_as_it_was(alloc, folder, top, inputs, files, round.used) {
         Ok(rescue) => return Ok(made_of_same(alloc, top, files, round, rescue.as_deref())?),
@@ -252,7 +253,7 @@ fn read_round<F: Folder>(alloc: Global, folder: &F, top: &str) -> Result<Found, 
         × (F.honest folder.now → IsHeldMade (F.holds folder.now) top.now found.round.next found.inputs.files.items (string_bytes found.made.text)
         found.made.done found.made.total (string_bytes found.made.warnings) is)) }
     ensures next { IfOk result (λ found. IsFileNumber found.round.next) }
-    ensures refused { IfErr result (IsSalvageFault top.now) }
+    ensures refused { IfErr result (IsSalvageFault (held_files_if (F.honest folder.now) (F.holds folder.now) (F.has folder.now) top.now) top.now) }
 {
     let round = cut_short(alloc, folder, top)?;
     let inputs = inputs_with(alloc, folder, top, &round.digest)?;
@@ -278,7 +279,7 @@ fn salvage_locked<R: Files<File = File> + AllocGlobal + Copy + Drop, F: Folder>(
         (string_bytes answer.text) (string_bytes answer.warnings) answer.status) }
     ensures held { F.honest folder.now → IfOk result (λ answer. IsSalvageFrom (F.holds folder.now) place.now.top.now
         (string_bytes answer.text) (string_bytes answer.warnings) answer.status) }
-    ensures refused { IfErr result (IsSalvageFault place.now.top.now) }
+    ensures refused { IfErr result (IsSalvageFault (held_files_if (F.honest folder.now) (F.holds folder.now) (F.has folder.now) place.now.top.now) place.now.top.now) }
 {
     let alloc = rt.alloc();
     let found = read_round(alloc, folder, place.top)?;
@@ -365,7 +366,7 @@ pub fn salvage_here<R: Files<File = File> + Clock + AllocGlobal + Copy + Drop, F
     // It is that of the files that the folder holds.
     ensures held { F.honest folder.now → IfOk result (λ answer. IsSalvageFrom (F.holds folder.now) place.now.top.now
         (string_bytes answer.text) (string_bytes answer.warnings) answer.status) }
-    ensures refused { IfErr result (IsSalvageFault place.now.top.now) }
+    ensures refused { IfErr result (IsSalvageFault (held_files_if (F.honest folder.now) (F.holds folder.now) (F.has folder.now) place.now.top.now) place.now.top.now) }
 {
     let alloc = rt.alloc();
     let journal = journal_path(alloc, place.top)?;

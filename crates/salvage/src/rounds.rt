@@ -9,6 +9,7 @@ ghost use Rattle.dag_main_files.specs.Folder as held;
 ghost use Rattle.round_inputs.specs.Inputs.{inputs_name_of, inputs_text_of};
 ghost use Rattle.salvage.specs.Refused.{IsNoNumber, IsNotCutShort, IsNoRound, IsNoInputs};
 ghost use Rattle.salvage.specs.Others.{IsOtherFile, IsFirstOther, IsOtherRescue, IsOther};
+ghost use Rattle.salvage.specs.Sight.{held_files_if};
 
 use crate::fault::SalvageFault;
 use dag_main_check::RunFault;
@@ -104,7 +105,7 @@ pub(crate) fn cut_short<F: Folder>(
     // Its journal is the one that the folder holds.
     ensures held { F.honest folder.now → IfOk result (λ round.
         F.holds folder.now (journal_name_of top.now) ≡ Some round.journal.items) }
-    ensures refused { IfErr result (IsNoRound top.now) }
+    ensures refused { IfErr result (IsNoRound (held_files_if (F.honest folder.now) (F.holds folder.now) (F.has folder.now) top.now) top.now) }
 {
     let name = journal_path(alloc, top)?;
     match folder.beside(alloc, name.as_str())? {
@@ -135,7 +136,7 @@ pub(crate) fn inputs_with<F: Folder>(
     // The file that the folder holds spells them.
     ensures held { F.honest folder.now → IfOk result (λ inputs.
         F.holds folder.now (inputs_name_of top.now) ≡ Some (inputs_text_of inputs.digest inputs.files.items)) }
-    ensures refused { IfErr result (IsNoInputs top.now digest.now) }
+    ensures refused { IfErr result (IsNoInputs (held_files_if (F.honest folder.now) (F.holds folder.now) (F.has folder.now) top.now) top.now digest.now) }
 {
     let name = inputs_path(alloc, top)?;
     let Some(bytes) = folder.beside(alloc, name.as_str())? else {
@@ -208,7 +209,8 @@ fn rescue_in<F: Folder>(
     // It is the one that the folder holds.
     ensures held { F.honest folder.now → IfOk result (λ bytes.
         option_map (λ b. b.items) bytes ≡ held.rescue_in (F.holds folder.now) top.now used) }
-    ensures refused { IfErr result (IsOtherRescue inputs.now.files.items top.now used) }
+    ensures refused { IfErr result (IsOtherRescue (held_files_if (F.honest folder.now) (F.holds folder.now) (F.has folder.now) top.now)
+        inputs.now.files.items top.now used) }
 {
     if used == 0 {
         return Ok(None);
@@ -244,7 +246,8 @@ pub(crate) fn rescue_as_it_was<F: Folder>(
     // It is the one that the folder holds.
     ensures held { F.honest folder.now → IfOk result (λ bytes.
         option_map (λ b. b.items) bytes ≡ held.rescue_in (F.holds folder.now) top.now used) }
-    ensures refused { IfErr result (IsOther inputs.now.files.items top.now used files.now) }
+    ensures refused { IfErr result (IsOther (held_files_if (F.honest folder.now) (F.holds folder.now) (F.has folder.now) top.now)
+        inputs.now.files.items top.now used files.now) }
 {
     check_files(alloc, inputs, files)?;
     rescue_in(alloc, folder, top, inputs, used)

@@ -11,3 +11,5 @@ pub mod ActingTrees
 pub mod Within
 pub mod Dags
 pub mod Said
+pub mod Groups
+pub mod Marks

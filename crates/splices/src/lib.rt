@@ -5,6 +5,7 @@ mod acting;
 mod check;
 mod declare;
 mod edges;
+mod ends;
 mod lines;
 mod names;
 mod nodes;

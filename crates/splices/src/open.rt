@@ -20,6 +20,7 @@ ghost use Rattle.splices_flat.specs.Opened.{dag_at, first_of};
 use crate::check::NameCheck;
 use crate::declare::{names_of, no_final};
 use crate::edges::LineScope;
+use crate::ends;
 use crate::names::Names;
 use crate::nodes::dir_text;
 use crate::own_nodes::own_nodes;
@@ -337,7 +338,7 @@ fn part_of(
     ensures { IfOk result (λ part. part ≡ part_of first (length builder.now.nodes.items - first) (drop start builder.now.edges.items)) }
 {
     let count = builder.nodes.as_slice().len() - first;
-    splices_ends::part_of(alloc, first, count, &builder.edges.as_slice()[start..])
+    ends::part_of(alloc, first, count, &builder.edges.as_slice()[start..])
 }
 
 /// The first name in a file's lines that can't stand where it does.

@@ -8,5 +8,5 @@ pub mod laws;
 mod lines;
 mod status;
 
-pub use lines::{push_line, run_text, status_text};
+pub use lines::{push_line, reported, run_text, status_text, status_word};
 pub use status::{Status, status_at, status_of_state};

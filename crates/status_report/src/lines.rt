@@ -9,7 +9,8 @@ use node_machine::Verdict;
 use sched_core::Core;
 use std::alloc::{AllocError, Global};
 
-fn status_word(status: Status) -> &'static str
+/// The word of a state, as its line has it.
+pub fn status_word(status: Status) -> &'static str
     ensures { result.now ≡ status_word status }
 {
     match status {
@@ -57,8 +58,8 @@ fn push_node(text: &mut String, core: &Core<'_>, node: u32) -> Result<(), AllocE
     )
 }
 
-/// How many nodes have a line: the ordinary ones, and the FINAL node behind them.
-fn reported(core: &Core<'_>) -> u32
+/// How many nodes have a line: the ordinary ones, and the FINAL node after them.
+pub fn reported(core: &Core<'_>) -> u32
     ensures is { result ≡ reported core.now.plan }
     ensures few { result ≤ count_of core.now.plan + 1 }
 {

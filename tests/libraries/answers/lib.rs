@@ -7,3 +7,5 @@ mod consoles;
 mod folders;
 #[cfg(test)]
 mod same;
+#[cfg(test)]
+mod statuses;

@@ -1,4 +1,4 @@
-use Rattle.std.proofs.Common.{ℕ, List, Bor, IfOk, IfErr, string_bytes, sym, subst}
+use Rattle.std.proofs.Common.{IfOk, IfErr, string_bytes, sym, subst}
 use Rattle.std.specs.Option.{option_map}
 use Rattle.dag_main_check.specs.declared.warnings.Answer.{Answer}
 use Rattle.dag_main_files.specs.Opened.{IsOfFiles, IsOfSome, IsRefusedFor, IsRefusedForSome}
@@ -17,6 +17,18 @@ returns-in-Status-clause-refused g c = subst (λ (q : Question). IfErr c.status_
 
 pub returns-in-Status-clause-refused_held : goal.returns-in-Status-clause-refused_held
 returns-in-Status-clause-refused_held g c = λ honest. subst (λ (q : Question). IfErr c.status_here.result (IsRefusedFor (g.F.Folder.holds c.args.folder.now) c.args.top.now (IsNotAnsweredBy q c.args.top.now (option_map (λ b. b.now) c.args.rescue) (option_map (λ b. b.now) c.args.journal)))) (sym c.in-Status.is) (c.status_here.ensures.refused_held honest)
+
+pub returns-in-StatusJson-clause-answered : goal.returns-in-StatusJson-clause-answered
+returns-in-StatusJson-clause-answered g c = subst (λ (q : Question). IfOk c.status_here-in-StatusJson.result (λ (a : Answer). IsOfSome c.args.top.now (AnswersBy q c.args.top.now (option_map (λ b. b.now) c.args.rescue) (option_map (λ b. b.now) c.args.journal) (string_bytes a.text) (string_bytes a.warnings) a.status))) (sym c.in-StatusJson.is) c.status_here-in-StatusJson.ensures.status
+
+pub returns-in-StatusJson-clause-held : goal.returns-in-StatusJson-clause-held
+returns-in-StatusJson-clause-held g c = λ honest. subst (λ (q : Question). IfOk c.status_here-in-StatusJson.result (λ (a : Answer). IsOfFiles (g.F.Folder.holds c.args.folder.now) c.args.top.now (AnswersBy q c.args.top.now (option_map (λ b. b.now) c.args.rescue) (option_map (λ b. b.now) c.args.journal) (string_bytes a.text) (string_bytes a.warnings) a.status))) (sym c.in-StatusJson.is) (c.status_here-in-StatusJson.ensures.held honest)
+
+pub returns-in-StatusJson-clause-refused : goal.returns-in-StatusJson-clause-refused
+returns-in-StatusJson-clause-refused g c = subst (λ (q : Question). IfErr c.status_here-in-StatusJson.result (IsRefusedForSome c.args.top.now (IsNotAnsweredBy q c.args.top.now (option_map (λ b. b.now) c.args.rescue) (option_map (λ b. b.now) c.args.journal)))) (sym c.in-StatusJson.is) c.status_here-in-StatusJson.ensures.refused
+
+pub returns-in-StatusJson-clause-refused_held : goal.returns-in-StatusJson-clause-refused_held
+returns-in-StatusJson-clause-refused_held g c = λ honest. subst (λ (q : Question). IfErr c.status_here-in-StatusJson.result (IsRefusedFor (g.F.Folder.holds c.args.folder.now) c.args.top.now (IsNotAnsweredBy q c.args.top.now (option_map (λ b. b.now) c.args.rescue) (option_map (λ b. b.now) c.args.journal)))) (sym c.in-StatusJson.is) (c.status_here-in-StatusJson.ensures.refused_held honest)
 
 pub returns-in-Audit-clause-answered : goal.returns-in-Audit-clause-answered
 returns-in-Audit-clause-answered g c = subst (λ (q : Question). IfOk c.audit_here.result (λ (a : Answer). IsOfSome c.args.top.now (AnswersBy q c.args.top.now (option_map (λ b. b.now) c.args.rescue) (option_map (λ b. b.now) c.args.journal) (string_bytes a.text) (string_bytes a.warnings) a.status))) (sym c.in-Audit.is) c.audit_here.ensures.audited

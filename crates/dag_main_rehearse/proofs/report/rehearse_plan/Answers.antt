@@ -26,10 +26,10 @@ returns-clause-run c =
 
 pub returns-in_err-with_rescue-clause-refused : goal.returns-in_err-with_rescue-clause-refused
 returns-in_err-with_rescue-clause-refused c =
-    handed-on (IsTableRunFault c.args.plan.now) c.from_residual-in_err-with_rescue.result c.from_residual-in_err-with_rescue.ensures.1
-    (λ fault same. no-memory c.args.plan.now c.in_err-with_rescue.field-0.0 fault same c.in_err-with_rescue.ensures.err)
+    handed-on (IsTableRunFault c.args.limits c.args.plan.now c.args.table.now) c.from_residual-in_err-with_rescue.result c.from_residual-in_err-with_rescue.ensures.1
+    (λ fault same. no-memory c.args.limits c.args.plan.now c.args.table.now c.in_err-with_rescue.field-0.0 fault same c.in_err-with_rescue.ensures.err)
 
 pub returns-in_err-warning_text-clause-refused : goal.returns-in_err-warning_text-clause-refused
 returns-in_err-warning_text-clause-refused c =
-    handed-on (IsTableRunFault c.args.plan.now) c.from_residual-in_err-warning_text.result c.from_residual-in_err-warning_text.ensures.1
-    (λ fault same. no-memory c.args.plan.now Memory fault same refl)
+    handed-on (IsTableRunFault c.args.limits c.args.plan.now c.args.table.now) c.from_residual-in_err-warning_text.result c.from_residual-in_err-warning_text.ensures.1
+    (λ fault same. no-memory c.args.limits c.args.plan.now c.args.table.now Memory fault same refl)

@@ -21,18 +21,18 @@ returns-clause-report c =
 
 pub returns-in_err-plan-clause-refused : goal.returns-in_err-plan-clause-refused
 returns-in_err-plan-clause-refused c =
-    let owed = IsRehearsalFault (bytes_of c.args.files.now) c.args.path.now (option_map (λ b. b.now) c.args.outcomes) in
+    let owed = IsRehearsalFault c.args.always_post (bytes_of c.args.files.now) c.args.path.now (option_map (λ b. b.now) c.args.outcomes) c.args.limits in
     handed-on owed c.from_residual.result c.from_residual.ensures.1
     (λ fault same. subst owed (sym same) (has_no_graph c.in_err-plan.field-0.0 c.in_err-plan.ensures.refused))
 
 pub returns-in_err-table-clause-refused : goal.returns-in_err-table-clause-refused
 returns-in_err-table-clause-refused c =
-    let owed = IsRehearsalFault (bytes_of c.args.files.now) c.args.path.now (option_map (λ b. b.now) c.args.outcomes) in
+    let owed = IsRehearsalFault c.args.always_post (bytes_of c.args.files.now) c.args.path.now (option_map (λ b. b.now) c.args.outcomes) c.args.limits in
     handed-on owed c.from_residual-in_err-table.result c.from_residual-in_err-table.ensures.1
     (λ fault same. subst owed (sym same)
     (has_no_table c.in_ok-plan.plan.graph.dag c.in_err-table.field-0.0 c.in_ok-plan.ensures.plan.is_dag c.in_ok-plan.ensures.plan.acyclic c.in_err-table.ensures.refused))
 
 pub returns-clause-refused : goal.returns-clause-refused
 returns-clause-refused c =
-    rehearsal-stopped c.args.always_post (bytes_of c.args.files.now) c.args.path.now (option_map (λ b. b.now) c.args.outcomes) c.in_ok-plan.plan c.rehearse_plan.result
-    c.in_ok-plan.ensures.plan c.rehearse_plan.ensures.refused
+    rehearsal-stopped c.args.always_post (bytes_of c.args.files.now) c.args.path.now (option_map (λ b. b.now) c.args.outcomes) c.args.limits c.in_ok-plan.plan c.in_ok-table.table c.rehearse_plan.result
+    c.in_ok-plan.ensures.plan c.in_ok-table.ensures.entries c.rehearse_plan.ensures.refused

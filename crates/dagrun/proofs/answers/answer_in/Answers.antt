@@ -1,23 +1,39 @@
 use Rattle.std.proofs.Common.{rules, ◌≡◌, ℕ, List, Bor, IfOk, map, string_bytes, sym, subst}
+use Rattle.std.specs.Prelude.{IfErr}
 use Rattle.failure_answers.specs.Answered.{IsWhyOf, IsWhyHeld, IsWhyFaultHeld}
 use Rattle.redo.specs.Answered.{IsRedoOf, IsRedoHeld}
 use Rattle.dag_main_run.specs.Sites.{rounds_at}
 use Rattle.dag_main_args.specs.declared.request.Request.{Request}
 use Rattle.dag_main_args.specs.Requests.{asked_by}
 use Rattle.failure_report.specs.declared.why.Grouping.{Grouping}
-use Rattle.dagrun.specs.Answered.{is_run, command_of_some, command_from, ComesTo, grouping_by, SaidByFitting}
+use Rattle.dag_main_inspect.specs.Asked.{IsAnswerOfRun, IsAnswerHeld, IsAnswerFault, IsAnswerFaultHeld}
+use Rattle.dag_main_inspect.specs.declared.by_journal.Question.{Question}
+use Rattle.dag_main_inspect.specs.declared.by_journal.Question.TheVariants.{Status}
+use Rattle.run_times.specs.Answered.{IsTimesOf, IsTimesFrom}
+use Rattle.run_times.specs.declared.form.Form.{Form}
+use Rattle.dagrun.specs.Answered.{is_run, command_of_some, command_from, ComesTo, grouping_by, SaidByFiles, SaidByFitting, IsRefusedByFiles, IsRefusedBySome}
 use Rattle.dagrun.proofs.Worlds.{some-to, held-to}
 use Rattle.dagrun.proofs.answers.answer_in.Goals as goal
 
 pub returns-in-Status-clause-some : goal.returns-in-Status-clause-some
 returns-in-Status-clause-some g c = λ run.
     some-to (rounds_at g.F.Journal.Disk g.F.Rescue.Disk (g.F.Site.own c.args.folder.now) (g.F.Folder.honest c.args.folder.now) (g.F.Folder.holds c.args.folder.now))
-    c.args.request _ c.in-Status.is c.answer_of_round.result c.answer_of_round.ensures.answered c.answer_of_round.ensures.refused
+    c.args.request _ c.in-Status.is c.answer_of_round.result
+    (subst (λ (question : Question). IfOk c.answer_of_round.result (λ answer. IsAnswerOfRun question c.in-Status.dag.now (string_bytes answer.text) (string_bytes answer.warnings) answer.status)) c.status_question.ensures
+    c.answer_of_round.ensures.answered)
+    (subst (λ (question : Question). IfErr c.answer_of_round.result (IsRefusedBySome c.in-Status.as_begun c.in-Status.dag.now (IsAnswerFault question c.in-Status.dag.now))) c.status_question.ensures
+    c.answer_of_round.ensures.refused)
 
 pub returns-in-Status-clause-held : goal.returns-in-Status-clause-held
 returns-in-Status-clause-held g c = λ honest run.
     held-to (g.F.Folder.holds c.args.folder.now) (g.F.Folder.has c.args.folder.now) (rounds_at g.F.Journal.Disk g.F.Rescue.Disk (g.F.Site.own c.args.folder.now) (g.F.Folder.honest c.args.folder.now) (g.F.Folder.holds c.args.folder.now))
-    c.args.request _ c.in-Status.is c.answer_of_round.result (c.answer_of_round.ensures.held honest) (c.answer_of_round.ensures.refused_held honest)
+    c.args.request _ c.in-Status.is c.answer_of_round.result
+    (subst (λ (question : Question). IfOk c.answer_of_round.result (λ answer. SaidByFiles c.in-Status.as_begun (g.F.Folder.holds c.args.folder.now) c.in-Status.dag.now
+    (λ files. IsAnswerHeld files question c.in-Status.dag.now) (string_bytes answer.text) (string_bytes answer.warnings) answer.status)) c.status_question.ensures
+    (c.answer_of_round.ensures.held honest))
+    (subst (λ (question : Question). IfErr c.answer_of_round.result (IsRefusedByFiles c.in-Status.as_begun (g.F.Folder.holds c.args.folder.now) c.in-Status.dag.now
+    (λ files. IsAnswerFaultHeld files question c.in-Status.dag.now))) c.status_question.ensures
+    (c.answer_of_round.ensures.refused_held honest))
 
 pub returns-in-Audit-clause-some : goal.returns-in-Audit-clause-some
 returns-in-Audit-clause-some g c = λ run.
@@ -32,12 +48,12 @@ returns-in-Audit-clause-held g c = λ honest run.
 pub returns-in-Graph-clause-some : goal.returns-in-Graph-clause-some
 returns-in-Graph-clause-some g c = λ run.
     some-to (rounds_at g.F.Journal.Disk g.F.Rescue.Disk (g.F.Site.own c.args.folder.now) (g.F.Folder.honest c.args.folder.now) (g.F.Folder.holds c.args.folder.now))
-    c.args.request _ c.in-Graph.is c.answer_of_round-in-Graph.result c.answer_of_round-in-Graph.ensures.answered c.answer_of_round-in-Graph.ensures.refused
+    c.args.request _ c.in-Graph.is c.graph_of_last_round.result c.graph_of_last_round.ensures.answered c.graph_of_last_round.ensures.refused
 
 pub returns-in-Graph-clause-held : goal.returns-in-Graph-clause-held
 returns-in-Graph-clause-held g c = λ honest run.
     held-to (g.F.Folder.holds c.args.folder.now) (g.F.Folder.has c.args.folder.now) (rounds_at g.F.Journal.Disk g.F.Rescue.Disk (g.F.Site.own c.args.folder.now) (g.F.Folder.honest c.args.folder.now) (g.F.Folder.holds c.args.folder.now))
-    c.args.request _ c.in-Graph.is c.answer_of_round-in-Graph.result (c.answer_of_round-in-Graph.ensures.held honest) (c.answer_of_round-in-Graph.ensures.refused_held honest)
+    c.args.request _ c.in-Graph.is c.graph_of_last_round.result (c.graph_of_last_round.ensures.held honest) (c.graph_of_last_round.ensures.refused_held honest)
 
 pub returns-in-Why-clause-some : goal.returns-in-Why-clause-some
 returns-in-Why-clause-some g c = λ run.
@@ -60,12 +76,18 @@ returns-in-Why-clause-held g c = λ honest run.
 pub returns-in-Times-clause-some : goal.returns-in-Times-clause-some
 returns-in-Times-clause-some g c = λ run.
     some-to (rounds_at g.F.Journal.Disk g.F.Rescue.Disk (g.F.Site.own c.args.folder.now) (g.F.Folder.honest c.args.folder.now) (g.F.Folder.holds c.args.folder.now))
-    c.args.request _ c.in-Times.is c.times_of_round.result c.times_of_round.ensures.answered c.times_of_round.ensures.refused
+    c.args.request _ c.in-Times.is c.times_of_last_round.result
+    (subst (λ (form : Form). IfOk c.times_of_last_round.result (λ answer. IsTimesOf c.in-Times.dag.now form (string_bytes answer.text) (string_bytes answer.warnings) answer.status)) c.times_form.ensures
+    c.times_of_last_round.ensures.answered) c.times_of_last_round.ensures.refused
 
 pub returns-in-Times-clause-held : goal.returns-in-Times-clause-held
 returns-in-Times-clause-held g c = λ honest run.
     held-to (g.F.Folder.holds c.args.folder.now) (g.F.Folder.has c.args.folder.now) (rounds_at g.F.Journal.Disk g.F.Rescue.Disk (g.F.Site.own c.args.folder.now) (g.F.Folder.honest c.args.folder.now) (g.F.Folder.holds c.args.folder.now))
-    c.args.request _ c.in-Times.is c.times_of_round.result (c.times_of_round.ensures.held honest) (c.times_of_round.ensures.refused_held honest)
+    c.args.request _ c.in-Times.is c.times_of_last_round.result
+    (subst (λ (form : Form). IfOk c.times_of_last_round.result (λ answer. SaidByFitting c.in-Times.as_begun (g.F.Folder.holds c.args.folder.now) c.in-Times.dag.now
+    (λ files. IsAnswerFaultHeld files Status c.in-Times.dag.now) (λ files. IsTimesFrom files c.in-Times.dag.now form)
+    (string_bytes answer.text) (string_bytes answer.warnings) answer.status)) c.times_form.ensures
+    (c.times_of_last_round.ensures.held honest)) (c.times_of_last_round.ensures.refused_held honest)
 
 pub returns-in-Report-clause-some : goal.returns-in-Report-clause-some
 returns-in-Report-clause-some g c = λ run.
@@ -85,7 +107,7 @@ returns-in-Salvage-clause-some g c = λ run.
 pub returns-in-Salvage-clause-held : goal.returns-in-Salvage-clause-held
 returns-in-Salvage-clause-held g c = λ honest run.
     held-to (g.F.Folder.holds c.args.folder.now) (g.F.Folder.has c.args.folder.now) (rounds_at g.F.Journal.Disk g.F.Rescue.Disk (g.F.Site.own c.args.folder.now) (g.F.Folder.honest c.args.folder.now) (g.F.Folder.holds c.args.folder.now))
-    c.args.request _ c.in-Salvage.is c.salvage_in.result (c.salvage_in.ensures.held honest) c.salvage_in.ensures.refused
+    c.args.request _ c.in-Salvage.is c.salvage_in.result (c.salvage_in.ensures.held honest) (c.salvage_in.ensures.refused_held honest)
 
 pub returns-in-Redo-clause-some : goal.returns-in-Redo-clause-some
 returns-in-Redo-clause-some g c = λ run.

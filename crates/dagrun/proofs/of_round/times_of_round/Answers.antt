@@ -10,7 +10,7 @@ use Rattle.dagrun.proofs.of_round.times_of_round.Goals as goal
 pub returns-then-not-as_begun-clause-held : goal.returns-then-not-as_begun-clause-held
 returns-then-not-as_begun-clause-held g c = λ honest.
     held-answer (g.F.Folder.holds c.args.folder.now) c.args.dag.now c.args.as_begun c.if-not-as_begun.true
-    (λ files. IsTimesFrom files c.args.dag.now c.args.svg) c.times_here.result (c.times_here.ensures.held honest)
+    (λ files. IsTimesFrom files c.args.dag.now c.args.form) c.times_here.result (c.times_here.ensures.held honest)
 
 pub returns-then-not-as_begun-clause-refused : goal.returns-then-not-as_begun-clause-refused
 returns-then-not-as_begun-clause-refused g c = some-refusal c.args.as_begun c.args.dag.now _ c.times_here.result c.times_here.ensures.refused
@@ -32,8 +32,8 @@ returns-in_err-seen-clause-refused_held g c = λ honest.
 pub returns-clause-held : goal.returns-clause-held
 returns-clause-held g c = λ honest.
     begun-answer (g.F.Folder.holds c.args.folder.now) c.args.dag.now c.args.as_begun c.if-not-as_begun.false c.in_ok-seen.seen.begun (c.in_ok-seen.ensures.held honest)
-    (λ files. IsTimesFrom files c.args.dag.now c.args.svg) c.times_here-2.result
-    (subst (λ f. IfOk c.times_here-2.result (λ a. IsTimesFrom (as_begun c.in_ok-seen.seen.begun (g.F.Folder.holds f)) c.args.dag.now c.args.svg (string_bytes a.text) (string_bytes a.warnings) a.status))
+    (λ files. IsTimesFrom files c.args.dag.now c.args.form) c.times_here-2.result
+    (subst (λ f. IfOk c.times_here-2.result (λ a. IsTimesFrom (as_begun c.in_ok-seen.seen.begun (g.F.Folder.holds f)) c.args.dag.now c.args.form (string_bytes a.text) (string_bytes a.warnings) a.status))
     c.in_ok-seen.ensures.folder (c.times_here-2.ensures.held (subst g.F.Folder.honest (sym c.in_ok-seen.ensures.folder) honest)))
 
 pub returns-clause-refused : goal.returns-clause-refused

@@ -31,10 +31,11 @@ returns-in-Ok-clause-fates g c = λ abort_free.
 pub returns-in-Err-clause-stopped : goal.returns-in-Err-clause-stopped
 returns-in-Err-clause-stopped g c =
     let cut = c.in-Err.ensures.cut in
-    record { rest = g.S.Starter.call_log c.run.new.starter; halted = record { keys = cut.keys; owed = cut.owed; steps = cut.steps; stop = cut.stop }; kills = c.kill_all.ensures.kills }
-
-pub returns-in-Err-clause-refused : goal.returns-in-Err-clause-refused
-returns-in-Err-clause-refused g c = fault-on _ _ _ _ _ _ c.in-Err.fault c.kill_all.ensures.unrefused c.in-Err.ensures.cut.refused
+    record {
+      refused = cut.refused;
+      stopped = record { rest = g.S.Starter.call_log c.run.new.starter; halted = record { keys = cut.keys; owed = cut.owed; steps = cut.steps; stop = cut.stop }; kills = c.kill_all.ensures.kills };
+      cause = fault-on _ _ _ _ _ _ cut.refused c.in-Err.fault c.kill_all.ensures.unrefused cut.cause;
+    }
 
 pub returns-in-Err-clause-any_moment : goal.returns-in-Err-clause-any_moment
 returns-in-Err-clause-any_moment g c = λ honest header was.

@@ -8,7 +8,7 @@ pub returns-clause-halted : goal.returns-clause-halted
 returns-clause-halted g c limits plan starter past call_log after last h = halted-hands limits plan (g.S.Starter.may_return starter) past call_log after last h
 
 pub returns-clause-halted_by : goal.returns-clause-halted_by
-returns-clause-halted_by g c limits plan starter past call_log fault after last h = by-fault-hands limits plan (g.S.Starter.may_return starter) past call_log fault after last h
+returns-clause-halted_by g c limits plan starter past call_log fault refused after last h = by-fault-hands limits plan (g.S.Starter.may_return starter) past call_log fault refused after last h
 
 pub returns-clause-stopped : goal.returns-clause-stopped
-returns-clause-stopped g c limits plan starter past call_log fault after last h = stopped limits plan (g.S.Starter.may_return starter) past call_log fault after last h
+returns-clause-stopped g c limits plan starter past call_log fault refused after last h = stopped limits plan (g.S.Starter.may_return starter) past call_log fault refused after last h

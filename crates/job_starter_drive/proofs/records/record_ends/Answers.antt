@@ -8,7 +8,7 @@ use Rattle.job_starter_drive.specs.Stretches.{IsStretch}
 use Rattle.job_starter_drive.proofs.Disks.{counts_group}
 use Rattle.job_starter_drive.proofs.Stretches.{stretch-recorded, cut-recorded, unwritten, settle-step, settle-stop}
 use Rattle.job_starter_drive.proofs.Steps.{open-going}
-use Rattle.job_starter_drive.proofs.Turns.{end-all, ends-own, ends-fit, nearer-ended}
+use Rattle.job_starter_drive.proofs.Turns.{end-all, ends-fit, nearer-ended}
 use Rattle.job_starter_drive.proofs.records.record_ends.Goals as goal
 
 pub returns-in-Ok-clause-nearer : goal.returns-in-Ok-clause-nearer
@@ -52,6 +52,6 @@ returns-in-Err-clause-cut g c =
     (settle-step (limits_of c.args.manager.now) plan may past call_log ends c.requires.some)
     e.any_moment e.broken e.keeps
     g.met.D.Disk.counts_now entries c.in-Err.fault (settle-stop (limits_of c.args.manager.now) plan c.in-Err.fault past call_log ends c.requires.some) c.in-Err.ensures.past_err
-    (let few = c.requires.few in let size = up-few plan past ends in omega (arith, few, size)) refl (ends-own plan past ends) all.may_all
+    (let few = c.requires.few in let size = up-few plan past ends in omega (arith, few, size)) refl all.may_all
     (unwritten g.D.Disk past _ entries c.args.manager.now.journal c.record_batch.new.self.journal c.in-Err.fault
     (open-going past c.requires.going) (ends-fit plan past ends all.may_all) c.in-Err.ensures.refused)

@@ -6,7 +6,7 @@ use Rattle.job_starter_drive.specs.Drives.{At, limits_of, launch_round, launch_r
 use Rattle.job_starter_drive.proofs.Disks.{counts_group}
 use Rattle.job_starter_drive.proofs.Stretches.{stretch-recorded, cut-recorded, unwritten}
 use Rattle.job_starter_drive.proofs.Steps.{open-going}
-use Rattle.job_starter_drive.proofs.Turns.{launch-all, launches-own, nearer-launched}
+use Rattle.job_starter_drive.proofs.Turns.{launch-all, nearer-launched}
 use Rattle.job_starter_drive.proofs.records.record_launches.Goals as goal
 
 pub returns-clause-nearer : goal.returns-clause-nearer
@@ -48,7 +48,7 @@ returns-in-Err-clause-cut g c =
     (launch_round c.keeps_the_law.ensures c.requires.going c.requires.unhalted step c.requires.round)
     e.any_moment e.broken e.keeps
     g.met.D.Disk.counts_now (launches_of past keys) c.in-Err.fault (launch_refused c.requires.round) c.in-Err.ensures.past_err
-    (let few = c.requires.round.few in let size = length-launches past keys in omega (arith, few, size)) (launched-added past keys) (launches-own past keys)
+    (let few = c.requires.round.few in let size = length-launches past keys in omega (arith, few, size)) (launched-added past keys)
     (sym (launches-follow plan past keys) ∙ all.may_all)
     (unwritten g.D.Disk past _ (launches_of past keys) c.args.manager.now.journal c.launch_batch.new.self.journal c.in-Err.fault
     (open-going past c.requires.going) all.may_all c.in-Err.ensures.refused)

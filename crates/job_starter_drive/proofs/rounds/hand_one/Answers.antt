@@ -236,7 +236,7 @@ returns-in-Err-clause-cut g c =
     cut-still g.D.Disk g.met.D.Disk.only_now (limits_of c.args.manager.now) plan (g.S.Starter.may_return c.args.starter.now) (g.S.Starter.may_return c.hand_over.new.starter) (g.S.Starter.faults c.args.starter.now) (g.S.Starter.faults c.hand_over.new.starter) c.args.manager.now
     (At past call_log all owed) refl refl lawful c.in-Err.ensures.may all owed (g.S.Starter.call_log c.hand_over.new.starter) c.in-Err.fault
     (subst (λ l. Goes (limits_of c.args.manager.now) plan (g.S.Starter.may_return c.args.starter.now) (At past call_log all owed) (At past l all owed)) (sym silent) no_step)
-    (subst (λ l. IsStoppedAt (limits_of c.args.manager.now) plan c.in-Err.fault (At past l all owed)) (sym silent)
+    (subst (λ l. IsStoppedAt (limits_of c.args.manager.now) plan c.in-Err.fault (At past l all owed) []) (sym silent)
     (unhanded (limits_of c.args.manager.now) plan (g.S.Starter.may_return c.args.starter.now) past call_log key all keys is owed c.in-Err.fault c.in-Err.ensures.unhanded child))
     c.in-Err.ensures.later (c.in-Err.ensures.refused c.args.manager.now)
 

@@ -2,7 +2,7 @@ use Rattle.std.proofs.Common.{ℕ, List, ◌∙◌, ap, sym, subst}
 use Rattle.std.proofs.lemmas.Result.{IfOk-weaker}
 use Rattle.dag_main_check.specs.declared.fault.RunFault.TheVariants.{Memory}
 use Rattle.dag_main_files.specs.Beside.{IsFileFault, reading_had_no_memory}
-use Rattle.dag_main_files.proofs.RunFaults.{by-fault, memory-alone}
+use Rattle.dag_main_files.proofs.RunFaults.{by-fault, memory-alone, refusal-is-file}
 use Rattle.redo.specs.Answered.{IsRedoFault, file_not_written, has_no_round, held_no_round, IsRedoFaultHeld, held_file_not_written}
 use Rattle.redo.proofs.here.redo_here.Goals as goal
 
@@ -23,7 +23,7 @@ returns-in_err-has_own_files-clause-refused g c =
 
 pub returns-in_err-lock-clause-refused : goal.returns-in_err-lock-clause-refused
 returns-in_err-lock-clause-refused g c =
-    by-fault (IsRedoFault c.args.place.now.top.now) c.in_err-lock.field-0.0 (file_not_written _ c.in_err-lock.ensures)
+    by-fault (IsRedoFault c.args.place.now.top.now) c.in_err-lock.field-0.0 (file_not_written _ (refusal-is-file _ _ c.in_err-lock.ensures))
     c.from_residual-in_err-lock.result c.from_residual-in_err-lock.ensures.1
 
 pub returns-then-not-is_there-clause-redone : goal.returns-then-not-is_there-clause-redone
@@ -54,7 +54,7 @@ returns-in_err-has_own_files-clause-refused_held g c = λ honest.
 
 pub returns-in_err-lock-clause-refused_held : goal.returns-in_err-lock-clause-refused_held
 returns-in_err-lock-clause-refused_held g c = λ honest.
-    by-fault (IsRedoFaultHeld (g.F.Folder.holds c.args.folder.now) c.args.place.now.top.now) c.in_err-lock.field-0.0 (held_file_not_written _ c.in_err-lock.ensures)
+    by-fault (IsRedoFaultHeld (g.F.Folder.holds c.args.folder.now) c.args.place.now.top.now) c.in_err-lock.field-0.0 (held_file_not_written _ (refusal-is-file _ _ c.in_err-lock.ensures))
     c.from_residual-in_err-lock.result c.from_residual-in_err-lock.ensures.1
 
 pub returns-then-not-is_there-clause-refused_held : goal.returns-then-not-is_there-clause-refused_held

@@ -20,5 +20,7 @@ returns g c =
       why = subst (λ (text : List ℕ). HasAllBy ByCause plan past text) (sym c.as_str-2.ensures.value) c.in_ok-why.ensures;
       warnings_are = c.as_str.ensures.value ∙ c.in_ok-warnings.ensures;
       reloads_is = c.loads_anew.ensures;
+      digest_is = c.as_str-3.ensures.value ∙ c.in_ok-digest.ensures;
+      confirmed_is = c.confirmed_by.ensures;
     })
     c.in_ok-warnings.ensures

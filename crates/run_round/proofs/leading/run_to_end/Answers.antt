@@ -33,11 +33,11 @@ returns-in-Ok-run_text-clause-led g c =
 
 pub returns-in-Err-clause-goes_on : goal.returns-in-Err-clause-goes_on
 returns-in-Err-clause-goes_on g c =
-    stopped-adds (limits_of c.args.manager.now) (plan_of c.args.manager.now) (g.S.Starter.may_return c.args.starter.now) (past_of c.args.manager.now) (g.S.Starter.call_log c.args.starter.now) c.in-Err.fault (past_of c.drive.new.manager) (g.S.Starter.call_log c.drive.new.starter) c.in-Err.ensures.stopped
+    stopped-adds (limits_of c.args.manager.now) (plan_of c.args.manager.now) (g.S.Starter.may_return c.args.starter.now) (past_of c.args.manager.now) (g.S.Starter.call_log c.args.starter.now) c.in-Err.fault c.in-Err.ensures.stopped.refused (past_of c.drive.new.manager) (g.S.Starter.call_log c.drive.new.starter) c.in-Err.ensures.stopped.stopped
 
 pub returns-in-Err-clause-hands_over_err : goal.returns-in-Err-clause-hands_over_err
 returns-in-Err-clause-hands_over_err g c =
-    stopped (limits_of c.args.manager.now) (plan_of c.args.manager.now) (g.S.Starter.may_return c.args.starter.now) (past_of c.args.manager.now) (g.S.Starter.call_log c.args.starter.now) c.in-Err.fault (past_of c.drive.new.manager) (g.S.Starter.call_log c.drive.new.starter) c.in-Err.ensures.stopped
+    stopped (limits_of c.args.manager.now) (plan_of c.args.manager.now) (g.S.Starter.may_return c.args.starter.now) (past_of c.args.manager.now) (g.S.Starter.call_log c.args.starter.now) c.in-Err.fault c.in-Err.ensures.stopped.refused (past_of c.drive.new.manager) (g.S.Starter.call_log c.drive.new.starter) c.in-Err.ensures.stopped.stopped
 
 pub returns-in-Err-sealed-clause-goes_on : goal.returns-in-Err-sealed-clause-goes_on
 returns-in-Err-sealed-clause-goes_on g c =
@@ -179,7 +179,7 @@ returns-in-Ok-run_text-clause-steps g c =
     c.in-Ok.end.verdict c.in-Ok.ensures.steps c.in-Ok.ensures.over c.in-Ok-finish.ensures.past
 
 pub returns-in-Err-clause-refused : goal.returns-in-Err-clause-refused
-returns-in-Err-clause-refused g c = was_stopped c.in-Err.ensures.refused c.in-Err.ensures.stopped refl
+returns-in-Err-clause-refused g c = was_stopped c.in-Err.ensures.stopped refl
 
 pub returns-in-Err-sealed-clause-refused : goal.returns-in-Err-sealed-clause-refused
 returns-in-Err-sealed-clause-refused g c =
@@ -202,7 +202,7 @@ returns-in-Err-finish-clause-refused g c =
     end_refused
     (subst (λ (l : List Record). IsAtEnd (limits_of c.args.manager.now) (plan_of c.args.manager.now) (g.S.Starter.may_return c.args.starter.now) (past_of c.args.manager.now) (g.S.Starter.call_log c.args.starter.now) l (g.S.Starter.call_log c.drive.new.starter)) (sym c.in-Err-finish.ensures.past_err)
     (record { status = c.in-Ok.end.verdict; steps = c.in-Ok.ensures.steps; chosen = c.in-Ok.ensures.over }))
-    why.0 why.1 (search rules)
+    why (search rules)
 
 pub returns-in-Err-run_text-clause-refused : goal.returns-in-Err-run_text-clause-refused
 returns-in-Err-run_text-clause-refused g c =

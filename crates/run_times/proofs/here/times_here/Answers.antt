@@ -9,26 +9,27 @@ use Rattle.dag_main_files.proofs.OpenedFiles.{said-more}
 use Rattle.dag_main_check.specs.Warnings.{warning_lines}
 use Rattle.dag_main_check.specs.declared.fault.RunFault.TheVariants.{Memory}
 use Rattle.dag_main_files.proofs.RunFaults.{by-fault}
+use Rattle.run_times.specs.declared.form.Form.{Form}
 use Rattle.run_times.specs.declared.runs.PhaseRun.{PhaseRun}
 use Rattle.run_times.specs.Reading.{IsRunsOf}
 use Rattle.run_times.specs.Answered.{IsShown, IsShownOf, IsTimesBy, IsTimesFault, no_graph, no_log, IsTimesFaultHeld, held_no_graph, held_no_log}
 use Rattle.run_times.proofs.here.times_here.Goals as goal
 
 -- what is shown of a log, by what was read and handed on
-shown-of : (log bytes : List ℕ) (svg : Bool) (text : List ℕ) (runs timed drawn : List PhaseRun) (marks given : List Bool) → bytes ≡ log → IsRunsOf bytes runs → timed ≡ runs → drawn ≡ runs
-    → given ≡ marks → length marks ≡ length timed → IsShown svg drawn given text → IsShownOf log svg text
-shown-of log bytes svg text runs timed drawn marks given log_is runs_are timed_is drawn_is given_is each shown = record {
+shown-of : (log bytes : List ℕ) (form : Form) (text : List ℕ) (runs timed drawn : List PhaseRun) (marks given : List Bool) → bytes ≡ log → IsRunsOf bytes runs → timed ≡ runs → drawn ≡ runs
+    → given ≡ marks → length marks ≡ length timed → IsShown form drawn given text → IsShownOf log form text
+shown-of log bytes form text runs timed drawn marks given log_is runs_are timed_is drawn_is given_is each shown = record {
   runs = runs;
   runs_are = subst (λ (b : List ℕ). IsRunsOf b runs) log_is runs_are;
   marks = marks;
   each = each ∙ ap length timed_is;
-  shown = subst (λ (r : List PhaseRun). IsShown svg r marks text) drawn_is (subst (λ (m : List Bool). IsShown svg drawn m text) given_is shown);
+  shown = subst (λ (r : List PhaseRun). IsShown form r marks text) drawn_is (subst (λ (m : List Bool). IsShown form drawn m text) given_is shown);
 }
 
 -- what is printed of the files of a plan
-timed-by : (log path : List ℕ) (svg : Bool) (text warnings : List ℕ) (plan : Plan) → IsShownOf log svg text → warnings ≡ warning_lines plan.graph.dag.warnings → (files : Files)
-    (entries : List (List ℕ × List ℕ)) → HasBarePlan false path plan files entries → IsTimesBy log path svg text warnings 0 files entries
-timed-by log path svg text warnings plan shown warned files entries planned = record {
+timed-by : (log path : List ℕ) (form : Form) (text warnings : List ℕ) (plan : Plan) → IsShownOf log form text → warnings ≡ warning_lines plan.graph.dag.warnings → (files : Files)
+    (entries : List (List ℕ × List ℕ)) → HasBarePlan false path plan files entries → IsTimesBy log path form text warnings 0 files entries
+timed-by log path form text warnings plan shown warned files entries planned = record {
   graph = plan.graph;
   is_graph = record { is_dag = planned.is_dag; acyclic = planned.acyclic };
   shown = shown;
@@ -64,27 +65,27 @@ returns-in_err-warning_text-clause-refused g c =
 
 pub returns-clause-told : goal.returns-clause-told
 returns-clause-told g c =
-    let shown = shown-of c.in_ok-log.log.items _ c.args.svg _ c.in_ok-runs.runs.items _ _ c.in_ok-marks.marks.items _ c.as_slice.ensures.value c.in_ok-runs.ensures c.deref.ensures.value
+    let shown = shown-of c.in_ok-log.log.items _ c.args.form _ c.in_ok-runs.runs.items _ _ c.in_ok-marks.marks.items _ c.as_slice.ensures.value c.in_ok-runs.ensures c.deref.ensures.value
     c.deref-2.ensures.value c.deref-3.ensures.value (omega (arith, c.in_ok-marks.ensures, c.in_ok-marks.marks.ok)) c.in_ok-text_of.ensures in
     let warned = c.in_ok-warning_text.ensures ∙ ap warning_lines (c.warnings.ensures ∙ ap (λ (d : Dag). d.warnings) (c.flat.ensures ∙ ap (λ (n : Network). n.dag) c.graph-graph.ensures.is)) in
     record {
       log = c.in_ok-log.log.items;
       of_files = (
         c.in_ok-plan.ensures.plan.0,
-        said-more c.in_ok-plan.ensures.plan.0 c.args.top.now _ _ (timed-by c.in_ok-log.log.items c.args.top.now c.args.svg _ _ c.in_ok-plan.plan shown warned) c.in_ok-plan.ensures.plan.1,
+        said-more c.in_ok-plan.ensures.plan.0 c.args.top.now _ _ (timed-by c.in_ok-log.log.items c.args.top.now c.args.form _ _ c.in_ok-plan.plan shown warned) c.in_ok-plan.ensures.plan.1,
       );
     }
 
 pub returns-clause-held : goal.returns-clause-held
 returns-clause-held g c = λ honest.
-    let shown = shown-of c.in_ok-log.log.items _ c.args.svg _ c.in_ok-runs.runs.items _ _ c.in_ok-marks.marks.items _ c.as_slice.ensures.value c.in_ok-runs.ensures c.deref.ensures.value
+    let shown = shown-of c.in_ok-log.log.items _ c.args.form _ c.in_ok-runs.runs.items _ _ c.in_ok-marks.marks.items _ c.as_slice.ensures.value c.in_ok-runs.ensures c.deref.ensures.value
     c.deref-2.ensures.value c.deref-3.ensures.value (omega (arith, c.in_ok-marks.ensures, c.in_ok-marks.marks.ok)) c.in_ok-text_of.ensures in
     let warned = c.in_ok-warning_text.ensures ∙ ap warning_lines (c.warnings.ensures ∙ ap (λ (d : Dag). d.warnings) (c.flat.ensures ∙ ap (λ (n : Network). n.dag) c.graph-graph.ensures.is)) in
     record {
       log = c.in_ok-log.log.items;
       log_is = c.in_ok-log.ensures.held honest;
       of_files =
-          said-more (g.F.Folder.holds c.args.folder.now) c.args.top.now _ _ (timed-by c.in_ok-log.log.items c.args.top.now c.args.svg _ _ c.in_ok-plan.plan shown warned)
+          said-more (g.F.Folder.holds c.args.folder.now) c.args.top.now _ _ (timed-by c.in_ok-log.log.items c.args.top.now c.args.form _ _ c.in_ok-plan.plan shown warned)
           (c.in_ok-plan.ensures.held honest);
     }
 

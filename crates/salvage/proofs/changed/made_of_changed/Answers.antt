@@ -3,18 +3,19 @@ use Rattle.std.specs.Prelude.{IfSome}
 use Rattle.run_plan.specs.Plan.{Plan}
 use Rattle.dag_main_check.specs.declared.fault.RunFault.TheVariants.{Memory}
 use Rattle.dag_main_check.specs.Warnings.{warning_lines}
-use Rattle.dag_main_files.specs.Beside.{reading_had_no_memory}
+use Rattle.dag_main_files.specs.Beside.{refusing_had_no_memory}
 use Rattle.round_inputs.specs.Begun.{begun_name_of}
 use Rattle.splices_flat.specs.FileSet.{bytes_of}
 use Rattle.salvage.specs.Carried.{IsBegunPlan, IsCarriedOver, gone_lines}
 use Rattle.salvage.specs.declared.fault.SalvageFault.TheVariants.{Refused}
 use Rattle.salvage.specs.Refused.{IsNotCarried, IsUnsalvaged, not_kept, kept_refused, not_graphed, not_replayed}
+use Rattle.salvage.specs.Sight.{held_files_if}
 use Rattle.salvage.proofs.Refusals.{told-as}
 use Rattle.salvage.proofs.changed.made_of_changed.Goals as goal
 
 pub returns-in_err-old-clause-refused : goal.returns-in_err-old-clause-refused
 returns-in_err-old-clause-refused g c =
-    told-as (IsNotCarried c.args.round.now.always_post (bytes_of c.args.files.now) c.args.top.now c.args.round.now.digest c.args.round.now.journal.items c.args.other)
+    told-as (IsNotCarried (held_files_if (g.F.Folder.honest c.args.folder.now) (g.F.Folder.holds c.args.folder.now) (g.F.Folder.has c.args.folder.now) c.args.top.now) c.args.round.now.always_post (bytes_of c.args.files.now) c.args.top.now c.args.round.now.digest c.args.round.now.journal.items c.args.other)
     (Refused c.in_err-old.field-0.0) (kept_refused _ c.in_err-old.ensures.refused) c.from_residual.result c.from_residual.ensures.1
 
 pub returns-in_default-clause-refused : goal.returns-in_default-clause-refused
@@ -22,13 +23,13 @@ returns-in_default-clause-refused g c = not_kept
 
 pub returns-in_err-graph-clause-refused : goal.returns-in_err-graph-clause-refused
 returns-in_err-graph-clause-refused g c =
-    told-as (IsNotCarried c.args.round.now.always_post (bytes_of c.args.files.now) c.args.top.now c.args.round.now.digest c.args.round.now.journal.items c.args.other)
+    told-as (IsNotCarried (held_files_if (g.F.Folder.honest c.args.folder.now) (g.F.Folder.holds c.args.folder.now) (g.F.Folder.has c.args.folder.now) c.args.top.now) c.args.round.now.always_post (bytes_of c.args.files.now) c.args.top.now c.args.round.now.digest c.args.round.now.journal.items c.args.other)
     (Refused c.in_err-graph.field-0.0) (not_graphed _ c.in_err-graph.ensures.refused) c.from_residual-in_err-graph.result c.from_residual-in_err-graph.ensures.1
 
 pub returns-in_err-warnings-clause-refused : goal.returns-in_err-warnings-clause-refused
 returns-in_err-warnings-clause-refused g c =
-    told-as (IsNotCarried c.args.round.now.always_post (bytes_of c.args.files.now) c.args.top.now c.args.round.now.digest c.args.round.now.journal.items c.args.other)
-    (Refused Memory) (kept_refused _ reading_had_no_memory) c.from_residual-in_err-warnings.result c.from_residual-in_err-warnings.ensures.1
+    told-as (IsNotCarried (held_files_if (g.F.Folder.honest c.args.folder.now) (g.F.Folder.holds c.args.folder.now) (g.F.Folder.has c.args.folder.now) c.args.top.now) c.args.round.now.always_post (bytes_of c.args.files.now) c.args.top.now c.args.round.now.digest c.args.round.now.journal.items c.args.other)
+    (Refused Memory) (kept_refused _ refusing_had_no_memory) c.from_residual-in_err-warnings.result c.from_residual-in_err-warnings.ensures.1
 
 -- the plan of what is kept
 module _ (IsHeld : List ℕ → Type 0) (always_post : Bool) (path digest : List ℕ) where
@@ -41,9 +42,9 @@ returns-in_err-carried-clause-refused g c =
     let round = c.args.round.now in
     let kept = is-kept (λ begun. g.F.Folder.honest c.args.folder.now → g.F.Folder.holds c.args.folder.now (begun_name_of c.args.top.now) ≡ Some begun)
     round.always_post c.args.top.now round.digest _ c.in-Some.old c.in-Some.is c.in_ok-old.ensures.plan in
-    told-as (IsNotCarried round.always_post (bytes_of c.args.files.now) c.args.top.now round.digest round.journal.items c.args.other)
+    told-as (IsNotCarried (held_files_if (g.F.Folder.honest c.args.folder.now) (g.F.Folder.holds c.args.folder.now) (g.F.Folder.has c.args.folder.now) c.args.top.now) round.always_post (bytes_of c.args.files.now) c.args.top.now round.digest round.journal.items c.args.other)
     (Refused c.in_err-carried.field-0.0)
-    (not_replayed kept.0 c.in-Some.old _ kept.1
+    (not_replayed kept.0 c.in-Some.old _ kept.2 kept.1
     (subst (λ (j : List ℕ). IsUnsalvaged c.in-Some.old j c.in_err-carried.field-0.0) c.as_slice.ensures.value c.in_err-carried.ensures.refused))
     c.from_residual-in_err-carried.result c.from_residual-in_err-carried.ensures.1
 

@@ -5,7 +5,9 @@ use Rattle.salvage.specs.declared.fault.SalvageFault.TheVariants.{Refused}
 use Rattle.salvage.specs.Answered.{IsMadeOfSame, as_it_was, changed_since}
 use Rattle.salvage.specs.Refused.{IsSalvageFault, IsUnmade}
 use Rattle.salvage.specs.Others.{IsOther}
+use Rattle.salvage.specs.Sight.{any_files, held_files_if}
 use Rattle.salvage.proofs.Results.{if-ok}
+use Rattle.salvage.proofs.Sights.{other-of-any, rescue-seen}
 use Rattle.salvage.proofs.Refusals.{told-as, weaker-as, same-refused, other-refused, change-refused}
 use Rattle.salvage.proofs.here.made_of_round.Goals as goal
 
@@ -44,9 +46,13 @@ returns-in-Ok-clause-made g c =
 pub returns-in_err-made_of_same-in-Ok-clause-refused : goal.returns-in_err-made_of_same-in-Ok-clause-refused
 returns-in_err-made_of_same-in-Ok-clause-refused g c =
     let round = c.args.round.now in
-    told-as (IsSalvageFault c.args.top.now) (Refused c.in_err-made_of_same-in-Ok.field-0.0)
-    (same-refused c.args.top.now round.journal.items round.digest round.used round.next round.always_post c.args.inputs.now.files.items c.args.files.now
-    (option_map (λ b. b.items) c.in-Ok.rescue) c.in_err-made_of_same-in-Ok.field-0.0 c.requires.cut_short c.in-Ok.ensures.files c.in-Ok.ensures.same
+    told-as (IsSalvageFault (held_files_if (g.F.Folder.honest c.args.folder.now) (g.F.Folder.holds c.args.folder.now) (g.F.Folder.has c.args.folder.now) c.args.top.now) c.args.top.now) (Refused c.in_err-made_of_same-in-Ok.field-0.0)
+    (same-refused (held_files_if (g.F.Folder.honest c.args.folder.now) (g.F.Folder.holds c.args.folder.now) (g.F.Folder.has c.args.folder.now) c.args.top.now) c.args.top.now round.journal.items round.digest round.used round.next round.always_post c.args.inputs.now.files.items c.args.files.now
+    c.requires.journal c.requires.cut_short (record { listed_are = c.requires.inputs; files_are = c.requires.files })
+    (option_map (λ b. b.items) c.in-Ok.rescue) c.in_err-made_of_same-in-Ok.field-0.0 c.in-Ok.ensures.files
+    (rescue-seen (g.F.Folder.honest c.args.folder.now) (g.F.Folder.holds c.args.folder.now) (g.F.Folder.has c.args.folder.now) c.args.top.now round.used
+    (option_map (λ b. b.items) c.in-Ok.rescue) c.in-Ok.ensures.held)
+    c.in-Ok.ensures.same
     (subst (λ (r : Option (List ℕ)). IsUnmade round.always_post (bytes_of c.args.files.now) c.args.top.now round.used r round.journal.items c.in_err-made_of_same-in-Ok.field-0.0)
     c.as_deref.ensures.value c.in_err-made_of_same-in-Ok.ensures.refused))
     c.from_residual.result c.from_residual.ensures.1
@@ -54,17 +60,19 @@ returns-in_err-made_of_same-in-Ok-clause-refused g c =
 pub returns-in-Err-own-clause-refused : goal.returns-in-Err-own-clause-refused
 returns-in-Err-own-clause-refused g c =
     let round = c.args.round.now in
-    subst (IsSalvageFault c.args.top.now) c.in-Err-own.ensures.other
-    (other-refused c.args.top.now round.journal.items round.digest round.used round.next round.always_post c.args.inputs.now.files.items c.args.files.now c.in-Err.other
-    c.requires.cut_short c.in-Err.ensures.refused)
+    subst (IsSalvageFault (held_files_if (g.F.Folder.honest c.args.folder.now) (g.F.Folder.holds c.args.folder.now) (g.F.Folder.has c.args.folder.now) c.args.top.now) c.args.top.now) c.in-Err-own.ensures.other
+    (other-refused (held_files_if (g.F.Folder.honest c.args.folder.now) (g.F.Folder.holds c.args.folder.now) (g.F.Folder.has c.args.folder.now) c.args.top.now) c.args.top.now round.journal.items round.digest round.used round.next round.always_post c.args.inputs.now.files.items c.args.files.now
+    c.requires.journal c.requires.cut_short (record { listed_are = c.requires.inputs; files_are = c.requires.files })
+    c.in-Err.other c.in-Err.ensures.refused)
 
 pub returns-in-Ok-own-clause-refused : goal.returns-in-Ok-own-clause-refused
 returns-in-Ok-own-clause-refused g c =
     let round = c.args.round.now in
-    weaker-as (IsSalvageFault c.args.top.now) c.made_of_changed.result c.made_of_changed.ensures.refused
-    (λ fault is. change-refused c.args.top.now round.journal.items round.digest round.used round.next round.always_post c.args.inputs.now.files.items c.args.files.now
-    c.in-Ok-own.change fault c.requires.cut_short
-    (subst (IsOther c.args.inputs.now.files.items c.args.top.now round.used c.args.files.now) (sym c.in-Ok-own.ensures.own.0) c.in-Err.ensures.refused) is)
+    weaker-as (IsSalvageFault (held_files_if (g.F.Folder.honest c.args.folder.now) (g.F.Folder.holds c.args.folder.now) (g.F.Folder.has c.args.folder.now) c.args.top.now) c.args.top.now) c.made_of_changed.result c.made_of_changed.ensures.refused
+    (λ fault is. change-refused (held_files_if (g.F.Folder.honest c.args.folder.now) (g.F.Folder.holds c.args.folder.now) (g.F.Folder.has c.args.folder.now) c.args.top.now) c.args.top.now round.journal.items round.digest round.used round.next round.always_post c.args.inputs.now.files.items c.args.files.now
+    c.requires.journal c.requires.cut_short (record { listed_are = c.requires.inputs; files_are = c.requires.files })
+    c.in-Ok-own.change fault
+    (subst (IsOther (held_files_if (g.F.Folder.honest c.args.folder.now) (g.F.Folder.holds c.args.folder.now) (g.F.Folder.has c.args.folder.now) c.args.top.now) c.args.inputs.now.files.items c.args.top.now round.used c.args.files.now) (sym c.in-Ok-own.ensures.own.0) c.in-Err.ensures.refused) is)
 
 pub returns-in-Ok-own-clause-made : goal.returns-in-Ok-own-clause-made
 returns-in-Ok-own-clause-made g c =
@@ -80,7 +88,9 @@ returns-in-Ok-own-clause-made g c =
         other = c.in-Ok-own.change;
         begun = is.begun;
         cut_short = c.requires.cut_short;
-        is_other = subst (IsOther c.args.inputs.now.files.items c.args.top.now round.used c.args.files.now) (sym c.in-Ok-own.ensures.own.0) c.in-Err.ensures.refused;
+        is_other = subst (IsOther any_files c.args.inputs.now.files.items c.args.top.now round.used c.args.files.now) (sym c.in-Ok-own.ensures.own.0)
+            (other-of-any (g.F.Folder.honest c.args.folder.now) (g.F.Folder.holds c.args.folder.now) (g.F.Folder.has c.args.folder.now) c.args.top.now
+            c.args.inputs.now.files.items round.used c.args.files.now c.in-Err.other c.in-Err.ensures.refused);
         is_change = c.in-Ok-own.ensures.own.1;
         made = record {
           begun = is.begun;

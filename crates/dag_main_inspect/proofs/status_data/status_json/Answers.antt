@@ -1,0 +1,10 @@
+use Rattle.std.proofs.Common.{◌∙◌, ◌++◌, ap, codes}
+use Rattle.serde_json.specs.Written.{has_float, compact_text}
+use Rattle.dag_main_inspect.proofs.StatusTexts.{status-whole}
+use Rattle.dag_main_inspect.proofs.status_data.status_json.Goals as goal
+
+pub returns : goal.returns
+returns c =
+    let is = c.in_ok-value_in.ensures in
+    c.in_ok-push_str.ensures.bytes
+    ∙ ap (λ line. line ++ codes "\n") (c.in_ok-text.ensures.text (ap has_float is ∙ status-whole c.args.path.now c.args.core.now.plan c.args.core.now.past) ∙ ap compact_text is)

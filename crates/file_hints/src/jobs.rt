@@ -1,0 +1,248 @@
+//! The submit files of a DAG's nodes.
+
+use crate::findings::Findings;
+use crate::job_outputs::Outputs;
+use crate::looking::{folder_of, look_at_folder, look_at_program};
+use dag_reader::{Placement, Text};
+use run_plan_node::{ChildCommand, job_command};
+use splices_flat::{FileSet, FlatDag, FlatNode, NameTable};
+use std::alloc::{AllocError, Global};
+use std::fs::File;
+use std::rt::{Env, Files};
+use submit_file::{Assignment, PlacedAssignment, SubmitFault, placed_assignments};
+use vars_macros::{Attempt, MacroFault, Macros};
+
+/// A submit file: what it assigns, and what VARS lines assign for its nodes.
+#[derive(Drop)]
+pub(crate) struct JobFile {
+    pub(crate) path: Text,
+    pub(crate) placed: Vec<PlacedAssignment>,
+    pub(crate) vars: Vec<Assignment>,
+}
+
+/// The submit files of the nodes, each once, and which one each node has.
+#[derive(Drop)]
+pub(crate) struct JobFiles {
+    paths: NameTable,
+    pub(crate) files: Vec<JobFile>,
+}
+
+impl JobFile {
+    /// The number of the line that assigns to a name, the last that counts; 1 where none does.
+    pub(crate) fn line_of(&self, name: &str) -> usize {
+        let mut line = 1;
+        for one in self.placed.iter() {
+            if one.counts && one.assignment.name.as_str().eq_ignore_ascii_case(name) {
+                line = one.line;
+            }
+        }
+        line
+    }
+}
+
+/// The assignments of a submit file with their lines; none where it is not there or no text.
+fn placed_in(
+    alloc: Global,
+    files: &FileSet,
+    path: &str,
+) -> Result<Vec<PlacedAssignment>, AllocError> {
+    let Some(bytes) = files.get(path) else {
+        return Ok(Vec::new(alloc));
+    };
+    match placed_assignments(alloc, bytes) {
+        Ok(placed) => Ok(placed),
+        Err(SubmitFault::Memory) => Err(AllocError),
+        Err(_) => Ok(Vec::new(alloc)),
+    }
+}
+
+impl JobFiles {
+    /// Those of all nodes that are no NOOPs.
+    pub(crate) fn of(
+        alloc: Global,
+        files: &FileSet,
+        dag: &FlatDag,
+    ) -> Result<JobFiles, AllocError> {
+        let mut jobs = JobFiles {
+            paths: NameTable::new(alloc),
+            files: Vec::new(alloc),
+        };
+        for node in dag.nodes().iter().chain(dag.final_node()) {
+            if !node.noop {
+                jobs.add(alloc, files, node)?;
+            }
+        }
+        Ok(jobs)
+    }
+
+    /// Adds a node.
+    fn add(&mut self, alloc: Global, files: &FileSet, node: &FlatNode) -> Result<(), AllocError> {
+        let path = node.file.as_str();
+        if !self.paths.has(path) {
+            self.paths.add(alloc, path)?;
+            self.files.push(JobFile {
+                path: Text::new(alloc, path)?,
+                placed: placed_in(alloc, files, path)?,
+                vars: Vec::new(alloc),
+            })?;
+        }
+        let Some(place) = self.place_of(node) else {
+            return Ok(());
+        };
+        if let Some(file) = self.files.get_mut(place) {
+            for one in node.settings.macros.as_slice() {
+                let name = Text::new(alloc, one.name.as_str())?;
+                let value = Text::new(alloc, one.text.as_str())?;
+                file.vars.push(Assignment { name, value })?;
+            }
+        }
+        Ok(())
+    }
+
+    /// The place of a node's submit file.
+    pub(crate) fn place_of(&self, node: &FlatNode) -> Option<usize> {
+        self.paths.place_of(node.file.as_str())
+    }
+}
+
+/// Assigns the macros of VARS lines that stand before the submit file, or behind it.
+fn assign_settings(
+    alloc: Global,
+    node: &FlatNode,
+    placement: Placement,
+    macros: &mut Macros,
+) -> Result<(), MacroFault> {
+    for one in node.settings.macros.as_slice() {
+        if one.placement == placement {
+            macros.assign(alloc, one.name.as_str(), one.text.as_str(), true)?;
+        }
+    }
+    Ok(())
+}
+
+/// What is assigned to the names of a job, in the order in which it counts.
+fn macros_of(
+    alloc: Global,
+    node: &FlatNode,
+    placed: &[PlacedAssignment],
+) -> Result<Macros, MacroFault> {
+    let mut macros = Macros::new(alloc, node.name.as_str())?;
+    assign_settings(alloc, node, Placement::Prepend, &mut macros)?;
+    for one in placed {
+        if one.counts {
+            let value = one.assignment.value.as_str();
+            macros.assign(alloc, one.assignment.name.as_str(), value, false)?;
+        }
+    }
+    assign_settings(alloc, node, Placement::Append, &mut macros)?;
+    Ok(macros)
+}
+
+/// The command of a node's job in its first attempt, where its texts can be expanded. Each node has a launch number of
+/// its own, so that files that are named by it are kept apart.
+fn command_of(
+    alloc: Global,
+    node: &FlatNode,
+    number: usize,
+    file: &JobFile,
+) -> Option<ChildCommand> {
+    let attempt = Attempt {
+        retry: 0,
+        launch: number as u64,
+    };
+    let macros = macros_of(alloc, node, file.placed.as_slice()).ok()?;
+    job_command(alloc, node.folder.as_str(), &macros, attempt).ok()
+}
+
+/// What was asked of the system already.
+#[derive(Drop)]
+struct Asked {
+    known: NameTable,
+}
+
+impl Asked {
+    /// Whether this path was not asked for yet in a file.
+    fn is_new(&mut self, alloc: Global, what: &str, path: &str) -> Result<bool, AllocError> {
+        let front = Text::joined(alloc, what, "\n")?;
+        let key = Text::joined(alloc, front.as_str(), path)?;
+        if self.known.has(key.as_str()) {
+            return Ok(false);
+        }
+        self.known.add(alloc, key.as_str())?;
+        Ok(true)
+    }
+}
+
+/// Adds what is odd in the folder of the file that takes a stream.
+fn add_stream<R: Files<File = File> + AllocGlobal>(
+    rt: &R,
+    asked: &mut Asked,
+    file: &JobFile,
+    stream: &str,
+    path: &Option<Text>,
+    findings: &mut Findings,
+) -> Result<(), AllocError> {
+    let Some(path) = path else {
+        return Ok(());
+    };
+    let folder = folder_of(path.as_str());
+    if asked.is_new(rt.alloc(), file.path.as_str(), folder)? {
+        let hint = look_at_folder(rt, folder)?;
+        findings.add_hint(file.path.as_str(), file.line_of(stream), hint)?;
+    }
+    Ok(())
+}
+
+/// Adds what is odd in the files of a job.
+fn add_command<R: Files<File = File> + Env + AllocGlobal>(
+    rt: &R,
+    asked: &mut Asked,
+    file: &JobFile,
+    command: &ChildCommand,
+    findings: &mut Findings,
+) -> Result<(), AllocError> {
+    let path = file.path.as_str();
+    let program = command.program.as_str();
+    if asked.is_new(rt.alloc(), path, program)? {
+        let hint = look_at_program(rt, program)?;
+        findings.add_hint(path, file.line_of("executable"), hint)?;
+    }
+    let folder = command.folder.as_str();
+    if asked.is_new(rt.alloc(), path, folder)? {
+        let hint = look_at_folder(rt, folder)?;
+        findings.add_hint(path, file.line_of("initialdir"), hint)?;
+    }
+    add_stream(rt, asked, file, "output", &command.output, findings)?;
+    add_stream(rt, asked, file, "error", &command.error, findings)
+}
+
+/// Adds what is odd in the files of all jobs, and says which files each ordinary node writes.
+///
+/// # Errors
+/// Want of memory.
+pub(crate) fn add_commands<R: Files<File = File> + Env + AllocGlobal>(
+    rt: &R,
+    jobs: &JobFiles,
+    dag: &FlatDag,
+    findings: &mut Findings,
+) -> Result<Vec<Outputs>, AllocError> {
+    let alloc = rt.alloc();
+    let mut asked = Asked {
+        known: NameTable::new(alloc),
+    };
+    let mut outputs = Vec::new(alloc);
+    for (number, node) in dag.nodes().iter().chain(dag.final_node()).enumerate() {
+        let place = if node.noop { None } else { jobs.place_of(node) };
+        let mut written = Outputs::none();
+        if let Some(place) = place {
+            if let Some(file) = jobs.files.get(place) {
+                if let Some(command) = command_of(alloc, node, number, file) {
+                    add_command(rt, &mut asked, file, &command, findings)?;
+                    written = Outputs::of(alloc, place, &command)?;
+                }
+            }
+        }
+        outputs.push(written)?;
+    }
+    Ok(outputs)
+}
