@@ -33,6 +33,8 @@ fn page<'a>(rows: &'a [Row<'a>], phases: &'a [PhaseBar<'a>]) -> Page<'a> {
         rows,
         phases,
         why: "",
+        digest: "0f1e",
+        confirmed: Some(true),
         reloads: false,
     }
 }
