@@ -1958,8 +1958,8 @@ def why_no_round(folder):
 
 
 def as_the_round_began(folder):
-    """Whatever is changed, the last round is shown as it was. Without the option `why`, `graph`, `times` and `report` show it so, too, where the files can
-    be read and are others; all else that is asked for goes by the files as they are."""
+    """Whatever is changed, the last round is shown as it was. Without the option `why`, `graph`, `times` and `report` show it so, too; `status` and `audit` go by
+    the files as they are."""
     lines = "JOB A a.sub\nJOB B b.sub\nJOB C c.sub\nPARENT A CHILD B\n"
     folder.write("x.dag", lines)
     folder.write("x.dag.rescue001", "DONE C\n")
@@ -1976,52 +1976,76 @@ def as_the_round_began(folder):
     same(answers("--as-begun"), before)
     kept = {name: folder.read(name) for name in ("x.dag", "b.sub", "c.sub", "x.dag.rescue001")}
     changes = (
-        ("b.sub", "executable = /bin/true\nqueue\n", True),
-        ("c.sub", None, False),
-        ("x.dag", lines + "JOB D a.sub\n", True),
-        ("x.dag", "JOBB\n", False),
-        ("x.dag", None, False),
-        ("x.dag.rescue001", "DONE A\n", True),
+        ("b.sub", "executable = /bin/true\nqueue\n", "J5 OtherInputs"),
+        ("c.sub", None, "P1 MissingFile c.sub"),
+        ("x.dag", lines + "JOB D a.sub\n", "J5 OtherInputs"),
+        ("x.dag", lines.replace("JOB C c.sub\n", ""), None),
+        ("x.dag", "JOBB\n", None),
+        ("x.dag", None, "S1 MissingFile x.dag"),
+        ("x.dag.rescue001", "DONE A\n", "J5 OtherInputs"),
+        ("x.dag.rescue001", None, "J5 OtherInputs"),
     )
-    for name, text, are_others in changes:
+    for name, text, fault in changes:
         if text is None:
             os.remove(folder.at(name))
         else:
             folder.write(name, text)
         # The audit says of a file that it can read that the journal is of another one.
         found = answers()
-        status, audit, why_all, why_one = [answer[2] for answer in found[:4]]
-        same((status, audit in (1, 125)), (125, True))
-        if are_others:
-            same((found[0][1], found[2:]), ("dagrun: J5 OtherInputs\n", before[2:]))
-        else:
-            same((why_all, why_one, found[6][2]), (125, 125, 125))
+        (text, told, status), audit = found[0], found[1][2]
+        same((text, told.startswith("dagrun: " + (fault or "")), told.count("\n"), status, audit in (1, 125)), ("", True, 1, 125, True))
+        same(found[2:], before[2:])
         same(answers("--as-begun"), before)
         folder.write(name, kept[name])
     same(answers(), before)
 
 
 def not_known_how_the_round_began(folder):
-    """It is refused, with the file that doesn't say it; and where that is of another round."""
+    """With the option it is refused, with the file that doesn't say it, or since that is of another round. Without it the files as they are are shown; but a file
+    that begins as that of this round, and was changed, is refused."""
     folder.write("x.dag", "JOB A a.sub\n")
     folder.echo("a")
+    shown = ("why", "graph", "times", "report")
 
-    def are_refused(fault):
-        for command in ("status", "audit", "why", "graph", "times", "report"):
-            refused(folder, [command, "--as-begun", "x.dag"], fault)
+    def are_refused(fault, commands=("status", "audit", *shown), words=("--as-begun",)):
+        for command in commands:
+            refused(folder, [command, *words, "x.dag"], fault)
+
+    def answers():
+        return [folder.call(command, "x.dag") for command in ("status", "audit", *shown)]
 
     are_refused("X2 FileRefused x.dag.journal")
     same(folder.call("run", "x.dag")[2], 0)
+    before = answers()
+    same([status for _, _, status in before], [0] * 6)
     first = folder.read("x.dag.begun")
-    folder.write("x.dag.begun", first.replace(b"JOB A", b"JOB  A"))
-    are_refused("X2 FileRefused x.dag.begun")
+    for text in (b"", b"#", b"# dagrun begun, digest \n", b"\0" + first, first.replace(b"# dagrun begun", b"# dagrun  begun")):
+        folder.write("x.dag.begun", text)
+        are_refused("X2 FileRefused x.dag.begun")
+        same(answers(), before)
+    for text in (first.replace(b"JOB A", b"JOB  A"), first[:-1], first + b"\n", first.splitlines(keepends=True)[0]):
+        folder.write("x.dag.begun", text)
+        are_refused("X2 FileRefused x.dag.begun")
+        are_refused("X2 FileRefused x.dag.begun", shown, ())
+        same(answers()[:2], before[:2])
     os.remove(folder.at("x.dag.begun"))
     are_refused("X2 FileRefused x.dag.begun")
+    same(answers(), before)
+    os.mkdir(folder.at("x.dag.begun"))
+    are_refused("X2 FileRefused x.dag.begun")
+    same(answers(), before)
+    os.rmdir(folder.at("x.dag.begun"))
     folder.write("x.dag", "JOB B a.sub\n")
     same(folder.call("run", "x.dag")[2], 0)
     same(folder.call("status", "--as-begun", "x.dag"), ("B DONE attempts=1 value=0\n", "", 0))
+    before = answers()
     folder.write("x.dag.begun", first)
     are_refused("J5 OtherInputs")
+    same(answers(), before)
+    # No journal with a header.
+    folder.write("x.dag.journal", folder.read("x.dag.journal")[:39])
+    are_refused("X2 FileRefused x.dag.journal")
+    refused(folder, ["why", "x.dag"], "J3 NotAJournal")
 
 
 def why_by_the_journal(folder):
@@ -3876,8 +3900,11 @@ def told_by_files_of_other_users(folder):
     # The second round reads x.dag.rescue001.
     folder.call("run", "x.dag")
     folder.call("run", "x.dag")
-    tellers = [("status",), ("audit",), ("graph",), ("why",), ("report",), ("run", "--resume")]
-    for name, commands in (("x.dag.journal", tellers), ("x.dag.rescue001", tellers), ("x.dag.log", [("why",), ("times",), ("report",)])):
+    held, shown = [("status",), ("audit",), ("run", "--resume")], [("graph",), ("why",), ("report",)]
+    logged = [("why",), ("times",), ("report",)]
+    begun = [(*words, "--as-begun") for words in (("status",), ("audit",), ("times",), *shown)]
+
+    def are_refused(name, commands):
         for words in commands:
             before = everything(folder)
             wanted = folder.call(*words, "x.dag")
@@ -3889,6 +3916,19 @@ def told_by_files_of_other_users(folder):
             same(folder.call(*words, "x.dag"), wanted)
             os.chown(folder.at(name), os.getuid(), os.getgid())
             same(everything(folder), before)
+
+    for name, commands in (("x.dag.journal", held + shown), ("x.dag.rescue001", held), ("x.dag.log", logged), ("x.dag.begun", begun)):
+        are_refused(name, commands)
+    # The round is shown by the rescue file that is kept, not by the one that is there; and what may be another user's is not taken for what is kept.
+    wanted = [folder.call(*words, "x.dag") for words in shown]
+    os.chmod(folder.path, 0o777)
+    for name in ("x.dag.rescue001", "x.dag.begun"):
+        os.chown(folder.at(name), NOBODY, NOBODY)
+        same([folder.call(*words, "x.dag") for words in shown], wanted)
+        os.chown(folder.at(name), os.getuid(), os.getgid())
+    os.remove(folder.at("x.dag.begun"))
+    os.chmod(folder.path, 0o755)
+    are_refused("x.dag.rescue001", shown)
 
 
 def salvaged_by_files_of_other_users(folder):
@@ -4247,11 +4287,12 @@ def times_of_changed_files(folder):
     folder.write("x.dag", "JOB A a.sub\nJOB B b.sub\nJOB C b.sub\nPARENT C CHILD B\n")
     same(folder.call("status", "x.dag"), ("", "dagrun: J5 OtherInputs\n", 125))
     same((marks(), marks("--as-begun")), (as_it_was, as_it_was))
-    # A fault of the files as they are is what counts, as for `why`.
+    # A fault of the files as they are is none of that round, as for `why`; it counts where the round isn't kept.
     folder.write("x.dag", "JOBB A a.sub\n")
+    same(marks(), as_it_was)
+    os.remove(folder.at("x.dag.begun"))
     same(folder.call("times", "x.dag"), ("", "dagrun: L2 UnknownCommand x.dag:1:1\n", 125))
     folder.write("x.dag", "JOB A a.sub\nJOB B b.sub\nJOB C b.sub\nPARENT C CHILD B\n")
-    os.remove(folder.at("x.dag.begun"))
     same(marks(), as_it_is)
 
 

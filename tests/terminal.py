@@ -807,6 +807,12 @@ def what_is_changed(folder):
     folder.shell("B", "exit 1\n", error=False)
     same(folder.on_terminal("times", "my flow.dag", columns=160).screen.told(), [])
     same(folder.on_terminal("why", "my flow.dag", columns=160).screen.told(), ["no manager works on my flow.dag"])
+    # A DAG file that is edited half way hides nothing of the round before, and neither does a submit file that is gone.
+    folder.write("my flow.dag", "JOB A A.sub\nJOBB B B.sub\n")
+    os.remove(folder.at("B.sub"))
+    told = folder.on_terminal("why", "my flow.dag", columns=160)
+    same((told.status, told.text.splitlines()[0].startswith("B ERROR: its job ended with exit 1")), (0, True))
+    same(told.screen.told(), ["no manager works on my flow.dag", "changed since the round began: B.sub, my flow.dag"])
 
 
 def a_refusal_in_the_middle(folder):

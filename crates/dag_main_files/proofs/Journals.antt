@@ -1,17 +1,19 @@
 -- Which round a journal makes of a run.
-use Rattle.std.proofs.Common.{◌≡◌, ℕ, List, Bool, true, false, Option, Some, None, Result, Ok, Err, IfOk, refl, sym, subst, ◌∙◌}
+use Rattle.std.proofs.Common.{◌≡◌, ℕ, List, Bool, true, false, Option, Some, None, Result, Ok, Err, IfOk, IfErr, refl, sym, subst, ◌∙◌}
 use Rattle.event_journal_log.specs.declared.fault.JournalFault.{JournalFault}
 use Rattle.event_journal_log.specs.declared.fault.JournalFault.TheVariants as faults
 use Rattle.event_journal_log.specs.declared.journal.Peek.{Peek}
 use Rattle.event_journal_log.specs.Image.{Found, replay_of}
 use Rattle.event_journal_log.specs.Journal.{IsReadFault, read_failed, read_had_no_memory, reads_no_journal, reads_version, reads_other_inputs, reads_other_flag, reads_bad_slot}
-use Rattle.event_journal_log.specs.Peeks.{ReadsPeek}
+use Rattle.event_journal_log.specs.Peeks.{ends_with_finish, ReadsPeek}
 use Rattle.event_journal_log.specs.Reading.{FailsAs}
 use Rattle.dag_main_files.specs.declared.rounds.Journaled.TheVariants as journals
 use Rattle.dag_main_files.specs.declared.rounds.Round.{Round}
 use Rattle.splices_flat.specs.Opening.{Files}
 use Rattle.dag_main_check.specs.declared.fault.RunFault.{RunFault}
-use Rattle.dag_main_files.specs.Folder.{journal_in, IsRoundFrom}
+use Rattle.dag_main_check.specs.declared.fault.RunFault.TheVariants.{Unfinished}
+use Rattle.rescue_file.specs.Numbered.{IsFileNumber}
+use Rattle.dag_main_files.specs.Folder.{journal_in, IsRoundFrom, IsUnfinishedHeld, IsBadHeader, IsRoundFaultHeld, held_not_ended, held_bad_header}
 use Rattle.dag_main_files.specs.Beside.{goes_on, GoesOnBy, IsRoundFound, HasJournal, IsJournalFault, journal_refused, peeking_had_no_memory}
 use Rattle.dag_main_files.specs.Journals.{read_fault, IsUnread, bad_journal, reading_had_no_memory}
 
@@ -60,3 +62,16 @@ goes-on holds has top autorescue always_post peek (Ok round) reads unended heade
   by_journal = of-unfinished (journal_in holds top) round peek reads unended header;
 }
 goes-on holds has top autorescue always_post peek (Err fault) reads unended header ahead = tt
+
+-- a journal of a run that has not ended refuses a round that is to go back, and one that is to go on by a bad header
+module _ (holds : Files) (has : List ℕ → Bool) (top : List ℕ) (peek : Peek) (reads : ReadsPeek (Some peek) (journal_in holds top)) (unended : peek.finished ≡ false) where
+  unended-held : (found : Found) → journal_in holds top ≡ Ok (Some found) → ends_with_finish found.records ≡ peek.finished → IsUnfinishedHeld holds top found
+  unended-held found is ended = record { reads = is; not_over = ended ∙ unended }
+
+  pub unfinished-held : (number : ℕ) → IsFileNumber number → IsRoundFaultHeld holds has top (Some number) Unfinished
+  unfinished-held number is = held_not_ended number reads.0 refl is (unended-held reads.0 reads.1 reads.5)
+
+  pub bad-header : {A : Type 0} (r : Result A RunFault) → IfErr r (IsBadHeader peek.used peek.next) → IfErr r (IsRoundFaultHeld holds has top None)
+  bad-header (Ok round) bad = tt
+  bad-header (Err fault) bad = held_bad_header reads.0 fault refl (unended-held reads.0 reads.1 reads.5)
+      (subst (λ (used : ℕ). IsBadHeader used reads.0.header.next fault) (sym reads.2) (subst (λ (next : ℕ). IsBadHeader peek.used next fault) (sym reads.3) bad))

@@ -6,13 +6,12 @@ use Rattle.splices_flat.specs.FileSet.{bytes_of, entries_of}
 use Rattle.splices_flat.specs.declared.file_set.FileSet.{FileSet}
 use Rattle.run_plan.specs.Plan.{Plan}
 use Rattle.dag_main_check.specs.Missing.{missing_in}
-use Rattle.dag_main_check.specs.Planned.{IsPlanOf, IsGraphFault, opening_had_no_memory, IsPlanWith, IsPlanWithFault, has_no_graph, not_planned}
+use Rattle.dag_main_check.specs.Planned.{IsPlanOf, IsGraphFault, opening_had_no_memory, IsPlanWith, IsPlanWithFault, has_no_graph}
 use Rattle.dag_main_check.specs.declared.fault.RunFault.{RunFault}
 use Rattle.dag_main_check.specs.declared.fault.RunFault.TheVariants.{Memory}
 use Rattle.dag_main_check.proofs.HeldFiles.{bare-held, graph-refused, planned-held, planned-refused}
-use Rattle.dag_main_files.specs.Beside.{IsInputFault}
 use Rattle.dag_main_files.specs.Folder.{IsReadFrom}
-use Rattle.dag_main_files.specs.Opened.{IsStill, still_missing, asking_had_no_memory, IsOfFiles, IsOfSome, IsRefusedFor, IsRefusedForSome, top_not_read, for_files, HasBarePlan, HasNoGraph, HasPlan, HasNoPlan}
+use Rattle.dag_main_files.specs.Opened.{IsStill, still_missing, asking_had_no_memory, IsOfFiles, IsRefusedFor, IsRefusedForSome, top_not_read, for_files, HasBarePlan, HasNoGraph, HasPlan, HasNoPlan}
 
 -- a set is read where it is itself what is held
 pub own-files : (set : FileSet) (path : List ℕ) → IsReadFrom (bytes_of set) path set

@@ -1,6 +1,7 @@
 -- What stands beside a DAG file, and what is answered of it.
 use Rattle.std.specs.Prelude.{◌≡◌, ◌≢◌, ◌<◌, ◌≤◌, ◌+◌, ◌-◌, ℕ, Bool, true, false, nat_lt, List, ◌++◌, length, slice_index, Option, Some, None, Result, Ok, Err, is_some, codes, string_bytes, String, if◌then◌else◌}
 use Rattle.std.specs.Global.{Global}
+use Rattle.splices_flat.specs.Opening.{Files}
 use Rattle.rescue_file.specs.Numbered.{IsFileNumber}
 use Rattle.event_journal_log.specs.declared.fault.JournalFault.{JournalFault}
 use Rattle.event_journal_log.specs.Journal.{IsReadFault}
@@ -50,6 +51,11 @@ pub data IsFileFault : RunFault → Type 0 where
 pub data IsRefusalOf (path : List ℕ) : RunFault → Type 0 where
   path_refused : (file : String Global) → string_bytes file ≡ path → IsRefusalOf path (FileRefused file)
   refusing_had_no_memory : IsRefusalOf path Memory
+
+-- no file of this path can be read where these files are held; or memory ran out
+pub data IsRefusalHeld (holds : Files) (path : List ℕ) : RunFault → Type 0 where
+  unheld_refused : (file : String Global) → string_bytes file ≡ path → holds path ≡ None → IsRefusalHeld holds path (FileRefused file)
+  refusing_unheld_had_no_memory : IsRefusalHeld holds path Memory
 
 -- standard input, which is asked for by the path `-`, can't be read; or memory ran out
 pub data IsInputFault (path : List ℕ) : RunFault → Type 0 where

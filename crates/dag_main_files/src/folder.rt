@@ -6,8 +6,8 @@ ghost use Rattle.splices_flat.specs.Opening as opening;
 ghost use Rattle.splices_flat.specs.FileSet.{bytes_of};
 ghost use Rattle.event_journal_log.specs.Peeks.{ReadsPeek};
 ghost use Rattle.dag_main_check.specs.declared.fault.RunFault.TheVariants.{Memory};
-ghost use Rattle.dag_main_files.specs.Beside.{IsFileFault, IsRefusalOf, IsInputFault, IsJournalFault};
-ghost use Rattle.dag_main_files.specs.Folder.{journal_in, IsHighestThere};
+ghost use Rattle.dag_main_files.specs.Beside.{IsFileFault, IsRefusalOf, IsRefusalHeld, IsInputFault, IsJournalFault};
+ghost use Rattle.dag_main_files.specs.Folder.{journal_in, IsHighestThere, IsJournalFaultHeld};
 
 use crate::beside::{LAST_NUMBER, Place, journal_path, read_beside, rescue_path};
 use crate::headers::{peek_in, peek_on};
@@ -65,7 +65,9 @@ pub trait Folder {
     fn beside(&self, alloc: Global, path: &str) -> Result<Option<Vec<u8>>, RunFault>
         ensures bytes { honest self.now → IfOk result (λ bytes. option_map (λ b. b.items) bytes ≡ holds self.now path.now) }
         ensures refused { IfErr result IsFileFault }
-        ensures named { IfErr result (IsRefusalOf path.now) };
+        ensures named { IfErr result (IsRefusalOf path.now) }
+        // A file that is refused isn't held.
+        ensures unheld { honest self.now → IfErr result (IsRefusalHeld (holds self.now) path.now) };
 
     /// Whether the path of a file that dagrun writes beside a DAG file is there. Where the system doesn't tell, it is taken
     /// to be: what is refused is returned as it is read.
@@ -93,7 +95,9 @@ pub trait Folder {
     /// be read; `Memory`.
     fn journal(&self, alloc: Global, top: &str) -> Result<Option<Peek>, RunFault>
         ensures peek { honest self.now → IfOk result (λ peek. ReadsPeek peek (journal_in (holds self.now) top.now)) }
-        ensures refused { IfErr result IsJournalFault };
+        ensures refused { IfErr result IsJournalFault }
+        // One that is refused isn't held, or its bytes are no journal.
+        ensures refused_held { honest self.now → IfErr result (IsJournalFaultHeld (holds self.now) top.now) };
 }
 
 /// The system's files, as they are seen from a folder. That it is honest is a premise, which nothing here

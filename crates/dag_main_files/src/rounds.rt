@@ -8,7 +8,7 @@ ghost use Rattle.rescue_file.specs.Numbered.{IsFileNumber, rescue_name_of};
 ghost use Rattle.dag_main_check.specs.Planned.{in_line, named_by};
 ghost use Rattle.dag_main_check.specs.declared.fault.RunFault.TheVariants.{Memory};
 ghost use Rattle.dag_main_files.specs.Beside.{IsRoundFault, IsRoundBy, GoesOnBy, IsRescueOf, IsRescueReadFault, number_behind, journal_name_of};
-ghost use Rattle.dag_main_files.specs.Folder.{IsRoundFrom, rescue_in};
+ghost use Rattle.dag_main_files.specs.Folder.{IsRoundFrom, rescue_in, IsBadHeader, IsRoundFaultHeld, IsRescueReadFaultHeld};
 
 use crate::beside::{LAST_NUMBER, Place, journal_path, rescue_path};
 use crate::folder::Folder;
@@ -149,6 +149,8 @@ pub fn round_of<F: Folder>(
     ensures back { IfOk result (λ round. round.goes_back ≡ true → IsFileNumber round.used) }
     ensures by { IfOk result (IsRoundBy autorescue from always_post) }
     ensures refused { IfErr result (IsRoundFault from) }
+    // The refusal too is for what the folder holds.
+    ensures refused_held { F.honest folder.now → IfErr result (IsRoundFaultHeld (F.holds folder.now) (F.has folder.now) top.now from) }
 {
     match from {
         Some(number) => {
@@ -179,6 +181,7 @@ fn next_round<F: Folder>(
     ensures back { IfOk result (λ round. round.goes_back ≡ true → IsFileNumber round.used) }
     ensures by { IfOk result (IsRoundBy autorescue None always_post) }
     ensures refused { IfErr result (IsRoundFault None) }
+    ensures refused_held { F.honest folder.now → IfErr result (IsRoundFaultHeld (F.holds folder.now) (F.has folder.now) top.now None) }
 {
     let journal = match folder.journal(alloc, top)? {
         None => Journaled::Nothing,
@@ -215,6 +218,7 @@ fn round_behind<F: Folder>(
     ensures back { IfOk result (λ round. round.goes_back ≡ true → IsFileNumber round.used) }
     ensures by { (autorescue : Bool) → IfOk result (IsRoundBy autorescue (Some number) always_post) }
     ensures refused { IfErr result (IsRoundFault (Some number)) }
+    ensures refused_held { F.honest folder.now → IfErr result (IsRoundFaultHeld (F.holds folder.now) (F.has folder.now) top.now (Some number)) }
 {
     let path = rescue_path(alloc, top, number)?;
     if !folder.is_there(alloc, path.as_str())? {
@@ -244,6 +248,7 @@ fn unfinished(peek: &Peek) -> Result<Round, RunFault>
     ensures ahead { IfOk result (λ round. round.goes_back ≡ false) }
     ensures header { IfOk result (GoesOnBy peek.now.used peek.now.next peek.now.always_post) }
     ensures refused { IfErr result (IsRoundFault None) }
+    ensures bad { IfErr result (IsBadHeader peek.now.used peek.now.next) }
 {
     if peek.used > LAST_NUMBER {
         return Err(RunFault::NotThere(peek.used));
@@ -281,6 +286,8 @@ pub fn rescue_of<R: Files + AllocGlobal, F: Folder>(
         option_map (λ b. b.items) bytes ≡ rescue_in (F.holds folder.now) place.now.top.now round.now.used) }
     ensures read { IfOk result (λ bytes. IsRescueOf round.now (option_map (λ b. b.items) bytes)) }
     ensures refused { IfErr result (IsRescueReadFault round.now) }
+    // The refusal too is for what the folder holds, and for this file.
+    ensures refused_held { F.honest folder.now → IfErr result (IsRescueReadFaultHeld (F.holds folder.now) place.now.top.now round.now) }
 {
     if round.used == 0 {
         return Ok(None);

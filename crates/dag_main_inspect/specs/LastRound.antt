@@ -5,7 +5,7 @@ use Rattle.rescue_file.specs.Numbered.{rescue_name_of}
 use Rattle.event_journal_log.specs.declared.fault.JournalFault.{JournalFault}
 use Rattle.event_journal_log.specs.Image.{Found, replay_of}
 use Rattle.event_journal_log.specs.Peeks.{ends_with_finish}
-use Rattle.dag_main_files.specs.Beside.{journal_name_of, IsRefusalOf}
+use Rattle.dag_main_files.specs.Beside.{journal_name_of, IsRefusalHeld}
 use Rattle.dag_main_check.specs.declared.fault.RunFault.{RunFault}
 use Rattle.dag_main_check.specs.declared.fault.RunFault.TheVariants.{NotThere, Memory}
 use Rattle.dag_main_inspect.specs.Statused.{journal_bytes}
@@ -44,11 +44,11 @@ pub record IsLastRound (holds : Files) (path : List ℕ) (journal rescue : Optio
   pub journal_is : journal ≡ holds (journal_name_of path)
   pub rescue_is : rescue ≡ held_at holds (used_name path (used_by journal))
 
--- Why it is not known which round of a path is the last one where these files are held, and what its rescue file says: the journal is refused; its
--- header has a number that no rescue file has; the rescue file that it names is refused. Or memory ran out.
+-- Why it is not known which round of a path is the last one where these files are held, and what its rescue file says: the journal is there and can't be
+-- read; its header has a number that no rescue file has; the rescue file that it names can't be read. Or memory ran out.
 pub data IsNoLastRound (holds : Files) (path : List ℕ) : RunFault → Type 0 where
-  journal_refused : (fault : RunFault) → IsRefusalOf (journal_name_of path) fault → IsNoLastRound holds path fault
+  journal_refused : (fault : RunFault) → IsRefusalHeld holds (journal_name_of path) fault → IsNoLastRound holds path fault
   no_such_rescue : 999 < used_by (holds (journal_name_of path)) → IsNoLastRound holds path (NotThere (used_by (holds (journal_name_of path))))
-  rescue_refused : (name : List ℕ) (fault : RunFault) → used_name path (used_by (holds (journal_name_of path))) ≡ Some name → IsRefusalOf name fault →
+  rescue_refused : (name : List ℕ) (fault : RunFault) → used_name path (used_by (holds (journal_name_of path))) ≡ Some name → IsRefusalHeld holds name fault →
       IsNoLastRound holds path fault
   looking_had_no_memory : IsNoLastRound holds path Memory

@@ -3,7 +3,7 @@
 ghost use Rattle.std.specs.Prelude.{◌≡◌, ◌⊎◌, ◌<◌, false, None, IfOk, IfErr, IfSome, IfNone, option_map, string_bytes};
 ghost use Rattle.event_journal_log.specs.Image.{replay_of};
 ghost use Rattle.dag_main_check.specs.declared.fault.RunFault.TheVariants.{Memory};
-ghost use Rattle.dag_main_files.specs.Beside.{IsRoundFault, IsRefusalOf, journal_name_of};
+ghost use Rattle.dag_main_files.specs.Beside.{IsRoundFault, IsRefusalHeld, journal_name_of};
 ghost use Rattle.dag_main_inspect.specs.LastRound.{used_read, used_by, finished_read, has_ended_by, used_name, IsLastRound, IsNoLastRound};
 ghost use Rattle.dag_main_files.specs.Opened.{IsOfFiles, IsOfSome, IsRefusedFor, IsRefusedForSome};
 ghost use Rattle.dag_main_inspect.specs.Asked.{AnswersBy, IsNotAnsweredBy, IsAnswerOfRun, IsAnswerHeld, IsAnswerFault, IsAnswerFaultHeld};
@@ -86,7 +86,7 @@ fn journal_of<F: Folder>(alloc: Global, folder: &F, top: &str) -> Result<Option<
     ensures journal { F.honest folder.now
         → IfOk result (λ bytes. option_map (λ b. b.items) bytes ≡ F.holds folder.now (journal_name_of top.now)) }
     ensures refused { IfErr result (IsRoundFault None) }
-    ensures named { IfErr result (IsRefusalOf (journal_name_of top.now)) }
+    ensures unheld { F.honest folder.now → IfErr result (IsRefusalHeld (F.holds folder.now) (journal_name_of top.now)) }
 {
     let path = journal_path(alloc, top)?;
     let mut found = folder.beside(alloc, path.as_str())?;

@@ -1,35 +1,34 @@
 -- What a run prints and why it is refused, by its plan; and what is said of the files that were read is said of those that are held.
-use Rattle.std.proofs.Common.{◌≡◌, ◌∙◌, ℕ, Bool, List, Option, Some, None, Result, Ok, Err, IfOk, IfErr, string_bytes, refl, sym, subst}
+use Rattle.std.proofs.Common.{◌≡◌, ℕ, List, Option, Some, None, Result, Ok, Err, IfOk, string_bytes, refl, sym, subst}
 use Rattle.splices_flat.specs.Opening.{Files}
 use Rattle.splices_flat.specs.FileSet.{bytes_of, entries_of}
 use Rattle.splices_flat.specs.declared.file_set.FileSet.{FileSet}
 use Rattle.rescue_file.specs.Numbered.{rescue_name_of}
 use Rattle.dag_graph.specs.Graph.{Network}
 use Rattle.run_plan.specs.Plan.{Plan}
-use Rattle.run_plan.specs.declared.fault.PlanFault.{PlanFault}
 use Rattle.run_plan.specs.declared.fault.PlanFault.TheVariants as plans
 use Rattle.dag_main_args.specs.declared.request.RunOptions.{RunOptions}
 use Rattle.dag_main_files.specs.declared.rounds.Round.{Round}
 use Rattle.dag_main_files.specs.Folder.{IsReadFrom}
 use Rattle.dag_main_files.specs.Opened.{IsStill, still_missing, asking_had_no_memory}
 use Rattle.dag_main_run.specs.Sites.{Rounds}
-use Rattle.dag_main_run.specs.Runs.{IsPlannedRun, IsPlannedFor, IsRunWhere, IsRoundPlanFault, not_planned, not_planned_with, planning_had_no_memory, IsRunFaultWhere, no_graph, not_found, no_plan, no_launcher, no_room, not_alone, not_held, no_memory}
-use Rattle.dag_main_check.specs.Planned.{IsGraphOf, IsPlanBy, IsPlanByFault, has_plan_fault, planning_had_no_memory as plan_had_no_memory, in_line, rescue_line, named_by}
+use Rattle.dag_main_run.specs.Runs.{RoundSight, IsPlannedRun, IsPlannedFor, IsRunWhere, IsRoundPlanFault, not_planned, not_planned_with, planning_had_no_memory, IsRunFaultWhere, no_graph, not_found, no_plan, no_launcher, no_room, not_alone, not_held, no_memory}
+use Rattle.dag_main_check.specs.Planned.{IsGraphOf, IsPlanBy, in_line, named_by}
 use Rattle.dag_main_check.specs.Missing.{missing_in}
 use Rattle.dag_main_check.specs.Warnings.{warning_lines}
 use Rattle.dag_main_check.specs.declared.fault.RunFault.{RunFault}
-use Rattle.dag_main_check.specs.declared.fault.RunFault.TheVariants.{InPlan, Memory}
+use Rattle.dag_main_check.specs.declared.fault.RunFault.TheVariants.{InPlan}
 use Rattle.dag_main_check.specs.declared.warnings.Answer.{Answer}
 use Rattle.dag_main_check.proofs.HeldFiles.{graph-held, graph-refused, plan-held, plan-refused, planned-held}
 
 -- the answer of a round that was led to its end, of one set
-pub answer-where : (files : FileSet) (IsRound : Round → Type 0) (IsRescue : Round → Option (List ℕ) → Type 0) (rounds : Rounds) (path : List ℕ) (options : RunOptions) (graph : Network)
-    (round : Round) (plan : Plan) (rescue : Option (List ℕ)) → IsGraphOf (bytes_of files) path graph → IsRound round → IsRescue round rescue
+pub answer-where : (files : FileSet) (sight : RoundSight) (rounds : Rounds) (path : List ℕ) (options : RunOptions) (graph : Network)
+    (round : Round) (plan : Plan) (rescue : Option (List ℕ)) → IsGraphOf (bytes_of files) path graph → sight.is_round round → sight.is_rescue round rescue
     → IsPlanBy round.always_post (bytes_of files) (entries_of files) rescue graph plan → (r : Result Answer RunFault)
     → IfOk r (λ answer. rounds.led path options.limits plan round (string_bytes answer.text) answer.status)
     → IfOk r (λ answer. string_bytes answer.warnings ≡ warning_lines plan.graph.dag.warnings)
-    → IfOk r (λ answer. IsRunWhere bytes_of (λ set. set ≡ files) IsRound IsRescue rounds path options (string_bytes answer.text) (string_bytes answer.warnings) answer.status)
-answer-where files IsRound IsRescue rounds path options graph round plan rescue is_graph is_round is_rescue made (Ok answer) led notes = record {
+    → IfOk r (λ answer. IsRunWhere bytes_of (λ set. set ≡ files) sight rounds path options (string_bytes answer.text) (string_bytes answer.warnings) answer.status)
+answer-where files sight rounds path options graph round plan rescue is_graph is_round is_rescue made (Ok answer) led notes = record {
   files = files;
   read = refl;
   round = round;
@@ -43,7 +42,7 @@ answer-where files IsRound IsRescue rounds path options graph round plan rescue 
     warnings_are = notes;
   };
 }
-answer-where files IsRound IsRescue rounds path options graph round plan rescue is_graph is_round is_rescue made (Err fault) led notes = tt
+answer-where files sight rounds path options graph round plan rescue is_graph is_round is_rescue made (Err fault) led notes = tt
 
 abbrev pub planned-for : (files : FileSet) (IsRound : Round → Type 0) (path : List ℕ) (graph : Network) (round : Round) (plan : Plan) → IsGraphOf (bytes_of files) path graph → IsRound round
     → IsPlannedRun (bytes_of files) files graph round plan → IsPlannedFor bytes_of (λ set. set ≡ files) IsRound path
@@ -59,11 +58,10 @@ planned-for files IsRound path graph round plan is_graph is_round planned = reco
 }
 
 -- what is known of one set is known of some
-module _ (files : FileSet) (IsRound : Round → Type 0) (rounds : Rounds) (path : List ℕ) (options : RunOptions) where
-  pub run-of-some : (IsRescue : Round → Option (List ℕ) → Type 0) (text warnings : List ℕ) (status : ℕ)
-      → IsRunWhere bytes_of (λ set. set ≡ files) IsRound IsRescue rounds path options text warnings status
-      → IsRunWhere bytes_of (λ set. Unit {0}) IsRound IsRescue rounds path options text warnings status
-  run-of-some IsRescue text warnings status is = record {
+module _ (files : FileSet) (sight : RoundSight) (rounds : Rounds) (path : List ℕ) (options : RunOptions) where
+  pub run-of-some : (text warnings : List ℕ) (status : ℕ) → IsRunWhere bytes_of (λ set. set ≡ files) sight rounds path options text warnings status
+      → IsRunWhere bytes_of (λ set. Unit {0}) sight rounds path options text warnings status
+  run-of-some text warnings status is = record {
     files = is.files;
     read = tt;
     round = is.round;
@@ -73,22 +71,22 @@ module _ (files : FileSet) (IsRound : Round → Type 0) (rounds : Rounds) (path 
     answered = is.answered;
   }
 
-  planned-of-some : IsPlannedFor bytes_of (λ set. set ≡ files) IsRound path → IsPlannedFor bytes_of (λ set. Unit {0}) IsRound path
+  planned-of-some : IsPlannedFor bytes_of (λ set. set ≡ files) sight.is_round path → IsPlannedFor bytes_of (λ set. Unit {0}) sight.is_round path
   planned-of-some is = record { files = is.files; graph = is.graph; round = is.round; plan = is.plan; read = tt; is_graph = is.is_graph; is_round = is.is_round; planned = is.planned }
 
-  pub fault-of-some : (fault : RunFault) → IsRunFaultWhere bytes_of (λ set. set ≡ files) IsRound rounds path options fault → IsRunFaultWhere bytes_of (λ set. Unit {0}) IsRound rounds path options fault
+  pub fault-of-some : (fault : RunFault) → IsRunFaultWhere bytes_of (λ set. set ≡ files) sight rounds path options fault → IsRunFaultWhere bytes_of (λ set. Unit {0}) sight rounds path options fault
   unfolding planned-of-some
   fault-of-some fault (no_graph set why read is) = no_graph set why tt is
   fault-of-some fault (not_found set graph why read is_graph is) = not_found set graph why tt is_graph is
-  fault-of-some fault (no_plan set graph why read is_graph is) = no_plan set graph why tt is_graph is
+  fault-of-some fault (no_plan set graph round rescue why read is_graph is_round is_rescue is) = no_plan set graph round rescue why tt is_graph is_round is_rescue is
   fault-of-some fault (no_launcher why planned is) = no_launcher why (planned-of-some planned) is
   fault-of-some fault (no_room why planned is) = no_room why (planned-of-some planned) is
   fault-of-some fault (not_alone why planned is) = not_alone why (planned-of-some planned) is
   fault-of-some fault (not_held planned why is) = not_held (planned-of-some planned) why is
   fault-of-some fault no_memory = no_memory
 
-  pub told-of-some : (fault told : RunFault) → IsRunFaultWhere bytes_of (λ set. set ≡ files) IsRound rounds path options fault → IsStill (λ file. None) fault told
-      → IsRunFaultWhere bytes_of (λ set. Unit {0}) IsRound rounds path options told
+  pub told-of-some : (fault told : RunFault) → IsRunFaultWhere bytes_of (λ set. set ≡ files) sight rounds path options fault → IsStill (λ file. None) fault told
+      → IsRunFaultWhere bytes_of (λ set. Unit {0}) sight rounds path options told
   told-of-some fault told why (still_missing none) = fault-of-some fault why
   told-of-some fault told why asking_had_no_memory = no_memory
 
@@ -104,14 +102,13 @@ named-missing (InPlan plans.Memory) name path is = is
 named-missing _ name path is = is
 
 -- what is said of a set that was read is said of the files that are held
-module _ (holds : Files) (files : FileSet) (path : List ℕ) (read : IsReadFrom holds path files) (IsRound : Round → Type 0) (rounds : Rounds) (options : RunOptions) where
+module _ (holds : Files) (files : FileSet) (path : List ℕ) (read : IsReadFrom holds path files) (sight : RoundSight) (rounds : Rounds) (options : RunOptions) where
   here : (set : FileSet) → set ≡ files → IsReadFrom holds path set
   here set same = subst (IsReadFrom holds path) (sym same) read
 
-  pub run-held : (IsRescue : Round → Option (List ℕ) → Type 0) (text warnings : List ℕ) (status : ℕ)
-      → IsRunWhere bytes_of (λ set. set ≡ files) IsRound IsRescue rounds path options text warnings status
-      → IsRunWhere (λ set. holds) (IsReadFrom holds path) IsRound IsRescue rounds path options text warnings status
-  run-held IsRescue text warnings status is = record {
+  pub run-held : (text warnings : List ℕ) (status : ℕ) → IsRunWhere bytes_of (λ set. set ≡ files) sight rounds path options text warnings status
+      → IsRunWhere (λ set. holds) (IsReadFrom holds path) sight rounds path options text warnings status
+  run-held text warnings status is = record {
     files = is.files;
     read = here is.files is.read;
     round = is.round;
@@ -130,7 +127,7 @@ module _ (holds : Files) (files : FileSet) (path : List ℕ) (read : IsReadFrom 
   run-plan-held set same graph round plan (rescue, is_rescue, made) =
       (rescue, is_rescue, plan-held (bytes_of set) holds (here set same).held round.always_post (entries_of set) rescue graph plan made)
 
-  planned-for-held : IsPlannedFor bytes_of (λ set. set ≡ files) IsRound path → IsPlannedFor (λ set. holds) (IsReadFrom holds path) IsRound path
+  planned-for-held : IsPlannedFor bytes_of (λ set. set ≡ files) sight.is_round path → IsPlannedFor (λ set. holds) (IsReadFrom holds path) sight.is_round path
   planned-for-held is = record {
     files = is.files;
     graph = is.graph;
@@ -142,29 +139,32 @@ module _ (holds : Files) (files : FileSet) (path : List ℕ) (read : IsReadFrom 
     planned = run-plan-held is.files is.read is.graph is.round is.plan is.planned;
   }
 
-  round-plan-refused : (set : FileSet) → set ≡ files → (graph : Network) (fault : RunFault) → ((file : List ℕ) → missing_in fault ≡ Some file → holds file ≡ None)
-      → IsRoundPlanFault (bytes_of set) set path graph fault → IsRoundPlanFault holds set path graph fault
-  round-plan-refused set same graph fault none (not_planned why is) =
-      not_planned why (plan-refused (bytes_of set) holds (here set same).held (entries_of set) None graph why none is)
-  round-plan-refused set same graph fault none (not_planned_with number rescue why is) =
-      not_planned_with number rescue why
-      (plan-refused (bytes_of set) holds (here set same).held (entries_of set) rescue graph why (λ file tells. none file (named-missing why (rescue_name_of path number) file tells)) is)
-  round-plan-refused set same graph fault none planning_had_no_memory = planning_had_no_memory
+  round-plan-refused : (set : FileSet) → set ≡ files → (graph : Network) (round : Round) (rescue : Option (List ℕ)) (fault : RunFault)
+      → ((file : List ℕ) → missing_in fault ≡ Some file → holds file ≡ None)
+      → IsRoundPlanFault (bytes_of set) set path graph round rescue fault → IsRoundPlanFault holds set path graph round rescue fault
+  round-plan-refused set same graph round rescue fault none (not_planned why no_rescue is) =
+      not_planned why no_rescue (plan-refused (bytes_of set) holds (here set same).held (entries_of set) rescue graph why none is)
+  round-plan-refused set same graph round rescue fault none (not_planned_with why is) =
+      not_planned_with why
+      (plan-refused (bytes_of set) holds (here set same).held (entries_of set) rescue graph why
+      (λ file tells. none file (named-missing why (rescue_name_of path round.used) file tells)) is)
+  round-plan-refused set same graph round rescue fault none planning_had_no_memory = planning_had_no_memory
 
-  pub fault-held : (fault : RunFault) → ((file : List ℕ) → missing_in fault ≡ Some file → holds file ≡ None) → IsRunFaultWhere bytes_of (λ set. set ≡ files) IsRound rounds path options fault
-      → IsRunFaultWhere (λ set. holds) (IsReadFrom holds path) IsRound rounds path options fault
+  pub fault-held : (fault : RunFault) → ((file : List ℕ) → missing_in fault ≡ Some file → holds file ≡ None) → IsRunFaultWhere bytes_of (λ set. set ≡ files) sight rounds path options fault
+      → IsRunFaultWhere (λ set. holds) (IsReadFrom holds path) sight rounds path options fault
   unfolding planned-for-held
   fault-held fault none (no_graph set why same is) = no_graph set why (here set same) (graph-refused (bytes_of set) holds (here set same).held path why none is)
   fault-held fault none (not_found set graph why same is_graph is) = not_found set graph why (here set same) (graph-held (bytes_of set) holds (here set same).held path graph is_graph) is
-  fault-held fault none (no_plan set graph why same is_graph is) =
-      no_plan set graph why (here set same) (graph-held (bytes_of set) holds (here set same).held path graph is_graph) (round-plan-refused set same graph why none is)
+  fault-held fault none (no_plan set graph round rescue why same is_graph is_round is_rescue is) =
+      no_plan set graph round rescue why (here set same) (graph-held (bytes_of set) holds (here set same).held path graph is_graph) is_round is_rescue
+      (round-plan-refused set same graph round rescue why none is)
   fault-held fault none (no_launcher why planned is) = no_launcher why (planned-for-held planned) is
   fault-held fault none (no_room why planned is) = no_room why (planned-for-held planned) is
   fault-held fault none (not_alone why planned is) = not_alone why (planned-for-held planned) is
   fault-held fault none (not_held planned why is) = not_held (planned-for-held planned) why is
   fault-held fault none no_memory = no_memory
 
-  pub told-held : (fault told : RunFault) → IsRunFaultWhere bytes_of (λ set. set ≡ files) IsRound rounds path options fault → IsStill holds fault told
-      → IsRunFaultWhere (λ set. holds) (IsReadFrom holds path) IsRound rounds path options told
+  pub told-held : (fault told : RunFault) → IsRunFaultWhere bytes_of (λ set. set ≡ files) sight rounds path options fault → IsStill holds fault told
+      → IsRunFaultWhere (λ set. holds) (IsReadFrom holds path) sight rounds path options told
   told-held fault told why (still_missing none) = fault-held fault none why
   told-held fault told why asking_had_no_memory = no_memory

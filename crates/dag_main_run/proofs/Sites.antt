@@ -1,5 +1,5 @@
 -- A round at a site.
-use Rattle.std.proofs.Common.{◌≡◌, ℕ, true, false, List, [], Option, Some, None, Bool, Ok, Err, Result, refl, sym, ◌∙◌, subst}
+use Rattle.std.proofs.Common.{◌≡◌, ℕ, true, false, List, [], Option, Some, None, Bool, Ok, Err, Result, refl, sym, subst}
 use Rattle.event_journal_log.specs.declared.disk.Disk.{Ghosts}
 use Rattle.event_journal_log.specs.declared.fault.JournalFault.{JournalFault}
 use Rattle.event_journal_log.specs.Image.{Found, replay_of}
@@ -10,8 +10,6 @@ use Rattle.run_plan.specs.Plan.{Plan}
 use Rattle.job_starter_drive.specs.declared.Call.{Call}
 use Rattle.job_starter_drive.specs.declared.driving.DriveFault.{DriveFault}
 use Rattle.run_round.specs.declared.rounds.Start.{Start}
-use Rattle.node_machine.specs.declared.Key.{Key}
-use Rattle.node_machine.specs.declared.Outcome.{Outcome}
 use Rattle.recovery_manager.specs.declared.fault.ManagerFault.TheVariants as faults
 use Rattle.recovery.specs.Recovery.{begin_had_no_memory, recovery_had_no_memory}
 use Rattle.job_starter_drive.specs.declared.driving.DriveFault.TheVariants as drives
@@ -19,7 +17,6 @@ use Rattle.run_round.specs.declared.rounds.Start.TheVariants.{Begin, GoOn}
 use Rattle.run_round.specs.Rounds.{FitsIn, IsOpeningFault, IsRoundRun}
 use Rattle.run_round.specs.Causes.{IsRoundRefusal, not_opened}
 use Rattle.dag_main_files.specs.declared.rounds.Journaled.{Journaled}
-use Rattle.dag_main_files.specs.declared.rounds.Journaled.TheVariants as journals
 use Rattle.dag_main_files.specs.declared.rounds.Round.{Round}
 use Rattle.dag_main_files.specs.Beside.{journal_name_of, HasJournal, IsRoundFound}
 use Rattle.dag_main_files.specs.Folder.{read_at, journal_in}

@@ -1,5 +1,5 @@
 -- What `run` prints.
-use Rattle.std.specs.Prelude.{◌≡◌, ℕ, Bool, List, Option, Some, None}
+use Rattle.std.specs.Prelude.{◌≡◌, ℕ, Bool, List, Option, Some}
 use Rattle.splices_flat.specs.FileSet.{bytes_of, entries_of}
 use Rattle.splices_flat.specs.declared.file_set.FileSet.{FileSet}
 use Rattle.dag_graph.specs.Graph.{Network}
@@ -11,7 +11,7 @@ use Rattle.dag_main_run.specs.Launching.{IsLauncherFault}
 use Rattle.dag_main_run.specs.Sites.{Rounds}
 use Rattle.dag_main_files.specs.declared.rounds.Round.{Round}
 use Rattle.splices_flat.specs.Opening.{Files}
-use Rattle.dag_main_files.specs.Folder.{IsReadFrom, IsRoundFrom, rescue_in}
+use Rattle.dag_main_files.specs.Folder.{IsReadFrom, IsRoundFrom, IsRoundFaultHeld, IsRescueReadFaultHeld, rescue_in}
 use Rattle.dag_main_files.specs.Beside.{lock_name_of, IsFileFault, IsRefusalOf, IsRoomFault, IsRoundFault, IsRoundBy, IsRescueOf, IsRescueReadFault}
 use Rattle.dag_main_check.specs.Planned.{IsGraphOf, IsGraphFault, IsPlanBy, IsPlanByFault, in_line, named_by}
 use Rattle.dag_main_check.specs.ByPlan.{IsAnswerByPlan}
@@ -24,57 +24,81 @@ abbrev pub IsPlannedRun : Files → FileSet → Network → Round → Plan → T
 IsPlannedRun files set graph round plan =
     (rescue : Option (List ℕ)) × IsRescueOf round rescue × IsPlanBy round.always_post files (entries_of set) rescue graph plan
 
--- This was printed of the plan of the files of this path, by what is known of the set that was read, of the round and of its rescue file, where each set
--- stands for these files: the text and the exit status of the round that was led to its end, and the warnings of its files.
-pub record IsRunWhere (says : FileSet → Files) (IsRead : FileSet → Type 0) (IsRound : Round → Type 0) (IsRescue : Round → Option (List ℕ) → Type 0) (rounds : Rounds)
-    (path : List ℕ) (options : RunOptions) (text warnings : List ℕ) (status : ℕ) : Type 0 where
-  pub files : FileSet
-  pub read : IsRead files
-  pub round : Round
-  pub is_round : IsRound round
-  pub rescue : Option (List ℕ)
-  pub rescue_is : IsRescue round rescue
-  pub answered : IsAnswerByPlan round.always_post (says files) (entries_of files) path rescue (λ plan. rounds.led path options.limits plan round text status) warnings
-
--- Of some files, with the rescue file of the round that this is, or without one.
-abbrev pub IsRunOf : Rounds → (path : List ℕ) → RunOptions → (text warnings : List ℕ) → (status : ℕ) → Type 0
-IsRunOf rounds path options text warnings status =
-    IsRunWhere bytes_of (λ files. Unit {0}) (IsRoundBy options.autorescue options.dorescuefrom options.always_post) IsRescueOf rounds path options text warnings status
-
--- Where these files are held and these paths are there: of all that the DAG file names, with the rescue file that is held, in the round that the journal and
--- the rescue files make of it.
-abbrev pub IsRunFrom : Files → (List ℕ → Bool) → Rounds → (path : List ℕ) → RunOptions → (text warnings : List ℕ) → (status : ℕ) → Type 0
-IsRunFrom holds has rounds path options text warnings status =
-    IsRunWhere (λ files. holds) (IsReadFrom holds path) (IsRoundFrom holds has path options.autorescue options.dorescuefrom options.always_post)
-    (λ round rescue. rescue ≡ rescue_in holds path round.used) rounds path options text warnings status
+-- What is known of the round that a run is: which it may be, what its rescue file may say, and why the two are not found.
+pub record RoundSight : Type 1 where
+  pub is_round : Round → Type 0
+  pub is_rescue : Round → Option (List ℕ) → Type 0
+  pub not_found : RunFault → Type 0
 
 -- Why it is not known which round this is and what its rescue file says, the first cause first: the second is met where the first is not.
 pub data IsFindingFault (options : RunOptions) : RunFault → Type 0 where
   no_round : (fault : RunFault) → IsRoundFault options.dorescuefrom fault → IsFindingFault options fault
   no_rescue : (round : Round) (fault : RunFault) → IsRoundBy options.autorescue options.dorescuefrom options.always_post round → IsRescueReadFault round fault → IsFindingFault options fault
 
+-- The same where these files are held and these paths are there.
+pub data IsFindingFaultHeld (holds : Files) (has : List ℕ → Bool) (path : List ℕ) (options : RunOptions) : RunFault → Type 0 where
+  held_no_round : (fault : RunFault) → IsRoundFaultHeld holds has path options.dorescuefrom fault → IsFindingFaultHeld holds has path options fault
+  held_no_rescue : (round : Round) (fault : RunFault) → IsRoundFrom holds has path options.autorescue options.dorescuefrom options.always_post round →
+      IsRescueReadFaultHeld holds path round fault → IsFindingFaultHeld holds has path options fault
+
+-- What the options say of it; and where these files are held and these paths are there: it is the one that the journal and the rescue files make of it, and its
+-- rescue file is the one that is held.
+abbrev pub any_round : RunOptions → RoundSight
+any_round options = record {
+  is_round = IsRoundBy options.autorescue options.dorescuefrom options.always_post;
+  is_rescue = IsRescueOf;
+  not_found = IsFindingFault options;
+}
+
+abbrev pub held_round : Files → (List ℕ → Bool) → (path : List ℕ) → RunOptions → RoundSight
+held_round holds has path options = record {
+  is_round = IsRoundFrom holds has path options.autorescue options.dorescuefrom options.always_post;
+  is_rescue = λ round rescue. rescue ≡ rescue_in holds path round.used;
+  not_found = IsFindingFaultHeld holds has path options;
+}
+
+-- This was printed of the plan of the files of this path, by what is known of the set that was read, of the round and of its rescue file, where each set
+-- stands for these files: the text and the exit status of the round that was led to its end, and the warnings of its files.
+pub record IsRunWhere (says : FileSet → Files) (IsRead : FileSet → Type 0) (sight : RoundSight) (rounds : Rounds)
+    (path : List ℕ) (options : RunOptions) (text warnings : List ℕ) (status : ℕ) : Type 0 where
+  pub files : FileSet
+  pub read : IsRead files
+  pub round : Round
+  pub is_round : sight.is_round round
+  pub rescue : Option (List ℕ)
+  pub rescue_is : sight.is_rescue round rescue
+  pub answered : IsAnswerByPlan round.always_post (says files) (entries_of files) path rescue (λ plan. rounds.led path options.limits plan round text status) warnings
+
+-- Of some files, with the rescue file of the round that this is, or without one.
+abbrev pub IsRunOf : Rounds → (path : List ℕ) → RunOptions → (text warnings : List ℕ) → (status : ℕ) → Type 0
+IsRunOf rounds path options text warnings status = IsRunWhere bytes_of (λ files. Unit {0}) (any_round options) rounds path options text warnings status
+
+-- Where these files are held and these paths are there: of all that the DAG file names, and of the round that is found there.
+abbrev pub IsRunFrom : Files → (List ℕ → Bool) → Rounds → (path : List ℕ) → RunOptions → (text warnings : List ℕ) → (status : ℕ) → Type 0
+IsRunFrom holds has rounds path options text warnings status =
+    IsRunWhere (λ files. holds) (IsReadFrom holds path) (held_round holds has path options) rounds path options text warnings status
+
 -- Why it is not known under the lock: a name beside the DAG file would be too long; another manager is at work, or the lock is refused; or
 -- as above.
-pub data IsLockedFault (path : List ℕ) (options : RunOptions) : RunFault → Type 0 where
-  no_room_for_lock : (fault : RunFault) → IsRoomFault path fault → IsLockedFault path options fault
-  lock_refused : (fault : RunFault) → IsRefusalOf (lock_name_of path) fault → IsLockedFault path options fault
-  not_found_locked : (fault : RunFault) → IsFindingFault options fault → IsLockedFault path options fault
+pub data IsLockedFault (path : List ℕ) (NotFound : RunFault → Type 0) : RunFault → Type 0 where
+  no_room_for_lock : (fault : RunFault) → IsRoomFault path fault → IsLockedFault path NotFound fault
+  lock_refused : (fault : RunFault) → IsRefusalOf (lock_name_of path) fault → IsLockedFault path NotFound fault
+  not_found_locked : (fault : RunFault) → NotFound fault → IsLockedFault path NotFound fault
 
 -- The same as it is found first: a file beside the DAG file may be another user's, or is no regular one, or memory ran out; then as above,
 -- but a journal that can't be read is looked at again under the lock.
-pub data IsFirstRunFault (path : List ℕ) (options : RunOptions) : RunFault → Type 0 where
-  not_ours : (fault : RunFault) → IsFileFault fault → IsFirstRunFault path options fault
-  not_found_at_first : (fault : RunFault) → IsFindingFault options fault → IsFirstRunFault path options fault
-  looked_again : (journal : ManagerFault) (fault : RunFault) → IsFindingFault options (InManager journal) → IsLockedFault path options fault →
-      IsFirstRunFault path options fault
+pub data IsFirstRunFault (path : List ℕ) (NotFound : RunFault → Type 0) : RunFault → Type 0 where
+  not_ours : (fault : RunFault) → IsFileFault fault → IsFirstRunFault path NotFound fault
+  not_found_at_first : (fault : RunFault) → NotFound fault → IsFirstRunFault path NotFound fault
+  looked_again : (journal : ManagerFault) (fault : RunFault) → NotFound (InManager journal) → IsLockedFault path NotFound fault → IsFirstRunFault path NotFound fault
 
--- Why the round has no plan: a submit file, a text of a job or a line of the rescue file has a fault, that of a line returned with the name
--- of the rescue file; memory ran out.
-pub data IsRoundPlanFault (files : Files) (set : FileSet) (path : List ℕ) (graph : Network) : RunFault → Type 0 where
-  not_planned : (fault : RunFault) → IsPlanByFault files (entries_of set) None graph fault → IsRoundPlanFault files set path graph fault
-  not_planned_with : (number : ℕ) (rescue : Option (List ℕ)) (fault : RunFault) → IsPlanByFault files (entries_of set) rescue graph fault →
-      IsRoundPlanFault files set path graph (named_by (in_line fault) (Some (rescue_name_of path number)) fault)
-  planning_had_no_memory : IsRoundPlanFault files set path graph Memory
+-- Why a round has no plan with these bytes of its rescue file: a submit file, a text of a job or a line of the rescue file has a fault, that of a line returned with
+-- the name of the rescue file that the round reads; memory ran out.
+pub data IsRoundPlanFault (files : Files) (set : FileSet) (path : List ℕ) (graph : Network) (round : Round) (rescue : Option (List ℕ)) : RunFault → Type 0 where
+  not_planned : (fault : RunFault) → round.used ≡ 0 → IsPlanByFault files (entries_of set) rescue graph fault → IsRoundPlanFault files set path graph round rescue fault
+  not_planned_with : (fault : RunFault) → IsPlanByFault files (entries_of set) rescue graph fault →
+      IsRoundPlanFault files set path graph round rescue (named_by (in_line fault) (Some (rescue_name_of path round.used)) fault)
+  planning_had_no_memory : IsRoundPlanFault files set path graph round rescue Memory
 
 -- Why a run is not led to its end: what an earlier manager left running can't be ended, a rescue file, or the journal of the round before,
 -- can't be renamed, or another process has locked the journal; nobody is told how children end; the round is stopped; or memory ran out.
@@ -86,10 +110,10 @@ pub data IsStopFault (IsDeaf : Type 0) (Stopped : RunFault → Type 0) : RunFaul
 
 -- Why the round is not led to its end once the lock is held, the first cause first: it is not found again which round this is, or it is
 -- another one by now; or it is stopped.
-pub data IsHeldFault (path : List ℕ) (options : RunOptions) (IsDeaf : Type 0) (Stopped : RunFault → Type 0) : RunFault → Type 0 where
-  not_found_again : (fault : RunFault) → IsFindingFault options fault → IsHeldFault path options IsDeaf Stopped fault
-  another_was_at_work : (fault : RunFault) → IsRefusalOf (lock_name_of path) fault → IsHeldFault path options IsDeaf Stopped fault
-  not_led : (fault : RunFault) → IsStopFault IsDeaf Stopped fault → IsHeldFault path options IsDeaf Stopped fault
+pub data IsHeldFault (path : List ℕ) (NotFound : RunFault → Type 0) (IsDeaf : Type 0) (Stopped : RunFault → Type 0) : RunFault → Type 0 where
+  not_found_again : (fault : RunFault) → NotFound fault → IsHeldFault path NotFound IsDeaf Stopped fault
+  another_was_at_work : (fault : RunFault) → IsRefusalOf (lock_name_of path) fault → IsHeldFault path NotFound IsDeaf Stopped fault
+  not_led : (fault : RunFault) → IsStopFault IsDeaf Stopped fault → IsHeldFault path NotFound IsDeaf Stopped fault
 
 -- The plan of the round that the options ask for, by what is known of the files that were read and of the round.
 pub record IsPlannedFor (says : FileSet → Files) (IsRead : FileSet → Type 0) (IsRound : Round → Type 0) (path : List ℕ) : Type 0 where
@@ -106,24 +130,24 @@ pub record IsPlannedFor (says : FileSet → Files) (IsRead : FileSet → Type 0)
 -- are not: the files make no graph; it is not known which round this is, or what its rescue file says; the round has no plan; there is no
 -- launcher as it is asked for; a name beside the DAG file would be too long; another manager is at work, or the lock is refused; under the lock
 -- the round is another one, or is not led to its end.
-pub data IsRunFaultWhere (says : FileSet → Files) (IsRead : FileSet → Type 0) (IsRound : Round → Type 0) (rounds : Rounds) (path : List ℕ) (options : RunOptions) : RunFault → Type 0 where
-  no_graph : (files : FileSet) (fault : RunFault) → IsRead files → IsGraphFault (says files) path fault → IsRunFaultWhere says IsRead IsRound rounds path options fault
-  not_found : (files : FileSet) (graph : Network) (fault : RunFault) → IsRead files → IsGraphOf (says files) path graph → IsFirstRunFault path options fault →
-      IsRunFaultWhere says IsRead IsRound rounds path options fault
-  no_plan : (files : FileSet) (graph : Network) (fault : RunFault) → IsRead files → IsGraphOf (says files) path graph → IsRoundPlanFault (says files) files path graph fault →
-      IsRunFaultWhere says IsRead IsRound rounds path options fault
-  no_launcher : (fault : RunFault) → IsPlannedFor says IsRead IsRound path → IsLauncherFault options.launcher fault → IsRunFaultWhere says IsRead IsRound rounds path options fault
-  no_room : (fault : RunFault) → IsPlannedFor says IsRead IsRound path → IsRoomFault path fault → IsRunFaultWhere says IsRead IsRound rounds path options fault
-  not_alone : (fault : RunFault) → IsPlannedFor says IsRead IsRound path → IsRefusalOf (lock_name_of path) fault → IsRunFaultWhere says IsRead IsRound rounds path options fault
-  not_held : (planned : IsPlannedFor says IsRead IsRound path) (fault : RunFault) →
-      IsHeldFault path options rounds.is_deaf (rounds.stopped path options.limits planned.plan planned.round) fault → IsRunFaultWhere says IsRead IsRound rounds path options fault
-  no_memory : IsRunFaultWhere says IsRead IsRound rounds path options Memory
+pub data IsRunFaultWhere (says : FileSet → Files) (IsRead : FileSet → Type 0) (sight : RoundSight) (rounds : Rounds) (path : List ℕ) (options : RunOptions) : RunFault → Type 0 where
+  no_graph : (files : FileSet) (fault : RunFault) → IsRead files → IsGraphFault (says files) path fault → IsRunFaultWhere says IsRead sight rounds path options fault
+  not_found : (files : FileSet) (graph : Network) (fault : RunFault) → IsRead files → IsGraphOf (says files) path graph → IsFirstRunFault path sight.not_found fault →
+      IsRunFaultWhere says IsRead sight rounds path options fault
+  no_plan : (files : FileSet) (graph : Network) (round : Round) (rescue : Option (List ℕ)) (fault : RunFault) → IsRead files → IsGraphOf (says files) path graph →
+      sight.is_round round → sight.is_rescue round rescue → IsRoundPlanFault (says files) files path graph round rescue fault →
+      IsRunFaultWhere says IsRead sight rounds path options fault
+  no_launcher : (fault : RunFault) → IsPlannedFor says IsRead sight.is_round path → IsLauncherFault options.launcher fault → IsRunFaultWhere says IsRead sight rounds path options fault
+  no_room : (fault : RunFault) → IsPlannedFor says IsRead sight.is_round path → IsRoomFault path fault → IsRunFaultWhere says IsRead sight rounds path options fault
+  not_alone : (fault : RunFault) → IsPlannedFor says IsRead sight.is_round path → IsRefusalOf (lock_name_of path) fault → IsRunFaultWhere says IsRead sight rounds path options fault
+  not_held : (planned : IsPlannedFor says IsRead sight.is_round path) (fault : RunFault) →
+      IsHeldFault path sight.not_found rounds.is_deaf (rounds.stopped path options.limits planned.plan planned.round) fault → IsRunFaultWhere says IsRead sight rounds path options fault
+  no_memory : IsRunFaultWhere says IsRead sight rounds path options Memory
 
 -- of some files, and a round that the options ask for
 abbrev pub IsRunFault : Rounds → (path : List ℕ) → RunOptions → RunFault → Type 0
-IsRunFault rounds path options = IsRunFaultWhere bytes_of (λ files. Unit {0}) (IsRoundBy options.autorescue options.dorescuefrom options.always_post) rounds path options
+IsRunFault rounds path options = IsRunFaultWhere bytes_of (λ files. Unit {0}) (any_round options) rounds path options
 
--- Where these files are held and these paths are there: of all that the DAG file names, and the round that the journal and the rescue files make of it.
+-- Where these files are held and these paths are there: of all that the DAG file names, and of the round that is found there.
 abbrev pub IsRunFaultFrom : Files → (List ℕ → Bool) → Rounds → (path : List ℕ) → RunOptions → RunFault → Type 0
-IsRunFaultFrom holds has rounds path options =
-    IsRunFaultWhere (λ files. holds) (IsReadFrom holds path) (IsRoundFrom holds has path options.autorescue options.dorescuefrom options.always_post) rounds path options
+IsRunFaultFrom holds has rounds path options = IsRunFaultWhere (λ files. holds) (IsReadFrom holds path) (held_round holds has path options) rounds path options

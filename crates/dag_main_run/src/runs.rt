@@ -8,7 +8,7 @@ ghost use Rattle.dag_main_files.specs.Beside.{IsRoundBy, IsRescueOf, HasJournal}
 ghost use Rattle.dag_main_files.specs.Folder.{IsRoundFrom, journal_in, rescue_in};
 ghost use Rattle.dag_main_check.specs.Warnings.{warning_lines};
 ghost use Rattle.dag_main_run.specs.Sites.{start_by, journal_found, rounds_at, manager_refusal, IsReturned, IsRoundLedAt, IsRoundStoppedAt};
-ghost use Rattle.dag_main_run.specs.Runs.{IsPlannedRun, IsRunWhere, IsRunOf, IsRunFrom, IsFindingFault, IsLockedFault, IsFirstRunFault, IsRoundPlanFault, IsStopFault, IsHeldFault, IsRunFaultWhere, IsRunFault, IsRunFaultFrom};
+ghost use Rattle.dag_main_run.specs.Runs.{IsPlannedRun, any_round, held_round, IsRunWhere, IsRunOf, IsRunFrom, IsFindingFault, IsFindingFaultHeld, IsLockedFault, IsFirstRunFault, IsRoundPlanFault, IsStopFault, IsHeldFault, IsRunFaultWhere, IsRunFault, IsRunFaultFrom};
 
 use crate::beginning::{Inputs, forget_processes, has_own_files, keep_inputs, life_of, watcher_of};
 use crate::halting::{HaltWatcher, halted};
@@ -92,7 +92,7 @@ fn plan_of_round(
     ensures plan { IfOk result (IsPlannedRun (bytes_of files.now) files.now graph round.now) }
     ensures by_rescue { IfOk result (IsPlanBy round.now.always_post (bytes_of files.now) (entries_of files.now)
         (option_map (λ b. b.now) rescue.entry) graph) }
-    ensures refused { IfErr result (IsRoundPlanFault (bytes_of files.now) files.now place.now.top.now graph) }
+    ensures refused { IfErr result (IsRoundPlanFault (bytes_of files.now) files.now place.now.top.now graph round.now (option_map (λ b. b.now) rescue.entry)) }
 {
     if round.used == 0 {
         return plan_by(alloc, graph, files, rescue, round.always_post);
@@ -355,6 +355,7 @@ fn round_with_rescue<R: Files<File = File> + AllocGlobal + Copy + Drop, F: Folde
     ensures by { IfOk result (λ found. IsRoundBy options.now.autorescue options.now.dorescuefrom options.now.always_post found.0) }
     ensures rescue { IfOk result (λ found. IsRescueOf found.0 (option_map (λ b. b.items) found.1)) }
     ensures refused { IfErr result (IsFindingFault options.now) }
+    ensures refused_held { F.honest folder.now → IfErr result (IsFindingFaultHeld (F.holds folder.now) (F.has folder.now) place.now.top.now options.now) }
 {
     let round = round_of(
         rt.alloc(),
@@ -389,7 +390,9 @@ fn first_look<R: Files<File = File> + Clock + AllocGlobal + Copy + Drop, F: Fold
     ensures numbers { IfOk result (λ found. IsRescueNumber found.0.next × (found.0.used ≤ 999)) }
     ensures by { IfOk result (λ found. IsRoundBy options.now.autorescue options.now.dorescuefrom options.now.always_post found.0) }
     ensures rescue { IfOk result (λ found. IsRescueOf found.0 (option_map (λ b. b.items) found.1)) }
-    ensures refused { IfErr result (IsFirstRunFault place.now.top.now options.now) }
+    ensures refused { IfErr result (IsFirstRunFault place.now.top.now (IsFindingFault options.now)) }
+    ensures refused_held { F.honest folder.now → IfErr result (IsFirstRunFault place.now.top.now
+        (IsFindingFaultHeld (F.holds folder.now) (F.has folder.now) place.now.top.now options.now)) }
 {
     has_own_files(&rt, place, options.trust_owner)?;
     match round_with_rescue(rt, folder, place, options) {
@@ -416,7 +419,9 @@ fn look_locked<R: Files<File = File> + Clock + AllocGlobal + Copy + Drop, F: Fol
     ensures numbers { IfOk result (λ found. IsRescueNumber found.0.next × (found.0.used ≤ 999)) }
     ensures by { IfOk result (λ found. IsRoundBy options.now.autorescue options.now.dorescuefrom options.now.always_post found.0) }
     ensures rescue { IfOk result (λ found. IsRescueOf found.0 (option_map (λ b. b.items) found.1)) }
-    ensures refused { IfErr result (IsLockedFault place.now.top.now options.now) }
+    ensures refused { IfErr result (IsLockedFault place.now.top.now (IsFindingFault options.now)) }
+    ensures refused_held { F.honest folder.now → IfErr result (IsLockedFault place.now.top.now
+        (IsFindingFaultHeld (F.holds folder.now) (F.has folder.now) place.now.top.now options.now)) }
 {
     place.has_room_for_names(rt.alloc())?;
     let lock = place.lock(&rt)?;
@@ -454,7 +459,12 @@ fn run_locked<
     ensures led { IfOk result (λ answer. IsRoundLedAt H.Journal.Disk H.Rescue.Disk (H.own site.now) (H.honest site.now) (H.holds site.now)
         place.now.top.now options.now.limits plan.now found.now.0 (string_bytes answer.text) answer.status) }
     ensures warnings { IfOk result (λ answer. string_bytes answer.warnings ≡ warning_lines plan.now.graph.dag.warnings) }
-    ensures refused { IfErr result (IsHeldFault place.now.top.now options.now (H.own site.now).is_deaf (IsRoundStoppedAt H.Journal.Disk H.Rescue.Disk (H.own site.now)
+    ensures refused { IfErr result (IsHeldFault place.now.top.now (IsFindingFault options.now) (H.own site.now).is_deaf
+        (IsRoundStoppedAt H.Journal.Disk H.Rescue.Disk (H.own site.now)
+        (H.honest site.now) (H.holds site.now) place.now.top.now options.now.limits plan.now found.now.0)) }
+    ensures refused_held { H.honest site.now → IfErr result (IsHeldFault place.now.top.now
+        (IsFindingFaultHeld (H.holds site.now) (H.has site.now) place.now.top.now options.now) (H.own site.now).is_deaf
+        (IsRoundStoppedAt H.Journal.Disk H.Rescue.Disk (H.own site.now)
         (H.honest site.now) (H.holds site.now) place.now.top.now options.now.limits plan.now found.now.0)) }
 {
     let alloc = rt.alloc();
@@ -496,20 +506,19 @@ fn run_files<
     options: &RunOptions,
 ) -> Result<Answer, RunFault>
     ensures run { IfOk result (λ answer. IsRunWhere bytes_of (λ set. set ≡ files.now)
-        (IsRoundBy options.now.autorescue options.now.dorescuefrom options.now.always_post) IsRescueOf
+        (any_round options.now)
         (rounds_at H.Journal.Disk H.Rescue.Disk (H.own site.now) (H.honest site.now) (H.holds site.now))
         place.now.top.now options.now (string_bytes answer.text) (string_bytes answer.warnings) answer.status) }
     ensures held { H.honest site.now → IfOk result (λ answer. IsRunWhere bytes_of (λ set. set ≡ files.now)
-        (IsRoundFrom (H.holds site.now) (H.has site.now) place.now.top.now options.now.autorescue options.now.dorescuefrom options.now.always_post)
-        (λ round rescue. rescue ≡ rescue_in (H.holds site.now) place.now.top.now round.used)
+        (held_round (H.holds site.now) (H.has site.now) place.now.top.now options.now)
         (rounds_at H.Journal.Disk H.Rescue.Disk (H.own site.now) (H.honest site.now) (H.holds site.now))
         place.now.top.now options.now (string_bytes answer.text) (string_bytes answer.warnings) answer.status) }
     ensures refused { IfErr result (IsRunFaultWhere bytes_of (λ set. set ≡ files.now)
-        (IsRoundBy options.now.autorescue options.now.dorescuefrom options.now.always_post)
+        (any_round options.now)
         (rounds_at H.Journal.Disk H.Rescue.Disk (H.own site.now) (H.honest site.now) (H.holds site.now))
         place.now.top.now options.now) }
     ensures refused_held { H.honest site.now → IfErr result (IsRunFaultWhere bytes_of (λ set. set ≡ files.now)
-        (IsRoundFrom (H.holds site.now) (H.has site.now) place.now.top.now options.now.autorescue options.now.dorescuefrom options.now.always_post)
+        (held_round (H.holds site.now) (H.has site.now) place.now.top.now options.now)
         (rounds_at H.Journal.Disk H.Rescue.Disk (H.own site.now) (H.honest site.now) (H.holds site.now))
         place.now.top.now options.now) }
 {

@@ -1,67 +1,50 @@
--- What is told of a round by the files as they are, and by those with which it began.
-use Rattle.std.proofs.Common.{◌≡◌, ◌≢◌, ℕ, Bool, true, false, List, Result, Ok, Err, IfOk, sym, subst}
-use Rattle.std.specs.Prelude.{IfErr}
+-- What is answered of a round by the files by which it is shown.
+use Rattle.std.proofs.Common.{◌≡◌, ◌≢◌, ℕ, List, Option, Result, Ok, Err, IfOk, subst}
+use Rattle.std.specs.Prelude.{IfErr, IsErrAnd}
 use Rattle.splices_flat.specs.Opening.{Files}
 use Rattle.dag_main_check.specs.declared.fault.RunFault.{RunFault}
 use Rattle.dag_main_check.specs.declared.warnings.Answer.{Answer}
+use Rattle.dag_main_files.proofs.RunFaults.{by-fault}
 use Rattle.round_inputs.specs.declared.begun.Begun.{Begun}
-use Rattle.round_inputs.specs.AsBegun.{as_begun, other_inputs, IsBegunRound}
-use Rattle.dagrun.specs.Answered.{Said, by_held, by_begun, SaidByFiles, by_asked, by_changed, SaidByFitting, IsRefusedByFiles, refused_by_files, IsRefusedByFitting, refused_as_asked, refused_by_both, IsRefusedBySome, refused_by_some}
+use Rattle.round_inputs.specs.declared.as_begun.ByFiles.{ByFiles}
+use Rattle.round_inputs.specs.declared.as_begun.ByFiles.TheVariants.{AsTheyAre}
+use Rattle.round_inputs.specs.AsBegun.{as_begun, IsSeenBy, IsNotSeenBy, IsNotBegun}
+use Rattle.dagrun.specs.Answered.{Said, SaidByFiles, IsRefusedByFiles, refused_by_files, not_seen_by_files, IsRefusedBySome, refused_by_some, not_seen_by_some}
 use Rattle.dagrun.proofs.Checks.{IsPlain}
 
--- a refusal by some files
-pub some-refusal : (begun : Bool) (path : List ℕ) (Refused : RunFault → Type 0) (r : Result Answer RunFault) → IfErr r Refused → IfErr r (IsRefusedBySome begun path Refused)
-some-refusal begun path Refused (Ok answer) why = tt
-some-refusal begun path Refused (Err fault) why = refused_by_some fault why
+-- A round is shown by the files that are asked for.
+module _ (by asked : ByFiles) (same : by ≡ asked) (path : List ℕ) where
+  -- a refusal by some files
+  pub some-refusal : (Refused : RunFault → Type 0) (r : Result Answer RunFault) → IfErr r Refused → IfErr r (IsRefusedBySome asked path Refused)
+  some-refusal Refused (Ok answer) why = tt
+  some-refusal Refused (Err fault) why = refused_by_some fault why
 
-module _ (holds : Files) (path : List ℕ) (begun : Bool) where
-  -- by the files as they are
-  pub held-answer : begun ≡ false → (Answers : Files → Said) (r : Result Answer RunFault) → IfOk r (IsPlain (Answers holds))
-      → IfOk r (IsPlain (SaidByFiles begun holds path Answers))
-  held-answer isnt Answers (Ok answer) is = by_held isnt is
-  held-answer isnt Answers (Err fault) is = tt
+  pub some-unseen : (Refused : RunFault → Type 0) (given : RunFault) → by ≢ AsTheyAre → IsNotBegun path given → (r : Result Answer RunFault)
+      → IsErrAnd r (λ fault. fault ≡ given) → IfErr r (IsRefusedBySome asked path Refused)
+  some-unseen Refused given isnt why r handed =
+      by-fault (IsRefusedBySome asked path Refused) given (not_seen_by_some given (subst (λ (b : ByFiles). b ≢ AsTheyAre) same isnt) why) r handed
 
-  pub held-refusal : begun ≡ false → (Refused : Files → RunFault → Type 0) (r : Result Answer RunFault) → IfErr r (Refused holds)
-      → IfErr r (IsRefusedByFiles begun holds path Refused)
-  held-refusal isnt Refused (Ok answer) why = tt
-  held-refusal isnt Refused (Err fault) why = refused_by_files fault (by_held isnt why)
+  module _ (holds : Files) where
+    pub unseen : (Refused : Files → RunFault → Type 0) (given : RunFault) → IsNotSeenBy holds path by given → (r : Result Answer RunFault)
+        → IsErrAnd r (λ fault. fault ≡ given) → IfErr r (IsRefusedByFiles asked holds path Refused)
+    unseen Refused given why r handed =
+        by-fault (IsRefusedByFiles asked holds path Refused) given (not_seen_by_files given (subst (λ (b : ByFiles). IsNotSeenBy holds path b given) same why)) r handed
 
-  -- by those with which it began
-  pub begun-answer : begun ≡ true → (kept : Begun) → IsBegunRound holds path kept → (Answers : Files → Said) (r : Result Answer RunFault)
-      → IfOk r (IsPlain (Answers (as_begun kept holds))) → IfOk r (IsPlain (SaidByFiles begun holds path Answers))
-  begun-answer so kept round Answers (Ok answer) is = by_begun so kept round is
-  begun-answer so kept round Answers (Err fault) is = tt
+    module _ (begun : Option Begun) (seen : IsSeenBy holds path by begun) (held : Files) (is_held : held ≡ holds) where
+      pub seen-answer : (Answers : Files → Said) (r : Result Answer RunFault) → IfOk r (IsPlain (Answers (as_begun begun held)))
+          → IfOk r (IsPlain (SaidByFiles asked holds path Answers))
+      seen-answer Answers (Ok answer) is = record {
+        begun = begun;
+        seen = subst (λ (b : ByFiles). IsSeenBy holds path b begun) same seen;
+        so = subst (λ (files : Files). IsPlain (Answers (as_begun begun files)) answer) is_held is;
+      }
+      seen-answer Answers (Err fault) is = tt
 
-  pub begun-refusal : begun ≡ true → (kept : Begun) → IsBegunRound holds path kept → (Refused : Files → RunFault → Type 0) (r : Result Answer RunFault)
-      → IfErr r (Refused (as_begun kept holds)) → IfErr r (IsRefusedByFiles begun holds path Refused)
-  begun-refusal so kept round Refused (Ok answer) why = tt
-  begun-refusal so kept round Refused (Err fault) why = refused_by_files fault (by_begun so kept round why)
-
-  -- by those that it is asked for by, or by those with which it began, where the others were changed
-  pub asked-answer : (Refused : Files → RunFault → Type 0) (Answers : Files → Said) (r : Result Answer RunFault) → IfOk r (IsPlain (SaidByFiles begun holds path Answers))
-      → IfOk r (IsPlain (SaidByFitting begun holds path Refused Answers))
-  asked-answer Refused Answers (Ok answer) is = by_asked is
-  asked-answer Refused Answers (Err fault) is = tt
-
-  pub changed-answer : begun ≡ false → (Refused : Files → RunFault → Type 0) (Answers : Files → Said) (reply : Result Answer RunFault) → reply ≡ Err other_inputs
-      → IfErr reply (IsRefusedByFiles begun holds path Refused) → (answer : Answer) → IsPlain (SaidByFiles true holds path Answers) answer
-      → IsPlain (SaidByFitting begun holds path Refused Answers) answer
-  changed-answer isnt Refused Answers reply others why answer is =
-      by_changed isnt (subst (λ (r : Result Answer RunFault). IfErr r (IsRefusedByFiles begun holds path Refused)) others why) is
-
-  -- refused for what the files say that it is asked for by, or for others where those are not the same
-  pub asked-refusal : (Refused : Files → RunFault → Type 0) (r : Result Answer RunFault) → (begun ≡ false → IfErr r (λ fault. fault ≢ other_inputs))
-      → IfErr r (IsRefusedByFiles begun holds path Refused) → IfErr r (IsRefusedByFitting begun holds path Refused)
-  asked-refusal Refused (Ok answer) arent why = tt
-  asked-refusal Refused (Err fault) arent why = refused_as_asked fault arent why
-
-  pub both-refusal : begun ≡ false → (Refused : Files → RunFault → Type 0) (reply : Result Answer RunFault) → reply ≡ Err other_inputs
-      → IfErr reply (IsRefusedByFiles begun holds path Refused) → (fault : RunFault) → IsRefusedByFiles true holds path Refused fault
-      → IfErr reply (IsRefusedByFitting begun holds path Refused)
-  both-refusal isnt Refused reply others why fault more = subst (λ (r : Result Answer RunFault). IfErr r (IsRefusedByFitting begun holds path Refused)) (sym others)
-      (refused_by_both fault isnt (subst (λ (r : Result Answer RunFault). IfErr r (IsRefusedByFiles begun holds path Refused)) others why) more)
-
-  -- the same, where it is the status that is refused since the others were changed
-  pub changed-by-status : begun ≡ false → (Refused : Files → RunFault → Type 0) → Refused holds other_inputs → (Answers : Files → Said) (answer : Answer)
-      → IsPlain (SaidByFiles true holds path Answers) answer → IsPlain (SaidByFitting begun holds path Refused Answers) answer
-  changed-by-status isnt Refused why Answers answer is = by_changed isnt (refused_by_files other_inputs (by_held isnt why)) is
+      pub seen-refusal : (Refused : Files → RunFault → Type 0) (r : Result Answer RunFault) → IfErr r (Refused (as_begun begun held))
+          → IfErr r (IsRefusedByFiles asked holds path Refused)
+      seen-refusal Refused (Ok answer) why = tt
+      seen-refusal Refused (Err fault) why = refused_by_files fault record {
+        begun = begun;
+        seen = subst (λ (b : ByFiles). IsSeenBy holds path b begun) same seen;
+        so = subst (λ (files : Files). Refused (as_begun begun files) fault) is_held why;
+      }

@@ -1,6 +1,6 @@
 -- What comes of a request.
-use Rattle.std.proofs.Common.{◌≡◌, ◌⊎◌, inl, inr, ◌≤◌, ◌<◌, ℕ, Bor, List, None, true, false, Result, Ok, Err, IfOk, codes, length, map, string_bytes, String, Global, refl, sym, subst}
-use Rattle.std.specs.Prelude.{IfErr, IsErrAnd, IfSome}
+use Rattle.std.proofs.Common.{◌≡◌, ◌⊎◌, inl, inr, ◌≤◌, ◌<◌, ℕ, Bor, List, None, true, false, Result, Ok, Err, codes, length, map, String, Global, refl, subst}
+use Rattle.std.specs.Prelude.{IfSome}
 use Rattle.std.proofs.lemmas.List.{length-map}
 use Rattle.dag_main_args.specs.declared.request.Request.{Request}
 use Rattle.dag_main_args.specs.declared.request.WordsFault.{WordsFault}

@@ -1,5 +1,5 @@
 -- What comes of a request in a world.
-use Rattle.std.proofs.Common.{◌≡◌, ℕ, Bool, true, false, List, Option, Some, None, Result, Ok, Err, IfOk, string_bytes, refl, sym, subst}
+use Rattle.std.proofs.Common.{◌≡◌, ℕ, Bool, true, false, List, Result, Ok, Err, IfOk, sym, subst}
 use Rattle.std.specs.Prelude.{IfErr, IsErrAnd, codes}
 use Rattle.std.proofs.lemmas.Bool.{false≢true}
 use Rattle.event_journal_log.specs.declared.disk.Disk.{Ghosts}
@@ -15,8 +15,8 @@ use Rattle.dag_main_files.specs.declared.rounds.Round.{Round}
 use Rattle.dag_main_files.specs.Beside.{IsRefusalOf, path_refused, refusing_had_no_memory}
 use Rattle.dag_main_check.specs.declared.fault.RunFault.{RunFault}
 use Rattle.dag_main_check.specs.declared.warnings.Answer.{Answer}
-use Rattle.dag_main_run.specs.Sites.{Own, IsKnownTo, IsAtSite, IsRoundLedAt, IsRoundStoppedAt, Rounds, rounds_at, journal_found}
-use Rattle.dag_main_run.specs.Runs.{IsRunWhere, IsStopFault, not_cleared, no_endings, round_stopped, leading_had_no_memory, IsHeldFault, not_found_again, another_was_at_work, not_led, IsRunFaultWhere, no_graph, not_found, no_plan, no_launcher, no_room, not_alone, not_held, no_memory}
+use Rattle.dag_main_run.specs.Sites.{Own, IsKnownTo, IsAtSite, Rounds, rounds_at, journal_found}
+use Rattle.dag_main_run.specs.Runs.{RoundSight, IsRunWhere, IsStopFault, not_cleared, no_endings, round_stopped, leading_had_no_memory, IsHeldFault, not_found_again, another_was_at_work, not_led, IsRunFaultWhere, no_graph, not_found, no_plan, no_launcher, no_room, not_alone, not_held, no_memory}
 use Rattle.dagrun.specs.Answered.{Said, World, files_for, is_beside, IsRunWith, led, reported_again, IsRunRefusal, not_run, not_reported, CommandContract, command_of_some, command_from, IsAnswerUnder, ComesTo, IsFolderFault, folder_refused, folder_had_no_memory, IsReply, of_command, of_no_folder, is_run}
 
 -- what a command comes to, by what is said of its answer and of its refusal
@@ -51,10 +51,9 @@ pub record AreToldAs (rounds known : Rounds) : Type 0 where
   pub deaf : rounds.is_deaf → known.is_deaf
 
 module _ (rounds known : Rounds) (told : AreToldAs rounds known) where
-  run-by : (says : FileSet → Files) (IsRead : FileSet → Type 0) (IsRound : Round → Type 0) (IsRescue : Round → Option (List ℕ) → Type 0) (path : List ℕ) (options : RunOptions)
-      (text warnings : List ℕ) (status : ℕ) → IsRunWhere says IsRead IsRound IsRescue rounds path options text warnings status
-      → IsRunWhere says IsRead IsRound IsRescue known path options text warnings status
-  run-by says IsRead IsRound IsRescue path options text warnings status run = record {
+  run-by : (says : FileSet → Files) (IsRead : FileSet → Type 0) (sight : RoundSight) (path : List ℕ) (options : RunOptions) (text warnings : List ℕ) (status : ℕ)
+      → IsRunWhere says IsRead sight rounds path options text warnings status → IsRunWhere says IsRead sight known path options text warnings status
+  run-by says IsRead sight path options text warnings status run = record {
     files = run.files;
     read = run.read;
     round = run.round;
@@ -69,13 +68,12 @@ module _ (rounds known : Rounds) (told : AreToldAs rounds known) where
     };
   }
 
-  run-with : (says : FileSet → Files) (IsRead : FileSet → Type 0) (IsRound : Round → Type 0) (IsRescue : Round → Option (List ℕ) → Type 0) (Again : Said) (NoReport : Type 0)
-      (path : List ℕ) (options : RunOptions) (text warnings : List ℕ) (status : ℕ)
-      → IsRunWith (IsRunWhere says IsRead IsRound IsRescue rounds path options) Again NoReport options text warnings status
-      → IsRunWith (IsRunWhere says IsRead IsRound IsRescue known path options) Again NoReport options text warnings status
-  run-with says IsRead IsRound IsRescue Again NoReport path options text warnings status (led none run) =
-      led none (run-by says IsRead IsRound IsRescue path options text warnings status run)
-  run-with says IsRead IsRound IsRescue Again NoReport path options text warnings status (reported_again asked again) = reported_again asked again
+  run-with : (says : FileSet → Files) (IsRead : FileSet → Type 0) (sight : RoundSight) (Again : Said) (NoReport : Type 0) (path : List ℕ) (options : RunOptions)
+      (text warnings : List ℕ) (status : ℕ) → IsRunWith (IsRunWhere says IsRead sight rounds path options) Again NoReport options text warnings status
+      → IsRunWith (IsRunWhere says IsRead sight known path options) Again NoReport options text warnings status
+  run-with says IsRead sight Again NoReport path options text warnings status (led none run) =
+      led none (run-by says IsRead sight path options text warnings status run)
+  run-with says IsRead sight Again NoReport path options text warnings status (reported_again asked again) = reported_again asked again
 
   stop-fault : (path : List ℕ) (limits : Limits) (plan : Plan) (round : Round) (fault : RunFault)
       → IsStopFault rounds.is_deaf (rounds.stopped path limits plan round) fault → IsStopFault known.is_deaf (known.stopped path limits plan round) fault
@@ -84,33 +82,33 @@ module _ (rounds known : Rounds) (told : AreToldAs rounds known) where
   stop-fault path limits plan round _ (round_stopped fault why) = round_stopped fault (told.stopped path limits plan round fault why)
   stop-fault path limits plan round _ leading_had_no_memory = leading_had_no_memory
 
-  held-fault : (options : RunOptions) (path : List ℕ) (plan : Plan) (round : Round) (fault : RunFault)
-      → IsHeldFault path options rounds.is_deaf (rounds.stopped path options.limits plan round) fault
-      → IsHeldFault path options known.is_deaf (known.stopped path options.limits plan round) fault
-  held-fault options path plan round _ (not_found_again fault why) = not_found_again fault why
-  held-fault options path plan round _ (another_was_at_work fault why) = another_was_at_work fault why
-  held-fault options path plan round _ (not_led fault why) = not_led fault (stop-fault path options.limits plan round fault why)
+  held-fault : (NotFound : RunFault → Type 0) (options : RunOptions) (path : List ℕ) (plan : Plan) (round : Round) (fault : RunFault)
+      → IsHeldFault path NotFound rounds.is_deaf (rounds.stopped path options.limits plan round) fault
+      → IsHeldFault path NotFound known.is_deaf (known.stopped path options.limits plan round) fault
+  held-fault NotFound options path plan round _ (not_found_again fault why) = not_found_again fault why
+  held-fault NotFound options path plan round _ (another_was_at_work fault why) = another_was_at_work fault why
+  held-fault NotFound options path plan round _ (not_led fault why) = not_led fault (stop-fault path options.limits plan round fault why)
 
-  run-fault : (says : FileSet → Files) (IsRead : FileSet → Type 0) (IsRound : Round → Type 0) (path : List ℕ) (options : RunOptions) (fault : RunFault)
-      → IsRunFaultWhere says IsRead IsRound rounds path options fault → IsRunFaultWhere says IsRead IsRound known path options fault
-  run-fault says IsRead IsRound path options _ (no_graph files fault read why) = no_graph files fault read why
-  run-fault says IsRead IsRound path options _ (not_found files graph fault read is why) = not_found files graph fault read is why
-  run-fault says IsRead IsRound path options _ (no_plan files graph fault read is why) = no_plan files graph fault read is why
-  run-fault says IsRead IsRound path options _ (no_launcher fault planned why) = no_launcher fault planned why
-  run-fault says IsRead IsRound path options _ (no_room fault planned why) = no_room fault planned why
-  run-fault says IsRead IsRound path options _ (not_alone fault planned why) = not_alone fault planned why
-  run-fault says IsRead IsRound path options _ (not_held planned fault why) = not_held planned fault (held-fault options path planned.plan planned.round fault why)
-  run-fault says IsRead IsRound path options _ no_memory = no_memory
+  run-fault : (says : FileSet → Files) (IsRead : FileSet → Type 0) (sight : RoundSight) (path : List ℕ) (options : RunOptions) (fault : RunFault)
+      → IsRunFaultWhere says IsRead sight rounds path options fault → IsRunFaultWhere says IsRead sight known path options fault
+  run-fault says IsRead sight path options _ (no_graph files fault read why) = no_graph files fault read why
+  run-fault says IsRead sight path options _ (not_found files graph fault read is why) = not_found files graph fault read is why
+  run-fault says IsRead sight path options _ (no_plan files graph round rescue fault read is is_round is_rescue why) = no_plan files graph round rescue fault read is is_round is_rescue why
+  run-fault says IsRead sight path options _ (no_launcher fault planned why) = no_launcher fault planned why
+  run-fault says IsRead sight path options _ (no_room fault planned why) = no_room fault planned why
+  run-fault says IsRead sight path options _ (not_alone fault planned why) = not_alone fault planned why
+  run-fault says IsRead sight path options _ (not_held planned fault why) = not_held planned fault (held-fault sight.not_found options path planned.plan planned.round fault why)
+  run-fault says IsRead sight path options _ no_memory = no_memory
 
-  run-refusal : (says : FileSet → Files) (IsRead : FileSet → Type 0) (IsRound : Round → Type 0) (NotTold : RunFault → Type 0) (NoReport : Type 0) (path : List ℕ) (options : RunOptions) (fault : RunFault)
-      → IsRunRefusal (IsRunFaultWhere says IsRead IsRound rounds path options) NotTold NoReport options fault
-      → IsRunRefusal (IsRunFaultWhere says IsRead IsRound known path options) NotTold NoReport options fault
-  run-refusal says IsRead IsRound NotTold NoReport path options _ (not_run fault none why) = not_run fault none (run-fault says IsRead IsRound path options fault why)
-  run-refusal says IsRead IsRound NotTold NoReport path options _ (not_reported fault asked why) = not_reported fault asked why
+  run-refusal : (says : FileSet → Files) (IsRead : FileSet → Type 0) (sight : RoundSight) (NotTold : RunFault → Type 0) (NoReport : Type 0) (path : List ℕ) (options : RunOptions) (fault : RunFault)
+      → IsRunRefusal (IsRunFaultWhere says IsRead sight rounds path options) NotTold NoReport options fault
+      → IsRunRefusal (IsRunFaultWhere says IsRead sight known path options) NotTold NoReport options fault
+  run-refusal says IsRead sight NotTold NoReport path options _ (not_run fault none why) = not_run fault none (run-fault says IsRead sight path options fault why)
+  run-refusal says IsRead sight NotTold NoReport path options _ (not_reported fault asked why) = not_reported fault asked why
 
   pub told-some : (asked : Asked) (r : Result Answer RunFault) → ComesTo (command_of_some rounds asked) r → ComesTo (command_of_some known asked) r
   told-some (checks path all hinted) r is = is
-  told-some (runs path options) (Ok answer) is = run-with _ _ _ _ _ _ path options _ _ _ is
+  told-some (runs path options) (Ok answer) is = run-with _ _ _ _ _ path options _ _ _ is
   told-some (runs path options) (Err fault) is = run-refusal _ _ _ _ _ path options fault is
   told-some (tells_status path json begun owned) r is = is
   told-some (audits path begun owned) r is = is
@@ -126,7 +124,7 @@ module _ (rounds known : Rounds) (told : AreToldAs rounds known) where
   pub told-from : (holds : Files) (has : List ℕ → Bool) (asked : Asked) (r : Result Answer RunFault) → ComesTo (command_from holds has rounds asked) r
       → ComesTo (command_from holds has known asked) r
   told-from holds has (checks path all hinted) r is = is
-  told-from holds has (runs path options) (Ok answer) is = run-with _ _ _ _ _ _ path options _ _ _ is
+  told-from holds has (runs path options) (Ok answer) is = run-with _ _ _ _ _ path options _ _ _ is
   told-from holds has (runs path options) (Err fault) is = run-refusal _ _ _ _ _ path options fault is
   told-from holds has (tells_status path json begun owned) r is = is
   told-from holds has (audits path begun owned) r is = is

@@ -4,7 +4,6 @@ use Rattle.std.specs.Prelude.{◌≡◌, ◌≢◌, String, ◌<◌, ◌≤◌, 
 use Rattle.splices_flat.specs.Opening.{Files}
 use Rattle.splices_flat.specs.FileSet.{bytes_of}
 use Rattle.splices_flat.specs.declared.file_set.FileSet.{FileSet}
-use Rattle.throttles.specs.declared.Limits.{Limits}
 use Rattle.dag_main_args.specs.declared.request.Request.{Request}
 use Rattle.dag_main_args.specs.Answered.{IsAskedFor, IsRefused}
 use Rattle.dag_main_args.specs.Requests.{Asked, asked_by, checks, runs, tells_status, audits, rehearses, draws, asks_why, times, reports, salvages, redoes, shows, no_limits, limits_in, AreLimits}
@@ -39,7 +38,9 @@ use Rattle.failure_answers.specs.Answered.{IsWhyOf, IsWhyHeld, IsWhyFaultHeld}
 use Rattle.dag_main_args.specs.Matched.{version_text}
 use Rattle.report_answers.specs.Answered.{IsReportPageOf, IsReportPageHeld}
 use Rattle.round_inputs.specs.declared.begun.Begun.{Begun}
-use Rattle.round_inputs.specs.AsBegun.{as_begun, IsBegunRound, IsNotBegun, IsNotBegunHeld, other_inputs}
+use Rattle.round_inputs.specs.declared.as_begun.ByFiles.{ByFiles}
+use Rattle.round_inputs.specs.declared.as_begun.ByFiles.TheVariants.{AsTheyAre, AsItBegan, AsKept}
+use Rattle.round_inputs.specs.AsBegun.{as_begun, IsSeenBy, IsNotSeenBy, IsNotBegun}
 use Rattle.redo.specs.Answered.{IsRedoOf, IsRedoHeld, IsRedoFault, IsRedoFaultHeld}
 
 -- what is said of the text, the warnings and the status of an answer
@@ -155,48 +156,40 @@ pub data IsCheckRefusalHeld (all hinted : Bool) (holds : Files) (path : List ℕ
   of_files_read_once : (files : FileSet) (fault : RunFault) → hinted ≡ true → IsReadFrom holds path files → check_refused_in all (bytes_of files) path fault →
       IsCheckRefusalHeld all hinted holds path fault
 
--- This is so by the files that are held; or, where a round is to be seen as it began, by those with which the last one began, and by those that are held
--- where it kept none.
-pub data IsByFiles (begun : Bool) (holds : Files) (path : List ℕ) (Holds : Files → Type 0) : Type 0 where
-  by_held : begun ≡ false → Holds holds → IsByFiles begun holds path Holds
-  by_begun : begun ≡ true → (kept : Begun) → IsBegunRound holds path kept → Holds (as_begun kept holds) → IsByFiles begun holds path Holds
+-- By which files a round is shown: `status` and `audit` go by the files as they are, or by those with which it began where this is asked for;
+abbrev pub files_asked : (begun : Bool) → ByFiles
+files_asked false = AsTheyAre
+files_asked true = AsItBegan
+
+-- `why`, `times`, `report` and `graph` go by those with which it began where they are kept, or by these alone where this is asked for;
+abbrev pub round_asked : (begun : Bool) → ByFiles
+round_asked false = AsKept
+round_asked true = AsItBegan
+
+-- and `graph` goes by the files as they are where that is asked for.
+abbrev pub graph_asked : (as_is begun : Bool) → ByFiles
+graph_asked false begun = round_asked begun
+graph_asked true begun = AsTheyAre
+
+-- This is so by the files by which the last round of a DAG file is shown, where these are held.
+pub record IsByFiles (by : ByFiles) (holds : Files) (path : List ℕ) (Holds : Files → Type 0) : Type 0 where
+  pub begun : Option Begun
+  pub seen : IsSeenBy holds path by begun
+  pub so : Holds (as_begun begun holds)
 
 -- what is said of an answer by these files
-abbrev pub SaidByFiles : (begun : Bool) → Files → (path : List ℕ) → (Files → Said) → Said
-SaidByFiles begun holds path Answers text warnings status = IsByFiles begun holds path (λ files. Answers files text warnings status)
+abbrev pub SaidByFiles : ByFiles → Files → (path : List ℕ) → (Files → Said) → Said
+SaidByFiles by holds path Answers text warnings status = IsByFiles by holds path (λ files. Answers files text warnings status)
 
--- Why a command is refused that tells of a round: for what these files say; or, where the round is to be seen as it began, that isn't known.
-pub data IsRefusedByFiles (begun : Bool) (holds : Files) (path : List ℕ) (Refused : Files → RunFault → Type 0) : RunFault → Type 0 where
-  refused_by_files : (fault : RunFault) → IsByFiles begun holds path (λ files. Refused files fault) → IsRefusedByFiles begun holds path Refused fault
-  not_begun_by_files : (fault : RunFault) → begun ≡ true → IsNotBegunHeld holds path fault → IsRefusedByFiles begun holds path Refused fault
+-- Why a command is refused that is about a round: for what these files say; or it isn't known by which files the round is to be shown.
+pub data IsRefusedByFiles (by : ByFiles) (holds : Files) (path : List ℕ) (Refused : Files → RunFault → Type 0) : RunFault → Type 0 where
+  refused_by_files : (fault : RunFault) → IsByFiles by holds path (λ files. Refused files fault) → IsRefusedByFiles by holds path Refused fault
+  not_seen_by_files : (fault : RunFault) → IsNotSeenBy holds path by fault → IsRefusedByFiles by holds path Refused fault
 
 -- The same of some files.
-pub data IsRefusedBySome (begun : Bool) (path : List ℕ) (Refused : RunFault → Type 0) : RunFault → Type 0 where
-  refused_by_some : (fault : RunFault) → Refused fault → IsRefusedBySome begun path Refused fault
-  not_begun_by_some : (fault : RunFault) → begun ≡ true → IsNotBegun path fault → IsRefusedBySome begun path Refused fault
-
--- By which files `why`, `times`, `graph` and `report` tell of a round: by those that it is asked for by; or, where the files that are held are others than those with
--- which the round began, so that `why` or `status` is refused for that, by those with which it began.
-pub data IsByFitting (begun : Bool) (holds : Files) (path : List ℕ) (Refused : Files → RunFault → Type 0) (Holds : Files → Type 0) : Type 0 where
-  by_asked : IsByFiles begun holds path Holds → IsByFitting begun holds path Refused Holds
-  by_changed : begun ≡ false → IsRefusedByFiles begun holds path Refused other_inputs → IsByFiles true holds path Holds → IsByFitting begun holds path Refused Holds
-
--- Why `why` and `report` are refused: for what those files say by which they are asked for, but not since these are others than those with which the round
--- began; or for that, where they are refused by those with which it began, too.
-pub data IsRefusedByFitting (begun : Bool) (holds : Files) (path : List ℕ) (Refused : Files → RunFault → Type 0) : RunFault → Type 0 where
-  refused_as_asked : (fault : RunFault) → (begun ≡ false → fault ≢ other_inputs) → IsRefusedByFiles begun holds path Refused fault →
-      IsRefusedByFitting begun holds path Refused fault
-  refused_by_both : (fault : RunFault) → begun ≡ false → IsRefusedByFiles begun holds path Refused other_inputs → IsRefusedByFiles true holds path Refused fault →
-      IsRefusedByFitting begun holds path Refused other_inputs
-
--- what is said of an answer by these files
-abbrev pub SaidByFitting : (begun : Bool) → Files → (path : List ℕ) → (Files → RunFault → Type 0) → (Files → Said) → Said
-SaidByFitting begun holds path Fails Answers text warnings status = IsByFitting begun holds path Fails (λ files. Answers files text warnings status)
-
--- What `graph` draws: by those files, unless the files are to be drawn as they are.
-abbrev pub SaidOfGraph : (as_is begun : Bool) → Files → (path : List ℕ) → Said
-SaidOfGraph true begun holds path = SaidByFiles begun holds path (λ files. IsAnswerHeld files Graph path)
-SaidOfGraph false begun holds path = SaidByFitting begun holds path (λ files. IsAnswerFaultHeld files Status path) (λ files. IsAnswerHeld files Graph path)
+pub data IsRefusedBySome (by : ByFiles) (path : List ℕ) (Refused : RunFault → Type 0) : RunFault → Type 0 where
+  refused_by_some : (fault : RunFault) → Refused fault → IsRefusedBySome by path Refused fault
+  not_seen_by_some : (fault : RunFault) → by ≢ AsTheyAre → IsNotBegun path fault → IsRefusedBySome by path Refused fault
 
 -- what `status` asks: where each node is, as lines or as JSON
 abbrev pub status_question : (json : Bool) → Question
@@ -231,17 +224,20 @@ command_of_some rounds (runs path options) = record {
 }
 command_of_some rounds (tells_status path json begun trust_owner) = record {
   answers = IsAnswerOfRun (status_question json) path;
-  refused = IsRefusedBySome begun path (IsAnswerFault (status_question json) path);
+  refused = IsRefusedBySome (files_asked begun) path (IsAnswerFault (status_question json) path);
 }
-command_of_some rounds (audits path begun trust_owner) = record { answers = IsAnswerOfRun Audit path; refused = IsRefusedBySome begun path (IsAnswerFault Audit path) }
+command_of_some rounds (audits path begun trust_owner) = record { answers = IsAnswerOfRun Audit path; refused = IsRefusedBySome (files_asked begun) path (IsAnswerFault Audit path) }
 command_of_some rounds (rehearses path outcomes limits always_post) = record {
   answers = IsRehearsalWith (λ table. IsRehearsalOfSome always_post path table limits) outcomes;
   refused = IsRehearsalRefusalWith (λ table. IsRehearsalRefusal always_post path table limits) outcomes;
 }
-command_of_some rounds (draws path as_is begun trust_owner) = record { answers = IsAnswerOfRun Graph path; refused = IsRefusedBySome begun path (IsAnswerFault Graph path) }
-command_of_some rounds (asks_why path nodes all begun trust_owner) = record { answers = IsWhyOf (grouping_by all) path nodes; refused = IsRefusedBySome begun path (IsAnswerFault Status path) }
-command_of_some rounds (times path svg json begun trust_owner) = record { answers = IsTimesOf path (times_form svg json); refused = IsRefusedBySome begun path (IsTimesFault path) }
-command_of_some rounds (reports path reload begun trust_owner) = record { answers = IsReportPageOf path version_text reload; refused = IsRefusedBySome begun path (IsAnswerFault Status path) }
+command_of_some rounds (draws path as_is begun trust_owner) = record {
+  answers = IsAnswerOfRun Graph path;
+  refused = IsRefusedBySome (graph_asked as_is begun) path (IsAnswerFault Graph path);
+}
+command_of_some rounds (asks_why path nodes all begun trust_owner) = record { answers = IsWhyOf (grouping_by all) path nodes; refused = IsRefusedBySome (round_asked begun) path (IsAnswerFault Status path) }
+command_of_some rounds (times path svg json begun trust_owner) = record { answers = IsTimesOf path (times_form svg json); refused = IsRefusedBySome (round_asked begun) path (IsTimesFault path) }
+command_of_some rounds (reports path reload begun trust_owner) = record { answers = IsReportPageOf path version_text reload; refused = IsRefusedBySome (round_asked begun) path (IsAnswerFault Status path) }
 command_of_some rounds (salvages path trust_owner) = record {
   answers = IsSalvageWith (IsSalvageOf path) (IsSalvageFault any_files path);
   refused = λ fault. IsSalvageFault any_files path (Refused fault);
@@ -250,10 +246,10 @@ command_of_some rounds (redoes path nodes only trust_owner) = record { answers =
 command_of_some rounds (shows page) = record { answers = IsPage page; refused = λ fault. ⊥ }
 
 -- a question about the last round of a path, by its journal
-abbrev pub question_from : Question → Files → (path : List ℕ) → (begun : Bool) → CommandContract
-question_from question holds path begun = record {
-  answers = SaidByFiles begun holds path (λ files. IsAnswerHeld files question path);
-  refused = IsRefusedByFiles begun holds path (λ files. IsAnswerFaultHeld files question path);
+abbrev pub question_from : Question → Files → (path : List ℕ) → ByFiles → CommandContract
+question_from question holds path by = record {
+  answers = SaidByFiles by holds path (λ files. IsAnswerHeld files question path);
+  refused = IsRefusedByFiles by holds path (λ files. IsAnswerFaultHeld files question path);
 }
 
 -- The same where these files are held and these paths are there: of the files that are held.
@@ -263,27 +259,24 @@ command_from holds has rounds (runs path options) = record {
   answers = IsRunWith (IsRunFrom holds has rounds path options) (IsReportFrom holds path) (IsNoReportFrom holds path) options;
   refused = IsRunRefusal (IsRunFaultFrom holds has rounds path options) (IsAnswerFaultHeld holds Status path) (IsNoReportFrom holds path) options;
 }
-command_from holds has rounds (tells_status path json begun trust_owner) = question_from (status_question json) holds path begun
-command_from holds has rounds (audits path begun trust_owner) = question_from Audit holds path begun
+command_from holds has rounds (tells_status path json begun trust_owner) = question_from (status_question json) holds path (files_asked begun)
+command_from holds has rounds (audits path begun trust_owner) = question_from Audit holds path (files_asked begun)
 command_from holds has rounds (rehearses path outcomes limits always_post) = record {
   answers = IsRehearsalWith (λ table. IsRehearsalOf always_post holds path table limits) outcomes;
   refused = IsRehearsalRefusalWith (λ table. IsRehearsalRefusalFrom always_post holds path table limits) outcomes;
 }
-command_from holds has rounds (draws path as_is begun trust_owner) = record {
-  answers = SaidOfGraph as_is begun holds path;
-  refused = IsRefusedByFiles begun holds path (λ files. IsAnswerFaultHeld files Graph path);
-}
+command_from holds has rounds (draws path as_is begun trust_owner) = question_from Graph holds path (graph_asked as_is begun)
 command_from holds has rounds (asks_why path nodes all begun trust_owner) = record {
-  answers = SaidByFitting begun holds path (λ files. IsWhyFaultHeld files path) (λ files. IsWhyHeld (grouping_by all) files path nodes);
-  refused = IsRefusedByFitting begun holds path (λ files. IsWhyFaultHeld files path);
+  answers = SaidByFiles (round_asked begun) holds path (λ files. IsWhyHeld (grouping_by all) files path nodes);
+  refused = IsRefusedByFiles (round_asked begun) holds path (λ files. IsWhyFaultHeld files path);
 }
 command_from holds has rounds (times path svg json begun trust_owner) = record {
-  answers = SaidByFitting begun holds path (λ files. IsAnswerFaultHeld files Status path) (λ files. IsTimesFrom files path (times_form svg json));
-  refused = IsRefusedByFiles begun holds path (λ files. IsTimesFaultHeld files path);
+  answers = SaidByFiles (round_asked begun) holds path (λ files. IsTimesFrom files path (times_form svg json));
+  refused = IsRefusedByFiles (round_asked begun) holds path (λ files. IsTimesFaultHeld files path);
 }
 command_from holds has rounds (reports path reload begun trust_owner) = record {
-  answers = SaidByFitting begun holds path (λ files. IsWhyFaultHeld files path) (λ files. IsReportPageHeld files path version_text reload);
-  refused = IsRefusedByFitting begun holds path (λ files. IsWhyFaultHeld files path);
+  answers = SaidByFiles (round_asked begun) holds path (λ files. IsReportPageHeld files path version_text reload);
+  refused = IsRefusedByFiles (round_asked begun) holds path (λ files. IsWhyFaultHeld files path);
 }
 command_from holds has rounds (salvages path trust_owner) = record {
   answers = IsSalvageWith (IsSalvageFrom holds path) (IsSalvageFault (held_files holds has path) path);

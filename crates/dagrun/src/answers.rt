@@ -17,8 +17,8 @@ ghost use Rattle.dagrun.specs.Answered.{is_run, command_of_some, command_from, C
 
 use crate::checking::check;
 use crate::of_round::{
-    answer_of_round, graph_of_last_round, grouping_by, page_of_last_round, status_question,
-    times_form, times_of_last_round, why_of_last_round,
+    answer_of_round, graph_of_round, grouping_by, page_of_round, status_question, times_form,
+    times_of_round, why_of_round,
 };
 use answer_console::Console;
 use dag_main_args::{Request, RunOptions};
@@ -80,7 +80,7 @@ pub(crate) fn answer_in<
             as_is,
             as_begun,
             ..
-        } => graph_of_last_round(alloc, folder, dag, as_is, as_begun),
+        } => graph_of_round(alloc, folder, dag, as_is, as_begun),
         Request::Why {
             dag,
             nodes,
@@ -92,7 +92,7 @@ pub(crate) fn answer_in<
                 folder: seat,
                 top: dag,
             };
-            why_of_last_round(
+            why_of_round(
                 rt,
                 folder,
                 &place,
@@ -108,7 +108,7 @@ pub(crate) fn answer_in<
             json,
             as_begun,
             ..
-        } => times_of_last_round(alloc, folder, dag, times_form(svg, json), as_begun),
+        } => times_of_round(alloc, folder, dag, times_form(svg, json), as_begun),
         Request::Report {
             dag,
             reload,
@@ -119,7 +119,7 @@ pub(crate) fn answer_in<
                 folder: seat,
                 top: dag,
             };
-            page_of_last_round(rt, folder, &place, reload, as_begun, trust_owner)
+            page_of_round(rt, folder, &place, reload, as_begun, trust_owner)
         }
         Request::Salvage { dag, trust_owner } => {
             let place = Place {

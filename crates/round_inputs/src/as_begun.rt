@@ -1,21 +1,33 @@
 //! The files of a folder as a round saw them when it began.
 
-ghost use Rattle.std.specs.Prelude.{◌≡◌, ◌≢◌, ◌≤◌, ◌↔◌, true, false, Some, IsTrue, IfOk, IfErr, length};
+ghost use Rattle.std.specs.Prelude.{◌≡◌, ◌≢◌, ◌≤◌, ◌↔◌, true, false, None, Some, nat_eq, IsTrue, IfOk, IfErr, IfSome, IfNone, length, string_bytes};
+ghost use Rattle.std.specs.List.{starts_with};
 ghost use Rattle.std.specs.Option.{option_map};
 ghost use Rattle.splices_flat.specs.FileSet.{entries_of};
 ghost use Rattle.dag_main_check.specs.declared.fault.RunFault.TheVariants.{Memory};
-ghost use Rattle.dag_main_files.specs.Beside.{IsRefusalOf, journal_name_of};
-ghost use Rattle.round_inputs.specs.Begun.{begun_name_of, begun_text_of, rescue_kept};
-ghost use Rattle.round_inputs.specs.AsBegun.{kept_at, as_begun, digest_at, other_inputs, IsBegunRound, IsNotBegun, IsNotBegunHeld};
+ghost use Rattle.round_inputs.specs.Begun.{begun_head, begun_text_of, rescue_kept};
+ghost use Rattle.round_inputs.specs.AsBegun.{kept_at, kept_in, as_begun, digest_at, HasNoHeader, IsBegunRound, IsFileOf, IsNotOf, IsNotKnown, cause_of, IsSeenBy, IsNotSeenBy, IsNotBegun};
+ghost use Rattle.round_inputs.specs.declared.as_begun.NotKnown.TheVariants.{Refused};
 
-use crate::begun::{BadBegun, Begun, begun_in};
+use crate::begun::{BadBegun, Begun, begun_in, push_begun_head};
 use crate::listing::begun_path;
 use dag_main_check::RunFault;
 use dag_main_files::{Folder, journal_path, peek_in};
 use dag_reader::Text;
 use event_journal_log::{JournalFault, Peek};
 use recovery_manager::ManagerFault;
-use std::alloc::Global;
+use std::alloc::{AllocError, Global};
+
+/// By which files a round is shown.
+#[derive(Clone, Copy, Debug, PartialEq, Eq)]
+pub enum ByFiles {
+    /// By the files as they are.
+    AsTheyAre,
+    /// By those with which it began, where they are kept, else by the files as they are.
+    AsKept,
+    /// By those with which it began.
+    AsItBegan,
+}
 
 /// A folder as a round saw it when it began: the files with which the round was begun are found as they were then, and all
 /// others as they are.
@@ -23,8 +35,8 @@ use std::alloc::Global;
 pub struct AsBegun<'a, F> {
     /// The folder.
     pub folder: &'a F,
-    /// What the round was begun with.
-    pub begun: Begun,
+    /// What the round was begun with; none where all files are found as they are.
+    pub begun: Option<Begun>,
 }
 
 impl Begun {
@@ -38,6 +50,18 @@ impl Begun {
         match self.rescue_file() {
             Some((name, bytes)) if name == path => Some(bytes),
             _ => None,
+        }
+    }
+}
+
+impl<'a, F> AsBegun<'a, F> {
+    /// The bytes of the file of this path that is kept.
+    fn kept(&self, path: &str) -> Option<&[u8]>
+        ensures { option_map (λ b. b.now) result ≡ kept_in self.now.begun path.now }
+    {
+        match &self.begun {
+            Some(begun) => begun.kept(path),
+            None => None,
         }
     }
 }
@@ -60,21 +84,21 @@ impl<'a, F: Folder> Folder for AsBegun<'a, F> {
     ghost honest = { λ seen. F.honest seen.folder.now };
 
     fn top(&self, alloc: Global, path: &str) -> Result<Option<Vec<u8>>, RunFault> {
-        match self.begun.kept(path) {
+        match self.kept(path) {
             Some(bytes) => copied(alloc, bytes),
             None => self.folder.top(alloc, path),
         }
     }
 
     fn input(&self, alloc: Global, path: &str) -> Result<Option<Vec<u8>>, RunFault> {
-        match self.begun.kept(path) {
+        match self.kept(path) {
             Some(bytes) => copied(alloc, bytes),
             None => self.folder.input(alloc, path),
         }
     }
 
     fn beside(&self, alloc: Global, path: &str) -> Result<Option<Vec<u8>>, RunFault> {
-        match self.begun.kept(path) {
+        match self.kept(path) {
             Some(bytes) => copied(alloc, bytes),
             None => self.folder.beside(alloc, path),
         }
@@ -90,34 +114,54 @@ impl<'a, F: Folder> Folder for AsBegun<'a, F> {
 
     fn journal(&self, alloc: Global, top: &str) -> Result<Option<Peek>, RunFault> {
         let path = journal_path(alloc, top)?;
-        match self.begun.kept(path.as_str()) {
+        match self.kept(path.as_str()) {
             Some(bytes) => peek_in(alloc, bytes),
             None => self.folder.journal(alloc, top),
         }
     }
 }
 
-/// What is returned for a file of this path, beside a DAG file, by which nothing can be gone.
-fn refused(alloc: Global, path: &Text) -> RunFault
-    ensures { IsRefusalOf path.now result }
-{
-    match String::from_str(alloc, path.as_str()) {
-        Ok(path) => RunFault::FileRefused(path),
-        Err(_) => RunFault::Memory,
+/// Why it is not known what the last round of a DAG file was begun with.
+#[derive(Drop)]
+enum NotKnown {
+    /// Nothing is kept of it, and the fault by which that is refused.
+    NothingKept(RunFault),
+    /// What is kept is refused.
+    Refused(RunFault),
+}
+
+impl From<RunFault> for NotKnown {
+    ghost from_gives = { λ fault known. known ≡ Refused fault };
+
+    fn from(fault: RunFault) -> NotKnown {
+        NotKnown::Refused(fault)
     }
 }
 
-/// The bytes of a file of this path, which dagrun writes beside a DAG file.
-///
-/// # Errors
-/// `FileRefused` with its path where it is missing, the system refuses to read it, or it may be another user's; `Memory`.
-fn bytes_beside<F: Folder>(alloc: Global, folder: &F, path: &Text) -> Result<Vec<u8>, RunFault>
-    ensures held { F.honest folder.now → IfOk result (λ bytes. F.holds folder.now path.now ≡ Some bytes.items) }
-    ensures refused { IfErr result (IsRefusalOf path.now) }
+impl From<AllocError> for NotKnown {
+    ghost from_gives = { λ _ known. known ≡ Refused Memory };
+
+    fn from(_e: AllocError) -> NotKnown {
+        NotKnown::Refused(RunFault::Memory)
+    }
+}
+
+/// What is returned for the file of this path, by which nothing can be gone.
+fn refused(alloc: Global, path: &Text) -> Result<RunFault, AllocError>
+    ensures { IfOk result (IsFileOf path.now) }
 {
-    match folder.beside(alloc, path.as_str())? {
-        Some(bytes) => Ok(bytes),
-        None => Err(refused(alloc, path)),
+    Ok(RunFault::FileRefused(String::from_str(alloc, path.as_str())?))
+}
+
+/// The bytes of the file of this path that dagrun writes beside a DAG file; none where none can be read.
+fn readable<F: Folder>(alloc: Global, folder: &F, path: &Text) -> Result<Option<Vec<u8>>, RunFault>
+    ensures held { F.honest folder.now → IfOk result (λ bytes. option_map (λ b. b.items) bytes ≡ F.holds folder.now path.now) }
+    ensures refused { IfErr result (λ fault. fault ≡ Memory) }
+{
+    match folder.beside(alloc, path.as_str()) {
+        Ok(bytes) => Ok(bytes),
+        Err(RunFault::FileRefused(_)) => Ok(None),
+        Err(_) => Err(RunFault::Memory),
     }
 }
 
@@ -129,73 +173,123 @@ fn is_of(journal: &[u8], digest: &[u8; 32]) -> bool
     digest[..] == journal[8..40]
 }
 
-/// The bytes of the journal of a DAG file, which has a header.
-///
-/// # Errors
-/// As `bytes_beside`, also for one that is too short for a header.
-fn journal_beside<F: Folder>(alloc: Global, folder: &F, top: &str) -> Result<Vec<u8>, RunFault>
-    ensures header { IfOk result (λ bytes. 40 ≤ length bytes.items) }
-    ensures held { F.honest folder.now → IfOk result (λ bytes. F.holds folder.now (journal_name_of top.now) ≡ Some bytes.items) }
-    ensures refused { IfErr result (IsRefusalOf (journal_name_of top.now)) }
+/// Whether these bytes begin as the file does that keeps the round of this journal.
+fn begins_as_kept(alloc: Global, journal: &[u8], bytes: &[u8]) -> Result<bool, AllocError>
+    requires { 40 ≤ length journal.now }
+    ensures { IfOk result (λ begins. begins ≡ starts_with nat_eq bytes.now (begun_head (digest_at journal.now))) }
 {
-    let path = journal_path(alloc, top)?;
-    let journal = bytes_beside(alloc, folder, &path)?;
+    let mut digest = [0; 32];
+    digest.copy_from_slice(&journal[8..40]);
+    let mut head = Vec::new(alloc);
+    push_begun_head(alloc, &mut head, &digest)?;
+    Ok(bytes.starts_with(head.as_slice()))
+}
+
+/// The bytes of the journal of a DAG file, where it has a header.
+fn journal_beside<F: Folder>(
+    alloc: Global,
+    folder: &F,
+    path: &Text,
+) -> Result<Option<Vec<u8>>, RunFault>
+    ensures header { IfOk result (λ journal. IfSome journal (λ journal. 40 ≤ length journal.items)) }
+    ensures held { F.honest folder.now → IfOk result (λ journal. IfSome journal (λ journal. F.holds folder.now path.now ≡ Some journal.items)) }
+    ensures none { F.honest folder.now → IfOk result (λ journal. IfNone journal (HasNoHeader (F.holds folder.now path.now))) }
+    ensures refused { IfErr result (λ fault. fault ≡ Memory) }
+{
+    let Some(journal) = readable(alloc, folder, path)? else {
+        return Ok(None);
+    };
     if journal.len() < 40 {
-        return Err(refused(alloc, &path));
+        return Ok(None);
     }
-    Ok(journal)
+    Ok(Some(journal))
+}
+
+/// What the round of this journal was begun with, as the bytes of this path say, which are those of the file that keeps it.
+fn begun_of(alloc: Global, path: &Text, journal: &[u8], bytes: &[u8]) -> Result<Begun, NotKnown>
+    requires { 40 ≤ length journal.now }
+    ensures spelled { IfOk result (λ begun. begun_text_of begun.digest (entries_of begun.files) (rescue_kept begun.rescue) ≡ bytes.now) }
+    ensures same { IfOk result (λ begun. begun.digest ≡ digest_at journal.now) }
+    ensures not { IfErr result (IsNotOf path.now journal.now bytes.now) }
+{
+    match begun_in(alloc, bytes) {
+        Ok(begun) => {
+            if is_of(journal, &begun.digest) {
+                return Ok(begun);
+            }
+            let other = ManagerFault::Journal(JournalFault::OtherInputs);
+            Err(NotKnown::NothingKept(RunFault::InManager(other)))
+        }
+        Err(BadBegun::NotSpelled) => {
+            let fault = refused(alloc, path)?;
+            if begins_as_kept(alloc, journal, bytes)? {
+                return Err(NotKnown::Refused(fault));
+            }
+            Err(NotKnown::NothingKept(fault))
+        }
+        Err(BadBegun::Memory) => Err(NotKnown::Refused(RunFault::Memory)),
+    }
 }
 
 /// What the last round of a DAG file was begun with, as the file beside it says.
-///
-/// # Errors
-/// As `bytes_beside`, also for a file that isn't spelled as it is written.
-fn begun_beside<F: Folder>(alloc: Global, folder: &F, top: &str) -> Result<Begun, RunFault>
-    ensures held { F.honest folder.now → IfOk result (λ begun. F.holds folder.now (begun_name_of top.now)
-        ≡ Some (begun_text_of begun.digest (entries_of begun.files) (rescue_kept begun.rescue))) }
-    ensures refused { IfErr result (IsRefusalOf (begun_name_of top.now)) }
+fn last_begun<F: Folder>(alloc: Global, folder: &F, top: &str) -> Result<Begun, NotKnown>
+    ensures held { F.honest folder.now → IfOk result (IsBegunRound (F.holds folder.now) top.now) }
+    ensures not_held { F.honest folder.now → IfErr result (IsNotKnown (F.holds folder.now) top.now) }
+    ensures refused { IfErr result (λ why. IsNotBegun top.now (cause_of why)) }
 {
+    let path = journal_path(alloc, top)?;
+    let Some(journal) = journal_beside(alloc, folder, &path)? else {
+        return Err(NotKnown::NothingKept(refused(alloc, &path)?));
+    };
     let path = begun_path(alloc, top)?;
-    let bytes = bytes_beside(alloc, folder, &path)?;
-    match begun_in(alloc, bytes.as_slice()) {
-        Ok(begun) => Ok(begun),
-        Err(BadBegun::NotSpelled) => Err(refused(alloc, &path)),
-        Err(BadBegun::Memory) => Err(RunFault::Memory),
-    }
+    let Some(bytes) = readable(alloc, folder, &path)? else {
+        return Err(NotKnown::NothingKept(refused(alloc, &path)?));
+    };
+    begun_of(alloc, &path, &journal, &bytes)
 }
 
-/// Whether a command is refused since its files are others than those with which the last round began. `last_begun` shows it by those.
-pub fn is_of_other_files(fault: &RunFault) -> bool
-    ensures is { result ≡ true → fault.now ≡ other_inputs }
-    ensures isnt { result ≡ false → fault.now ≢ other_inputs }
-{
-    matches!(
-        fault,
-        RunFault::InManager(ManagerFault::Journal(JournalFault::OtherInputs))
-    )
-}
-
-/// A folder as the last round of the DAG file of this path saw it when it began, by the file beside it that keeps what the round
-/// was begun with.
+/// A folder as the last round of the DAG file of this path is to be shown: by the files as they are, or by those with which it
+/// began, by the file beside it that keeps them.
 ///
 /// # Errors
-/// `FileRefused` with the path of the journal or of that file, where it is missing, the system refuses to read it, it may be
-/// another user's or is not as it was written; J5 (`OtherInputs`) where it is of another round than the journal; `Memory`.
-pub fn last_begun<'a, F: Folder>(
+/// Where it is to be shown as it began: `FileRefused` with the path of the journal or of that file, where none can be read; J5
+/// (`OtherInputs`) where it keeps another round. Where it is to be shown so only if it is kept, these show the files as they are.
+/// In both cases `FileRefused` with the path of that file where it is this round's and not as it was written; `Memory`.
+pub fn seen_by<'a, F: Folder>(
     alloc: Global,
     folder: &'a F,
     top: &str,
+    by: ByFiles,
 ) -> Result<AsBegun<'a, F>, RunFault>
     ensures folder { IfOk result (λ seen. seen.folder.now ≡ folder.now) }
-    ensures held { F.honest folder.now → IfOk result (λ seen. IsBegunRound (F.holds folder.now) top.now seen.begun) }
+    ensures held { F.honest folder.now → IfOk result (λ seen. IsSeenBy (F.holds folder.now) top.now by seen.begun) }
     ensures refused { IfErr result (IsNotBegun top.now) }
-    ensures refused_held { F.honest folder.now → IfErr result (IsNotBegunHeld (F.holds folder.now) top.now) }
+    ensures other { IfErr result (λ fault. by ≢ ByFiles.AsTheyAre) }
+    ensures refused_held { F.honest folder.now → IfErr result (IsNotSeenBy (F.holds folder.now) top.now by) }
 {
-    let journal = journal_beside(alloc, folder, top)?;
-    let begun = begun_beside(alloc, folder, top)?;
-    if !is_of(journal.as_slice(), &begun.digest) {
-        let other = ManagerFault::Journal(JournalFault::OtherInputs);
-        return Err(RunFault::InManager(other));
+    match by {
+        ByFiles::AsTheyAre => Ok(AsBegun {
+            folder,
+            begun: None,
+        }),
+        ByFiles::AsKept => match last_begun(alloc, folder, top) {
+            Ok(kept) => Ok(AsBegun {
+                folder,
+                begun: Some(kept),
+            }),
+            Err(NotKnown::NothingKept(_fault)) => Ok(AsBegun {
+                folder,
+                begun: None,
+            }),
+            Err(NotKnown::Refused(fault)) => Err(fault),
+        },
+        ByFiles::AsItBegan => match last_begun(alloc, folder, top) {
+            Ok(begun) => Ok(AsBegun {
+                folder,
+                begun: Some(begun),
+            }),
+            Err(NotKnown::NothingKept(fault)) => Err(fault),
+            Err(NotKnown::Refused(fault)) => Err(fault),
+        },
     }
-    Ok(AsBegun { folder, begun })
 }

@@ -61,7 +61,11 @@ fn push_digest(alloc: Global, text: &mut Vec<u8>, digest: &[u8; 32]) -> Result<(
 }
 
 /// Adds the comment with the digest.
-fn push_begun_head(alloc: Global, text: &mut Vec<u8>, digest: &[u8; 32]) -> Result<(), AllocError>
+pub(crate) fn push_begun_head(
+    alloc: Global,
+    text: &mut Vec<u8>,
+    digest: &[u8; 32],
+) -> Result<(), AllocError>
     ensures { OnOk result (text.new.items ≡ text.old.items ++ begun_head digest.now) }
 {
     text.extend_from_slice(b"# dagrun begun, digest ")?;

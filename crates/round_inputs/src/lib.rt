@@ -10,7 +10,7 @@ mod inputs;
 mod listing;
 mod reading;
 
-pub use as_begun::{AsBegun, is_of_other_files, last_begun};
+pub use as_begun::{AsBegun, ByFiles, seen_by};
 pub use begun::{BadBegun, Begun, begun_in, begun_text};
 pub use inputs::{Inputs, Listed, inputs_of, inputs_text, list_file};
 pub use listing::{MOST_OF_BEGUN, begun_path, inputs_path, write_begun, write_inputs};

@@ -1,7 +1,7 @@
 -- What `times` prints.
 use Rattle.std.specs.Prelude.{◌≡◌, ℕ, Bool, List, ◌++◌, length, Some, codes}
 use Rattle.splices_flat.specs.Opening.{Files}
-use Rattle.dag_main_files.specs.Beside.{IsRefusalOf}
+use Rattle.dag_main_files.specs.Beside.{IsRefusalOf, IsRefusalHeld}
 use Rattle.dag_main_files.specs.Opened.{IsOfFiles, IsOfSome, IsRefusedFor, IsRefusedForSome, HasNoGraph}
 use Rattle.dag_graph.specs.Graph.{Network}
 use Rattle.dag_main_check.specs.Planned.{IsGraphOf}
@@ -57,7 +57,7 @@ pub data IsTimesFault (path : List ℕ) : RunFault → Type 0 where
   no_graph : (fault : RunFault) → IsRefusedForSome path (HasNoGraph path) fault → IsTimesFault path fault
   no_log : (fault : RunFault) → IsRefusalOf (log_name_of path) fault → IsTimesFault path fault
 
--- The same where these files are held: they make no graph; or the log is missing or refused, or memory ran out.
+-- The same where these files are held: they make no graph; or no log can be read, or memory ran out.
 pub data IsTimesFaultHeld (holds : Files) (path : List ℕ) : RunFault → Type 0 where
   held_no_graph : (fault : RunFault) → IsRefusedFor holds path (HasNoGraph path) fault → IsTimesFaultHeld holds path fault
-  held_no_log : (fault : RunFault) → IsRefusalOf (log_name_of path) fault → IsTimesFaultHeld holds path fault
+  held_no_log : (fault : RunFault) → IsRefusalHeld holds (log_name_of path) fault → IsTimesFaultHeld holds path fault

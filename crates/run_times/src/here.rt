@@ -1,7 +1,7 @@
 //! What `times` answers.
 
 ghost use Rattle.std.specs.Prelude.{◌≡◌, Some, length, IfOk, IfErr, string_bytes};
-ghost use Rattle.dag_main_files.specs.Beside.{IsRefusalOf};
+ghost use Rattle.dag_main_files.specs.Beside.{IsRefusalOf, IsRefusalHeld};
 ghost use Rattle.run_times.specs.Answered.{log_name_of, IsShown, IsTimesOf, IsTimesFrom, IsTimesFault, IsTimesFaultHeld};
 
 use crate::critical::critical_marks;
@@ -71,6 +71,8 @@ fn text_of(
 fn log_of<F: Folder>(alloc: Global, folder: &F, top: &str) -> Result<Vec<u8>, RunFault>
     ensures held { F.honest folder.now → IfOk result (λ log. F.holds folder.now (log_name_of top.now) ≡ Some log.items) }
     ensures refused { IfErr result (IsRefusalOf (log_name_of top.now)) }
+    // A log that is refused isn't held.
+    ensures unheld { F.honest folder.now → IfErr result (IsRefusalHeld (F.holds folder.now) (log_name_of top.now)) }
 {
     let path = Text::joined(alloc, top, ".log")?;
     if let Some(log) = folder.beside(alloc, path.as_str())? {

@@ -1,6 +1,5 @@
 use Rattle.std.proofs.Common.{None}
 use Rattle.splices_flat.specs.FileSet.{bytes_of}
-use Rattle.std.specs.Option.{option_map}
 use Rattle.dag_main_files.specs.Opened.{IsRefusedFor, IsRefusedForSome, top_not_read, HasNoGraph}
 use Rattle.dag_main_check.specs.declared.fault.RunFault.TheVariants.{Memory}
 use Rattle.dag_main_files.specs.Beside.{input_had_no_memory}

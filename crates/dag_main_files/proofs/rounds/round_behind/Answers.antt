@@ -1,9 +1,9 @@
-use Rattle.std.proofs.Common.{Some, refl, sym, subst}
+use Rattle.std.proofs.Common.{◌∙◌, Some, refl, ap, sym, subst}
 use Rattle.dag_main_files.specs.Beside.{IsFileFault, reading_had_no_memory, IsRoundFault, not_there, journal_not_read, not_ended, folder_not_read, goes_back}
 use Rattle.event_journal_log.specs.Peeks.{ReadsPeek}
-use Rattle.dag_main_files.specs.Folder.{journal_in}
+use Rattle.dag_main_files.specs.Folder.{journal_in, IsRoundFaultHeld, held_not_there, held_journal_not_read, held_folder_not_read}
 use Rattle.dag_main_files.proofs.RunFaults.{by-fault}
-use Rattle.dag_main_files.proofs.Journals.{of-none, of-finished}
+use Rattle.dag_main_files.proofs.Journals.{of-none, of-finished, unfinished-held}
 use Rattle.dag_main_files.proofs.rounds.round_behind.Goals.{in-None, in-Some}
 use Rattle.dag_main_files.proofs.rounds.round_behind.Goals as goal
 
@@ -58,3 +58,35 @@ returns-clause-held g c = λ autorescue honest. record {
         (subst (λ p. ReadsPeek p (journal_in (g.F.Folder.holds c.args.folder.now) c.args.top.now)) w.in-Some.is (c.in_ok-journal.ensures.peek honest)) w.if-peek.true w.journal-is
   ];
 }
+
+pub returns-in_err-path-clause-refused_held : goal.returns-in_err-path-clause-refused_held
+returns-in_err-path-clause-refused_held g c = λ honest.
+    by-fault (IsRoundFaultHeld (g.F.Folder.holds c.args.folder.now) (g.F.Folder.has c.args.folder.now) c.args.top.now (Some c.args.number)) c.in_err-path.field-0.0
+    (held_folder_not_read _ c.requires (subst IsFileFault (sym c.in_err-path.ensures.err) reading_had_no_memory)) c.from_residual.result c.from_residual.ensures.1
+
+pub returns-in_err-is_there-clause-refused_held : goal.returns-in_err-is_there-clause-refused_held
+returns-in_err-is_there-clause-refused_held g c = λ honest.
+    by-fault (IsRoundFaultHeld (g.F.Folder.holds c.args.folder.now) (g.F.Folder.has c.args.folder.now) c.args.top.now (Some c.args.number)) c.in_err-is_there.field-0.0
+    (held_folder_not_read _ c.requires (subst IsFileFault (sym c.in_err-is_there.ensures.refused) reading_had_no_memory))
+    c.from_residual-in_err-is_there.result c.from_residual-in_err-is_there.ensures.1
+
+pub returns-then-not-branch-clause-refused_held : goal.returns-then-not-branch-clause-refused_held
+returns-then-not-branch-clause-refused_held g c = λ honest.
+    held_not_there c.args.number refl
+    (ap (g.F.Folder.has c.args.folder.now) (sym (c.as_str.ensures ∙ c.in_ok-path.ensures.name)) ∙ sym (c.in_ok-is_there.ensures.there honest) ∙ c.if-not-branch.true)
+
+pub returns-in_err-journal-clause-refused_held : goal.returns-in_err-journal-clause-refused_held
+returns-in_err-journal-clause-refused_held g c = λ honest.
+    by-fault (IsRoundFaultHeld (g.F.Folder.holds c.args.folder.now) (g.F.Folder.has c.args.folder.now) c.args.top.now (Some c.args.number)) c.in_err-journal.field-0.0
+    (held_journal_not_read _ c.requires (c.in_err-journal.ensures.refused_held honest)) c.from_residual-in_err-journal.result c.from_residual-in_err-journal.ensures.1
+
+pub returns-in-Some-2-clause-refused_held : goal.returns-in-Some-2-clause-refused_held
+returns-in-Some-2-clause-refused_held g c = λ honest.
+    unfinished-held (g.F.Folder.holds c.args.folder.now) (g.F.Folder.has c.args.folder.now) c.args.top.now c.in-Some.peek
+    (subst (λ p. ReadsPeek p (journal_in (g.F.Folder.holds c.args.folder.now) c.args.top.now)) c.in-Some.is (c.in_ok-journal.ensures.peek honest)) c.if-peek.false
+    c.args.number c.requires
+
+pub returns-in_err-highest-clause-refused_held : goal.returns-in_err-highest-clause-refused_held
+returns-in_err-highest-clause-refused_held g c = λ honest.
+    by-fault (IsRoundFaultHeld (g.F.Folder.holds c.args.folder.now) (g.F.Folder.has c.args.folder.now) c.args.top.now (Some c.args.number)) c.in_err-highest.field-0.0
+    (held_folder_not_read _ c.requires c.in_err-highest.ensures.refused) c.from_residual-in_err-highest.result c.from_residual-in_err-highest.ensures.1

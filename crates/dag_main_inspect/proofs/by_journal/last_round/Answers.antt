@@ -21,7 +21,7 @@ returns-in_err-rescue-in-Some-clause-refused g c =
 
 pub returns-in_err-journal-clause-refused_held : goal.returns-in_err-journal-clause-refused_held
 returns-in_err-journal-clause-refused_held g c = λ honest.
-    by-fault (IsNoLastRound (g.F.Folder.holds c.args.folder.now) c.args.top.now) c.in_err-journal.field-0.0 (journal_refused _ c.in_err-journal.ensures.named)
+    by-fault (IsNoLastRound (g.F.Folder.holds c.args.folder.now) c.args.top.now) c.in_err-journal.field-0.0 (journal_refused _ (c.in_err-journal.ensures.unheld honest))
     c.from_residual.result c.from_residual.ensures.1
 
 pub returns-in_err-used-clause-refused_held : goal.returns-in_err-used-clause-refused_held
@@ -43,5 +43,5 @@ returns-in_err-rescue-in-Some-clause-refused_held g c = λ honest.
     (rescue_refused _ _
     (sym (c.in_ok-name.ensures.name ∙ ap (used_name c.args.top.now) (c.in_ok-used.ensures.used ∙ ap used_by (c.as_deref.ensures.value ∙ c.in_ok-journal.ensures.journal honest)))
     ∙ c.in-Some.is ∙ ap Some (sym c.as_str.ensures))
-    c.in_err-rescue-in-Some.ensures.named)
+    (c.in_err-rescue-in-Some.ensures.unheld honest))
     c.from_residual-in_err-rescue-in-Some.result c.from_residual-in_err-rescue-in-Some.ensures.1

@@ -1,5 +1,4 @@
-use Rattle.std.proofs.Common.{◌≡◌, Result, Ok, Err, IfOk, subst}
-use Rattle.dag_main_run.specs.Sites.{AsksToHalt, for_halt, for_halt_without_memory}
+use Rattle.dag_main_run.specs.Sites.{for_halt, for_halt_without_memory}
 use Rattle.dag_main_run.proofs.halting.halted.Goals as goal
 
 pub returns-in-Ok : goal.returns-in-Ok

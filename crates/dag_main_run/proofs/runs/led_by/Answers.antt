@@ -1,5 +1,4 @@
-use Rattle.std.proofs.Common.{string_bytes}
-use Rattle.dag_main_run.proofs.Sites.{AreOwn, fits-disk, led-at, stopped-at}
+use Rattle.dag_main_run.proofs.Sites.{fits-disk, led-at, stopped-at}
 use Rattle.dag_main_run.proofs.runs.led_by.Goals as goal
 
 pub lead-requires : goal.lead-requires

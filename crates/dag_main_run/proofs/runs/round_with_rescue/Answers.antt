@@ -1,4 +1,4 @@
-use Rattle.dag_main_run.specs.Runs.{IsFindingFault, no_round, no_rescue}
+use Rattle.dag_main_run.specs.Runs.{IsFindingFault, no_round, no_rescue, IsFindingFaultHeld, held_no_round, held_no_rescue}
 use Rattle.dag_main_files.proofs.RunFaults.{by-fault}
 use Rattle.dag_main_run.proofs.runs.round_with_rescue.Goals as goal
 
@@ -14,3 +14,13 @@ returns-in_err-rescue-clause-refused g c =
 
 pub returns-clause-held : goal.returns-clause-held
 returns-clause-held g c = λ honest. (c.in_ok-round.ensures.held honest, c.in_ok-rescue.ensures.held honest)
+
+pub returns-in_err-round-clause-refused_held : goal.returns-in_err-round-clause-refused_held
+returns-in_err-round-clause-refused_held g c = λ honest.
+    by-fault (IsFindingFaultHeld (g.F.Folder.holds c.args.folder.now) (g.F.Folder.has c.args.folder.now) c.args.place.now.top.now c.args.options.now) c.in_err-round.field-0.0 (held_no_round _ (c.in_err-round.ensures.refused_held honest)) c.from_residual.result c.from_residual.ensures.1
+
+pub returns-in_err-rescue-clause-refused_held : goal.returns-in_err-rescue-clause-refused_held
+returns-in_err-rescue-clause-refused_held g c = λ honest.
+    by-fault (IsFindingFaultHeld (g.F.Folder.holds c.args.folder.now) (g.F.Folder.has c.args.folder.now) c.args.place.now.top.now c.args.options.now) c.in_err-rescue.field-0.0
+    (held_no_rescue c.in_ok-round.round _ (c.in_ok-round.ensures.held honest) (c.in_err-rescue.ensures.refused_held honest))
+    c.from_residual-in_err-rescue.result c.from_residual-in_err-rescue.ensures.1

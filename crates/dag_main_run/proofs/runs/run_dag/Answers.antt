@@ -1,9 +1,6 @@
-use Rattle.std.proofs.Common.{◌≡◌, sym, subst}
-use Rattle.std.proofs.lemmas.Result.{IfOk-weaker}
-use Rattle.dag_main_files.specs.Beside.{IsRoundBy, IsRescueOf}
-use Rattle.dag_main_files.specs.Folder.{IsRoundFrom, rescue_in}
+use Rattle.std.proofs.Common.{sym, subst}
 use Rattle.dag_main_files.proofs.RunFaults.{by-fault}
-use Rattle.dag_main_run.specs.Runs.{IsRunFault, IsRunFaultFrom, no_memory}
+use Rattle.dag_main_run.specs.Runs.{any_round, held_round, IsRunFault, IsRunFaultFrom, no_memory}
 use Rattle.dag_main_run.proofs.RunPlans.{run-of-some, told-of-some, run-held, told-held}
 use Rattle.dag_main_run.proofs.runs.run_dag.Goals as goal
 
@@ -18,22 +15,22 @@ returns-in_err-files-clause-refused_held g c = λ unstreamed honest.
     (subst (IsRunFaultFrom (g.H.Folder.holds c.args.site.now) (g.H.Folder.has c.args.site.now) _ c.args.place.now.top.now c.args.options.now) (sym (c.in_err-files.ensures.unstreamed unstreamed)) no_memory) c.from_residual.result c.from_residual.ensures.1
 
 pub returns-in-Ok-clause-run : goal.returns-in-Ok-clause-run
-returns-in-Ok-clause-run g c = run-of-some c.loop.files (IsRoundBy c.args.options.now.autorescue c.args.options.now.dorescuefrom c.args.options.now.always_post) _ c.args.place.now.top.now c.args.options.now IsRescueOf _ _ _ c.in-Ok.ensures.run
+returns-in-Ok-clause-run g c = run-of-some c.loop.files (any_round c.args.options.now) _ c.args.place.now.top.now c.args.options.now _ _ _ c.in-Ok.ensures.run
 
 pub returns-in-Ok-clause-held : goal.returns-in-Ok-clause-held
 returns-in-Ok-clause-held g c = λ honest.
-    run-held (g.H.Folder.holds c.args.site.now) c.loop.files c.args.place.now.top.now (c.loop.invariant honest) (IsRoundFrom (g.H.Folder.holds c.args.site.now) (g.H.Folder.has c.args.site.now) c.args.place.now.top.now c.args.options.now.autorescue c.args.options.now.dorescuefrom c.args.options.now.always_post) _ c.args.options.now (λ round rescue. rescue ≡ rescue_in (g.H.Folder.holds c.args.site.now) c.args.place.now.top.now round.used) _ _ _ (c.in-Ok.ensures.held honest)
+    run-held (g.H.Folder.holds c.args.site.now) c.loop.files c.args.place.now.top.now (c.loop.invariant honest) (held_round (g.H.Folder.holds c.args.site.now) (g.H.Folder.has c.args.site.now) c.args.place.now.top.now c.args.options.now) _ c.args.options.now _ _ _ (c.in-Ok.ensures.held honest)
 
 pub returns-in_err-read_missing-in-Err-clause-refused : goal.returns-in_err-read_missing-in-Err-clause-refused
 returns-in_err-read_missing-in-Err-clause-refused g c = λ unstreamed.
     by-fault (IsRunFault _ c.args.place.now.top.now c.args.options.now) c.in_err-read_missing-in-Err.field-0.0
-    (told-of-some c.loop.files (IsRoundBy c.args.options.now.autorescue c.args.options.now.dorescuefrom c.args.options.now.always_post) _ c.args.place.now.top.now c.args.options.now c.in-Err.fault _ c.in-Err.ensures.refused c.in_err-read_missing-in-Err.ensures.refused)
+    (told-of-some c.loop.files (any_round c.args.options.now) _ c.args.place.now.top.now c.args.options.now c.in-Err.fault _ c.in-Err.ensures.refused c.in_err-read_missing-in-Err.ensures.refused)
     c.from_residual-in_err-read_missing-in-Err.result c.from_residual-in_err-read_missing-in-Err.ensures.1
 
 pub returns-in_err-read_missing-in-Err-clause-refused_held : goal.returns-in_err-read_missing-in-Err-clause-refused_held
 returns-in_err-read_missing-in-Err-clause-refused_held g c = λ unstreamed honest.
     by-fault (IsRunFaultFrom (g.H.Folder.holds c.args.site.now) (g.H.Folder.has c.args.site.now) _ c.args.place.now.top.now c.args.options.now) c.in_err-read_missing-in-Err.field-0.0
-    (told-held (g.H.Folder.holds c.args.site.now) c.loop.files c.args.place.now.top.now (c.loop.invariant honest) (IsRoundFrom (g.H.Folder.holds c.args.site.now) (g.H.Folder.has c.args.site.now) c.args.place.now.top.now c.args.options.now.autorescue c.args.options.now.dorescuefrom c.args.options.now.always_post) _ c.args.options.now c.in-Err.fault _ (c.in-Err.ensures.refused_held honest) (c.in_err-read_missing-in-Err.ensures.refused_held honest))
+    (told-held (g.H.Folder.holds c.args.site.now) c.loop.files c.args.place.now.top.now (c.loop.invariant honest) (held_round (g.H.Folder.holds c.args.site.now) (g.H.Folder.has c.args.site.now) c.args.place.now.top.now c.args.options.now) _ c.args.options.now c.in-Err.fault _ (c.in-Err.ensures.refused_held honest) (c.in_err-read_missing-in-Err.ensures.refused_held honest))
     c.from_residual-in_err-read_missing-in-Err.result c.from_residual-in_err-read_missing-in-Err.ensures.1
 
 pub returns-clause-refused : goal.returns-clause-refused

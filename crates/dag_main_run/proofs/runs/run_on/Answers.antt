@@ -1,4 +1,4 @@
-use Rattle.std.proofs.Common.{◌≡◌, Result, Ok, Err, subst, sym}
+use Rattle.std.proofs.Common.{Result, Ok, Err, subst, sym}
 use Rattle.std.specs.Prelude.{IfErr}
 use Rattle.dag_main_run.specs.Runs.{IsStopFault, not_cleared, no_endings, round_stopped, leading_had_no_memory}
 use Rattle.dag_main_check.specs.declared.fault.RunFault.{RunFault}

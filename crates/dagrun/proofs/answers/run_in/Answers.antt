@@ -1,5 +1,5 @@
-use Rattle.std.proofs.Common.{◌≡◌, Bool, Option, Some, None, Result, Ok, Err, IfOk, true, false, sym, ◌∙◌, subst}
-use Rattle.std.specs.Prelude.{IfSome, IfNone, IfErr}
+use Rattle.std.proofs.Common.{◌≡◌, Bool, Option, Some, None, true, false, sym, ◌∙◌, subst}
+use Rattle.std.specs.Prelude.{IfSome, IfNone}
 use Rattle.std.proofs.lemmas.Bool.{false≢true}
 use Rattle.std.proofs.lemmas.Result.{IfOk-weaker, IfErr-weaker}
 use Rattle.dag_main_run.specs.Sites.{rounds_at}

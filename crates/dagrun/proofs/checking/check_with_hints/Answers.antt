@@ -1,5 +1,4 @@
 use Rattle.std.proofs.Common.{true, refl}
-use Rattle.splices_flat.specs.FileSet.{bytes_of}
 use Rattle.dag_main_files.proofs.RunFaults.{by-fault}
 use Rattle.dag_main_args.specs.Requests.{checks}
 use Rattle.dagrun.specs.Answered.{check_refused_some, IsCheckRefusalHeld, of_held_files, of_files_read_once}

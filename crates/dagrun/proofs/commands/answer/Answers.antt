@@ -1,11 +1,6 @@
-use Rattle.std.proofs.Common.{◌≡◌, Bool, true, false, Result, Ok, Err, sym, ◌∙◌, subst}
-use Rattle.std.specs.Prelude.{IsErrAnd}
-use Rattle.std.proofs.lemmas.Bool.{false≢true}
-use Rattle.dag_main_args.specs.Requests.{Asked, asked_by}
-use Rattle.dag_main_run.specs.Sites.{Rounds, rounds_at}
-use Rattle.dag_main_check.specs.declared.fault.RunFault.{RunFault}
-use Rattle.dag_main_check.specs.declared.warnings.Answer.{Answer}
-use Rattle.dag_main_files.specs.Beside.{IsRefusalOf}
+use Rattle.std.proofs.Common.{◌≡◌, false, sym, ◌∙◌}
+use Rattle.dag_main_args.specs.Requests.{asked_by}
+use Rattle.dag_main_run.specs.Sites.{rounds_at}
 use Rattle.dagrun.proofs.Worlds.{input-reply, beside-reply, folder-reply, unasked, told-at}
 use Rattle.dagrun.proofs.commands.answer.Goals as goal
 

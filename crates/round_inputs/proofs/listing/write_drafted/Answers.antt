@@ -1,4 +1,3 @@
-use Rattle.std.proofs.Common.{sym, subst}
 use Rattle.dag_main_check.specs.declared.fault.RunFault.TheVariants.{Memory}
 use Rattle.dag_main_files.specs.Beside.{IsFileFault, file_refused, reading_had_no_memory}
 use Rattle.dag_main_files.proofs.RunFaults.{by-fault}

@@ -3,7 +3,7 @@ use Rattle.splices_flat.specs.Dag.{Dag}
 use Rattle.splices_flat.specs.Opening.{Files}
 use Rattle.dag_graph.specs.Graph.{Network}
 use Rattle.run_plan.specs.Plan.{Plan}
-use Rattle.dag_main_files.specs.Beside.{refusing_had_no_memory}
+use Rattle.dag_main_files.specs.Beside.{refusing_had_no_memory, refusing_unheld_had_no_memory}
 use Rattle.dag_main_files.specs.Opened.{HasBarePlan}
 use Rattle.dag_main_files.proofs.OpenedFiles.{said-more}
 use Rattle.dag_main_check.specs.Warnings.{warning_lines}
@@ -96,21 +96,21 @@ returns-in_err-plan-clause-refused_held g c = λ honest.
 
 pub returns-in_err-log-clause-refused_held : goal.returns-in_err-log-clause-refused_held
 returns-in_err-log-clause-refused_held g c = λ honest.
-    by-fault (IsTimesFaultHeld (g.F.Folder.holds c.args.folder.now) c.args.top.now) c.in_err-log.field-0.0 (held_no_log _ c.in_err-log.ensures.refused)
+    by-fault (IsTimesFaultHeld (g.F.Folder.holds c.args.folder.now) c.args.top.now) c.in_err-log.field-0.0 (held_no_log _ (c.in_err-log.ensures.unheld honest))
     c.from_residual-in_err-log.result c.from_residual-in_err-log.ensures.1
 
 pub returns-in_err-runs-clause-refused_held : goal.returns-in_err-runs-clause-refused_held
 returns-in_err-runs-clause-refused_held g c = λ honest.
-    by-fault (IsTimesFaultHeld (g.F.Folder.holds c.args.folder.now) c.args.top.now) Memory (held_no_log _ refusing_had_no_memory) c.from_residual-in_err-runs.result c.from_residual-in_err-runs.ensures.1
+    by-fault (IsTimesFaultHeld (g.F.Folder.holds c.args.folder.now) c.args.top.now) Memory (held_no_log _ refusing_unheld_had_no_memory) c.from_residual-in_err-runs.result c.from_residual-in_err-runs.ensures.1
 
 pub returns-in_err-marks-clause-refused_held : goal.returns-in_err-marks-clause-refused_held
 returns-in_err-marks-clause-refused_held g c = λ honest.
-    by-fault (IsTimesFaultHeld (g.F.Folder.holds c.args.folder.now) c.args.top.now) Memory (held_no_log _ refusing_had_no_memory) c.from_residual-in_err-marks.result c.from_residual-in_err-marks.ensures.1
+    by-fault (IsTimesFaultHeld (g.F.Folder.holds c.args.folder.now) c.args.top.now) Memory (held_no_log _ refusing_unheld_had_no_memory) c.from_residual-in_err-marks.result c.from_residual-in_err-marks.ensures.1
 
 pub returns-in_err-text_of-clause-refused_held : goal.returns-in_err-text_of-clause-refused_held
 returns-in_err-text_of-clause-refused_held g c = λ honest.
-    by-fault (IsTimesFaultHeld (g.F.Folder.holds c.args.folder.now) c.args.top.now) Memory (held_no_log _ refusing_had_no_memory) c.from_residual-in_err-text_of.result c.from_residual-in_err-text_of.ensures.1
+    by-fault (IsTimesFaultHeld (g.F.Folder.holds c.args.folder.now) c.args.top.now) Memory (held_no_log _ refusing_unheld_had_no_memory) c.from_residual-in_err-text_of.result c.from_residual-in_err-text_of.ensures.1
 
 pub returns-in_err-warning_text-clause-refused_held : goal.returns-in_err-warning_text-clause-refused_held
 returns-in_err-warning_text-clause-refused_held g c = λ honest.
-    by-fault (IsTimesFaultHeld (g.F.Folder.holds c.args.folder.now) c.args.top.now) Memory (held_no_log _ refusing_had_no_memory) c.from_residual-in_err-warning_text.result c.from_residual-in_err-warning_text.ensures.1
+    by-fault (IsTimesFaultHeld (g.F.Folder.holds c.args.folder.now) c.args.top.now) Memory (held_no_log _ refusing_unheld_had_no_memory) c.from_residual-in_err-warning_text.result c.from_residual-in_err-warning_text.ensures.1

@@ -1,5 +1,4 @@
 use Rattle.std.proofs.Common.{◌≡◌, map, take}
-use Rattle.run_times.specs.Slots.{run_end}
 use Rattle.run_times.proofs.load.begins_of.Given as goal
 
 abbrev pub invariant-loop-run : goal.invariant-loop-run

@@ -1,7 +1,6 @@
-use Rattle.std.proofs.Common.{◌≡◌, ℕ, List, map, take_all, subst, ap, ◌∙◌, arith}
+use Rattle.std.proofs.Common.{ℕ, List, map, take_all, subst, ap, ◌∙◌, arith}
 use Rattle.std.specs.Prelude.{IsPermutation}
 use Rattle.std.proofs.lemmas.List.Sorted.{IsNonDecreasingBy-from_sort}
-use Rattle.run_times.specs.declared.runs.PhaseRun.{PhaseRun}
 use Rattle.run_times.specs.Slots.{run_end}
 use Rattle.run_times.proofs.load.ends_of.Goals as goal
 

@@ -1,4 +1,4 @@
-use Rattle.std.proofs.Common.{◌≡◌, List, ℕ, ◌++◌, length, codes, string_bytes, ap, subst, ◌∙◌}
+use Rattle.std.proofs.Common.{List, ℕ, ◌++◌, length, codes, string_bytes, ap, subst, ◌∙◌}
 use Rattle.std.specs.Prelude.{flat_map}
 use Rattle.run_times.specs.declared.bars.Bar.{Bar}
 use Rattle.run_times.specs.declared.load.Level.{Level}

@@ -1,5 +1,4 @@
 use Rattle.std.proofs.Common.{rules, ◌≡◌, []}
-use Rattle.std.specs.Prelude.{IfErr}
 use Rattle.std.proofs.lemmas.Result.{IfOk-weaker, IfErr-weaker}
 use Rattle.run_round.specs.Causes.{stopped_by_memory}
 use Rattle.dag_main_run.proofs.Sites.{led-by-starter, refused-by-starter, no-memory-to-start}
