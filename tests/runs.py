@@ -1242,6 +1242,21 @@ def what_was_refused(folder):
         same((told[4]["what"], told[4]["path"], reason in told[4]["reason"]), (what, f"{here}/{path}", True))
 
 
+def a_cut_line_of_the_log(folder):
+    """The next manager ends it, so that its own first line is one."""
+    folder.write("x.dag", "JOB A a.sub\n")
+    folder.echo("a")
+    same(folder.call("run", "x.dag")[2], 0)
+    folder.cut_journal(1)
+    log = folder.read("x.dag.log")
+    folder.write("x.dag.log", log[:-20])
+    same(folder.call("run", "x.dag")[2], 0)
+    lines = folder.read("x.dag.log").splitlines(keepends=True)
+    cut = log[:-20].splitlines()
+    same((lines[len(cut) - 1], len(lines) > len(cut)), (cut[-1] + b"\n", True))
+    same([line.split(b"\t")[1] for line in (lines[0], lines[len(cut)])], [b"life", b"life"])
+
+
 def an_abort_in_the_log(folder):
     folder.write("x.dag", "JOB A a.sub\nJOB B b.sub\nABORT-DAG-ON A 7\n")
     folder.shell("a", "while [ ! -e b ]; do sleep 0.02; done; exit 7\n")
@@ -4597,7 +4612,7 @@ ROWS = [
     the_example,
     a_log,
     a_log_that_can_not_be_written,
-    what_was_refused,
+    what_was_refused, a_cut_line_of_the_log,
     an_abort_in_the_log,
     an_orphan_is_killed,
     an_orphan_with_an_odd_name,

@@ -794,6 +794,11 @@ def what_is_changed(folder):
     ):
         told = folder.on_terminal(*words, "my flow.dag", columns=160)
         same((told.status, told.screen.told()), (0, lines))
+    # The same file by another path.
+    folder.shell("B", "exit 1\n", error=False)
+    told = folder.on_terminal("run", "./my flow.dag", columns=160)
+    other = "the round began with another path of the DAG file, which ./my flow.dag.inputs lists: call dagrun with that path"
+    same(told.screen.told()[:2], ["dagrun: J5 OtherInputs", f"    {other}"])
     # Of a round that has ended nothing has to be kept.
     over = folder.at("my flow.dag.journal")
     folder.shell("B", "exit 1\n", error=False)

@@ -293,13 +293,28 @@ fn has_ended<R: Files<File = File> + Input + AllocGlobal + Copy + Drop>(
     Some(peek.finished)
 }
 
-/// Which files are changed since the last round of a DAG file began, and what keeps what is done, or that the next round begins anew.
+/// That the DAG file had another path as its last round began, where the file beside it lists none of this path.
+fn other_path<R: Files + AllocGlobal>(rt: &R, dag: &str) -> Result<Option<String>, AllocError> {
+    let Some(inputs) = inputs_of(rt, dag) else {
+        return Ok(None);
+    };
+    if inputs.files.iter().any(|file| file.path.as_str() == dag) {
+        return Ok(None);
+    }
+    let text = format!(in rt.alloc();
+        "the round began with another path of the DAG file, which {dag}.inputs lists: call dagrun with that path"
+    )?;
+    Ok(Some(text))
+}
+
+/// Which files are changed since the last round of a DAG file began, and what keeps what is done, or that the next round begins anew; or that the DAG file had
+/// another path.
 fn changed_since<R: Files<File = File> + Input + AllocGlobal + Copy + Drop>(
     rt: &R,
     dag: &str,
 ) -> Result<Option<String>, AllocError> {
     let Some(files) = changed_files(rt, dag)? else {
-        return Ok(None);
+        return other_path(rt, dag);
     };
     let alloc = rt.alloc();
     let text = if has_ended(rt, dag, false) == Some(true) {
