@@ -82,12 +82,20 @@ option() {
         case ${all[i]} in "$1") found=${all[i + 1]} ;; "$2"*) found=${all[i]#"$2"} ;; esac
     done
 }
+# The cluster that is asked, where one is named: each knows its own jobs.
+option -M --clusters=
+cluster=${found:-${SLURM_CLUSTERS-}}
+is_here() {
+    of=
+    [ -e "$S/jobs/$1/cluster" ] && read -r of <"$S/jobs/$1/cluster"
+    [ "$of" = "$cluster" ]
+}
 # Each job: id name state exit node, of a file that is replaced.
 each_job() {
     set +f
     for folder in "$S"/jobs/*; do
         id=${folder##*/}
-        [ -e "$folder/is" ] || continue
+        [ -e "$folder/is" ] && is_here "$id" || continue
         read -r name state code node <"$folder/is"
         "$1"
     done
@@ -107,14 +115,19 @@ takes() {
 }
 """
 SBATCH = r"""
+cluster=${found:-${SBATCH_CLUSTERS:-${SLURM_CLUSTERS-}}}
 option -J --job-name=
 name=$found
 script=$(cat; echo .)
 printf '%s\n' "$*" >>"$S/asked"
-if takes refuses; then echo 'sbatch: error: Batch job submission failed: Invalid partition name specified' >&2; exit 1; fi
+if takes refuses; then
+    if [ -e "$S/says" ]; then cat "$S/says" >&2; else echo 'sbatch: error: Batch job submission failed: Invalid partition name specified' >&2; fi
+    exit 1
+fi
 if takes unheard; then echo 'sbatch: error: Batch job submission failed: Unable to contact slurm controller (connect failure)' >&2; exit 1; fi
 id=$( ( flock 9; n=$(($(cat "$S/last") + 1)); echo $n | tee "$S/last" ) 9>"$S/lock" )
 mkdir "$S/jobs/$id"
+if [ "$cluster" ]; then echo "$cluster" >"$S/jobs/$id/cluster"; fi
 printf %s "${script%.}" >"$S/jobs/$id/script"
 cat "/proc/$$/environ" >"$S/jobs/$id/environ"
 echo "$name PENDING 0:0 None" >"$S/jobs/$id/is.new"
@@ -129,7 +142,7 @@ if takes doubles; then
 fi
 { ends_launcher after; } 2>/dev/null
 if takes loses; then echo 'sbatch: error: Batch job submission failed: Socket timed out on send/recv operation' >&2; exit 1; fi
-echo "$id"
+echo "$id${cluster:+;$cluster}"
 """
 # The node: the job begins once `holds` is gone.
 NODE = r"""
@@ -191,9 +204,10 @@ exit 0
 """
 SCANCEL = r"""
 status=0
+until [ "$1" = -- ]; do shift; done
+shift
 for id in "$@"; do
-    [ "$id" = -- ] && continue
-    [ -e "$S/jobs/$id/is" ] || { status=1; continue; }
+    [ -e "$S/jobs/$id/is" ] && is_here "$id" || { status=1; continue; }
     becomes "$id" CANCELLED 0:15
     session=$(cat "$S/jobs/$id/session")
     pkill -TERM -s "$session" -f script
@@ -215,6 +229,9 @@ takes() {
 echo "$host" >>"$S/calls.ssh"
 if [ -e "$S/down.$host" ]; then echo "ssh: connect to host $host port 22: Connection refused" >&2; exit 255; fi
 cd / || exit 255
+[ -e "$S/umask" ] && umask "$(cat "$S/umask")"
+# What a ~/.bashrc prints, which may lack a line end.
+if [ -e "$S/noise" ]; then printf 'alive\ngone\nWelcome to %s' "$host"; fi
 env -i HOME=/ PATH=/usr/bin:/bin setsid -w /bin/sh -c "$*"
 status=$?
 if takes loses; then echo "Connection to $host closed by remote host." >&2; exit 255; fi
@@ -249,7 +266,7 @@ class Place:
             DAGRUN_SSH_POLL="0.1", DAGRUN_SSH_WAIT="10",
         )
         for name in list(self.settings):
-            if name.startswith(("DAGRUN_ROUND", "DAGRUN_NODE", "DAGRUN_DAG", "DAGRUN_PHASE", "DAGRUN_ATTEMPT", "DAGRUN_LAUNCHER", "SLURM_")):
+            if name.startswith(("DAGRUN_ROUND", "DAGRUN_NODE", "DAGRUN_DAG", "DAGRUN_PHASE", "DAGRUN_ATTEMPT", "DAGRUN_LAUNCHER", "SLURM_", "SBATCH_")):
                 del self.settings[name]
 
     def script(self, name, text):
@@ -616,9 +633,69 @@ def never_submitted(place):
     same(place.run(), report("ERROR", 85))
     same(place.read("A.err"), "dagrun-slurm: never submitted: sbatch: error: Batch job submission failed: Invalid partition name specified\n")
     same((place.calls("sbatch"), place.ended_lines()[0][5]), (1, "85"))
+    # A limit that doesn't pass, in the same words as one that does.
+    place.mode("refuses", "1")
+    place.mode("says", f"sbatch: error: QOSMaxWallDurationPerJobLimit\n{POLICY}")
+    same(place.run(), report("ERROR", 85))
+    same(place.read("A.err"), f"dagrun-slurm: never submitted: sbatch: error: QOSMaxWallDurationPerJobLimit; {POLICY}\n")
     place.mode("unheard", "100")
     same(place.run(), report("ERROR", 85))
-    same((place.calls("sbatch"), place.jobs(), place.there("ran.A")), (4, {}, False))
+    same((place.calls("sbatch"), place.jobs(), place.there("ran.A")), (5, {}, False))
+
+
+POLICY = "sbatch: error: Batch job submission failed: Job violates accounting/QOS policy (job submit limit, user's size and/or time limits)"
+
+
+def no_room(place):
+    """Slurm takes no more jobs for now: it is asked again, as often as need be, and the attempt goes on."""
+    place.one()
+    for text, times in (
+        (f"sbatch: error: QOSMaxSubmitJobPerUserLimit\n{POLICY}", 5),
+        (f"sbatch: error: AssocMaxSubmitJobLimit\n{POLICY}", 1),
+        (POLICY, 1),
+        ("sbatch: error: Batch job submission failed: I/O error writing script/environment to file", 1),
+        ("sbatch: error: Slurm temporarily unable to accept job, sleeping and retrying", 4),
+        ("sbatch: error: Batch job submission failed: Resource temporarily unavailable", 1),
+    ):
+        before = place.calls("sbatch")
+        place.mode("says", text)
+        place.mode("refuses", str(times))
+        same(place.run("--autorescue", "0"), DONE)
+        same(place.calls("sbatch") - before, times + 1)
+        same(place.read("A.err"), f"dagrun-slurm: Slurm takes no more jobs for now, and is asked again: {'; '.join(text.splitlines())}\n")
+    same((len(place.jobs()), place.read("ran.A")), (6, "A\n" * 6))
+
+
+def no_room_for_all(place):
+    """Slurm takes two jobs at once: the others wait their turn, and no attempt is lost by that."""
+    names = [f"n{number}" for number in range(6)]
+    place.write("x.dag", "".join(f"JOB {name} job.sub\n" for name in names))
+    place.job(BEATS)
+    # Two calls at once don't count the same jobs.
+    limit = 'exec 8>"$S/room"; flock 8; n=0; count() { case $state in PENDING | RUNNING) n=$((n + 1)) ;; esac; }; each_job count\n[ "$n" -lt 2 ] || echo 1 >"$S/refuses"\n'
+    place.script("sbatch", COMMON + limit + SBATCH.replace('"$S/bin/node" "$id"', '"$S/bin/node" "$id" 8>&-', 1))
+    place.mode("says", f"sbatch: error: QOSMaxSubmitJobPerUserLimit\n{POLICY}")
+    manager = place.start("--maxjobs", "4")
+    wait_until(lambda: place.calls("sbatch") > 6, "sbatch is not called again")
+    same(len(place.jobs()), 2)
+    place.write("over", "")
+    same(ended(manager), ("".join(f"{name} DONE attempts=1 value=0\n" for name in names) + "result 0\n", "", 0))
+    same([place.read(f"ran.{name}") for name in names], [f"{name}\n" for name in names])
+
+
+def stopped_while_there_is_no_room(place):
+    """The launcher ends at once: nothing is on its way, so nothing is looked for."""
+    place.settings["DAGRUN_SLURM_POLL"] = str(PATIENCE)
+    place.one()
+    place.mode("says", POLICY)
+    place.mode("refuses", "1")
+    manager = place.start()
+    wait_until(lambda: place.there("A.err") and place.read("A.err"), "it does not wait")
+    (launcher,) = place.processes()
+    os.kill(launcher, signal.SIGTERM)
+    same(ended(manager), report("ERROR", 143))
+    place.wait_for_guards()
+    same((place.jobs(), place.calls("squeue"), place.there("x.dag.slurm/ended")), ({}, 1, False))
 
 
 def an_answer_that_comes_late(place):
@@ -677,6 +754,107 @@ def a_doubled_job_that_waits(place):
     wait_until(lambda: place.jobs()[101][1] == "CANCELLED", "it is not cancelled")
     place.unmode("holds.101")
     same(place.read("ran.A"), "A\n")
+
+
+# ---- Clusters
+
+
+def a_cluster(place):
+    """The job is on the cluster that was named, also where the answer of sbatch is lost."""
+    for name, words in (
+        ("DAGRUN_SLURM", "-M c2"), ("DAGRUN_SLURM", "-p x --clusters=c2"), ("DAGRUN_SLURM", "-Mc2"), ("SLURM_CLUSTERS", "c2"), ("SBATCH_CLUSTERS", "c2"),
+    ):
+        place.settings[name] = words
+        if name == "SLURM_CLUSTERS":
+            place.mode("loses", "1")
+        place.one(JOB + "exit 3\n")
+        same(place.run("--autorescue", "0"), report("ERROR", 3))
+        del place.settings[name]
+    same([line[3] for line in place.ended_lines()], [f"{number};c2" for number in range(101, 106)])
+    same((place.calls("sbatch"), place.read("ran.A")), (5, "A\n" * 5))
+    place.one()
+    same(place.run("--autorescue", "0"), DONE)
+    same(place.ended_lines()[5][3], "106")
+
+
+def two_clusters(place):
+    """One sacct for each of them; jobs of both are followed, and their memory is known."""
+    place.write("x.dag", "JOB A job.sub\nJOB B b.sub\n")
+    place.job(BEATS)
+    place.write("b.sub", place.read("job.sub").replace("queue\n", 'environment = "DAGRUN_SLURM=-Mc2"\nqueue\n'))
+    place.mode("asks")
+    manager = place.start()
+    place.wait_for("pid.A")
+    place.wait_for("pid.B")
+    place.write("over", "")
+    same(ended(manager)[0], "A DONE attempts=1 value=0\nB DONE attempts=1 value=0\nresult 0\n")
+    same(sorted((line[1], ";c2" in line[3], line[6]) for line in place.ended_lines()), [("A", False, "5120K"), ("B", True, "5120K")])
+    same({line.strip() for line in open(f"{place.state}/asks")} - {""}, {",101,", ",102,"})
+
+
+def a_cluster_in_a_later_life(place):
+    """A later life goes by what was noted, whatever the settings name by then."""
+    for before, after in (("c2", None), (None, "c2")):
+        place.settings.pop("SLURM_CLUSTERS", None)
+        if before:
+            place.settings["SLURM_CLUSTERS"] = before
+        place.one(BEATS)
+        manager = place.start("--autorescue", "0")
+        place.wait_for("pid.A")
+        crash(place, manager)
+        place.settings.pop("SLURM_CLUSTERS", None)
+        if after:
+            place.settings["SLURM_CLUSTERS"] = after
+        # A job that another cluster is asked about would be lost by then.
+        asked = place.calls("sacct")
+        manager = place.start()
+        wait_until(lambda: place.calls("sacct") > asked + 10 or manager.poll() is not None, "sacct is not called")
+        same(manager.poll(), None)
+        place.write("over", "")
+        same(ended(manager), DONE)
+        same(place.read("ran.A"), "A\n")
+        for name in ("over", "pid.A", "ran.A"):
+            os.remove(place.at(name))
+    same([line[3] for line in place.ended_lines()], ["101;c2", "102"])
+
+
+def cancelled_on_a_cluster(place):
+    """By the launcher, by its guard, and by the next round."""
+    place.settings["DAGRUN_SLURM"] = "-M c2"
+    place.one(BEATS)
+    for number, way in enumerate((signal.SIGTERM, signal.SIGKILL)):
+        manager = place.start("--autorescue", "0")
+        wait_until(lambda: place.there("ran.A") and len(place.read("ran.A")) == 2 * number + 2, "it does not begin")
+        (launcher,) = place.processes()
+        os.kill(launcher, way)
+        same(ended(manager)[2], 1)
+        wait_until(lambda: place.states() == ["CANCELLED"] * (number + 1), "it is not cancelled")
+    manager = place.start("--autorescue", "0")
+    wait_until(lambda: len(place.read("ran.A")) == 6, "it does not begin")
+    crash(place, manager)
+    give_up(place, "redo")
+    del place.settings["DAGRUN_SLURM"]
+    manager = place.start()
+    wait_until(lambda: place.states()[:3] == ["CANCELLED"] * 3, "it is not cancelled")
+    place.write("over", "")
+    same(ended(manager), DONE)
+    same(place.states(), ["CANCELLED", "CANCELLED", "CANCELLED", "COMPLETED"])
+
+
+def no_array(place):
+    """An array, and more clusters than one, are refused before anything is submitted."""
+    array = "an array can't be asked for (-a, --array, SBATCH_ARRAY_INX): the job of a node is one job"
+    clusters = "only one cluster can be asked for (-M, --clusters, SBATCH_CLUSTERS, SLURM_CLUSTERS), not"
+    for name, words, told in (
+        ("DAGRUN_SLURM", "--array=1-1", array), ("DAGRUN_SLURM", "-p x -a 1", array), ("DAGRUN_SLURM", "-a1", array), ("SBATCH_ARRAY_INX", "1", array),
+        ("DAGRUN_SLURM", "-M c1,c2", f"{clusters} c1,c2"), ("SLURM_CLUSTERS", "all", f"{clusters} all"),
+    ):
+        place.settings[name] = words
+        place.one()
+        same(place.run("--autorescue", "0"), report("ERROR", 85))
+        same(place.read("A.err"), f"dagrun-slurm: {told}\n")
+        del place.settings[name]
+    same(place.calls("sbatch"), 0)
 
 
 # ---- What Slurm knows late, or not
@@ -1020,6 +1198,131 @@ def a_killed_launcher(place):
     wait_until(lambda: sorted(place.states()) == ["CANCELLED", "COMPLETED"], f"a job is left: {place.states()}")
 
 
+# ---- A round that was given up
+
+
+def crash(place, manager):
+    """Manager and launchers are killed; the guards leave the jobs alone."""
+    for process in (manager.pid, *place.processes()):
+        os.kill(process, signal.SIGKILL)
+    manager.communicate(timeout=PATIENCE)
+    place.wait_for_guards()
+
+
+def give_up(place, way):
+    """The next `run` begins a round anew: a file was changed, all is to be done again, or the journal was removed."""
+    if way == "salvage":
+        place.write("b.sub", "executable = /bin/true\nrequest_memory = 5\nqueue\n")
+    if way == "journal":
+        os.remove(place.at("x.dag.journal"))
+    else:
+        subprocess.run([f"{place.state}/bin/dagrun", way, "x.dag"], cwd=place.path, env=place.settings, capture_output=True, check=True, timeout=PATIENCE)
+
+
+def given_up(way):
+    """What the earlier round has left is cancelled before a job of the next one begins, also where squeue knows nothing of it for a moment. A job
+    that this folder doesn't know stays, whatever its name."""
+
+    def row(place):
+        place.write("x.dag", "JOB A job.sub\nJOB B b.sub\nPARENT A CHILD B\n")
+        place.write("b.sub", "executable = /bin/true\nqueue\n")
+        place.job(BEATS)
+        os.mkdir(f"{place.state}/jobs/50")
+        place.mode("jobs/50/is", "A.JOB.0.of-another-folder PENDING 0:0 None")
+        manager = place.start()
+        place.wait_for("pid.A")
+        first = int(place.read("pid.A"))
+        crash(place, manager)
+        give_up(place, way)
+        # Three answers of squeue take far less.
+        place.settings["DAGRUN_SLURM_WAIT"] = str(PATIENCE)
+        place.mode("blank", "3")
+        manager = place.start()
+        wait_until(lambda: place.read("ran.A") == "A\nA\n", "it is not started again")
+        same((alive(first), place.states()), (False, ["PENDING", "CANCELLED", "RUNNING"]))
+        place.write("over", "")
+        same(ended(manager)[0].splitlines()[-1], "result 0")
+        same(place.read("A.err"), "dagrun-slurm: cancelled what an earlier round had left: 101\n")
+        same(place.ended_lines()[0][1:], ["A", "0", "101", "-", "143", "-", "cancelled, since its round was given up"])
+        same(place.states(), ["PENDING", "CANCELLED", "COMPLETED", "COMPLETED"])
+        same([name for name in os.listdir(place.at("x.dag.slurm/open")) if name.isdigit()], [])
+
+    row.__name__ = f"given_up_by_{way}"
+    return row
+
+
+def given_up_in_the_queue(place):
+    """Of two launchers one cancels, and the other waits until that is done."""
+    place.write("x.dag", "JOB a/b job.sub\nJOB C job.sub\n")
+    place.write("job.sub", "executable = job.sh\nerror = errors\nqueue\n")
+    place.write("job.sh", "#!/bin/sh\necho >>ran\n", 0o755)
+    place.mode("holds")
+    manager = place.start()
+    wait_until(lambda: place.states() == ["PENDING", "PENDING"], "they are not submitted")
+    place.processes(2)
+    crash(place, manager)
+    give_up(place, "redo")
+    manager = place.start()
+    wait_until(lambda: place.states() == ["CANCELLED", "CANCELLED", "PENDING", "PENDING"], "they are not cancelled, and submitted anew")
+    place.unmode("holds")
+    same(ended(manager)[2], 0)
+    same((place.read("ran"), place.calls("scancel")), ("\n\n", 1))
+    same(sorted(line[1] for line in place.ended_lines()[:2]), ["C", "a/b"])
+
+
+def given_up_before_an_answer(place):
+    """sbatch is at work as its round is given up: the job comes once the next round has had its own, and runs no program."""
+    place.one()
+    slow = 'if takes stays; then echo >"$S/at.work"; while [ ! -e "$S/goes.on" ]; do sleep 0.05; done; fi\nid=$('
+    place.script("sbatch", COMMON + SBATCH.replace("id=$(", slow, 1))
+    place.mode("stays", "1")
+    manager = place.start()
+    wait_until(lambda: os.path.exists(f"{place.state}/at.work"), "sbatch is not called")
+    for process in (manager.pid, *place.processes()):
+        os.kill(process, signal.SIGKILL)
+    manager.communicate(timeout=PATIENCE)
+    give_up(place, "redo")
+    same(place.run(), DONE)
+    place.mode("goes.on")
+    wait_until(lambda: place.states() == ["COMPLETED", "FAILED"], "it doesn't come, or doesn't fail")
+    same((place.read("ran.A"), place.jobs()[102][2]), ("A\n", "86:0"))
+
+
+def given_up_and_not_gone(place):
+    """A job that can't be cancelled: nothing is started beside it, and what is to be done is said."""
+    place.one(BEATS)
+    manager = place.start()
+    place.wait_for("pid.A")
+    crash(place, manager)
+    give_up(place, "redo")
+    # Each is called 300 times.
+    place.script("squeue", "#!/bin/sh\nread -r name state rest <@STATE@/jobs/101/is\necho \"101|$state|$name\"\n")
+    place.script("scancel", "#!/bin/sh\necho . >>@STATE@/calls.scancel\n")
+    place.settings["DAGRUN_SLURM_POLL"] = "0.005"
+    same(place.run(), report("ERROR", 85))
+    same(place.read("A.err"), "dagrun-slurm: jobs of an earlier round are not gone: scancel 101\n")
+    same((place.states(), place.read("ran.A"), place.calls("scancel")), (["RUNNING"], "A\n", 300))
+
+
+def a_copy_of_the_folder(place):
+    """What runs in the copy leaves the jobs of the original alone."""
+    place.one(BEATS)
+    original = place.start()
+    place.wait_for("pid.A")
+    first, path = int(place.read("pid.A")), place.path
+    place.path = f"{place.folder}/copy"
+    shutil.copytree(path, place.path)
+    os.remove(place.at("x.dag.journal"))
+    manager = place.start()
+    wait_until(lambda: place.read("ran.A") == "A\nA\n", "it is not started in the copy")
+    same((alive(first), place.states()), (True, ["RUNNING", "RUNNING"]))
+    place.write("over", "")
+    same(ended(manager), DONE)
+    place.path = path
+    place.write("over", "")
+    same(ended(original), DONE)
+
+
 # ---- What comes through
 
 WORDS = ["", "one two", "it's", 'a "quote"', "$HOME `id` $(id)", "line\nline", "back\\slash \\n", "*", "-n", "--", "ümlaut", "tab\there", "%j%%", "#SBATCH -x", "!", "~", "\r\n#SBATCH --x"]
@@ -1152,6 +1455,25 @@ def requests(place):
         same(place.run(), report("ERROR", 85))
 
 
+def no_other_writers(place):
+    """What is in a launcher's folder is written by its user alone, whatever the umask, which is the program's still. On a host it is the host's."""
+    place.script("loose", '#!/bin/sh\numask "$(cat @STATE@/umask)"\nexec "$@"\n')
+    place.one("#!/bin/sh\numask >seen\necho err >&2\n")
+    for launcher, folder in (("loose dagrun-slurm", "x.dag.slurm"), ("loose dagrun-ssh h1", "x.dag.ssh")):
+        for umask, others in (("0002", 0o022), ("0077", 0o077)):
+            place.mode("umask", umask)
+            # As an older launcher made them.
+            for name in (".", "open", "at", "down"):
+                os.makedirs(place.at(f"{folder}/{name}"), exist_ok=True)
+                os.chmod(place.at(f"{folder}/{name}"), 0o777 & ~int(umask, 8))
+            same(place.run("--autorescue", "0", launcher=launcher), DONE)
+            same(place.read("seen"), f"{umask}\n")
+            found = {path: os.stat(path).st_mode & others for top, _, names in os.walk(place.at(folder)) for path in (top, *(os.path.join(top, name) for name in names))}
+            same([path for path, mode in found.items() if mode], [])
+            same(any("/end." in path for path in found), True)
+            shutil.rmtree(place.at(folder))
+
+
 def many(place):
     """Thirty jobs, eight at once."""
     names = [f"n{number}" for number in range(30)]
@@ -1161,6 +1483,23 @@ def many(place):
     same((text, told, status), ("".join(f"{name} DONE attempts=1 value=0\n" for name in names) + "result 0\n", "", 0))
     same([place.read(f"ran.{name}") + place.read(f"{name}.out") for name in names], [f"{name}\n{name}\n" for name in names])
     same((len(place.jobs()), len(place.ended_lines())), (30, 30))
+
+
+def an_older_bash(place):
+    """What comes after the question for the version isn't read by an older bash: here it is no program of any shell."""
+    os.mkdir(f"{place.folder}/older")
+    place.settings["PATH"] = f"{place.folder}/older:" + place.settings["PATH"]
+    for launcher in ("dagrun-slurm", "dagrun-ssh"):
+        with open(f"{TOP}/launchers/{launcher}") as file:
+            head, end, _ = file.read().partition("\nfi\n")
+        with open(f"{place.folder}/older/{launcher}", "w") as file:
+            file.write(head.replace("${BASH_VERSINFO[0]}", "4") + end + ")\n")
+        os.chmod(f"{place.folder}/older/{launcher}", 0o755)
+        place.one()
+        same(place.run("--autorescue", "0", launcher=f"{launcher} h1" if launcher == "dagrun-ssh" else launcher), report("ERROR", 85))
+        words = place.read("A.err").splitlines()
+        same((len(words), words[0].startswith(f"{launcher} needs bash 5, and /bin/bash is ")), (1, True))
+    same((place.calls("sbatch"), place.calls("ssh"), place.there("x.dag.slurm"), place.there("x.dag.ssh")), (0, 0, False, False))
 
 
 def called_without_dagrun(place):
@@ -1408,6 +1747,27 @@ def ssh_killed_script(place):
     same(ended(manager), report("ERROR", 75))
 
 
+def ssh_own_groups(place):
+    """A program in process groups of its own (`set -m`, `timeout`): it is seen where all of the script's group is gone, and it is ended."""
+    by_ssh(place, "h1")
+    place.settings["DAGRUN_SSH_WAIT"] = "1"
+    below = "trap '' TERM; echo $$ >below.new; mv below.new below; while :; do sleep 0.1; done"
+    place.one(f'#!/bin/bash\nset -m\nsleep 1000 &\ntimeout 1000 sh -c "{below}"\n'.replace("$$", "\\$\\$"))
+    manager = place.start()
+    place.wait_for("below")
+    program = int(place.read("below"))
+    script = os.getsid(program)
+    same(len(groups_of(script)), 3)
+    os.killpg(script, signal.SIGKILL)
+    before = place.calls("ssh")
+    wait_until(lambda: place.calls("ssh") > before + 1, "the host is not asked")
+    same((manager.poll(), alive(program)), (None, True))
+    (launcher,) = place.processes()
+    os.kill(launcher, signal.SIGTERM)
+    same(ended(manager), report("ERROR", 143))
+    same(groups_of(script), set())
+
+
 def ssh_silent(place):
     """A host that doesn't answer any more, for longer than DAGRUN_SSH_LOST; and for a moment."""
     by_ssh(place, "h1")
@@ -1428,6 +1788,91 @@ def ssh_silent(place):
     wait_until(lambda: place.calls("ssh") > before + 1, "the host is not asked")
     place.write("over", "")
     same(ended(manager), DONE)
+
+
+def ssh_given_up(place):
+    """What the earlier round has left on a host is ended before a job of the next one begins."""
+    by_ssh(place)
+    place.write("x.dag", "JOB A job.sub\nJOB B b.sub\nPARENT A CHILD B\n")
+    place.write("b.sub", "executable = /bin/true\nqueue\n")
+    place.job(BEATS)
+    manager = place.start()
+    place.wait_for("pid.A")
+    first = int(place.read("pid.A"))
+    script = os.getsid(first)
+    crash(place, manager)
+    give_up(place, "salvage")
+    manager = place.start()
+    wait_until(lambda: place.read("ran.A") == "A\nA\n", "it is not started again")
+    same(alive(first), False)
+    place.write("over", "")
+    same(ended(manager)[0].splitlines()[-1], "result 0")
+    same(place.read("A.err"), f"dagrun-ssh: ended what an earlier round had left: {script} on h1\n")
+    same(ssh_lines(place)[0][1:], ["A", "0", str(script), "h1", "143", "-", "ended, since its round was given up"])
+    same([name for name in os.listdir(place.at("x.dag.ssh/at")) if ":" in name], [])
+
+
+def ssh_given_up_before_an_answer(place):
+    """A host starts the job once its round was given up and the next one is done: it runs no program."""
+    by_ssh(place, "h1")
+    place.one()
+    late = """if takes late; then
+    env -i PATH=/usr/bin:/bin setsid /bin/bash -c 'until [ -e "$0/goes.on" ]; do sleep 0.05; done; /bin/sh -c "$1" <<<"$2"; echo >"$0/was.late"' "$S" "$*" "$(cat)" >/dev/null 2>&1 &
+    echo >"$S/at.work"
+    exit 255
+fi
+"""
+    place.script("ssh", SSH.replace("cd / || exit 255\n", late + "cd / || exit 255\n", 1))
+    place.mode("late", "1")
+    manager = place.start()
+    wait_until(lambda: os.path.exists(f"{place.state}/at.work"), "ssh is not called")
+    crash(place, manager)
+    give_up(place, "redo")
+    same(place.run(), DONE)
+    same(place.read("ran.A"), "A\n")
+    place.mode("goes.on")
+    wait_until(lambda: os.path.exists(f"{place.state}/was.late"), "it does not come")
+    wait_until(lambda: not place.scripts(), "it does not end")
+    same(place.read("ran.A"), "A\n")
+
+
+def ssh_given_up_and_silent(place):
+    """A host that doesn't answer counts as lost, with its job, after DAGRUN_SSH_LOST."""
+    by_ssh(place, "h1", "h2")
+    place.settings.update(DAGRUN_SSH_LOST="1", DAGRUN_SSH_WAIT="2")
+    place.one(BEATS)
+    manager = place.start()
+    place.wait_for("pid.A")
+    script = os.getsid(int(place.read("pid.A")))
+    crash(place, manager)
+    give_up(place, "redo")
+    place.mode("down.h1")
+    os.remove(place.at("job.sh"))
+    place.write("job.sh", JOB, 0o755)
+    same(place.run(), DONE)
+    same(place.read("A.err"), f"dagrun-ssh: may run on, since its host does not answer: {script} on h1, of an earlier round\n")
+
+
+def ssh_noise(place):
+    """A host prints something before it answers: its job is there all the same, is gone where it is gone, and is ended."""
+    by_ssh(place, "h1")
+    place.mode("noise")
+    place.settings.update(DAGRUN_SSH_LOST="1", DAGRUN_SSH_WAIT="1")
+    place.one(BEATS.replace("over", "over.$2"), retry=1)
+    manager = place.start()
+    place.wait_for("pid.A")
+    before = place.calls("ssh")
+    wait_until(lambda: place.calls("ssh") > before + 1, "the host is not asked")
+    first = int(place.read("pid.A"))
+    same((manager.poll(), alive(first)), (None, True))
+    kill_session(os.getsid(first))
+    wait_until(lambda: place.read("ran.A") == "A\nA\n", "it is not started again")
+    wait_until(lambda: int(place.read("pid.A")) != first, "it has no number")
+    (*_, launcher) = place.processes(2)
+    os.kill(launcher, signal.SIGTERM)
+    same(ended(manager), report("ERROR", 143, 2))
+    same(alive(int(place.read("pid.A"))), False)
+    same([(line[5], line[7]) for line in ssh_lines(place)], [("75", "it is gone, and left no end"), ("143", "ended, since the launcher got SIGTERM")])
 
 
 def with_sshd(row):
@@ -1517,13 +1962,16 @@ KILLS = [
 ROWS = [
     exits, signals, a_lost_node, a_lost_node_without_accounts, a_time_limit, a_time_limit_with_an_end, a_memory_limit, a_cancelled_job, a_preempted_job,
     a_killed_script, completed_without_an_end, an_end_that_can_not_be_written, no_program, no_folder_on_the_node, never_submitted,
-    an_answer_that_comes_late, a_lost_answer, a_lost_answer_of_a_job_that_waits, a_doubled_job, a_doubled_job_that_waits, late_accounts, no_accounts,
+    no_room, no_room_for_all, stopped_while_there_is_no_room, an_answer_that_comes_late, a_lost_answer, a_lost_answer_of_a_job_that_waits, a_doubled_job, a_doubled_job_that_waits,
+    a_cluster, two_clusters, a_cluster_in_a_later_life, cancelled_on_a_cluster, no_array, late_accounts, no_accounts,
     told_to_end_without_accounts, a_signal_that_is_handed_on, slurm_is_down, a_moment_without_the_job, one_question_for_all, a_killed_manager, killed_with_launchers, an_end_that_was_not_recorded, *KILLS,
     killed_at_submitting_without_accounts, an_interrupt, a_stopped_launcher, a_stopped_launcher_in_the_queue, stopped_with_the_manager, stopped_and_not_recorded, an_abort,
-    an_abort_and_the_next_round, an_abort_before_an_answer, a_killed_launcher, words_come_through, words_of_a_submit_file, odd_names, a_folder_with_blanks, environment,
-    an_allocation_around_the_manager, outputs, output_while_it_runs, an_output_that_is_full, requests, many, called_without_dagrun,
+    an_abort_and_the_next_round, an_abort_before_an_answer, a_killed_launcher, given_up("salvage"), given_up("redo"), given_up("journal"),
+    given_up_in_the_queue, given_up_before_an_answer, given_up_and_not_gone, a_copy_of_the_folder, words_come_through, words_of_a_submit_file, odd_names, a_folder_with_blanks, environment,
+    an_allocation_around_the_manager, outputs, output_while_it_runs, an_output_that_is_full, requests, no_other_writers, many, an_older_bash, called_without_dagrun,
     ssh_exits, ssh_outputs, ssh_hosts, ssh_no_host, ssh_lost_answer, ssh_late_start, ssh_killed_manager, ssh_killed_with_launchers, ssh_stopped,
-    ssh_stopped_with_the_manager, ssh_stopped_and_not_recorded, ssh_abort, ssh_killed_launcher, ssh_gone, ssh_killed_script, ssh_silent, with_sshd(words_by), with_sshd(crash_by),
+    ssh_stopped_with_the_manager, ssh_stopped_and_not_recorded, ssh_abort, ssh_killed_launcher, ssh_gone, ssh_killed_script, ssh_own_groups, ssh_silent,
+    ssh_noise, ssh_given_up, ssh_given_up_before_an_answer, ssh_given_up_and_silent, with_sshd(words_by), with_sshd(crash_by),
 ]
 
 
