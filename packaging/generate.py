@@ -120,7 +120,8 @@ def bash(top, helps):
         f"        {told.command}) options='{' '.join(['--' + name for name, _, _ in told.options()] + ['--help'])}' ;;\n" for told in helps
     )
     values = "".join(f"        --{name}) values='{' '.join(words)}' ;;\n" for name, words in sorted(VALUES.items()))
-    others = sorted({name for told in helps for name, value, _ in told.options() if value and name not in VALUES})
+    others = sorted({name for told in helps for name, value, _ in told.options() if value and value != "FILE" and name not in VALUES})
+    of_files = sorted({name for told in helps for name, value, _ in told.options() if value == "FILE"})
     # Of a command that names no file the words are commands, or none that are known.
     names = {told.command: [name for name, _, _ in told.arguments()] for told in helps}
     plain = [command for command, of_it in names.items() if "DAG" not in of_it and "COMMAND" not in of_it]
@@ -151,6 +152,12 @@ _dagrun() {{
     done
     case $before in
 {values}        {'|'.join('--' + name for name in others)}) return ;;
+        {'|'.join('--' + name for name in of_files)})
+            local IFS=$'\\n'
+            compopt -o filenames 2>/dev/null
+            COMPREPLY=($(compgen -f -- "$word"))
+            return
+            ;;
     esac
     if [ -n "$values" ]; then
         COMPREPLY=($(compgen -W "$values" -- "$word"))
@@ -209,7 +216,7 @@ def zsh(top, helps):
     for told in helps:
         lines = ["'(-h --help)'{-h,--help}'[Print help]'"]
         for name, value, text in told.options():
-            values = f"({' '.join(VALUES[name])})" if name in VALUES else ""
+            values = f"({' '.join(VALUES[name])})" if name in VALUES else "_files" if value == "FILE" else ""
             taken = f":{value.replace('|', ' or ')}:{values}" if value else ""
             lines.append(f"'--{name}{'=' if value else ''}[{escaped(text)}]{taken}'")
         for place, (name, needed, _) in enumerate(told.arguments(), 1):
@@ -260,7 +267,8 @@ def fish(top, helps):
         here = f"complete -c dagrun -n '__fish_seen_subcommand_from {told.command}'"
         for name, value, text in told.options():
             values = f" -a '{' '.join(VALUES[name])}'" if name in VALUES else ""
-            lines.append(f"{here} -l {name}{' -x' if value else ''}{values} -d '{quoted_in_fish(text)}'")
+            takes = " -r -F" if value == "FILE" else " -x" if value else ""
+            lines.append(f"{here} -l {name}{takes}{values} -d '{quoted_in_fish(text)}'")
         names = [name for name, _, _ in told.arguments()]
         if "CODE" in names:
             lines.append(f"{here} -f -a '(dagrun explain 2>/dev/null | string replace -r \" .*\" \"\")'")

@@ -470,6 +470,157 @@ def forged_notes(folder):
     stranger.wait()
 
 
+TITLED = """import ctypes, time
+with open("/proc/self/stat") as file:
+    fields = file.read().rsplit(")", 1)[1].split()
+start, end = int(fields[47]), int(fields[48])
+title = b"worker: busy"
+ctypes.memset(start, 0, end - start)
+ctypes.memmove(start, title, len(title))
+open("b.ready", "w").close()
+time.sleep(5000)
+"""
+
+
+def without_settings(folder):
+    """A job without an environment, and one that writes a title over its own, as servers do."""
+    folder.write("x.dag", "JOB A a.sub\nJOB B b.sub\n")
+    sleep_file(folder, "a", 0, "/usr/bin/env", "-i /bin/sleep ")
+    folder.write("b.py", TITLED)
+    folder.write("b.sub", f"executable = {sys.executable}\narguments = b.py\nqueue\n")
+
+
+def kill_once_ready(folder, name, count, *words):
+    """A run that is killed once its jobs are started, so many in all by the log, and one of them has made this file; what was started."""
+    manager = start(folder, *words, "x.dag")
+    folder.wait_for(name)
+    wait_until(lambda: len(started_in(folder)) == count, f"not {count} are started")
+    kill(manager)
+    os.remove(folder.at(name))
+    return started_in(folder)
+
+
+def end_processes(processes):
+    for process in processes:
+        with contextlib.suppress(OSError):
+            os.kill(process, signal.SIGKILL)
+    wait_until(lambda: not any(map(runs_still, processes)), "what was killed still runs")
+
+
+def noted_alone(folder):
+    """Children whose environment says nothing are known by what was noted of them. They are not killed, and no copy starts beside them: not
+    even where they were left, and another manager came and went."""
+    without_settings(folder)
+    refused = ("", "dagrun: X2 FileRefused x.dag.children\n", 125)
+    orphans = [(node, "JOB", "0", "done=refused") for node in "AB"]
+    left = kill_once_ready(folder, "b.ready", 2)
+    same((folder.call("run", "x.dag"), started_in(folder), orphans_in(folder)), (refused, left, orphans))
+    left = kill_once_ready(folder, "b.ready", 4, "--orphans", "leave")
+    os.remove(folder.at("x.dag.log"))
+    same((folder.call("run", "x.dag"), list(map(runs_still, left))), (refused, [True] * 4))
+    same(orphans_in(folder), sorted(orphans * 2))
+    end_processes(left)
+    left = kill_once_ready(folder, "b.ready", 2)
+    end_processes(left)
+
+
+def waited_by_its_note(folder):
+    """`--orphans wait` waits for such a child, too."""
+    sleepers(folder, "A")
+    sleep_file(folder, "s", 0, "/usr/bin/env", "-i /bin/sleep ")
+    kill_after_start(folder, 1)
+    [child] = sleeping()
+    second = start(folder, "--orphans", "wait", "x.dag")
+    time.sleep(0.5)
+    same((sleeping(), started_in(folder)), ([child], [child]))
+    os.kill(child, signal.SIGKILL)
+    wait_until(lambda: are_others([child], 1), "the round doesn't go on")
+    same(orphans_in(folder), [("A", "JOB", "0", "done=waited")])
+    kill(second)
+
+
+def without_the_round(folder):
+    """A child that is started without the identifier on purpose has settings, and is left alone."""
+    folder.write("x.dag", "JOB A s.sub\n")
+    sleep_file(folder, "s", 0, "/usr/bin/env", "-u DAGRUN_ROUND /bin/sleep ")
+    kill_after_start(folder, 1)
+    [child] = sleeping()
+    second = start(folder, "x.dag")
+    wait_for_sleeping(2)
+    same((child in sleeping(), orphans_in(folder)), (True, []))
+    kill(second)
+
+
+def threads_of(process):
+    """How many threads a process has that go on."""
+    count = 0
+    with contextlib.suppress(OSError):
+        for thread in os.listdir(f"/proc/{process}/task"):
+            count += state_of(f"{process}/task/{thread}")[0] not in "ZX"
+    return count
+
+
+def first_thread_gone(folder):
+    """A process whose first thread has ended runs as long as another thread does."""
+    folder.write("x.dag", "JOB A a.sub\n")
+    folder.write("a.py", """import ctypes, os, threading, time
+threading.Thread(target=time.sleep, args=(5000,)).start()
+open("a.ready", "w").close()
+ctypes.CDLL(None).syscall(60, 0)
+""")
+    folder.write("a.sub", f"executable = {sys.executable}\narguments = a.py\nqueue\n")
+    [child] = kill_once_ready(folder, "a.ready", 1)
+    wait_until(lambda: state_of(child)[0] == "Z", "the first thread goes on")
+    same(threads_of(child), 1)
+    second = start(folder, "x.dag")
+    wait_until(lambda: len(started_in(folder)) == 2, "the round doesn't go on")
+    same((threads_of(child), orphans_in(folder)), (0, [("A", "JOB", "0", "done=killed")]))
+    kill(second)
+    end_processes(started_in(folder)[1:])
+
+
+def unreadable(folder):
+    """A child whose program may be executed and not read keeps its environment from an ordinary user."""
+    folder.write("x.dag", "JOB A s.sub\n")
+    shutil.copy(folder.program, folder.at("dagrun"))
+    shutil.copy("/bin/sleep", folder.at("sleep"))
+    os.chmod(folder.at("sleep"), 0o111)
+    sleep_file(folder, "s", 0, folder.at("sleep"))
+    more = {}
+    if os.getuid() == 0:
+        more = {"user": 65534, "group": 65534, "extra_groups": []}
+        for path in (folder.path, *map(folder.at, os.listdir(folder.path))):
+            os.chown(path, 65534, 65534)
+    own = Folder(folder.at("dagrun"), folder.path)
+    manager = start(own, "x.dag", **more)
+    [child] = wait_for_sleeping(1)
+    wait_until(lambda: started_in(folder), "nothing is logged")
+    kill(manager)
+    done = subprocess.run([own.program, "run", "x.dag"], cwd=own.path, capture_output=True, timeout=PATIENCE, **more)
+    same((done.stdout, done.stderr, done.returncode), (b"", b"dagrun: X2 FileRefused x.dag.children\n", 125))
+    same((sleeping(), orphans_in(folder)), ([child], [("A", "JOB", "0", "done=refused")]))
+
+
+def a_link_that_is_switched(folder):
+    """A run that ends removes nothing of another folder, which has the name of its own by then: what that one's manager left is found."""
+    one, other = inner(folder, "d1"), inner(folder, "d2")
+    os.symlink("d1", folder.at("current"))
+    one.write("x.dag", "JOB A a.sub\n")
+    folder.shell("a", "until [ -e go ]; do sleep 0.05; done\n")
+    manager = start(folder, "current/x.dag")
+    one.wait_for("x.dag.log")
+    one.wait_for_start("x.dag", "A")
+    sleepers(other, "A")
+    kill_after_start(other, 1)
+    os.remove(folder.at("current"))
+    os.symlink("d2", folder.at("current"))
+    folder.write("go", "")
+    same(manager.wait(timeout=PATIENCE), 0)
+    manager.stderr.close()
+    kill(begin_again(other, 1))
+    same(orphans_in(other), [("A", "JOB", "0", "done=killed")])
+
+
 def forged_identifiers(folder):
     """Lines that are no identifier of a round in this folder are passed over."""
     sleepers(folder, "A")
@@ -486,18 +637,47 @@ def forged_identifiers(folder):
 
 
 def a_manager_that_lives(folder):
-    """Where the manager that is noted still lives, nothing of its round is an orphan, even if somebody removed its lock."""
+    """Where the manager that is noted still lives, no other one begins, even if somebody removed its lock and its journal."""
     sleepers(folder, "A")
     first = start(folder, "x.dag")
     [child] = wait_for_sleeping(1)
     os.remove(folder.at("x.dag.lock"))
     os.rename(folder.at("x.dag.journal"), folder.at("kept"))
     shutil.copy(folder.at("kept"), folder.at("x.dag.journal"))
-    second = start(folder, "x.dag")
-    wait_for_sleeping(2)
-    same((child in sleeping(), first.poll(), orphans_in(folder)), (True, None, []))
+    for journal in (True, False):
+        same(folder.call("run", "x.dag"), ("", "dagrun: X2 FileRefused x.dag.lock\n", 125))
+        same((folder.there("x.dag.journal"), sleeping(), first.poll(), orphans_in(folder)), (journal, [child], None, []))
+        if journal:
+            os.remove(folder.at("x.dag.journal"))
     kill(first)
-    kill(second)
+    kill(begin_again(folder, 1))
+
+
+def another_boot(folder):
+    """Once the system was started again, and on another machine, devices have other numbers: the identifier counts where its file is the one that was
+    written, in the folder of then; in a copy of that file it doesn't."""
+    for is_copy in (False, True):
+        place = inner(folder, f"d{is_copy}")
+        sleepers(place, "A")
+        kill_after_start(place, 1)
+        [child] = sleeping()
+        first, number, manager = place.read("x.dag.round").decode().splitlines()
+        same(number, f"file\t{os.stat(place.at('x.dag.round')).st_ino}")
+        identifier, device, inode = first.split("\t")
+        fields = manager.split("\t")
+        fields[3] = "another"
+        lines = ["\t".join([identifier, str(int(device) + 1), inode]), number, "\t".join(fields)]
+        if is_copy:
+            os.rename(place.at("x.dag.round"), place.at("kept"))
+        place.write("x.dag.round", "".join(f"{line}\n" for line in lines))
+        second = start(place, "x.dag")
+        if is_copy:
+            wait_for_sleeping(2)
+        else:
+            wait_until(lambda: are_others([child], 1), "the round doesn't go on")
+        same(orphans_in(place), [] if is_copy else [("A", "JOB", "0", "done=killed")])
+        kill(second)
+        end_all()
 
 
 def our_ancestor(folder):
@@ -583,7 +763,7 @@ def what_children_inherit(folder):
     folder.shell("a", "env | grep ^DAGRUN_ | sort >> seen\ncp x.dag.round kept\n[ -e again ] || { : > again; exit 1; }\n")
     same(folder.call("run", "x.dag")[2], 0)
     same(folder.there("x.dag.round"), False)
-    line, _ = folder.read("kept").decode().splitlines()
+    line, *_ = folder.read("kept").decode().splitlines()
     found = os.stat(folder.path)
     same(line.split("\t")[1:], [str(found.st_dev), str(found.st_ino)])
     round_of = line.split("\t")[0]
@@ -602,7 +782,7 @@ def the_identifier_of_all_lives(folder):
     second = begin_again(folder, 1)
     after = folder.read("x.dag.round").splitlines()
     kill(second)
-    same((len(before), after[:-1]), (2, before[:-1]))
+    same((len(before), len(after), after[0]), (3, 3, before[0]))
     same([line.split(b"\t")[:2] for line in (before[-1], after[-1])], [[b"manager", before[-1].split(b"\t")[1]], [b"manager", str(second.pid).encode()]])
     same(folder.read("x.dag.children").splitlines()[0], after[-1])
 
@@ -612,8 +792,15 @@ ROWS = [
     a_refused_start,
     wrapped,
     forged_notes,
+    noted_alone,
+    waited_by_its_note,
+    without_the_round,
+    first_thread_gone,
+    unreadable,
+    a_link_that_is_switched,
     forged_identifiers,
     a_manager_that_lives,
+    another_boot,
     our_ancestor,
     an_identifier_that_can_not_be_kept,
     identifiers_that_can_not_be_read,

@@ -2797,6 +2797,40 @@ def salvaged_rounds(folder):
     same(folder.read("x.dag.rescue999"), rescue_of(4, "A", "B"))
 
 
+def salvaged_once_ended(folder):
+    """With --ended what is done in a round that has ended stays done in the next one, where nodes were added; not where it has written its rescue file."""
+    folder.write("x.dag", "JOB A a.sub\nJOB B a.sub\nPARENT A CHILD B\n")
+    folder.shell("a", "echo run >> ran\n")
+    folder.shell("c", "exit 1\n")
+    both = "A DONE attempts=1 value=0\nB DONE attempts=1 value=0\nresult 0\n"
+    same(folder.call("run", "x.dag"), (both, "", 0))
+    refused(folder, ("salvage", "x.dag"), "R2 Ended x.dag.journal")
+    folder.write("x.dag", "JOB A a.sub\nJOB B a.sub\nJOB C c.sub\nPARENT A CHILD B\nPARENT B CHILD C\n")
+    refused(folder, ("salvage", "x.dag"), "R2 Ended x.dag.journal")
+    same(folder.call("salvage", "--ended", "x.dag"), ("2 of 3 nodes are done: x.dag.rescue001\nchanged since the round began: x.dag\n", "", 0))
+    same((folder.read("x.dag.rescue001"), folder.there("x.dag.journal")), (rescue_of(3, "A", "B"), False))
+    kept = "A DONE attempts=0 value=-\nB DONE attempts=0 value=-\n"
+    same(folder.call("run", "x.dag"), (kept + "C ERROR attempts=1 value=1\nresult 1\n", "", 1))
+    same(folder.read("ran"), b"run\n" * 2)
+    # That round has written its rescue file: by it the next one goes on.
+    refused(folder, ("salvage", "--ended", "x.dag"), "R2 Ended x.dag.journal")
+    os.remove(folder.at("x.dag.rescue002"))
+    same(folder.call("salvage", "--ended", "x.dag"), ("2 of 3 nodes are done: x.dag.rescue002\n", "", 0))
+    same(folder.read("x.dag.rescue002"), rescue_of(3, "A", "B"))
+    # What keeps the files of the round is needed where they were changed, as for a round that was cut short.
+    folder.write("c.sub", folder.read("a.sub"))
+    same(folder.call("run", "x.dag"), (kept + "C DONE attempts=1 value=0\nresult 0\n", "", 0))
+    os.rename(folder.at("x.dag.begun"), folder.at("kept"))
+    folder.write("x.dag", "JOB A a.sub\nJOB D a.sub\n")
+    refused(folder, ("salvage", "--ended", "x.dag"), "R6 Changed x.dag")
+    os.rename(folder.at("kept"), folder.at("x.dag.begun"))
+    text = "1 of 2 nodes are done: x.dag.rescue003\nchanged since the round began: x.dag\nchanged since the round began: x.dag.rescue002\n"
+    folder.write("x.dag.rescue002", folder.read("x.dag.rescue002") + b"# mine\n")
+    same(folder.call("salvage", "--ended", "x.dag"), (text, lines_of_gone(["B", "C"]), 0))
+    os.remove(folder.at("x.dag.rescue002"))
+    same(folder.call("run", "x.dag"), ("A DONE attempts=0 value=-\nD DONE attempts=1 value=0\nresult 0\n", "", 0))
+
+
 def salvaged_splices(folder):
     """The files of splices are as they were; nodes of splices are marked by their full names."""
     folder.write("x.dag", "JOB A a.sub\nSPLICE S s.dag\nFINAL F f.sub\nPARENT A CHILD S\n")
@@ -4248,6 +4282,46 @@ def json_of(folder, command, dag):
     return json.loads(text, object_pairs_hook=in_order)
 
 
+def a_status_file(folder):
+    """The file has the object of `status --json` as the run goes on, at most once in so many seconds, and as it ends."""
+    folder.write("x.dag", "JOB A a.sub\nJOB B b.sub\nPARENT A CHILD B\n")
+    folder.shell("a", ": > begun\nuntil [ -e go ]; do sleep 0.02; done\n")
+    folder.shell("b", "exit 3\n")
+
+    def states():
+        return [(node["name"], node["state"], node["value"]) for node in json.loads(folder.read("s.json"))["nodes"]]
+
+    # What is read in between is never half a status.
+    run = folder.start("run", "--status-file", "s.json", "--status-every", "3600", "x.dag")
+    folder.wait_for("begun")
+    folder.wait_for("s.json")
+    same(states(), [("A", "SUBMITTED", None), ("B", "NOT_READY", None)])
+    begun = os.stat(folder.at("s.json")).st_ino
+    folder.write("go", "")
+    told, faults = run.communicate(timeout=PATIENCE)
+    same((told, faults, run.returncode), (b"A DONE attempts=1 value=0\nB ERROR attempts=1 value=3\nresult 1\n", b"", 1))
+    same((folder.read("s.json").decode(), "", 0), folder.call("status", "--json", "x.dag"))
+    same((os.stat(folder.at("s.json")).st_ino == begun, folder.there("s.json.new")), (False, False))
+    # With 0 it is written at each look: the state in between is seen.
+    os.remove(folder.at("go"))
+    folder.write("y.dag", "JOB A b.sub\nJOB B a.sub\nRETRY A 1\n")
+    run = folder.start("run", "--status-file", "s.json", "--status-every", "0", "y.dag")
+    wait_until(lambda: ("A", "ERROR", 3) in states(), "the error is not in the file")
+    same((json.loads(folder.read("s.json"))["dag"], states()[1]), ("y.dag", ("B", "SUBMITTED", None)))
+    folder.write("go", "")
+    run.communicate(timeout=PATIENCE)
+    # A file that can't be made, or is no status, refuses the run, and nothing is started.
+    kept = folder.read("a.sub")
+    os.mkdir(folder.at("there"))
+    for name in ("away/s.json", "a.sub", "there"):
+        same(folder.call("run", "--status-file", name, "x.dag"), ("", f"dagrun: X2 FileRefused {name}\n", 125))
+    same((folder.read("a.sub"), folder.there("a.sub.new")), (kept, False))
+    # An empty one, and one of an earlier run, are replaced; a round of which nothing is left to do has a status, too.
+    folder.write("s.json", "")
+    same(folder.call("run", "--status-file", "s.json", "x.dag")[2], 1)
+    same([state for _, state, _ in states()], ["DONE", "ERROR"])
+
+
 def json_is_the_text(folder):
     """What `status` and `times` print as JSON is what they print as text, of generated rounds."""
     rolls = random.Random(62)
@@ -4581,6 +4655,7 @@ ROWS = [
     inputs_of_many_bytes,
     a_report_again,
     when_the_steps_ran,
+    a_status_file,
     json_is_the_text,
     times_of_changed_files,
     times_without_a_log,
@@ -4654,6 +4729,7 @@ ROWS = [
     salvaged_with_submit_files_that_are_broken,
     salvaged_with_the_flag,
     salvaged_rounds,
+    salvaged_once_ended,
     salvaged_splices,
     salvaged_after_any_change,
     salvaged_with_samples_added,

@@ -780,13 +780,13 @@ def what_is_changed(folder):
     folder.write("B.sub", "executable = /bin/true\nqueue\n")
     for words in (("run",), ("status",)):
         told = folder.on_terminal(*words, "my flow.dag", columns=160)
-        same(told.screen.told()[:2], ["dagrun: J5 OtherInputs", "    changed since the round began: B.sub; dagrun salvage my flow.dag keeps what is done, and --as-begun shows the round"])
+        same(told.screen.told()[:2], ["dagrun: J5 OtherInputs", "    changed since the round began: B.sub; dagrun salvage 'my flow.dag' keeps what is done, and --as-begun shows the round"])
     changed = "changed since the round began: B.sub"
-    cut_short = "the round was cut short: dagrun salvage my flow.dag keeps what is done"
+    cut_short = "the round was cut short: dagrun salvage 'my flow.dag' keeps what is done"
     for words, lines in (
         (("why",), [f"no manager works on my flow.dag; {cut_short}", changed]),
         (("status", "--as-begun"), [f"1 DONE, 1 ERROR; no manager works on them; {cut_short}", changed]),
-        (("graph",), [f"{changed}; dagrun graph --as-is my flow.dag draws the files as they are"]),
+        (("graph",), [f"{changed}; dagrun graph --as-is 'my flow.dag' draws the files as they are"]),
         (("graph", "--as-is"), []),
         (("graph", "--as-begun"), [changed]),
         (("times",), [changed]),
@@ -805,8 +805,8 @@ def what_is_changed(folder):
     os.remove(over)
     same(folder.call("run", "my flow.dag")[2], 1)
     folder.write("B.sub", "executable = /bin/true\nqueue\n")
-    told = folder.on_terminal("status", "my flow.dag", columns=160)
-    same(told.screen.told()[1], "    changed since the round began: B.sub; dagrun run my flow.dag begins a new round, and --as-begun shows the last one")
+    told = folder.on_terminal("status", "my flow.dag", columns=220)
+    same(told.screen.told()[1], "    changed since the round began: B.sub; dagrun run 'my flow.dag' begins a new round, dagrun salvage --ended 'my flow.dag' keeps what is done for it, and --as-begun shows the last one")
     same(folder.on_terminal("why", "my flow.dag", columns=160).screen.told(), ["no manager works on my flow.dag", changed])
     # Nothing is said where nothing is changed.
     folder.shell("B", "exit 1\n", error=False)
@@ -829,8 +829,8 @@ def a_refusal_in_the_middle(folder):
     same(told.status, 125)
     same(told.text, "")
     lines = told.screen.told()
-    # The log can't grow either, so nobody knows any more what the system said.
-    same(lines, ["dagrun: J1 Device", "    dagrun explain J1 says more"])
+    # The log can't grow either, so what the system said is shown at once.
+    same(lines, ["journal: pwrite: File too large (os error 27)", "dagrun: J1 Device", "    dagrun explain J1 says more"])
     holds(len(told.progress()) > 1, "nothing was shown before")
 
 
@@ -860,7 +860,18 @@ def hints(folder):
         answer = folder.on_terminal("check", dag, columns=200)
         same((answer.status, answer.text), (125, ""))
         same(answer.screen.told(), lines)
+    # Of names of one letter none is nearer than another.
+    folder.write("c.dag", "JOB A a.sub\nJOB B a.sub\nPARENT A CHILD B C\n")
+    same(folder.on_terminal("check", "c.dag", columns=200).screen.told()[3:], ["    dagrun explain S5 says more"])
     # What some editors write before the first character, and nobody sees.
+    folder.write("u.sub", "\ufeff# a comment\nexecutable = /bin/true\nqueue\n")
+    folder.write("u.dag", "JOB A u.sub\n")
+    mark = "    a byte order mark is before it: sed -i '1s/^\\xEF\\xBB\\xBF//' "
+    same([line for line in folder.on_terminal("check", "u.dag", columns=200).screen.told() if "mark" in line], [mark + "u.sub"])
+    folder.write("x.dag.rescue001", "\ufeffDONE Fetch\n")
+    folder.write("x.dag", "JOB Fetch a.sub\n")
+    same([line for line in folder.on_terminal("run", "x.dag", columns=200).screen.told() if "mark" in line], [mark + "x.dag.rescue001"])
+    os.remove(folder.at("x.dag.rescue001"))
     folder.write("b.dag", "\ufeffJOB A a.sub\n")
     lines = folder.on_terminal("check", "b.dag", columns=200).screen.told()
     mend = "sed -i '1s/^\\xEF\\xBB\\xBF//' b.dag"
@@ -976,6 +987,31 @@ def what_is_in_the_way(folder):
         fcntl.flock(lock, fcntl.LOCK_EX)
         answer = folder.on_terminal("run", "x.dag")
         same(answer.screen.told()[:2], ["dagrun: X2 FileRefused x.dag.lock", "    another `dagrun run` works on this DAG"])
+    if shutil.which("strace"):
+        # As a file system does that takes no locks.
+        strace = ["strace", "-f", "-qqq", "-o", "/dev/null", "-e", "trace=flock", "-e", "inject=flock:error=ENOSYS"]
+        answer = Folder(strace[0], folder.path).on_terminal(*strace[1:], folder.program, "run", "x.dag", columns=200)
+        reason = "the file system of x.dag.lock takes no locks (flock): Function not implemented (os error 38)"
+        same(answer.screen.told()[:2], ["dagrun: X2 FileRefused x.dag.lock", f"    {reason}; keep the DAG file on one that does, or have it mounted so"])
+    # A manager works whose lock somebody removed.
+    folder.write("s.sub", "executable = /bin/sleep\narguments = 1000\nqueue\n")
+    folder.write("y.dag", "JOB A s.sub\n")
+    run = subprocess.Popen([folder.program, "run", "y.dag"], cwd=folder.path, stdout=subprocess.DEVNULL, stderr=subprocess.DEVNULL)
+    for _ in range(15000):
+        if folder.call("status", "y.dag")[0].startswith("A SUBMITTED "):
+            break
+        time.sleep(0.02)
+    os.remove(folder.at("y.dag.lock"))
+    for name in ("y.dag.journal", None):
+        answer = folder.on_terminal("run", "y.dag")
+        same(answer.screen.told()[:2], ["dagrun: X2 FileRefused y.dag.lock", "    another `dagrun run` works on this DAG, whose lock was removed"])
+        if name:
+            os.remove(folder.at(name))
+    run.kill()
+    run.wait(timeout=PATIENCE)
+    # What it left is ended by the next one.
+    folder.write("s.sub", "executable = /bin/true\nqueue\n")
+    same(folder.call("run", "y.dag")[2], 0)
     folder.write("x.dag.children", "")
     with open(folder.at("x.dag.children"), "wb") as file:
         file.write(b"\xff\n")
@@ -1051,6 +1087,36 @@ def all_are_done(folder):
     folder.write("x.dag", "JOB A A.sub DONE\n")
     told = folder.on_terminal("run", "x.dag")
     same(told.kept(), ["all nodes are done: x.dag says so"])
+
+
+def as_nobody(folder, *words, columns=160):
+    """What an ordinary user is told, in a folder of theirs; by root's leave."""
+    return Folder("setpriv", folder.path).on_terminal("--reuid=65534", "--regid=65534", "--clear-groups", folder.at("program"), *words, columns=columns)
+
+
+def files_of_others(folder):
+    """Where the lock may not be written, and where the journal is root's, that is said, and what to do."""
+    if os.getuid() != 0:
+        print("not root: files of root are not tried")
+        return
+    folder.write("x.dag", "JOB A a.sub\nJOB B a.sub\n")
+    folder.write("a.sub", "executable = /bin/true\nqueue\n")
+    shutil.copy(folder.program, folder.at("program"))
+    os.chmod(folder.path, 0o755)
+    os.chown(folder.path, 65534, 65534)
+    folder.write("x.dag.lock", "")
+    os.chown(folder.at("x.dag.lock"), 65534, 65534)
+    os.chmod(folder.at("x.dag.lock"), 0o444)
+    reason = "x.dag.lock: Permission denied (os error 13); remove it, where no `dagrun run` works on this DAG"
+    same(as_nobody(folder, "run", "x.dag").screen.told()[:2], ["dagrun: X2 FileRefused x.dag.lock", f"    {reason}"])
+    os.remove(folder.at("x.dag.lock"))
+    same(as_nobody(folder, "run", "x.dag").status, 0)
+    folder.cut("x.dag.journal")
+    for name in ("x.dag.journal", "x.dag.log"):
+        os.chown(folder.at(name), 0, 0)
+    told = as_nobody(folder, "run", "x.dag")
+    reason = "x.dag.journal belongs to user 0: have it given to you (chown), with the other files beside x.dag"
+    same((told.status, told.screen.told()), (125, ["dagrun: J1 Device", f"    {reason}", "    dagrun explain J1 says more"]))
 
 
 def a_status(folder):
@@ -1142,6 +1208,7 @@ ROWS = [
     hints,
     words_that_are_left_out,
     what_is_in_the_way,
+    files_of_others,
     goes_on_where_it_stood,
     noops,
     a_final_node,

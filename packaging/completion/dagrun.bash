@@ -25,7 +25,13 @@ _dagrun() {
         --progress) values='auto always never' ;;
         --script-output) values='0 1' ;;
         --sync-output) values='0 1' ;;
-        --dorescuefrom|--launcher|--launcher-grace|--log-limit|--maxjobs|--maxpost|--maxpre) return ;;
+        --dorescuefrom|--launcher|--launcher-grace|--log-limit|--maxjobs|--maxpost|--maxpre|--status-every) return ;;
+        --status-file)
+            local IFS=$'\n'
+            compopt -o filenames 2>/dev/null
+            COMPREPLY=($(compgen -f -- "$word"))
+            return
+            ;;
     esac
     if [ -n "$values" ]; then
         COMPREPLY=($(compgen -W "$values" -- "$word"))
@@ -33,12 +39,12 @@ _dagrun() {
     fi
     case $command in
         '') options='run status why times report salvage redo audit check rehearse graph explain help version --help' ;;
-        run) options='--maxjobs --maxpre --maxpost --autorescue --dorescuefrom --always-run-post --stop-at-first-error --sync-output --script-output --log-limit --launcher --launcher-final --launcher-grace --orphans --progress --resume --trust-owner --help' ;;
+        run) options='--maxjobs --maxpre --maxpost --autorescue --dorescuefrom --always-run-post --stop-at-first-error --sync-output --script-output --log-limit --status-file --status-every --launcher --launcher-final --launcher-grace --orphans --progress --resume --trust-owner --help' ;;
         status) options='--json --as-begun --trust-owner --help' ;;
         why) options='--all --as-begun --trust-owner --help' ;;
         times) options='--svg --json --as-begun --trust-owner --help' ;;
         report) options='--reload --as-begun --trust-owner --help' ;;
-        salvage) options='--trust-owner --help' ;;
+        salvage) options='--ended --trust-owner --help' ;;
         redo) options='--only --trust-owner --help' ;;
         audit) options='--as-begun --trust-owner --help' ;;
         check) options='--all --hints --condor --help' ;;

@@ -50,6 +50,8 @@ _dagrun() {
                 '--sync-output=[0\: the files of output and error are not brought to the disk before an ending is recorded]:0 or 1:(0 1)' \
                 '--script-output=[0\: what scripts print is dropped, also where they fail]:0 or 1:(0 1)' \
                 '--log-limit=[How many MiB the log of a round may have; 64 where it is not given, 0 is no limit]:N:' \
+                '--status-file=[Writes the status as JSON into this file as the run begins, while it goes on, and as it ends]:FILE:_files' \
+                '--status-every=[How many seconds pass at least before that file is written again; 60 where it is not given]:N:' \
                 '--launcher=[What stands before the program of each job, as "srun -n1"; it is split as arguments are]:WORDS:' \
                 '--launcher-final[It stands before the program of FINAL'\''s job, too]' \
                 '--launcher-grace=[How many seconds launchers have to end where a run is stopped; 10 where it is not given, 0\: killed at once]:N:' \
@@ -96,6 +98,7 @@ _dagrun() {
         salvage)
             _arguments \
                 '(-h --help)'{-h,--help}'[Print help]' \
+                '--ended[Also of a round that has ended\: what is done in it stays done in the next one]' \
                 '--trust-owner[Root goes by the journal, the rescue files and the lock of another user, and others by those of root]' \
                 '1:DAG:_files -g "*.dag"'
             ;;

@@ -35,6 +35,8 @@ record AsksRun (rows : List Row) (options : RunOptions) : Type 0 where
   sync_output : is_on (codes "sync-output") rows ≡ options.sync_output
   script_output : is_on (codes "script-output") rows ≡ options.script_output
   log_limit : number_asked 16 (codes "log-limit") rows ≡ options.log_limit
+  status_file : first_of (codes "status-file") rows ≡ options.status_file
+  status_every : number_asked 16 (codes "status-every") rows ≡ options.status_every
   launcher : first_of (codes "launcher") rows ≡ None
   none : options.launcher ≡ []
   launcher_grace : number_asked 16 (codes "launcher-grace") rows ≡ options.launcher_grace
@@ -54,6 +56,8 @@ same_options rows options plain a b = λ i. record {
   sync_output = (a.sync_output ∙ b.sync_output) i;
   script_output = (a.script_output ∙ b.script_output) i;
   log_limit = (a.log_limit ∙ b.log_limit) i;
+  status_file = (a.status_file ∙ b.status_file) i;
+  status_every = (a.status_every ∙ b.status_every) i;
   launcher = (unlaunched _ _ a.launcher b.launcher ∙ sym b.none) i;
   launcher_grace = (a.launcher_grace ∙ b.launcher_grace) i;
   launcher_final = (a.launcher_final ∙ b.launcher_final) i;
@@ -73,7 +77,7 @@ run_alone rows dag plain (Graph path as_is begun owned) h is asks = absurd (diff
 run_alone rows dag plain (Why path nodes all begun owned) h is asks = absurd (differ _ _ refl h.0)
 run_alone rows dag plain (Times path svg json begun owned) h is asks = absurd (differ _ _ refl h.0)
 run_alone rows dag plain (Report path reload begun owned) h is asks = absurd (differ _ _ refl h.0)
-run_alone rows dag plain (Salvage path owned) h is asks = absurd (differ _ _ refl h.0)
+run_alone rows dag plain (Salvage path ended owned) h is asks = absurd (differ _ _ refl h.0)
 run_alone rows dag plain (Redo path names only owned) h is asks = absurd (differ _ _ refl h.0)
 run_alone rows dag plain (Page text) (inl h) is asks = absurd (differ _ _ refl h.0)
 run_alone rows dag plain (Page text) (inr (inl h)) is asks = absurd (differ _ _ refl h)
@@ -91,7 +95,7 @@ why_alone rows dag nodes (Rehearse path outcomes limits always_post) h is asks g
 why_alone rows dag nodes (Graph path as_is begun owned) h is asks grouped now distrusts = absurd (differ _ _ refl h.0)
 why_alone rows dag nodes (Times path svg json begun owned) h is asks grouped now distrusts = absurd (differ _ _ refl h.0)
 why_alone rows dag nodes (Report path reload begun owned) h is asks grouped now distrusts = absurd (differ _ _ refl h.0)
-why_alone rows dag nodes (Salvage path owned) h is asks grouped now distrusts = absurd (differ _ _ refl h.0)
+why_alone rows dag nodes (Salvage path ended owned) h is asks grouped now distrusts = absurd (differ _ _ refl h.0)
 why_alone rows dag nodes (Redo path names only owned) h is asks grouped now distrusts = absurd (differ _ _ refl h.0)
 why_alone rows dag nodes (Page text) (inl h) is asks grouped now distrusts = absurd (differ _ _ refl h.0)
 why_alone rows dag nodes (Page text) (inr (inl h)) is asks grouped now distrusts = absurd (differ _ _ refl h)
@@ -110,7 +114,7 @@ rehearsal_alone rows dag outcomes plain post (Graph path as_is begun owned) h is
 rehearsal_alone rows dag outcomes plain post (Why path names all begun owned) h is asks most posts = absurd (differ _ _ refl h.0)
 rehearsal_alone rows dag outcomes plain post (Times path svg json begun owned) h is asks most posts = absurd (differ _ _ refl h.0)
 rehearsal_alone rows dag outcomes plain post (Report path reload begun owned) h is asks most posts = absurd (differ _ _ refl h.0)
-rehearsal_alone rows dag outcomes plain post (Salvage path owned) h is asks most posts = absurd (differ _ _ refl h.0)
+rehearsal_alone rows dag outcomes plain post (Salvage path ended owned) h is asks most posts = absurd (differ _ _ refl h.0)
 rehearsal_alone rows dag outcomes plain post (Redo path names only owned) h is asks most posts = absurd (differ _ _ refl h.0)
 rehearsal_alone rows dag outcomes plain post (Page text) (inl h) is asks most posts = absurd (differ _ _ refl h.0)
 rehearsal_alone rows dag outcomes plain post (Page text) (inr (inl h)) is asks most posts = absurd (differ _ _ refl h)
@@ -126,7 +130,7 @@ version_alone rows (Graph path as_is begun owned) h = absurd (differ _ _ refl h.
 version_alone rows (Why path names all begun owned) h = absurd (differ _ _ refl h.0)
 version_alone rows (Times path svg json begun owned) h = absurd (differ _ _ refl h.0)
 version_alone rows (Report path reload begun owned) h = absurd (differ _ _ refl h.0)
-version_alone rows (Salvage path owned) h = absurd (differ _ _ refl h.0)
+version_alone rows (Salvage path ended owned) h = absurd (differ _ _ refl h.0)
 version_alone rows (Redo path names only owned) h = absurd (differ _ _ refl h.0)
 version_alone rows (Page text) (inl h) = absurd (differ _ _ refl h.0)
 version_alone rows (Page text) (inr (inl h)) = absurd (differ _ _ refl h)
@@ -167,6 +171,8 @@ four_only orphans progress request h = run_alone (rows_in (subcommand_of (dagrun
   sync_output = refl;
   script_output = refl;
   log_limit = refl;
+  status_file = refl;
+  status_every = refl;
   launcher = refl;
   none = refl;
   launcher_grace = refl;
@@ -199,6 +205,8 @@ fresh_only orphans progress request h = run_alone (rows_in (subcommand_of (dagru
   sync_output = refl;
   script_output = refl;
   log_limit = refl;
+  status_file = refl;
+  status_every = refl;
   launcher = refl;
   none = refl;
   launcher_grace = refl;

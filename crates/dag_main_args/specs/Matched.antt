@@ -85,6 +85,9 @@ pub record AreOptionsOf (rows : List Row) (options : RunOptions) : Type 0 where
   pub script_output : options.script_output ≡ is_on (codes "script-output") rows
   -- the log stops growing at so many MiB only where that is given
   pub log_limit : options.log_limit ≡ number_asked 16 (codes "log-limit") rows
+  -- the status is written into a file only where one is named, and at least so many seconds apart only where that is given
+  pub status_file : options.status_file ≡ first_of (codes "status-file") rows
+  pub status_every : options.status_every ≡ number_asked 16 (codes "status-every") rows
   -- the launcher is split into words as a submit file's arguments are
   pub launcher : IsLauncherOf (first_of (codes "launcher") rows) options.launcher
   -- how many seconds launchers have to end, only where that is given
@@ -154,7 +157,8 @@ IsRequestOf command rows (Times dag svg json as_begun trust_owner) = (command �
     × (json ≡ is_set (codes "json") rows) × TellsOfRound rows dag.now as_begun trust_owner
 IsRequestOf command rows (Report dag reload as_begun trust_owner) = (command ≡ codes "report") × (reload ≡ is_set (codes "reload") rows)
     × TellsOfRound rows dag.now as_begun trust_owner
-IsRequestOf command rows (Salvage dag trust_owner) = (command ≡ codes "salvage") × (dag.now ≡ dag_path rows) × (trust_owner ≡ trusts_owner rows)
+IsRequestOf command rows (Salvage dag ended trust_owner) = (command ≡ codes "salvage") × (dag.now ≡ dag_path rows) × (ended ≡ is_set (codes "ended") rows)
+    × (trust_owner ≡ trusts_owner rows)
 IsRequestOf command rows (Redo dag nodes only trust_owner) = (command ≡ codes "redo") × (dag.now ≡ dag_path rows)
     × (map (λ n. n.now) nodes.items ≡ nodes_asked rows) × (only ≡ is_set (codes "only") rows) × (trust_owner ≡ trusts_owner rows)
 IsRequestOf command rows (Page text) = IsPageOf command rows (string_bytes text)

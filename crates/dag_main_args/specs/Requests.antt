@@ -6,7 +6,7 @@ use Rattle.dag_main_args.specs.declared.request.RunOptions.{RunOptions}
 use Rattle.dag_main_args.specs.declared.request.Request.{Request}
 use Rattle.dag_main_args.specs.declared.request.Request.TheVariants.{Check, Run, Status, Audit, Rehearse, Graph, Why, Times, Report, Salvage, Redo, Page}
 
--- a command with its words: the path of the DAG file first; of a check also whether all faults of lines are asked for, and whether hints are; of `why` whether each node is asked for by itself; of `report` whether the page loads itself again; of `status` and `times` whether it is for other programs; of `graph` whether the files are drawn as they are; of a command that reads what stands beside
+-- a command with its words: the path of the DAG file first; of a check also whether all faults of lines are asked for, and whether hints are; of `why` whether each node is asked for by itself; of `report` whether the page loads itself again; of `status` and `times` whether it is for other programs; of `graph` whether the files are drawn as they are; of `salvage` whether a round that has ended is taken, too; of a command that reads what stands beside
 -- that file last whether its owner is trusted, and of one that tells of a round whether by the files with which this began; or the page that is to be printed, which the words alone determine
 pub data Asked : Type 0 where
   checks : List ℕ → (all hinted : Bool) → Asked
@@ -18,7 +18,7 @@ pub data Asked : Type 0 where
   asks_why : List ℕ → List (List ℕ) → (all as_begun trust_owner : Bool) → Asked
   times : List ℕ → (svg json as_begun trust_owner : Bool) → Asked
   reports : List ℕ → (reload as_begun trust_owner : Bool) → Asked
-  salvages : List ℕ → (trust_owner : Bool) → Asked
+  salvages : List ℕ → (ended trust_owner : Bool) → Asked
   redoes : List ℕ → List (List ℕ) → (only trust_owner : Bool) → Asked
   shows : List ℕ → Asked
 
@@ -33,7 +33,7 @@ asked_by (Graph dag as_is as_begun trust_owner) = draws dag.now as_is as_begun t
 asked_by (Why dag nodes all as_begun trust_owner) = asks_why dag.now (map (λ n. n.now) nodes.items) all as_begun trust_owner
 asked_by (Times dag svg json as_begun trust_owner) = times dag.now svg json as_begun trust_owner
 asked_by (Report dag reload as_begun trust_owner) = reports dag.now reload as_begun trust_owner
-asked_by (Salvage dag trust_owner) = salvages dag.now trust_owner
+asked_by (Salvage dag ended trust_owner) = salvages dag.now ended trust_owner
 asked_by (Redo dag nodes only trust_owner) = redoes dag.now (map (λ n. n.now) nodes.items) only trust_owner
 asked_by (Page text) = shows (string_bytes text)
 
@@ -59,6 +59,6 @@ limits_in (draws dag as_is as_begun trust_owner) = None
 limits_in (asks_why dag nodes all as_begun trust_owner) = None
 limits_in (times dag svg json as_begun trust_owner) = None
 limits_in (reports dag reload as_begun trust_owner) = None
-limits_in (salvages dag trust_owner) = None
+limits_in (salvages dag ended trust_owner) = None
 limits_in (redoes dag nodes only trust_owner) = None
 limits_in (shows text) = None

@@ -7,7 +7,7 @@ use Rattle.clap.specs.Simple.{App, Shape, new_rule, new_shape}
 use Rattle.clap.specs.declared.builder.action.ArgAction.TheVariants.{Set, Append, SetTrue}
 use Rattle.clap.specs.declared.builder.value_parser.ValueParser.TheVariants.{Names, Signed}
 use Rattle.dag_main_args.specs.declared.commands.Kind.{Kind}
-use Rattle.dag_main_args.specs.declared.commands.Kind.TheVariants.{Needed, Optional, Many, Number, Switch, Flag, FlagWithout, Words, Choice}
+use Rattle.dag_main_args.specs.declared.commands.Kind.TheVariants.{Needed, Optional, Many, Number, Switch, Flag, FlagWithout, Words, Path, Choice}
 use Rattle.dag_main_args.specs.declared.commands.ArgumentRow.{ArgumentRow}
 use Rattle.dag_main_args.specs.declared.commands.CommandRow.{CommandRow}
 
@@ -73,7 +73,8 @@ of_round name = command name (dag ∷ as_it_began ∷ trust_owner ∷ [])
 -- what a run may be given
 abbrev pub run_rules : (is_tied : Bool) → (orphans progress : Bor (List (Bor Text))) → List Rule
 run_rules is_tied orphans progress = dag ∷ number (codes "maxjobs") ∷ number (codes "maxpre") ∷ number (codes "maxpost") ∷ switch (codes "autorescue")
-    ∷ number (codes "dorescuefrom") ∷ flag (codes "always-run-post") ∷ flag (codes "stop-at-first-error") ∷ switch (codes "sync-output") ∷ switch (codes "script-output") ∷ number (codes "log-limit") ∷ named_text (codes "launcher")
+    ∷ number (codes "dorescuefrom") ∷ flag (codes "always-run-post") ∷ flag (codes "stop-at-first-error") ∷ switch (codes "sync-output") ∷ switch (codes "script-output") ∷ number (codes "log-limit")
+    ∷ named_text (codes "status-file") ∷ number (codes "status-every") ∷ named_text (codes "launcher")
     ∷ flag (codes "launcher-final") ∷ number (codes "launcher-grace") ∷ choice (codes "orphans") orphans ∷ choice (codes "progress") progress
     ∷ tied_flag is_tied (codes "resume") ∷ trust_owner ∷ []
 
@@ -89,7 +90,7 @@ commands is_tied orphans progress = command (codes "run") (run_rules is_tied orp
     ∷ command (codes "why") (dag ∷ many (codes "NODE") ∷ flag (codes "all") ∷ as_it_began ∷ trust_owner ∷ [])
     ∷ command (codes "times") (dag ∷ flag (codes "svg") ∷ tied_flag is_tied (codes "json") ∷ as_it_began ∷ trust_owner ∷ [])
     ∷ command (codes "report") (dag ∷ flag (codes "reload") ∷ as_it_began ∷ trust_owner ∷ [])
-    ∷ command (codes "salvage") (dag ∷ trust_owner ∷ [])
+    ∷ command (codes "salvage") (dag ∷ flag (codes "ended") ∷ trust_owner ∷ [])
     ∷ command (codes "redo") (dag ∷ many (codes "NODE") ∷ flag (codes "only") ∷ trust_owner ∷ [])
     ∷ of_round (codes "audit")
     ∷ command (codes "check") (dag ∷ flag (codes "all") ∷ flag (codes "hints") ∷ flag (codes "condor") ∷ [])
@@ -121,6 +122,7 @@ rule_of_kind is_tied name Switch = switch name
 rule_of_kind is_tied name Flag = flag name
 rule_of_kind is_tied name (FlagWithout other) = tied_flag is_tied name
 rule_of_kind is_tied name Words = named_text name
+rule_of_kind is_tied name Path = named_text name
 rule_of_kind is_tied name (Choice words) = choice name words
 
 abbrev pub rule_by : (is_tied : Bool) → ArgumentRow → Rule

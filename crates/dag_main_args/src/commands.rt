@@ -30,6 +30,8 @@ enum Kind {
     FlagWithout(&'static str),
     /// An option with words of its own, in one.
     Words,
+    /// An option with a path.
+    Path,
     /// An option with one of these words.
     Choice(&'static [&'static str]),
 }
@@ -126,6 +128,18 @@ const LOG_LIMIT: ArgumentRow = ArgumentRow {
     help: "How many MiB the log of a round may have; 64 where it is not given, 0 is no limit",
 };
 
+const STATUS_FILE: ArgumentRow = ArgumentRow {
+    name: "status-file",
+    kind: Kind::Path,
+    help: "Writes the status as JSON into this file as the run begins, while it goes on, and as it ends",
+};
+
+const STATUS_EVERY: ArgumentRow = ArgumentRow {
+    name: "status-every",
+    kind: Kind::Number,
+    help: "How many seconds pass at least before that file is written again; 60 where it is not given",
+};
+
 const CODE: ArgumentRow = ArgumentRow {
     name: "CODE",
     kind: Kind::Optional,
@@ -178,6 +192,12 @@ const ONLY: ArgumentRow = ArgumentRow {
     name: "only",
     kind: Kind::Flag,
     help: "These nodes alone run again: those that come after them stay done",
+};
+
+const ENDED: ArgumentRow = ArgumentRow {
+    name: "ended",
+    kind: Kind::Flag,
+    help: "Also of a round that has ended: what is done in it stays done in the next one",
 };
 
 const SVG: ArgumentRow = ArgumentRow {
@@ -274,6 +294,8 @@ static COMMANDS: [CommandRow; 14] = [
             SYNC_OUTPUT,
             SCRIPT_OUTPUT,
             LOG_LIMIT,
+            STATUS_FILE,
+            STATUS_EVERY,
             LAUNCHER,
             LAUNCHER_FINAL,
             LAUNCHER_GRACE,
@@ -306,7 +328,7 @@ static COMMANDS: [CommandRow; 14] = [
     CommandRow {
         name: "salvage",
         about: "Makes a rescue file of a round that was cut short, whose submit files were changed since",
-        arguments: &[FILE, TRUST_OWNER],
+        arguments: &[FILE, ENDED, TRUST_OWNER],
     },
     CommandRow {
         name: "redo",
@@ -482,6 +504,7 @@ fn argument_of<'a>(alloc: Global, row: &ArgumentRow, is_tied: bool) -> Result<Ar
             }
         }
         Kind::Words => argument.long(row.name).value_name("WORDS"),
+        Kind::Path => argument.long(row.name).value_name("FILE"),
         Kind::Choice(words) => argument.long(row.name).value_parser(words),
     })
 }

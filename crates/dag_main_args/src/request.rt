@@ -16,7 +16,7 @@ use crate::launchers::launcher_in;
 use crate::pages::explained;
 use clap::error::ErrorKind;
 use clap::{ArgMatches, Error};
-use dag_reader::Texts;
+use dag_reader::{Text, Texts};
 use std::alloc::{AllocError, Global};
 use throttles::Limits;
 
@@ -76,6 +76,10 @@ pub struct RunOptions {
     pub script_output: bool,
     /// How many MiB the log of the round may have, where that is said; 0 is no limit.
     pub log_limit: Option<u16>,
+    /// The file into which the status is written as JSON while the run goes on, where one is named.
+    pub status_file: Option<Text>,
+    /// How many seconds pass at least before it is written again, where that is said.
+    pub status_every: Option<u16>,
     /// The program that starts jobs, and the words before theirs; none where they are started by themselves.
     pub launcher: Texts,
     /// How many seconds it has to end by itself where a run is stopped, where that is said.
@@ -103,6 +107,8 @@ impl Drop for RunOptions {
             sync_output: _,
             script_output: _,
             log_limit: _,
+            status_file: _,
+            status_every: _,
             launcher: _,
             launcher_grace: _,
             launcher_final: _,
@@ -194,9 +200,10 @@ pub enum Request<'a> {
         trust_owner: bool,
     },
 
-    /// `salvage DAG`: the path of the DAG file.
+    /// `salvage DAG`: the path of the DAG file, and whether a round that has ended is made into a rescue file, too.
     Salvage {
         dag: &'a str,
+        ended: bool,
         trust_owner: bool,
     },
 
@@ -297,6 +304,16 @@ fn value_of<'a>(found: &ArgMatches<'a>, name: &str) -> Option<&'a str>
     found.get_str(name)
 }
 
+/// The first value of an option, where it has one.
+fn text_of(alloc: Global, found: &ArgMatches<'_>, name: &str) -> Result<Option<Text>, AllocError>
+    ensures { IfOk result (λ text. text ≡ first_of name.now (rows_of (found_of found.now))) }
+{
+    match value_of(found, name) {
+        Some(text) => Ok(Some(Text::new(alloc, text)?)),
+        None => Ok(None),
+    }
+}
+
 /// Whether this word is the first value of an option.
 fn is_given_as(found: &ArgMatches<'_>, name: &str, word: &str) -> bool
     ensures { result ≡ matched.is_given_as name.now word.now (rows_of (found_of found.now)) }
@@ -376,6 +393,8 @@ fn options_of(alloc: Global, found: &ArgMatches<'_>) -> Result<RunOptions, Words
         sync_output: is_on(found, "sync-output"),
         script_output: is_on(found, "script-output"),
         log_limit: number_of(found, "log-limit"),
+        status_file: text_of(alloc, found, "status-file")?,
+        status_every: number_of(found, "status-every"),
         launcher: launcher_in(alloc, value_of(found, "launcher"))?,
         launcher_grace: number_of(found, "launcher-grace"),
         launcher_final: is_set(found, "launcher-final"),
@@ -473,7 +492,11 @@ fn made_of_round<'a>(
     let dag = dag_of(found);
     let trust_owner = trusts_owner(found);
     match command {
-        "salvage" => Ok(Request::Salvage { dag, trust_owner }),
+        "salvage" => Ok(Request::Salvage {
+            dag,
+            ended: is_set(found, "ended"),
+            trust_owner,
+        }),
         "redo" => Ok(Request::Redo {
             dag,
             nodes: nodes_of(alloc, found)?,

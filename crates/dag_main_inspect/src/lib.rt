@@ -11,4 +11,4 @@ mod statuses;
 
 pub use audits::audit_of;
 pub use by_journal::{LastRound, Question, answer_here, last_round, report_here};
-pub use statuses::{bytes_in, core_of, plan_of_round, records_of, status_of};
+pub use statuses::{bytes_in, core_of, json_of_status, plan_of_round, records_of, status_of};

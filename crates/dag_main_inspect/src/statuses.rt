@@ -7,6 +7,7 @@ ghost use Rattle.sched_core.specs.Run.{chronological};
 ghost use Rattle.dag_main_check.specs.Planned.{IsPlanWith, IsPlanWithFault};
 ghost use Rattle.dag_main_check.specs.declared.fault.RunFault.TheVariants.{Memory};
 ghost use Rattle.dag_main_check.specs.Warnings.{warning_lines};
+ghost use Rattle.dag_main_inspect.specs.declared.statuses.Form.TheVariants.{Json};
 ghost use Rattle.dag_main_files.specs.Opened.{IsOfFiles, IsOfSome, IsRefusedFor, IsRefusedForSome, HasPlan, HasNoPlan};
 ghost use Rattle.dag_main_inspect.specs.Statused.{journal_bytes, flag_by, records_in_bytes, bytes_fault, form_text, IsStatusBy, IsRecordsFault, IsStatusOf, IsStatusTextOf, IsStatusFault};
 
@@ -175,6 +176,25 @@ fn status_plan(
         warnings: warning_text(alloc, plan.graph().flat().warnings())?,
         status: 0,
     })
+}
+
+/// The status of the run of a plan whose journal has these bytes as JSON, in one line; the DAG file has this path.
+///
+/// # Errors
+/// That of the journal or its first record that may not follow (`InManager`); `Memory`.
+pub fn json_of_status(
+    alloc: Global,
+    plan: &Plan,
+    bytes: &[u8],
+    path: &str,
+) -> Result<String, RunFault>
+    ensures says { IfOk result (λ text. IsStatusBy (form_text Json path.now) plan.now bytes.now (string_bytes text) 0) }
+    ensures refused { IfErr result (IsRecordsFault plan.now bytes.now) }
+{
+    let records = records_of(alloc, plan, bytes)?;
+    let core = core_of(alloc, plan, bytes, &records)?;
+    core.keeps_the_law();
+    Ok(status_json(alloc, &core, path)?)
 }
 
 /// The text of a status in a form; the DAG file has this path.

@@ -9,6 +9,7 @@ mod progress;
 mod rounds;
 mod runs;
 mod site;
+mod status_file;
 
 pub use dag_main_args::RunOptions;
 pub use dag_main_check::{Answer, RunFault};

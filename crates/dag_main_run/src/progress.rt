@@ -1,6 +1,7 @@
 //! How it is shown how far a run is.
 
 use crate::halting::HaltWatcher;
+use crate::status_file::StatusWatcher;
 use child_watcher::{ChildWatcher, CommandPart, Killed};
 use dag_main_args::RunOptions;
 use dag_main_check::RunFault;
@@ -82,12 +83,14 @@ pub(crate) fn progress_of<
     progress
 }
 
-/// Who is informed of the children of a round: first its log, then who shows how far it is, then who looks whether it is to be halted.
+/// Who is informed of the children of a round: first its log, then who shows how far it is, then who looks whether it is to be halted, and
+/// who writes its status for others.
 #[derive(Drop)]
 pub(crate) struct RoundWatcher<'a, R: Files<File = File> + Clock + AllocGlobal + Drop> {
     pub(crate) log: RunWatcher<'a, R>,
     pub(crate) progress: ProgressWatcher<'a, R>,
     pub(crate) halt: HaltWatcher<'a, R>,
+    pub(crate) status: StatusWatcher<'a, R>,
 }
 
 impl<
@@ -148,6 +151,7 @@ impl<
     fn waits(&mut self) {
         self.log.waits();
         self.progress.waits();
+        self.status.waits();
     }
 
     fn halts(&mut self) -> bool {

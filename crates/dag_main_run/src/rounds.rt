@@ -10,7 +10,10 @@ use dag_main_files::{Journaled, Place, Round, journal_path};
 use dag_reader::Text;
 use event_journal_log::{JournalFault, read_journal};
 use round_identity::RoundIdentity;
-use run_log::{OrphanFault, Orphans, RunWatcher, keep_rounds, kept_rounds, new_round, orphans_of};
+use run_log::{
+    OrphanFault, Orphans, RunWatcher, Seat, keep_rounds, kept_rounds, new_round, orphans_of,
+    seat_of,
+};
 use run_plan::Plan;
 use run_progress::{Screen, way_of};
 use std::alloc::{AllocError, Global};
@@ -19,11 +22,13 @@ use std::process::Processes;
 use std::rt::Files;
 use std::time::Clock;
 
-/// The identifiers that are kept for a round, first its own, and whether processes of the round were left that still run.
+/// The identifiers that are kept for a round, first its own, whether processes of the round were left that still run, and the lines of
+/// those that are known by what was noted of them.
 #[derive(Drop)]
 pub(crate) struct Kept {
     rounds: Vec<String>,
     some_left: bool,
+    notes: String,
 }
 
 /// By what the processes of a round are known, and whether some of earlier managers were left that still run.
@@ -32,6 +37,10 @@ pub(crate) struct Known {
     rounds: Vec<String>,
     dag: Text,
     pub(crate) some_left: bool,
+    /// the lines of those that are known by what was noted of them
+    pub(crate) notes: String,
+    /// where the folder of the DAG file was as the round began, as far as the system said it
+    seat: Option<Seat>,
 }
 
 /// The folder in which the DAG file is.
@@ -44,11 +53,13 @@ fn folder_path(alloc: Global, place: &Place<'_>) -> Result<Text, AllocError> {
     }
 }
 
-/// The name of what could not be read or asked, or of the file of the processes of which one still runs.
+/// The name of what could not be read or asked, of the lock of a manager that still works, or of the file of the processes of which one
+/// still runs.
 fn named_of(alloc: Global, place: &Place<'_>, fault: OrphanFault) -> Result<Text, AllocError> {
     match fault {
         OrphanFault::NotAsked => Text::new(alloc, "/proc"),
         OrphanFault::NotKnown => round_name(alloc, place),
+        OrphanFault::StillWorks => Text::joined(alloc, place.top, ".lock"),
         _ => children_name(alloc, place),
     }
 }
@@ -137,7 +148,7 @@ fn find_orphans<R: Files<File = File> + Clock + AllocGlobal + Clone + Drop>(
 ///
 /// # Errors
 /// `FileRefused` with the file of the manager's processes or that of the round's identifier, where the system refuses to read it or it
-/// is no regular one, or with `/proc`, where the system refuses to say which processes there are; `Memory`.
+/// is no regular one, with the lock, where that manager still works, or with `/proc`, where the system refuses to say which processes there are; `Memory`.
 pub(crate) fn orphans_found<R: Files<File = File> + Clock + AllocGlobal + Clone + Drop>(
     rt: &R,
     place: &Place<'_>,
@@ -170,6 +181,24 @@ fn settle<R: Processes + Files<File = File> + Clock + Screen + AllocGlobal + Clo
     orphans.settle(rt, options.orphans, &mut log)
 }
 
+/// What is kept of a round whose processes were dealt with, of which some may be left.
+fn kept_of<R: Files + AllocGlobal>(
+    rt: &R,
+    orphans: Orphans,
+    some_left: bool,
+) -> Result<Kept, OrphanFault> {
+    let notes = if some_left {
+        orphans.notes(rt)?
+    } else {
+        String::new(rt.alloc())
+    };
+    Ok(Kept {
+        rounds: orphans.into_rounds(),
+        some_left,
+        notes,
+    })
+}
+
 /// Deals with these processes, which an earlier manager of the round left, as the options say, and answers by which identifiers they
 /// are known. Whatever else may refuse the run was asked before: they are left alone where the manager will be refused for the
 /// journal's sake.
@@ -190,11 +219,11 @@ pub(crate) fn settled<
     ensures { IfErr result IsFileFault }
 {
     let mut orphans = orphans;
-    match settle(rt, place, plan, round, options, &mut orphans) {
-        Ok(some_left) => Ok(Kept {
-            rounds: orphans.into_rounds(),
-            some_left,
-        }),
+    let kept = settle(rt, place, plan, round, options, &mut orphans).and_then(|some_left| kept_of(
+        rt, orphans, some_left,
+    ));
+    match kept {
+        Ok(kept) => Ok(kept),
         Err(fault) => Err(refused_for(rt.alloc(), place, fault)),
     }
 }
@@ -202,7 +231,11 @@ pub(crate) fn settled<
 impl Kept {
     /// The identifiers of a round that begins: a new one, and behind it those of which processes were left.
     fn renewed<R: Files + Clock + AllocGlobal>(self, rt: &R) -> Result<Kept, AllocError> {
-        let Kept { rounds, some_left } = self;
+        let Kept {
+            rounds,
+            some_left,
+            notes,
+        } = self;
         let mut renewed = Vec::new(rt.alloc());
         renewed.push(new_round(rt)?)?;
         if some_left {
@@ -213,6 +246,7 @@ impl Kept {
         Ok(Kept {
             rounds: renewed,
             some_left,
+            notes,
         })
     }
 }
@@ -225,22 +259,36 @@ impl Known {
             dag: self.dag.as_str(),
         }
     }
+
+    /// Whether the folder of the DAG file is still the one in which the round began: that may have another name by now, and another one
+    /// have its name.
+    pub(crate) fn is_in_place<R: Files + AllocGlobal>(&self, rt: &R, place: &Place<'_>) -> bool {
+        self.seat.is_some() && seat_at(rt, place) == self.seat
+    }
+}
+
+/// Where the folder of the DAG file is now, as far as the system says it.
+fn seat_at<R: Files + AllocGlobal>(rt: &R, place: &Place<'_>) -> Option<Seat> {
+    let folder = folder_path(rt.alloc(), place).ok()?;
+    seat_of(rt, folder.as_str()).ok()
 }
 
 /// The identifiers of a round: those that are kept, where it goes on, or else a new one. They are kept with this manager. Where the
-/// system refuses that, the log says so, and the round goes on.
+/// system refuses that, the log says so, and the round goes on. What a launcher starts elsewhere outlives this machine.
 fn renewed_where_new<R: Files<File = File> + Clock + AllocGlobal + Copy + Drop>(
     rt: R,
     place: &Place<'_>,
     round: &Round,
     kept: Kept,
+    is_launched: bool,
     log: &mut RunWatcher<'_, R>,
 ) -> Result<Kept, AllocError> {
     let alloc = rt.alloc();
     let goes_on = round.journal == Journaled::Unfinished && !kept.rounds.is_empty();
     let kept = if goes_on { kept } else { kept.renewed(&rt)? };
     let (path, folder) = (round_path(alloc, place)?, folder_path(alloc, place)?);
-    if let Err(error) = keep_rounds(&rt, path.as_str(), folder.as_str(), &kept.rounds) {
+    let (path, folder) = (path.as_str(), folder.as_str());
+    if let Err(error) = keep_rounds(&rt, path, folder, &kept.rounds, is_launched) {
         log.cannot_keep(&error);
     }
     Ok(kept)
@@ -255,13 +303,20 @@ pub(crate) fn identified<R: Files<File = File> + Clock + AllocGlobal + Copy + Dr
     place: &Place<'_>,
     round: &Round,
     kept: Kept,
+    is_launched: bool,
     log: &mut RunWatcher<'_, R>,
 ) -> Result<Known, AllocError> {
     let dag = place.at(rt.alloc(), place.top)?;
-    let Kept { rounds, some_left } = renewed_where_new(rt, place, round, kept, log)?;
+    let Kept {
+        rounds,
+        some_left,
+        notes,
+    } = renewed_where_new(rt, place, round, kept, is_launched, log)?;
     Ok(Known {
         rounds,
         dag,
         some_left,
+        notes,
+        seat: seat_at(&rt, place),
     })
 }

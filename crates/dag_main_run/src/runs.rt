@@ -16,6 +16,7 @@ use crate::launching::launcher_of;
 use crate::progress::{RoundWatcher, progress_of};
 use crate::rounds::{Known, identified, orphans_found, settled};
 use crate::site::Site;
+use crate::status_file::status_watcher;
 use child_watcher::ChildWatcher;
 use dag_graph::Graph;
 use dag_main_args::RunOptions;
@@ -166,27 +167,32 @@ fn text_in(text: &Option<String>) -> Option<&str> {
     }
 }
 
-/// Logs that a round is stopped by this fault, and why.
-fn log_stop<R: Files<File = File> + Clock + AllocGlobal + Copy + Drop>(
+/// Logs that a round is stopped by this fault, and why. Where the log can't be written, as on a full disk, the reason is shown where it is
+/// shown how far the run is.
+fn log_stop<R: Processes + Files<File = File> + Clock + Screen + AllocGlobal + Copy + Drop>(
     rt: R,
-    log: &mut RunWatcher<'_, R>,
+    watcher: &mut RoundWatcher<'_, R>,
     fault: &RunFault,
     reason: &Option<String>,
 ) {
-    if let Ok(line) = format!(in rt.alloc(); "{fault}") {
-        log.stops(line.as_str(), text_in(reason));
+    let is_logged = match format!(in rt.alloc(); "{fault}") {
+        Ok(line) => watcher.log.stops(line.as_str(), text_in(reason)),
+        Err(_) => false,
+    };
+    if let (false, Some(reason)) = (is_logged, text_in(reason)) {
+        watcher.progress.stops(reason);
     }
 }
 
-/// Forgets the processes of a manager, unless some are left.
+/// Forgets the processes of a manager, unless some are left, or the folder is another one by now.
 fn forget_children<R: Files<File = File> + Clock + AllocGlobal + Copy + Drop>(
     rt: R,
     place: &Place<'_>,
     log: &RunWatcher<'_, R>,
-    some_left: bool,
+    known: &Known,
     has_ended: bool,
 ) {
-    if !some_left && !log.has_let_go() {
+    if !known.some_left && !log.has_let_go() && known.is_in_place(&rt, place) {
         forget_processes(&rt, place, has_ended);
     }
 }
@@ -231,16 +237,17 @@ fn led_watched<
         &mut watcher,
     );
     watcher.progress.ends();
+    watcher.status.ends();
     match led {
         Ok(report) => {
             watcher.log.finishes(report.text.as_str(), report.status);
-            forget_children(rt, place, &watcher.log, known.some_left, true);
+            forget_children(rt, place, &watcher.log, known, true);
             Ok(report)
         }
         Err(stop) => {
             let fault = in_run(rt.alloc(), place.top, stop.cause, watcher.halt.by_error);
-            log_stop(rt, &mut watcher.log, &fault, &stop.reason);
-            forget_children(rt, place, &watcher.log, known.some_left, false);
+            log_stop(rt, &mut watcher, &fault, &stop.reason);
+            forget_children(rt, place, &watcher.log, known, false);
             Err(fault)
         }
     }
@@ -273,18 +280,22 @@ fn run_on<R: Processes + Files<File = File> + Clock + Screen + AllocGlobal + Cop
         return Err(RunFault::WaitFault);
     }
     let orphans = orphans_found(&rt, place)?;
+    let status = status_watcher(rt, place, plan, options)?;
     let (journal, rescue) = disks;
     let journal = site.readied(place.top, journal, round, lock)?;
     let kept = settled(&rt, place, plan, round, options, orphans)?;
     let left_out = keep_inputs(rt, place, plan, round, inputs)?;
     let halt = HaltWatcher::new(rt, place, plan, round, options)?;
     let mut log = watcher_of(rt, place, plan, round, options)?;
-    let known = identified(rt, place, round, kept, &mut log)?;
+    let is_launched = !options.launcher.as_slice().is_empty();
+    let known = identified(rt, place, round, kept, is_launched, &mut log)?;
     log.begins(&life_of(place, round, options, left_out));
+    log.notes_left(known.notes.as_str());
     let watcher = RoundWatcher {
         log,
         progress: progress_of(rt, place, plan, round, options),
         halt,
+        status,
     };
     led_watched(
         rt,

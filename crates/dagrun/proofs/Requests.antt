@@ -53,6 +53,6 @@ no-hints (draws path as_is begun owned) reply streams = refl
 no-hints (asks_why path nodes all begun owned) reply streams = refl
 no-hints (times path svg json begun owned) reply streams = refl
 no-hints (reports path reload begun owned) reply streams = refl
-no-hints (salvages path owned) reply streams = refl
+no-hints (salvages path ended owned) reply streams = refl
 no-hints (redoes path nodes only owned) reply streams = refl
 no-hints (shows page) reply streams = refl

@@ -117,7 +117,7 @@ module _ (rounds known : Rounds) (told : AreToldAs rounds known) where
   told-some (asks_why path nodes all begun owned) r is = is
   told-some (times path svg json begun owned) r is = is
   told-some (reports path reload begun owned) r is = is
-  told-some (salvages path owned) r is = is
+  told-some (salvages path ended owned) r is = is
   told-some (redoes path nodes only owned) r is = is
   told-some (shows page) r is = is
 
@@ -133,7 +133,7 @@ module _ (rounds known : Rounds) (told : AreToldAs rounds known) where
   told-from holds has (asks_why path nodes all begun owned) r is = is
   told-from holds has (times path svg json begun owned) r is = is
   told-from holds has (reports path reload begun owned) r is = is
-  told-from holds has (salvages path owned) r is = is
+  told-from holds has (salvages path ended owned) r is = is
   told-from holds has (redoes path nodes only owned) r is = is
   told-from holds has (shows page) r is = is
 
@@ -159,7 +159,7 @@ unbeside-some rounds known (draws path as_is begun owned) isnt r is = is
 unbeside-some rounds known (asks_why path nodes all begun owned) isnt r is = is
 unbeside-some rounds known (times path svg json begun owned) isnt r is = is
 unbeside-some rounds known (reports path reload begun owned) isnt r is = is
-unbeside-some rounds known (salvages path owned) isnt r is = is
+unbeside-some rounds known (salvages path ended owned) isnt r is = is
 unbeside-some rounds known (redoes path nodes only owned) isnt r is = is
 unbeside-some rounds known (shows page) isnt r is = is
 
@@ -174,7 +174,7 @@ unbeside-from holds has there rounds known (draws path as_is begun owned) isnt r
 unbeside-from holds has there rounds known (asks_why path nodes all begun owned) isnt r is = is
 unbeside-from holds has there rounds known (times path svg json begun owned) isnt r is = is
 unbeside-from holds has there rounds known (reports path reload begun owned) isnt r is = is
-unbeside-from holds has there rounds known (salvages path owned) isnt r is = absurd (false≢true (sym isnt))
+unbeside-from holds has there rounds known (salvages path ended owned) isnt r is = absurd (false≢true (sym isnt))
 unbeside-from holds has there rounds known (redoes path nodes only owned) isnt r is = absurd (false≢true (sym isnt))
 unbeside-from holds has there rounds known (shows page) isnt r is = is
 
@@ -199,7 +199,7 @@ unasked (draws path as_is begun owned) isnt run = absurd (false≢true run)
 unasked (asks_why path nodes all begun owned) isnt run = absurd (false≢true run)
 unasked (times path svg json begun owned) isnt run = absurd (false≢true run)
 unasked (reports path reload begun owned) isnt run = absurd (false≢true run)
-unasked (salvages path owned) isnt run = absurd (false≢true run)
+unasked (salvages path ended owned) isnt run = absurd (false≢true run)
 unasked (redoes path nodes only owned) isnt run = absurd (false≢true run)
 unasked (shows page) isnt run = absurd (false≢true run)
 

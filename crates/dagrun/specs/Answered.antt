@@ -121,7 +121,7 @@ is_owner_trusted (draws path as_is begun trust_owner) = trust_owner
 is_owner_trusted (asks_why path nodes all begun trust_owner) = trust_owner
 is_owner_trusted (times path svg json begun trust_owner) = trust_owner
 is_owner_trusted (reports path reload begun trust_owner) = trust_owner
-is_owner_trusted (salvages path trust_owner) = trust_owner
+is_owner_trusted (salvages path ended trust_owner) = trust_owner
 is_owner_trusted (redoes path nodes only trust_owner) = trust_owner
 is_owner_trusted _ = false
 
@@ -238,9 +238,9 @@ command_of_some rounds (draws path as_is begun trust_owner) = record {
 command_of_some rounds (asks_why path nodes all begun trust_owner) = record { answers = IsWhyOf (grouping_by all) path nodes; refused = IsRefusedBySome (round_asked begun) path (IsAnswerFault Status path) }
 command_of_some rounds (times path svg json begun trust_owner) = record { answers = IsTimesOf path (times_form svg json); refused = IsRefusedBySome (round_asked begun) path (IsTimesFault path) }
 command_of_some rounds (reports path reload begun trust_owner) = record { answers = IsReportPageOf path version_text reload; refused = IsRefusedBySome (round_asked begun) path (IsAnswerFault Status path) }
-command_of_some rounds (salvages path trust_owner) = record {
-  answers = IsSalvageWith (IsSalvageOf path) (IsSalvageFault any_files path);
-  refused = λ fault. IsSalvageFault any_files path (Refused fault);
+command_of_some rounds (salvages path ended trust_owner) = record {
+  answers = IsSalvageWith (IsSalvageOf ended path) (IsSalvageFault ended any_files path);
+  refused = λ fault. IsSalvageFault ended any_files path (Refused fault);
 }
 command_of_some rounds (redoes path nodes only trust_owner) = record { answers = IsRedoOf path nodes only; refused = IsRedoFault path }
 command_of_some rounds (shows page) = record { answers = IsPage page; refused = λ fault. ⊥ }
@@ -278,9 +278,9 @@ command_from holds has rounds (reports path reload begun trust_owner) = record {
   answers = SaidByFiles (round_asked begun) holds path (λ files. IsReportPageHeld files path version_text reload);
   refused = IsRefusedByFiles (round_asked begun) holds path (λ files. IsWhyFaultHeld files path);
 }
-command_from holds has rounds (salvages path trust_owner) = record {
-  answers = IsSalvageWith (IsSalvageFrom holds path) (IsSalvageFault (held_files holds has path) path);
-  refused = λ fault. IsSalvageFault (held_files holds has path) path (Refused fault);
+command_from holds has rounds (salvages path ended trust_owner) = record {
+  answers = IsSalvageWith (IsSalvageFrom ended holds path) (IsSalvageFault ended (held_files holds has path) path);
+  refused = λ fault. IsSalvageFault ended (held_files holds has path) path (Refused fault);
 }
 command_from holds has rounds (redoes path nodes only trust_owner) = record { answers = IsRedoHeld holds has path nodes only; refused = IsRedoFaultHeld holds path }
 command_from holds has rounds (shows page) = record { answers = IsPage page; refused = λ fault. ⊥ }

@@ -121,12 +121,16 @@ pub(crate) fn answer_in<
             };
             page_of_round(rt, folder, &place, reload, as_begun, trust_owner)
         }
-        Request::Salvage { dag, trust_owner } => {
+        Request::Salvage {
+            dag,
+            ended,
+            trust_owner,
+        } => {
             let place = Place {
                 folder: seat,
                 top: dag,
             };
-            salvage_in(rt, folder, &place, trust_owner)
+            salvage_in(rt, folder, &place, ended, trust_owner)
         }
         Request::Redo {
             dag,
@@ -215,24 +219,25 @@ fn not_salvaged(alloc: Global, fault: &SalvageFault) -> Result<Answer, RunFault>
     })
 }
 
-/// Makes a rescue file of a round that was cut short.
+/// Makes a rescue file of a round that was cut short, or has ended where such a round is taken, too.
 fn salvage_in<R: Files<File = File> + Clock + AllocGlobal + Copy + Drop, F: Folder>(
     rt: &R,
     folder: &F,
     place: &Place<'_>,
+    ended: bool,
     trust_owner: bool,
 ) -> Result<Answer, RunFault>
-    ensures answered { IfOk result (λ answer. IsSalvageWith (IsSalvageOf place.now.top.now)
-        (IsSalvageFault any_files place.now.top.now)
+    ensures answered { IfOk result (λ answer. IsSalvageWith (IsSalvageOf ended place.now.top.now)
+        (IsSalvageFault ended any_files place.now.top.now)
         (string_bytes answer.text) (string_bytes answer.warnings) answer.status) }
-    ensures held { F.honest folder.now → IfOk result (λ answer. IsSalvageWith (IsSalvageFrom (F.holds folder.now) place.now.top.now)
-        (IsSalvageFault (held_files (F.holds folder.now) (F.has folder.now) place.now.top.now) place.now.top.now)
+    ensures held { F.honest folder.now → IfOk result (λ answer. IsSalvageWith (IsSalvageFrom ended (F.holds folder.now) place.now.top.now)
+        (IsSalvageFault ended (held_files (F.holds folder.now) (F.has folder.now) place.now.top.now) place.now.top.now)
         (string_bytes answer.text) (string_bytes answer.warnings) answer.status) }
-    ensures refused { IfErr result (λ fault. IsSalvageFault any_files place.now.top.now (Refused fault)) }
-    ensures refused_held { F.honest folder.now → IfErr result (λ fault. IsSalvageFault (held_files (F.holds folder.now) (F.has folder.now) place.now.top.now)
+    ensures refused { IfErr result (λ fault. IsSalvageFault ended any_files place.now.top.now (Refused fault)) }
+    ensures refused_held { F.honest folder.now → IfErr result (λ fault. IsSalvageFault ended (held_files (F.holds folder.now) (F.has folder.now) place.now.top.now)
         place.now.top.now (Refused fault)) }
 {
-    match salvage_here(*rt, folder, place, trust_owner) {
+    match salvage_here(*rt, folder, place, ended, trust_owner) {
         Ok(answer) => Ok(answer),
         Err(fault) => {
             let own = fault.own()?;

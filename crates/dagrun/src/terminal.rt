@@ -8,11 +8,11 @@ use answer_console::Console;
 use dag_main_files::{Folder, Place, Reading, SystemFolder, files_of, read_input};
 use fault_guide::{Evidence, Refusal, hint_text};
 use file_hints::{Wanted, hints_of};
-use log_lines::{read_line, unquoted, whole_lines};
+use log_lines::{push_word, read_line, unquoted, whole_lines};
 use round_inputs::{Inputs, Listed, inputs_in, list_file};
 use std::alloc::{AllocError, Global};
 use std::env;
-use std::fs::{self, File, Metadata};
+use std::fs::{self, File, Metadata, OpenOptions, TryLockError};
 use std::io::{self, ErrorKind};
 use std::os::unix::fs::{FileTypeExt, MetadataExt};
 use std::rt::{Env, Files};
@@ -118,25 +118,103 @@ fn seen_at<R: Files + AllocGlobal>(rt: &R, path: &str) -> Result<Option<String>,
         return Ok(Some(format!(in alloc; "{path} is {kind}, no regular file")?));
     }
     match other_owner(rt, &found) {
-        Some(user) => Ok(Some(format!(in alloc;
-            "{path} belongs to user {user}: remove it, or see --trust-owner"
-        )?)),
+        Some(user) => Ok(Some(foreign_text(rt, path, user)?)),
         None => Ok(None),
     }
 }
 
-/// What is wrong with a regular file of this user's that can be read, by its name.
-fn wrong_with(path: &str, bytes: &[u8]) -> Option<&'static str> {
-    let is_text = str::from_utf8(bytes).is_ok();
-    if path.ends_with(".lock") {
-        Some("another `dagrun run` works on this DAG")
-    } else if !path.ends_with(".children") && !path.ends_with(".round") {
-        None
-    } else if is_text {
-        Some("a process of the round still runs: the log names it with done=refused")
-    } else {
-        Some("it is no text")
+/// What is said of a file that belongs to this user, another one: root may be told to trust it, and others to trust root.
+fn foreign_text<R: Files + AllocGlobal>(
+    rt: &R,
+    path: &str,
+    user: u32,
+) -> Result<String, AllocError> {
+    let alloc = rt.alloc();
+    let is_root = matches!(fs::metadata(rt, "/proc/self"), Ok(own) if own.uid() == ROOT);
+    if is_root || user == ROOT {
+        return format!(in alloc; "{path} belongs to user {user}: remove it, or see --trust-owner");
     }
+    format!(in alloc; "{path} belongs to user {user}, whose round it may be: ask them to remove it")
+}
+
+/// What is said of a lock that could not be had, which may be opened for writing: another manager has it, or its file system takes none.
+fn taken_text<R: AllocGlobal>(rt: &R, path: &str, file: &File) -> Result<String, AllocError> {
+    match file.try_lock_shared() {
+        Err(TryLockError::Error(error)) => format!(in rt.alloc();
+            "the file system of {path} takes no locks (flock): {error}; keep the DAG file on one that does, or have it mounted so"
+        ),
+        _ => String::from_str(rt.alloc(), "another `dagrun run` works on this DAG"),
+    }
+}
+
+/// Whether another process has locked the journal that is beside the lock of this path.
+fn is_journal_locked<R: Files<File = File> + AllocGlobal>(rt: &R, path: &str) -> bool {
+    let Some(dag) = path.strip_suffix(".lock") else {
+        return false;
+    };
+    let Ok(journal) = format!(in rt.alloc(); "{dag}.journal") else {
+        return false;
+    };
+    if !matches!(seen_at(rt, journal.as_str()), Ok(None)) {
+        return false;
+    }
+    match File::open(rt, journal.as_str()) {
+        Ok(file) => matches!(file.try_lock_shared(), Err(TryLockError::WouldBlock)),
+        Err(_) => false,
+    }
+}
+
+/// Whether the manager that began to work last on the DAG file of this lock is still there, by its log.
+fn is_manager_there<R: Files + AllocGlobal>(rt: &R, path: &str) -> bool {
+    let Some(top) = path.strip_suffix(".lock") else {
+        return false;
+    };
+    let Some(process) = manager_in_log(rt, &Place { folder: "", top }, false) else {
+        return false;
+    };
+    match format!(in rt.alloc(); "/proc/{process}") {
+        Ok(path) => fs::metadata(rt, path.as_str()).is_ok(),
+        Err(_) => false,
+    }
+}
+
+/// Why the lock of this path could not be had, which is no file of another kind or of another user; none where nothing is there, and
+/// no manager works.
+fn wrong_with_lock<R: Files<File = File> + AllocGlobal>(
+    rt: &R,
+    path: &str,
+) -> Result<Option<String>, AllocError> {
+    let alloc = rt.alloc();
+    match OpenOptions::new().write(true).open(rt, path) {
+        Ok(file) => Ok(Some(taken_text(rt, path, &file)?)),
+        Err(error) if error.kind() != ErrorKind::NotFound => Ok(Some(format!(in alloc;
+            "{path}: {error}; remove it, where no `dagrun run` works on this DAG"
+        )?)),
+        Err(_) if is_journal_locked(rt, path) || is_manager_there(rt, path) => {
+            Ok(Some(String::from_str(
+                alloc,
+                "another `dagrun run` works on this DAG, whose lock was removed",
+            )?))
+        }
+        Err(_) => Ok(None),
+    }
+}
+
+/// What is wrong with a regular file of this user's that can be read, by its name.
+fn wrong_with<R: Files<File = File> + AllocGlobal>(
+    rt: &R,
+    path: &str,
+    bytes: &[u8],
+) -> Result<Option<String>, AllocError> {
+    if !path.ends_with(".children") && !path.ends_with(".round") {
+        return Ok(None);
+    }
+    let words = if str::from_utf8(bytes).is_ok() {
+        "a process of the round still runs, which the log names with done=refused: end it, or see --orphans"
+    } else {
+        "it is no text"
+    };
+    Ok(Some(String::from_str(rt.alloc(), words)?))
 }
 
 /// The folder of a file of this path, `.` where its path has none.
@@ -182,21 +260,36 @@ fn missing_at<R: Files + Env + AllocGlobal>(
     }
 }
 
+/// Why the folder in which dagrun is called can't be named: its path is no text, say, or it was removed.
+fn reason_of_here<R: Env + AllocGlobal>(rt: &R) -> Result<Option<String>, AllocError> {
+    match env::current_dir(rt) {
+        Ok(_here) => Ok(None),
+        Err(error) => Ok(Some(format!(in rt.alloc();
+            "the path of this folder can't be used: {error}; call dagrun in another one"
+        )?)),
+    }
+}
+
 /// What a look at a path that was refused finds; `is_made` says whether dagrun would make a file there.
-fn reason_of_path<R: Files + Env + AllocGlobal>(
+fn reason_of_path<R: Files<File = File> + Env + AllocGlobal>(
     rt: &R,
     path: &str,
     is_made: bool,
 ) -> Result<Option<String>, AllocError> {
+    if path == "." {
+        return reason_of_here(rt);
+    }
     if let Some(seen) = seen_at(rt, path)? {
         return Ok(Some(seen));
     }
+    if path.ends_with(".lock") {
+        if let Some(reason) = wrong_with_lock(rt, path)? {
+            return Ok(Some(reason));
+        }
+    }
     let alloc = rt.alloc();
     match read_input(rt, path, false) {
-        Ok(bytes) => match wrong_with(path, &bytes) {
-            Some(words) => Ok(Some(String::from_str(alloc, words)?)),
-            None => Ok(None),
-        },
+        Ok(bytes) => wrong_with(rt, path, &bytes),
         Err(error) if error.kind() == ErrorKind::NotFound => {
             Ok(Some(missing_at(rt, path, is_made, &error)?))
         }
@@ -228,6 +321,42 @@ fn reason_in_log<R: Files + AllocGlobal>(rt: &R, dag: &str) -> Result<Option<Str
         },
         _ => Ok(None),
     }
+}
+
+/// What a look at the journal of a DAG file finds: it is no regular file, or another user's, who alone may write it.
+fn reason_at_journal<R: Files + AllocGlobal>(
+    rt: &R,
+    dag: &str,
+) -> Result<Option<String>, AllocError> {
+    let alloc = rt.alloc();
+    let path = format!(in alloc; "{dag}.journal")?;
+    let Ok(found) = fs::symlink_metadata(rt, path.as_str()) else {
+        return Ok(None);
+    };
+    if let Some(kind) = kind_of(&found) {
+        return Ok(Some(format!(in alloc; "{path} is {kind}, no regular file")?));
+    }
+    match other_owner(rt, &found) {
+        Some(user) => Ok(Some(format!(in alloc;
+            "{path} belongs to user {user}: have it given to you (chown), with the other files beside {dag}"
+        )?)),
+        None => Ok(None),
+    }
+}
+
+/// Why a call on the journal or the rescue file of a DAG file was refused: the log says it, where it could be written.
+fn reason_of_disk<R: Files + AllocGlobal>(rt: &R, dag: &str) -> Result<Option<String>, AllocError> {
+    match reason_in_log(rt, dag)? {
+        Some(reason) => Ok(Some(reason)),
+        None => reason_at_journal(rt, dag),
+    }
+}
+
+/// A path as a shell reads it, for a command that is proposed.
+fn quoted(alloc: Global, path: &str) -> Result<String, AllocError> {
+    let mut text = String::new(alloc);
+    push_word(&mut text, path)?;
+    Ok(text)
 }
 
 /// Whether the file of this path is another one than that with which a round began, or can't be read.
@@ -317,13 +446,14 @@ fn changed_since<R: Files<File = File> + Input + AllocGlobal + Copy + Drop>(
         return other_path(rt, dag);
     };
     let alloc = rt.alloc();
+    let word = quoted(alloc, dag)?;
     let text = if has_ended(rt, dag, false) == Some(true) {
         format!(in alloc;
-            "{files}; dagrun run {dag} begins a new round, and --as-begun shows the last one"
+            "{files}; dagrun run {word} begins a new round, dagrun salvage --ended {word} keeps what is done for it, and --as-begun shows the last one"
         )?
     } else {
         format!(in alloc;
-            "{files}; dagrun salvage {dag} keeps what is done, and --as-begun shows the round"
+            "{files}; dagrun salvage {word} keeps what is done, and --as-begun shows the round"
         )?
     };
     Ok(Some(text))
@@ -337,7 +467,7 @@ fn dag_text<R: Files + AllocGlobal>(rt: &R, dag: &str) -> Option<String> {
 }
 
 /// What is known of a submit file that can't be read: what the system says, and which line names it.
-fn reason_of_submit_file<R: Files + Env + AllocGlobal>(
+fn reason_of_submit_file<R: Files<File = File> + Env + AllocGlobal>(
     rt: &R,
     dag: Option<&str>,
     path: &str,
@@ -383,7 +513,7 @@ fn reason_of<R: Files<File = File> + Env + Input + AllocGlobal + Copy + Drop>(
     match (refusal.path(), dag) {
         (Some(path), _) if refusal.code == "P1" => reason_of_submit_file(rt, dag, path),
         (Some(path), _) => reason_of_path(rt, path, refusal.code == "X2"),
-        (None, Some(dag)) if refusal.code == "J1" => reason_in_log(rt, dag),
+        (None, Some(dag)) if refusal.code == "J1" => reason_of_disk(rt, dag),
         (None, Some(dag)) if refusal.code == "J5" => changed_since(rt, dag),
         (None, Some(dag)) if OF_A_NODE.contains(&refusal.code) => {
             place_of_node(rt, dag, refusal.detail)
@@ -499,12 +629,13 @@ fn going_on_text<R: Files<File = File> + Input + AllocGlobal + Copy + Drop>(
     if worker != NOBODY || has_ended(rt, dag, trusts_owner) != Some(false) {
         return Ok(String::new(alloc));
     }
+    let word = quoted(alloc, dag)?;
     if are_changed {
         return format!(in alloc;
-            "; the round was cut short: dagrun salvage {dag} keeps what is done"
+            "; the round was cut short: dagrun salvage {word} keeps what is done"
         );
     }
-    format!(in alloc; "; the round was cut short: dagrun run {dag} goes on")
+    format!(in alloc; "; the round was cut short: dagrun run {word} goes on")
 }
 
 /// Who works on this DAG file, and on what, and how to go on; then which files are changed since its last round began.
@@ -593,7 +724,7 @@ fn ended_text(
     }
     write!(text, ", {}", span_text(alloc, span)?)?;
     if failed > 0 {
-        write!(text, "; dagrun why {dag} says why")?;
+        write!(text, "; dagrun why {} says why", quoted(alloc, dag)?)?;
     }
     text.push('\n')?;
     Ok(text)
@@ -648,7 +779,8 @@ fn postscript_of<R: Files<File = File> + Clock + Env + Input + AllocGlobal + Cop
         },
         Postscript::ChangesDrawn => match changed_files(rt, dag)? {
             Some(changes) => format!(in alloc;
-                "{changes}; dagrun graph --as-is {dag} draws the files as they are\n"
+                "{changes}; dagrun graph --as-is {} draws the files as they are\n",
+                quoted(alloc, dag)?
             ),
             None => Ok(String::new(alloc)),
         },

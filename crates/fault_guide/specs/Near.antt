@@ -1,5 +1,5 @@
 -- The word that somebody may have meant.
-use Rattle.std.specs.Prelude.{◌≡◌, ◌+◌, ◌/◌, ◌<◌, ◌≤◌, ℕ, List, ◌∷◌, ◌++◌, length, min, max, Option, Some, None, All, chars}
+use Rattle.std.specs.Prelude.{◌≡◌, ◌+◌, ◌/◌, ◌<◌, ◌≤◌, ℕ, List, ◌∷◌, ◌++◌, length, min, Option, Some, None, All, chars}
 use Rattle.strsim.specs.Edits.{osa_table}
 
 -- How many edits lead from a word to another one: a letter is put in, left out or another one, or two neighbours are swapped, and no letter is
@@ -7,9 +7,9 @@ use Rattle.strsim.specs.Edits.{osa_table}
 abbrev pub edits_between : List ℕ → List ℕ → ℕ
 edits_between word other = (osa_table (chars word) (chars other)).last_row (length (chars other))
 
--- how many edits there may be: one for three bytes of the word, at least one and at most three
+-- how many edits there may be: one for three bytes of the word, and at most three
 abbrev pub most_edits : List ℕ → ℕ
-most_edits word = min 3 (max 1 (length word / 3))
+most_edits word = min 3 (length word / 3)
 
 -- a word is near another one: no more edits lead to it, and no more bytes are in one of them alone
 pub record IsNear (word other : List ℕ) : Type 0 where

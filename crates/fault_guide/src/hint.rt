@@ -110,16 +110,19 @@ fn push_meant(
     source: &[u8],
     place: &SourcePlace<'_>,
 ) -> Result<(), AllocError> {
-    let (Some(word), Ok(lines)) = (word_at(source, place), str::from_utf8(source)) else {
+    let Ok(lines) = str::from_utf8(source) else {
         return Ok(());
     };
-    if refusal.code == "L2" && word.starts_with(BYTE_ORDER_MARK) {
+    if place.line == 1 && lines.starts_with(BYTE_ORDER_MARK) {
         let path = place.path;
         return writeln!(
             text,
             "    a byte order mark is before it: sed -i '1s/^\\xEF\\xBB\\xBF//' {path}"
         );
     }
+    let Some(word) = word_at(source, place) else {
+        return Ok(());
+    };
     if let Some(other) = meant(alloc, refusal, word, lines)? {
         writeln!(text, "    is {other} meant?")?;
     }

@@ -11,11 +11,11 @@ fn most_edits(word: &str) -> usize
     ensures most { result ≡ most_edits word.now }
     ensures few { result ≤ 3 }
 {
-    (word.len() / 3).clamp(1, 3)
+    (word.len() / 3).min(3)
 }
 
 /// The one of some words that is nearest to this one, the first of several, where one is near: a letter of three
-/// may differ, three at most, and as many bytes may be more or less. A word is near itself.
+/// may differ, three at most, and as many bytes may be more or less. So a word of one or two letters is near itself alone.
 ///
 /// # Errors
 /// Want of memory.

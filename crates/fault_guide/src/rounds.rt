@@ -53,8 +53,9 @@ static ROUNDS: [Fault; 21] = [
     $ dagrun run x.dag
     dagrun: E2 UnknownNode x.dag.rescue001:1
 ",
-        advice: "    Correct the name or take the line away; where the DAG has other nodes by
-    now, remove the rescue file, or call `dagrun run --autorescue 0`.
+        advice: "    Correct the name, or take the line away where the DAG has no such node by
+    now: the other lines keep what is done. To run all nodes anew, remove the
+    rescue file, or call `dagrun run --autorescue 0`.
 ",
     },
     Fault {
@@ -169,7 +170,9 @@ static ROUNDS: [Fault; 21] = [
     splices, the submit files and the rescue file that it read. Which of them was
     changed `sha256sum -c x.dag.inputs` says: put it back. Where it is to stay as
     it is now, call `dagrun salvage x.dag`, which makes a rescue file of what is
-    done, and then `dagrun run x.dag`, which starts the rest. A round that has ended is no hindrance: `dagrun run` begins a new one.
+    done, and then `dagrun run x.dag`, which starts the rest. A round that has ended
+    is no hindrance: `dagrun run` begins a new one, in which all nodes run, or none
+    that is done where `dagrun salvage --ended x.dag` is called first.
     To give up one that was cut short, remove x.dag.journal: then nodes that were
     done in it run again.
 ",
@@ -181,7 +184,8 @@ static ROUNDS: [Fault; 21] = [
         detail: "",
         example: "",
         advice: "    The journal has 16,777,216 records, since nodes were repeated very often:
-    remove x.dag.journal to begin a new round, with a lower RETRY.
+    call `dagrun salvage`, which keeps what is done and puts the journal away,
+    and then `dagrun run`, with a lower RETRY.
 ",
     },
     Fault {
@@ -233,7 +237,7 @@ static ROUNDS: [Fault; 21] = [
     Fault {
         code: "R2",
         name: "Ended",
-        when: "`salvage`: the round has ended",
+        when: "`salvage`: the round has ended, or with --ended it has written its rescue file",
         detail: "PATH",
         example: "    $ cat x.dag
     JOB A a.sub
@@ -245,7 +249,8 @@ static ROUNDS: [Fault; 21] = [
     dagrun: R2 Ended x.dag.journal
 ",
         advice: "    A round that has ended has written its rescue file, where it needed one:
-    call `dagrun run`, which begins the next one.
+    call `dagrun run`, which begins the next one. Where all was done, and the
+    DAG has more nodes by now, `dagrun salvage --ended x.dag` keeps what is done.
 ",
     },
     Fault {

@@ -19,7 +19,9 @@ static RUNNING: [Fault; 9] = [
         when: "the system does not tell how a child does",
         detail: "",
         example: "",
-        advice: "    Call `dagrun run` again, which goes on: what was recorded stays.
+        advice: "    Call `dagrun run` again, which goes on: what was recorded stays. Where it is
+    refused so each time, what calls dagrun ignores SIGCHLD: let it have its
+    default there, as `env --default-signal=CHLD dagrun run x.dag` does.
 ",
     },
     Fault {
@@ -93,7 +95,7 @@ static RUNNING: [Fault; 9] = [
     dagrun: H1 Halted x.dag.halt
 ",
         advice: "    Remove the file that is named, and call `dagrun run` again, which goes on:
-    what ended is recorded, and nothing was killed. Where --stop-at-first-error
+    what ended is recorded, and no child was killed. Where --stop-at-first-error
     is named, a node failed for good: `dagrun why` says how, and `dagrun run`
     without the option runs what does not wait for it.
 ",

@@ -12,6 +12,10 @@ use run_plan_node::ChildCommand;
 /// Rounds of questions without an ending, before a blocking wait for the oldest child.
 const ROUNDS: u32 = 1 << 20;
 
+/// After so many rounds without an ending there is one more pause between two rounds. So the pauses grow with the silence, of which none
+/// is more than about a thousandth, and all rounds last for months: jobs of days don't come to the blocking wait.
+const ROUNDS_A_PAUSE: u32 = 1 << 11;
+
 /// A starter over a system: each running child is asked in turn, in the order of the starts, with
 /// a pause between two rounds.
 #[derive(Drop)]
@@ -50,6 +54,17 @@ impl<S: System + Drop> ProcessStarter<S> {
         }
         Ok(None)
     }
+
+    /// Lets some time pass, after so many rounds without an ending.
+    fn pause_after(&mut self, rounds: u32)
+        ensures call_log { S.call_log self.new.system ≡ S.call_log self.old.system }
+        ensures counts { S.faults self.new.system ≡ S.faults self.old.system }
+        ensures may { AllowsNoMore (S.may_return self.old.system) (S.may_return self.new.system) }
+    {
+        for _ in 0..=rounds / ROUNDS_A_PAUSE {
+            self.system.pause();
+        }
+    }
 }
 
 impl<S: System + Drop> Starter for ProcessStarter<S> {
@@ -69,10 +84,10 @@ impl<S: System + Drop> Starter for ProcessStarter<S> {
         if self.system.running().is_empty() {
             return Err(StartFault::NoChild);
         }
-        for _ in 0..ROUNDS {
+        for round in 0..ROUNDS {
             match self.ask_each() {
                 Ok(Some(ended)) => return Ok(ended),
-                Ok(None) => self.system.pause(),
+                Ok(None) => self.pause_after(round),
                 Err(fault) => return Err(fault),
             }
         }

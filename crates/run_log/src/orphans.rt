@@ -1,10 +1,12 @@
 //! Processes of a round that an earlier manager left running.
 //!
 //! Such a process is known by what only it can have: the identifier of the round in its environment, which its manager gave it.
+//! A child whose environment says nothing is known by what its manager noted of it, and is never killed.
 
-use crate::children::{NotedManager, manager_in};
+use crate::children::{NotedManager, is_word, last_manager};
 use crate::events::push_time;
 use crate::line_file::LineFile;
+use crate::noted::{Noted, noted_lines, noted_that_run};
 use crate::processes::{
     Program, Standing, all_numbers, asked_of, boot_of, environment_of, has_own_program,
     is_wordless, own_number, standing_of, user_of,
@@ -33,6 +35,9 @@ pub enum OrphanFault {
     /// The system refuses to say which processes there are.
     #[error("the system doesn't say which processes there are")]
     NotAsked,
+    /// The manager that started them still works.
+    #[error("the manager still works")]
+    StillWorks,
     /// One of them can't be ended.
     #[error("a process still runs")]
     StillRuns,
@@ -53,6 +58,15 @@ impl<T: Drop> From<AllocFailed<T>> for OrphanFault {
     }
 }
 
+/// By what a process is known to be of a round.
+#[derive(Clone, Copy, Debug, PartialEq, Eq)]
+enum Sign {
+    /// The identifier of the round is in its environment.
+    Identifier,
+    /// Its manager noted it, and its environment says nothing.
+    Note,
+}
+
 /// A process of a round.
 #[derive(Drop)]
 struct Orphan {
@@ -64,6 +78,8 @@ struct Orphan {
     began: u64,
     /// Its node, phase and attempt, as a line of the log has them.
     key: String,
+    /// By what it is known.
+    sign: Sign,
 }
 
 impl Orphan {
@@ -81,6 +97,8 @@ struct Sought<'a> {
     user: Option<u32>,
     /// The sessions in which the last managers worked; none where they are not known.
     sessions: &'a [u32],
+    /// Children that were noted.
+    noted: &'a [Noted],
 }
 
 /// The processes of a round that an earlier manager left, and by what they are known.
@@ -89,6 +107,8 @@ pub struct Orphans {
     rounds: Vec<String>,
     /// the sessions of the last managers: one that they started is in theirs until it has come to its program
     sessions: Vec<u32>,
+    /// the children of the last manager that it noted, and that ran when they were looked for first
+    noted: Vec<Noted>,
     /// this process and its ancestors, which are never ended
     spared: Vec<u32>,
     found: Vec<Orphan>,
@@ -133,17 +153,6 @@ fn is_alive<R: Files + AllocGlobal>(rt: &R, manager: &NotedManager<'_>) -> bool 
     }
 }
 
-/// The last manager that these lines name.
-fn last_manager(text: &str) -> Option<NotedManager<'_>> {
-    let mut last = None;
-    for line in text.lines() {
-        if let Some(manager) = manager_in(line) {
-            last = Some(manager);
-        }
-    }
-    last
-}
-
 /// This process, its parent, and so on.
 fn own_line<R: Files + AllocGlobal>(rt: &R) -> Result<Vec<u32>, OrphanFault> {
     let mut line = Vec::new(rt.alloc());
@@ -165,11 +174,6 @@ fn is_of_any(environment: &[u8], rounds: &[String]) -> bool {
             .iter()
             .any(|round| is_of_round(round.as_str(), setting))
     })
-}
-
-/// Whether a text can stand in a field of a log: it is not empty, and has no control character.
-fn is_word(text: &str) -> bool {
-    !text.is_empty() && text.as_bytes().iter().all(|byte| *byte >= b' ')
 }
 
 /// The value of a variable of an environment, where it can stand in a line of a log; else a dash.
@@ -225,7 +229,7 @@ fn is_started<R: Files + AllocGlobal>(
 /// so far after it: a process has none, too, while it changes one program for another one.
 fn is_bare(before: &Standing, after: &Standing) -> bool {
     match after.program {
-        Program::Never => true,
+        Program::Never | Program::OfThreads => true,
         Program::Here(_) => before.program == after.program,
         Program::Coming | Program::Left => false,
     }
@@ -250,7 +254,7 @@ fn is_coming<R: Files + AllocGlobal>(
 ///
 /// # Errors
 /// `NotAsked` where it has not come to its program after ten seconds, or where the system refuses to say it; `Memory`.
-fn environment_at<R: Files + Clock + AllocGlobal>(
+fn environment_at<R: Files + Clock + AllocGlobal + Clone + Drop>(
     rt: &R,
     process: u32,
     sessions: &[u32],
@@ -261,7 +265,7 @@ fn environment_at<R: Files + Clock + AllocGlobal>(
         };
         // This is asked before the environment: what comes to its program in between has its own.
         let is_started = is_started(rt, process, &before, sessions)?;
-        let Some(environment) = environment_of(rt, process)? else {
+        let Some(environment) = environment_of(rt, process, &before)? else {
             return Ok(None);
         };
         if !environment.is_empty() && !is_started {
@@ -281,27 +285,69 @@ fn environment_at<R: Files + Clock + AllocGlobal>(
     Ok(None)
 }
 
-/// The process of this number where it is one of these rounds, runs, and is this user's.
-fn orphan_at<R: Files + Clock + AllocGlobal>(
+/// Whether an environment has a setting. One that a program has overwritten, as some do to show a title, has none.
+fn has_settings(environment: &[u8]) -> bool {
+    environment
+        .split(|byte| *byte == 0)
+        .any(|setting| setting.contains(&b'='))
+}
+
+/// The process of this number and of this environment where it is one of these rounds, runs, and is this user's.
+fn orphan_by_identifier<R: Files + AllocGlobal>(
     rt: &R,
     process: u32,
+    environment: &[u8],
     sought: Sought<'_>,
 ) -> Result<Option<Orphan>, OrphanFault> {
-    let Some(environment) = environment_at(rt, process, sought.sessions)? else {
-        return Ok(None);
-    };
-    if !is_of_any(&environment, sought.rounds) || user_of(rt, process)? != sought.user {
+    if !is_of_any(environment, sought.rounds) || user_of(rt, process)? != sought.user {
         return Ok(None);
     }
-    let key = key_in(rt.alloc(), &environment)?;
+    let key = key_in(rt.alloc(), environment)?;
     match asked_of(rt, process)? {
         Some(standing) if !standing.ended => Ok(Some(Orphan {
             process,
             parent: standing.parent,
             began: standing.began,
             key,
+            sign: Sign::Identifier,
         })),
         _ => Ok(None),
+    }
+}
+
+/// The process of this number where it is a child that was noted, and runs.
+fn orphan_by_note<R: Files + AllocGlobal>(
+    rt: &R,
+    process: u32,
+    noted: &[Noted],
+) -> Result<Option<Orphan>, OrphanFault> {
+    let Some(child) = noted.iter().find(|child| child.process == process) else {
+        return Ok(None);
+    };
+    match asked_of(rt, process)? {
+        Some(standing) if child.is_of(&standing) => Ok(Some(Orphan {
+            process,
+            parent: standing.parent,
+            began: standing.began,
+            key: String::from_str(rt.alloc(), child.key.as_str())?,
+            sign: Sign::Note,
+        })),
+        _ => Ok(None),
+    }
+}
+
+/// The process of this number where it is one of these rounds, and runs: by its environment, or where that says nothing, since it
+/// can't be read, is empty or was overwritten, by what was noted.
+fn orphan_at<R: Files + Clock + AllocGlobal + Clone + Drop>(
+    rt: &R,
+    process: u32,
+    sought: Sought<'_>,
+) -> Result<Option<Orphan>, OrphanFault> {
+    match environment_at(rt, process, sought.sessions)? {
+        Some(environment) if has_settings(&environment) => {
+            orphan_by_identifier(rt, process, &environment, sought)
+        }
+        _ => orphan_by_note(rt, process, sought.noted),
     }
 }
 
@@ -329,8 +375,8 @@ fn is_first(orphan: &Orphan, orphans: &[Orphan]) -> bool {
 }
 
 /// The command of a shell that kills these processes, or those of them alone that none of them started: each that is still
-/// what it was. None where there is no such one.
-fn kill_words<R: Files + Clock + AllocGlobal>(
+/// what it was, and has the identifier of a round. None where there is no such one.
+fn kill_words<R: Files + Clock + AllocGlobal + Clone + Drop>(
     rt: &R,
     orphans: &[Orphan],
     sought: Sought<'_>,
@@ -339,7 +385,7 @@ fn kill_words<R: Files + Clock + AllocGlobal>(
     let mut words = String::from_str(rt.alloc(), "kill -KILL")?;
     let mut some = false;
     for orphan in orphans {
-        if first_alone && !is_first(orphan, orphans) {
+        if orphan.sign == Sign::Note || (first_alone && !is_first(orphan, orphans)) {
             continue;
         }
         if let Some(now) = orphan_at(rt, orphan.process, sought)? {
@@ -398,6 +444,15 @@ fn next_pause(pause: u64) -> u64 {
     pause.saturating_mul(2).min(LONGEST_PAUSE)
 }
 
+/// For how many milliseconds it is waited for these: those that are not killed alone have little to wait for.
+fn patience_for(running: &[Orphan]) -> u128 {
+    if running.iter().any(|orphan| orphan.sign == Sign::Identifier) {
+        PATIENCE
+    } else {
+        GRACE
+    }
+}
+
 /// Whether so many milliseconds are over since this moment.
 fn are_over<R: Clock>(rt: &R, milliseconds: u128, began: Duration) -> bool {
     match rt.monotonic() {
@@ -429,7 +484,16 @@ impl Orphans {
             rounds: &self.rounds,
             user: user_of(rt, own_number(rt))?,
             sessions: &self.sessions,
+            noted: &self.noted,
         })
+    }
+
+    /// The lines of those that are known by what was noted of them alone, for the file of the next manager.
+    ///
+    /// # Errors
+    /// Want of memory.
+    pub fn notes<R: Files + AllocGlobal>(&self, rt: &R) -> Result<String, AllocError> {
+        noted_lines(rt, &self.noted)
     }
 
     /// Looks at all processes: those of the rounds that run now. Where none is seen it looks again, since one may have started
@@ -462,7 +526,8 @@ impl Orphans {
     }
 
     /// Ends all, and those that they start meanwhile: first those that none of them started, and the others where they don't end
-    /// by themselves behind these.
+    /// by themselves behind these. Those that are known by what was noted alone are waited for, and not killed: the notes are a file,
+    /// into which others may have written.
     fn end<R: Processes + Files<File = File> + Clock + AllocGlobal + Clone + Drop>(
         &mut self,
         rt: &R,
@@ -473,7 +538,7 @@ impl Orphans {
         let mut running = self.look(rt)?;
         self.kill(rt, &running, true)?;
         for _ in 0..LOOKS {
-            if running.is_empty() || are_over(rt, PATIENCE, began) {
+            if running.is_empty() || are_over(rt, patience_for(&running), began) {
                 break;
             }
             if are_over(rt, GRACE, began) {
@@ -542,7 +607,8 @@ impl Orphans {
     /// Deals with them by this rule; the log says what was done with each. Answers whether some are left.
     ///
     /// # Errors
-    /// `StillRuns` where one that was killed is not gone after ten seconds, in which it is waited for all together; `NotAsked`
+    /// `StillRuns` where one that was killed is not gone after ten seconds, in which it is waited for all together, or one is left
+    /// that may not be killed; `NotAsked`
     /// where the system refuses to say which processes there are; `Memory`.
     pub fn settle<R: Processes + Files<File = File> + Clock + AllocGlobal + Clone + Drop>(
         &mut self,
@@ -602,13 +668,13 @@ fn sessions_of(
     Ok(sessions)
 }
 
-/// The processes of the rounds of these identifiers that an earlier manager left. The first path is that of the file of the
-/// managers' processes, the second one that of the file of the identifiers: each names a manager last. There are no such processes
-/// where one of these two still runs.
+/// The processes of the rounds of these identifiers that an earlier manager left: those that have one in their environment, and
+/// children that it noted whose environment says nothing. The first path is that of the file of the managers' processes, the second
+/// one that of the file of the identifiers: each names a manager last.
 ///
 /// # Errors
 /// `NotRead` where the first file is there and the system refuses to read it, or it is no regular one; `NotKnown` the same of the
-/// second; `NotAsked` where the system refuses to say which processes there are; `Memory`.
+/// second; `StillWorks` where one of these two managers still runs: somebody removed its lock; `NotAsked` where the system refuses to say which processes there are; `Memory`.
 pub fn orphans_of<R: Files<File = File> + Clock + AllocGlobal + Clone + Drop>(
     rt: &R,
     rounds: Vec<String>,
@@ -623,6 +689,7 @@ pub fn orphans_of<R: Files<File = File> + Clock + AllocGlobal + Clone + Drop>(
     let mut orphans = Orphans {
         rounds,
         sessions: sessions_of(rt.alloc(), &managers)?,
+        noted: Vec::new(rt.alloc()),
         spared: Vec::new(rt.alloc()),
         found: Vec::new(rt.alloc()),
     };
@@ -630,10 +697,14 @@ pub fn orphans_of<R: Files<File = File> + Clock + AllocGlobal + Clone + Drop>(
         .iter()
         .flatten()
         .any(|manager| is_alive(rt, manager));
-    if orphans.rounds.is_empty() || runs {
+    if orphans.rounds.is_empty() {
         return Ok(orphans);
     }
+    if runs {
+        return Err(OrphanFault::StillWorks);
+    }
     orphans.spared = own_line(rt)?;
+    orphans.noted = noted_that_run(rt, noted.as_ref().map_or("", |text| text.as_str()))?;
     orphans.found = orphans.look(rt)?;
     Ok(orphans)
 }

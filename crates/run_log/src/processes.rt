@@ -19,6 +19,8 @@ pub(crate) enum Program {
     Here(u64),
     /// The process has left it, and is ending.
     Left,
+    /// The first thread of the process has ended, and others go on: they alone have it.
+    OfThreads,
 }
 
 /// What the system says of a process.
@@ -58,8 +60,9 @@ const FORKED: u64 = 0x40;
 const THREAD: u64 = 0x20_0000;
 
 /// What a text says that the system has of a process, from after its name on: the first word is its state, the second its
-/// parent, the third its group, the fourth its session, the seventh its flags, and the twentieth when it began. The twenty-fourth
-/// is where its code begins, 0 until its program is there, and the twenty-sixth where its stack begins.
+/// parent, the third its group, the fourth its session, the seventh its flags, the eighteenth how many threads it has, and the
+/// twentieth when it began. The twenty-fourth is where its code begins, 0 until its program is there, and the twenty-sixth where its
+/// stack begins. The state is that of its first thread: one that has ended is counted as long as others go on.
 fn standing_behind(text: &str) -> Option<Standing> {
     let mut words = text.split(' ');
     let state = words.nth(1)?;
@@ -67,12 +70,16 @@ fn standing_behind(text: &str) -> Option<Standing> {
     let group = words.next()?.parse::<u32>().ok()?;
     let session = words.next()?.parse::<u32>().ok()?;
     let flags = words.nth(2)?.parse::<u64>().ok()?;
-    let began = words.nth(12)?.parse::<u64>().ok()?;
+    let threads = words.nth(10)?.parse::<u64>().ok()?;
+    let began = words.nth(1)?.parse::<u64>().ok()?;
     let code = words.nth(3)?.parse::<u64>().ok()?;
     let stack = words.nth(1)?.parse::<u64>().ok()?;
-    let ended = matches!(state, "Z" | "X" | "x");
+    let is_first_gone = matches!(state, "Z" | "X" | "x");
+    let ended = is_first_gone && threads <= 1;
     let program = if ended || flags & THREAD != 0 {
         Program::Never
+    } else if is_first_gone {
+        Program::OfThreads
     } else if flags & ENDING != 0 {
         Program::Left
     } else if code == 0 {
@@ -132,15 +139,44 @@ pub(crate) fn standing_of<R: Files + AllocGlobal>(rt: &R, process: u32) -> Optio
     asked_of(rt, process).ok()?
 }
 
-/// The environment with which the program of a process was started: settings, a byte 0 behind each; none where there is no
-/// such process, or it is another user's.
+/// The same as any thread of a process says it; none where none says anything.
 ///
 /// # Errors
 /// `NotAsked` where the question is refused; `Memory`.
-pub(crate) fn environment_of<R: Files + AllocGlobal>(
+fn environment_of_threads<R: Files + AllocGlobal + Clone + Drop>(
     rt: &R,
     process: u32,
 ) -> Result<Option<Vec<u8>>, OrphanFault> {
+    let folder = format!(in rt.alloc(); "/proc/{process}/task")?;
+    let Some(entries) = asked(fs::read_dir(rt, folder.as_str()))? else {
+        return Ok(None);
+    };
+    for entry in entries {
+        let Some(entry) = asked(entry)? else {
+            continue;
+        };
+        let path = format!(in rt.alloc(); "/proc/{process}/task/{}/environ", entry.file_name())?;
+        match asked(fs::read(rt, path.as_str()))? {
+            Some(environment) if !environment.is_empty() => return Ok(Some(environment)),
+            _ => {}
+        }
+    }
+    Ok(None)
+}
+
+/// The environment with which the program of a process was started, that stands so: settings, a byte 0 behind each; none where there
+/// is no such process, or it can't be read: it is another user's, say.
+///
+/// # Errors
+/// `NotAsked` where the question is refused; `Memory`.
+pub(crate) fn environment_of<R: Files + AllocGlobal + Clone + Drop>(
+    rt: &R,
+    process: u32,
+    standing: &Standing,
+) -> Result<Option<Vec<u8>>, OrphanFault> {
+    if standing.program == Program::OfThreads {
+        return environment_of_threads(rt, process);
+    }
     let path = format!(in rt.alloc(); "/proc/{process}/environ")?;
     asked(fs::read(rt, path.as_str()))
 }

@@ -1,6 +1,6 @@
 //! The identifier of a round, and the file beside the journal that keeps it.
 
-use crate::children::manager_line;
+use crate::children::{last_manager, manager_line};
 use crate::orphans::{OrphanFault, text_at};
 use crate::processes::{boot_of, own_number};
 use event_journal::{PERMISSIONS, require_regular};
@@ -11,15 +11,26 @@ use std::os::unix::fs::{MetadataExt, OpenOptionsExt};
 use std::rt::Files;
 use std::time::{Clock, Duration};
 
-/// Where a folder is: its device and its number there. A copy of it is somewhere else.
+/// Where a folder is: its device and its number there. A copy of it is somewhere else; the number of a device is another one once the
+/// system was started again, and on another machine.
 #[derive(Clone, Copy, Debug, PartialEq, Eq)]
-struct Seat {
+pub struct Seat {
     device: u64,
     number: u64,
 }
 
+impl Seat {
+    /// Whether this is that of a folder which is there now. Where it is from before, the device plays no part.
+    fn is_of(self, now: Seat, is_from_before: bool) -> bool {
+        self.number == now.number && (is_from_before || self.device == now.device)
+    }
+}
+
 /// Where the folder of this path is.
-fn seat_of<R: Files>(rt: &R, folder: &str) -> io::Result<Seat> {
+///
+/// # Errors
+/// What the system refuses.
+pub fn seat_of<R: Files>(rt: &R, folder: &str) -> io::Result<Seat> {
     let found = fs::metadata(rt, folder)?;
     Ok(Seat {
         device: found.dev(),
@@ -39,6 +50,29 @@ fn round_in(line: &str) -> Option<(&str, Seat)> {
     Some((round, Seat { device, number }))
 }
 
+/// What a line says of the number of its file; none where it is another one, or is cut short.
+fn file_in(line: &str) -> Option<u64> {
+    match line.split_once('\t') {
+        Some(("file", number)) => number.parse::<u64>().ok(),
+        _ => None,
+    }
+}
+
+/// Whether these lines were written into this file, before the system was started last or on another one, so that the numbers of devices
+/// in them say nothing.
+fn is_from_before<R: Files + AllocGlobal>(rt: &R, path: &str, text: &str) -> bool {
+    let Some(number) = text.lines().find_map(file_in) else {
+        return false;
+    };
+    let (Some(manager), Some(boot)) = (last_manager(text), boot_of(rt)) else {
+        return false;
+    };
+    match fs::symlink_metadata(rt, path) {
+        Ok(found) => found.ino() == number && manager.boot != boot.as_str(),
+        Err(_) => false,
+    }
+}
+
 /// The identifiers that the file of this path keeps for the round of a folder: first its own, then those of earlier rounds of
 /// which processes were left. There are none where the file is missing, or was copied with its folder.
 ///
@@ -56,9 +90,10 @@ pub fn kept_rounds<R: Files + AllocGlobal>(
     let Ok(seat) = seat_of(rt, folder) else {
         return Err(OrphanFault::NotKnown);
     };
+    let is_from_before = is_from_before(rt, path, text.as_str());
     for line in text.as_str().lines() {
         match round_in(line) {
-            Some((round, kept)) if kept == seat => {
+            Some((round, kept)) if kept.is_of(seat, is_from_before) => {
                 rounds.push(String::from_str(rt.alloc(), round)?)?;
             }
             _ => {}
@@ -83,16 +118,19 @@ pub fn new_round<R: Files + Clock + AllocGlobal>(rt: &R) -> Result<String, Alloc
     format!(in rt.alloc(); "{seconds}-{nanoseconds}-{}", own_number(rt))
 }
 
-/// The lines of these identifiers, and that of this process, which is the manager, as far as the system says what is in it.
+/// The lines of these identifiers, that of the number of their file, and that of this process, which is the manager, as far as the system
+/// says what is in it.
 fn lines_of<R: Files + AllocGlobal>(
     rt: &R,
     rounds: &[String],
     seat: Seat,
+    number: u64,
 ) -> Result<String, AllocError> {
     let mut text = String::new(rt.alloc());
     for round in rounds {
         writeln!(text, "{round}\t{}\t{}", seat.device, seat.number)?;
     }
+    writeln!(text, "file\t{number}")?;
     if let Some(line) = boot_of(rt).and_then(|boot| manager_line(rt, boot.as_str())) {
         text.push_str(line.as_str())?;
     }
@@ -100,7 +138,8 @@ fn lines_of<R: Files + AllocGlobal>(
 }
 
 /// Keeps these identifiers for the round of a folder, and who its manager is, in the file of this path, in place of what it had:
-/// it is written under another name first, so that at each moment the file has all of the one or all of the other.
+/// it is written under another name first, so that at each moment the file has all of the one or all of the other. Where it is to
+/// outlive the machine, since jobs elsewhere do, it is on the disk with its name as this returns.
 ///
 /// # Errors
 /// What the system refuses.
@@ -109,13 +148,22 @@ pub fn keep_rounds<R: Files<File = File> + AllocGlobal>(
     path: &str,
     folder: &str,
     rounds: &[String],
+    outlives: bool,
 ) -> io::Result<()> {
-    let text = lines_of(rt, rounds, seat_of(rt, folder)?)?;
+    let seat = seat_of(rt, folder)?;
     let new = format!(in rt.alloc(); "{path}.new")?;
     require_regular(rt, new.as_str())?;
     let mut options = OpenOptions::new();
     options.write(true).create(true).truncate(true);
     let mut file = options.mode(PERMISSIONS).open(rt, new.as_str())?;
+    let text = lines_of(rt, rounds, seat, file.metadata()?.ino())?;
     file.write_all(text.as_str().as_bytes())?;
-    fs::rename(rt, new.as_str(), path)
+    if outlives {
+        file.sync_all()?;
+    }
+    fs::rename(rt, new.as_str(), path)?;
+    if outlives {
+        File::open(rt, folder)?.sync_all()?;
+    }
+    Ok(())
 }

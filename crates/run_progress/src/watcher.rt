@@ -531,6 +531,12 @@ impl<'a, R: Screen + Processes + Files<File = File> + Clock + AllocGlobal + Copy
         self.tell(line.as_str())
     }
 
+    /// Tells why the run is stopped.
+    fn tell_stop(&mut self, reason: &str) -> Result<(), AllocError> {
+        let line = format!(in self.rt.alloc(); "{reason}\n")?;
+        self.tell(line.as_str())
+    }
+
     /// Tells that all nodes are done from the start, by this file.
     fn tell_done(&mut self, top: &str, rescue: Option<&str>) -> Result<(), AllocError> {
         let mut line = String::from_str(self.rt.alloc(), "all nodes are done: ")?;
@@ -582,6 +588,14 @@ impl<
     pub fn cannot_keep(&mut self, reason: &str) {
         if let Some(progress) = &mut self.progress {
             let _ = progress.tell_unkept(reason);
+        }
+    }
+
+    /// Tells why the run is stopped, where its log can't. Nothing else stays.
+    pub fn stops(&mut self, reason: &str) {
+        if let Some(progress) = &mut self.progress {
+            let _ = progress.tell_stop(reason);
+            progress.clear();
         }
     }
 

@@ -1,5 +1,5 @@
 pub mod Records
-pub mod CutShort
+pub mod RoundLeft
 pub mod Changes
 pub mod Results
 pub mod Refusals

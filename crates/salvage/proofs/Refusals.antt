@@ -27,12 +27,12 @@ use Rattle.dag_main_check.specs.declared.fault.RunFault.TheVariants.{InManager}
 use Rattle.splices_flat.specs.FileSet.{entries_of}
 use Rattle.splices_flat.specs.declared.file_set.FileSet.{FileSet}
 use Rattle.splices_flat.specs.FileSet.{bytes_of}
-use Rattle.salvage.specs.Round.{IsUnfinishedRound, IsSame, IsSameRescue}
+use Rattle.salvage.specs.Round.{is_passed_over, IsRoundLeft, IsSame, IsSameRescue}
 use Rattle.salvage.specs.Salvaged.{IsReplayOf}
 use Rattle.salvage.specs.Sight.{Sight, IsRescueSeen, IsListSeen}
 use Rattle.dag_main_files.specs.Beside.{journal_name_of}
 use Rattle.dag_main_files.specs.Journals.{read_fault}
-use Rattle.salvage.specs.Refused.{IsNoNumber, IsNotCutShort, has_ended, no_such_number, IsUnsalvaged, no_records, of_other_flag, foreign_record, salvaging_had_no_memory, IsUnmade, unplanned, unsalvaged, IsNotCarried, not_kept, kept_refused, not_graphed, not_replayed, other_files, other_rescue, no_plan, not_of_plan, keeping_refused, no_new_graph, not_of_begun, IsSalvageFault, round_refused}
+use Rattle.salvage.specs.Refused.{IsNoNumber, IsNotLeft, has_ended, no_such_number, IsUnsalvaged, no_records, of_other_flag, foreign_record, salvaging_had_no_memory, IsUnmade, unplanned, unsalvaged, IsNotCarried, not_kept, kept_refused, not_graphed, not_replayed, other_files, other_rescue, no_plan, not_of_plan, keeping_refused, no_new_graph, not_of_begun, IsSalvageFault, round_refused}
 use Rattle.salvage.specs.Others.{IsOtherFile, IsFirstOther, IsOther, other_file, other_marks}
 use Rattle.round_inputs.specs.declared.inputs.Listed.{Listed}
 use Rattle.salvage.specs.declared.fault.SalvageFault.{SalvageFault}
@@ -58,13 +58,14 @@ differ sum digest hash other is holds d same =
     false≢true (sym (not-true (bytes_eq sum digest) (sym is ∙ holds)) ∙ (bytes_eq-Decides sum digest).1 (same ∙ sym d))
 
 -- a round that has ended, and a number that no rescue file has
-pub over : (path journal : List ℕ) (peek : Peek) → ReadsPeek (Some peek) (replay_of journal) → peek.finished ≡ true → IsNotCutShort path journal (Ended path)
-over path journal peek (found, reads, used_is, next_is, flag_is, finished_is) ended = has_ended found reads (finished_is ∙ ended)
+pub over : (too : Bool) (path journal : List ℕ) (peek : Peek) → ReadsPeek (Some peek) (replay_of journal) → is_passed_over too peek.finished ≡ true
+    → IsNotLeft too path journal (Ended path)
+over too path journal peek (found, reads, used_is, next_is, flag_is, finished_is) ended = has_ended found reads (ap (is_passed_over too) finished_is ∙ ended)
 
-pub bad-number : (path journal : List ℕ) (peek : Peek) (fault : RunFault) → ReadsPeek (Some peek) (replay_of journal) → peek.finished ≡ false
-    → IsNoNumber peek.used peek.next fault → IsNotCutShort path journal (Refused fault)
-bad-number path journal peek fault (found, reads, used_is, next_is, flag_is, finished_is) unfinished is =
-    no_such_number found fault reads (finished_is ∙ unfinished)
+pub bad-number : (too : Bool) (path journal : List ℕ) (peek : Peek) (fault : RunFault) → ReadsPeek (Some peek) (replay_of journal) → is_passed_over too peek.finished ≡ false
+    → IsNoNumber peek.used peek.next fault → IsNotLeft too path journal (Refused fault)
+bad-number too path journal peek fault (found, reads, used_is, next_is, flag_is, finished_is) left is =
+    no_such_number found fault reads (ap (is_passed_over too) finished_is ∙ left)
     (subst (λ (u : ℕ). IsNoNumber u found.header.next fault) (sym used_is) (subst (λ (n : ℕ). IsNoNumber peek.used n fault) (sym next_is) is))
 
 -- the digest that stands in the header is that of the header
@@ -159,23 +160,23 @@ first-other listed set yielded t u file fault all next same other = record {
   other = other;
 }
 
--- nothing is made of a round that was cut short: by the files that are as they were, and by those that are not
-module _ (sight : Sight) (top journal digest : List ℕ) (used next : ℕ) (always_post : Bool) (listed : List Listed) (files : FileSet)
-    (held : sight.has (journal_name_of top) journal) (cut : IsUnfinishedRound journal digest used next always_post) (seen : IsListSeen sight top digest listed files) where
+-- nothing is made of a round: by the files that are as they were, and by those that are not
+module _ (too ended : Bool) (sight : Sight) (top journal digest : List ℕ) (used next : ℕ) (always_post : Bool) (listed : List Listed) (files : FileSet)
+    (held : sight.has (journal_name_of top) journal) (cut : IsRoundLeft too ended journal digest used next always_post) (seen : IsListSeen sight top digest listed files) where
   pub same-refused : (rescue : Option (List ℕ)) (fault : RunFault) → All (IsSame listed) (entries_of files) → IsRescueSeen sight top used rescue → IsSameRescue listed top used rescue
-      → IsUnmade always_post (bytes_of files) top used rescue journal fault → IsSalvageFault sight top (Refused fault)
-  same-refused rescue fault same marks as_it_was (unplanned cause why) = round_refused _ _ _ _ _ _ held cut (no_plan listed files rescue cause seen same marks as_it_was why)
+      → IsUnmade always_post (bytes_of files) top used rescue journal fault → IsSalvageFault too sight top (Refused fault)
+  same-refused rescue fault same marks as_it_was (unplanned cause why) = round_refused _ _ _ _ _ _ _ held cut (no_plan listed files rescue cause seen same marks as_it_was why)
   same-refused rescue fault same marks as_it_was (unsalvaged plan cause is why) =
-      round_refused _ _ _ _ _ _ held cut (not_of_plan listed files rescue plan cause seen same marks as_it_was is why)
+      round_refused _ _ _ _ _ _ _ held cut (not_of_plan listed files rescue plan cause seen same marks as_it_was is why)
 
-  pub other-refused : (fault : SalvageFault) → IsOther sight listed top used files fault → IsSalvageFault sight top fault
-  other-refused fault (other_file cause why) = round_refused _ _ _ _ _ _ held cut (other_files listed files cause seen why)
-  other-refused fault (other_marks cause same why) = round_refused _ _ _ _ _ _ held cut (other_rescue listed files cause seen same why)
+  pub other-refused : (fault : SalvageFault) → IsOther sight listed top used files fault → IsSalvageFault too sight top fault
+  other-refused fault (other_file cause why) = round_refused _ _ _ _ _ _ _ held cut (other_files listed files cause seen why)
+  other-refused fault (other_marks cause same why) = round_refused _ _ _ _ _ _ _ held cut (other_rescue listed files cause seen same why)
 
   pub change-refused : (other fault : SalvageFault) → IsOther sight listed top used files other
-      → IsNotCarried sight always_post (bytes_of files) top digest journal other fault → IsSalvageFault sight top fault
+      → IsNotCarried sight always_post (bytes_of files) top digest journal other fault → IsSalvageFault too sight top fault
   change-refused other fault is not_kept = other-refused other is
-  change-refused other fault is (kept_refused refusal why) = round_refused _ _ _ _ _ _ held cut (keeping_refused listed files other refusal seen is why)
-  change-refused other fault is (not_graphed refusal why) = round_refused _ _ _ _ _ _ held cut (no_new_graph listed files other refusal seen is why)
+  change-refused other fault is (kept_refused refusal why) = round_refused _ _ _ _ _ _ _ held cut (keeping_refused listed files other refusal seen is why)
+  change-refused other fault is (not_graphed refusal why) = round_refused _ _ _ _ _ _ _ held cut (no_new_graph listed files other refusal seen is why)
   change-refused other fault is (not_replayed begun old refusal kept planned why) =
-      round_refused _ _ _ _ _ _ held cut (not_of_begun listed files other begun old refusal seen is kept planned why)
+      round_refused _ _ _ _ _ _ _ held cut (not_of_begun listed files other begun old refusal seen is kept planned why)

@@ -1,12 +1,12 @@
 -- What is known of files by one sight is known by another.
-use Rattle.std.proofs.Common.{◌≡◌, ◌⊎◌, inl, inr, ℕ, zero, suc, Bool, List, Option, Some, None, refl, sym}
+use Rattle.std.proofs.Common.{◌≡◌, inl, inr, ℕ, zero, suc, Bool, List, Option, Some, None, refl, sym}
 use Rattle.splices_flat.specs.Opening.{Files}
 use Rattle.splices_flat.specs.declared.file_set.FileSet.{FileSet}
 use Rattle.dag_main_files.specs.Folder.{rescue_in}
 use Rattle.round_inputs.specs.declared.inputs.Listed.{Listed}
 use Rattle.salvage.specs.Sight.{Sight, any_files, held_files, held_files_if, IsRescueSeen, IsListSeen}
 use Rattle.salvage.specs.Others.{IsOtherRescue, rescue_missing, rescue_changed, rescue_refused, IsOther, other_file, other_marks}
-use Rattle.salvage.specs.Refused.{IsNoRound, has_no_journal, journal_refused, not_cut_short, IsNoInputs, has_no_inputs, inputs_refused, not_spelled, of_another_round, IsCutShortFault, no_inputs, other_files, other_rescue, no_plan, not_of_plan, keeping_refused, no_new_graph, not_of_begun, IsSalvageFault, no_round, round_refused, another_is_at_work, system_refuses}
+use Rattle.salvage.specs.Refused.{IsNoRound, has_no_journal, journal_refused, not_left, IsNoInputs, has_no_inputs, inputs_refused, not_spelled, of_another_round, IsCutShortFault, no_inputs, other_files, other_rescue, no_plan, not_of_plan, keeping_refused, no_new_graph, not_of_begun, IsSalvageFault, no_round, rescue_is_written, round_refused, another_is_at_work, system_refuses}
 use Rattle.salvage.specs.declared.fault.SalvageFault.{SalvageFault}
 
 module _ (from to : Sight) (top : List ℕ) (has : (path bytes : List ℕ) → from.has path bytes → to.has path bytes)
@@ -34,10 +34,10 @@ module _ (from to : Sight) (top : List ℕ) (has : (path bytes : List ℕ) → f
   no-inputs digest _ (not_spelled bytes is) = not_spelled bytes (has _ bytes is)
   no-inputs digest _ (of_another_round other listed is differs) = of_another_round other listed (has _ _ is) differs
 
-  no-round : (fault : SalvageFault) → IsNoRound from top fault → IsNoRound to top fault
-  no-round _ (has_no_journal missing) = has_no_journal (lacks _ missing)
-  no-round _ (journal_refused fault why) = journal_refused fault why
-  no-round _ (not_cut_short journal fault is why) = not_cut_short journal fault (has _ journal is) why
+  no-round : (too : Bool) (fault : SalvageFault) → IsNoRound too from top fault → IsNoRound too to top fault
+  no-round too _ (has_no_journal missing) = has_no_journal (lacks _ missing)
+  no-round too _ (journal_refused fault why) = journal_refused fault why
+  no-round too _ (not_left journal fault is why) = not_left journal fault (has _ journal is) why
 
   cut-short-by : (journal digest : List ℕ) (used : ℕ) (always_post : Bool) (fault : SalvageFault) → IsCutShortFault from top journal digest used always_post fault
       → IsCutShortFault to top journal digest used always_post fault
@@ -56,23 +56,24 @@ module _ (from to : Sight) (top : List ℕ) (has : (path bytes : List ℕ) → f
   cut-short-by journal digest used always_post _ (not_of_begun listed files other begun old fault seen is kept planned why) =
       not_of_begun listed files other begun old fault (list-seen digest listed files seen) (other-by listed used files other is) (has _ begun kept) planned why
 
-  fault-by : (fault : SalvageFault) → IsSalvageFault from top fault → IsSalvageFault to top fault
-  fault-by _ (no_round fault why) = no_round fault (no-round fault why)
-  fault-by _ (round_refused journal digest used next always_post fault is cut why) =
-      round_refused journal digest used next always_post fault (has _ journal is) cut (cut-short-by journal digest used always_post fault why)
-  fault-by _ (another_is_at_work fault why) = another_is_at_work fault why
-  fault-by _ (system_refuses fault why) = system_refuses fault why
+  fault-by : (too : Bool) (fault : SalvageFault) → IsSalvageFault too from top fault → IsSalvageFault too to top fault
+  fault-by too _ (no_round fault why) = no_round fault (no-round too fault why)
+  fault-by too _ (rescue_is_written journal found bytes is reads ended written) = rescue_is_written journal found bytes (has _ journal is) reads ended (has _ bytes written)
+  fault-by too _ (round_refused ended journal digest used next always_post fault is cut why) =
+      round_refused ended journal digest used next always_post fault (has _ journal is) cut (cut-short-by journal digest used always_post fault why)
+  fault-by too _ (another_is_at_work fault why) = another_is_at_work fault why
+  fault-by too _ (system_refuses fault why) = system_refuses fault why
 
 -- by the files that are held where a premise holds: something is so of any files, and where the premise holds of those that are held
 module _ (Honest : Type 0) (holds : Files) (there : List ℕ → Bool) (top : List ℕ) where
-  pub fault-of-any : (fault : SalvageFault) → IsSalvageFault (held_files_if Honest holds there top) top fault → IsSalvageFault any_files top fault
+  pub fault-of-any : (too : Bool) (fault : SalvageFault) → IsSalvageFault too (held_files_if Honest holds there top) top fault → IsSalvageFault too any_files top fault
   fault-of-any = fault-by (held_files_if Honest holds there top) any_files top (λ path bytes is. tt) (λ path is. tt) (λ files is. tt)
 
   pub other-of-any : (listed : List Listed) (used : ℕ) (files : FileSet) (fault : SalvageFault) → IsOther (held_files_if Honest holds there top) listed top used files fault
       → IsOther any_files listed top used files fault
   other-of-any = other-by (held_files_if Honest holds there top) any_files top (λ path bytes is. tt) (λ path is. tt) (λ files is. tt)
 
-  pub fault-of-held : Honest → (fault : SalvageFault) → IsSalvageFault (held_files_if Honest holds there top) top fault → IsSalvageFault (held_files holds there top) top fault
+  pub fault-of-held : Honest → (too : Bool) (fault : SalvageFault) → IsSalvageFault too (held_files_if Honest holds there top) top fault → IsSalvageFault too (held_files holds there top) top fault
   fault-of-held honest = fault-by (held_files_if Honest holds there top) (held_files holds there top) top (λ path bytes is. is honest) (λ path is. is honest) (λ files is. is honest)
 
   -- the rescue file that a round read

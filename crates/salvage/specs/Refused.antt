@@ -23,7 +23,7 @@ use Rattle.dag_main_files.specs.Beside.{journal_name_of, lock_name_of, IsFileFau
 use Rattle.dag_main_files.specs.Journals.{IsUnread}
 use Rattle.round_inputs.specs.Begun.{begun_name_of}
 use Rattle.round_inputs.specs.Inputs.{inputs_name_of, inputs_text_of}
-use Rattle.salvage.specs.Round.{IsUnfinishedRound, IsSame, IsSameRescue}
+use Rattle.salvage.specs.Round.{is_passed_over, IsRoundLeft, IsSame, IsSameRescue}
 use Rattle.salvage.specs.Sight.{Sight, IsRescueSeen, IsListSeen}
 use Rattle.salvage.specs.Others.{IsFirstOther, IsOtherRescue, IsOther}
 use Rattle.salvage.specs.Salvaged.{IsBarePlan}
@@ -37,21 +37,21 @@ pub data IsNoNumber (used next : ℕ) : RunFault → Type 0 where
   none_was_read : 999 < used → IsNoNumber used next (NotThere used)
   none_is_written : used ≤ 999 → ¬ (IsRescueNumber next) → IsNoNumber used next (NotThere next)
 
--- The bytes of the journal of this path are not those of a round that was cut short: none was begun; its last record is that of its end; they
+-- The bytes of the journal of this path are not those of a round that may be salvaged: none was begun; it is passed over, since it has ended; they
 -- can't be read; or their header has a number that no rescue file has.
-pub data IsNotCutShort (path journal : List ℕ) : SalvageFault → Type 0 where
-  not_begun : replay_of journal ≡ Ok None → IsNotCutShort path journal (NoJournal path)
-  has_ended : (found : Found) → replay_of journal ≡ Ok (Some found) → ends_with_finish found.records ≡ true → IsNotCutShort path journal (Ended path)
-  not_read : (fault : RunFault) → IsUnread journal fault → IsNotCutShort path journal (Refused fault)
-  no_such_number : (found : Found) (fault : RunFault) → replay_of journal ≡ Ok (Some found) → ends_with_finish found.records ≡ false →
-      IsNoNumber found.header.used found.header.next fault → IsNotCutShort path journal (Refused fault)
+pub data IsNotLeft (too : Bool) (path journal : List ℕ) : SalvageFault → Type 0 where
+  not_begun : replay_of journal ≡ Ok None → IsNotLeft too path journal (NoJournal path)
+  has_ended : (found : Found) → replay_of journal ≡ Ok (Some found) → is_passed_over too (ends_with_finish found.records) ≡ true → IsNotLeft too path journal (Ended path)
+  not_read : (fault : RunFault) → IsUnread journal fault → IsNotLeft too path journal (Refused fault)
+  no_such_number : (found : Found) (fault : RunFault) → replay_of journal ≡ Ok (Some found) → is_passed_over too (ends_with_finish found.records) ≡ false →
+      IsNoNumber found.header.used found.header.next fault → IsNotLeft too path journal (Refused fault)
 
--- Why no round of the DAG file of this path was cut short: it has no journal; the system refuses it; or its bytes tell of none.
-pub data IsNoRound (sight : Sight) (top : List ℕ) : SalvageFault → Type 0 where
-  has_no_journal : sight.lacks (journal_name_of top) → IsNoRound sight top (NoJournal (journal_name_of top))
-  journal_refused : (fault : RunFault) → IsRefusalOf (journal_name_of top) fault → IsNoRound sight top (Refused fault)
-  not_cut_short : (journal : List ℕ) (fault : SalvageFault) → sight.has (journal_name_of top) journal →
-      IsNotCutShort (journal_name_of top) journal fault → IsNoRound sight top fault
+-- Why there is no round of the DAG file of this path that may be salvaged: it has no journal; the system refuses it; or its bytes tell of none.
+pub data IsNoRound (too : Bool) (sight : Sight) (top : List ℕ) : SalvageFault → Type 0 where
+  has_no_journal : sight.lacks (journal_name_of top) → IsNoRound too sight top (NoJournal (journal_name_of top))
+  journal_refused : (fault : RunFault) → IsRefusalOf (journal_name_of top) fault → IsNoRound too sight top (Refused fault)
+  not_left : (journal : List ℕ) (fault : SalvageFault) → sight.has (journal_name_of top) journal →
+      IsNotLeft too (journal_name_of top) journal fault → IsNoRound too sight top fault
 
 -- Why it is not known what the round of this digest was begun with: the file is missing that says it, or the system refuses it; it is not spelled
 -- as that file is; or it says it of another digest.
@@ -98,7 +98,7 @@ pub data IsNotCarried (sight : Sight) (always_post : Bool) (files : Files) (path
   not_replayed : (begun : List ℕ) (old : Plan) (fault : RunFault) → sight.has (begun_name_of path) begun → IsBegunPlan always_post path digest begun old →
       IsUnsalvaged old journal fault → IsNotCarried sight always_post files path digest journal other (Refused fault)
 
--- Why a round that was cut short, with this journal, is not salvaged, the first cause first: it is not known what it was begun with; a DAG file is
+-- Why a round with this journal is not salvaged, the first cause first: it is not known what it was begun with; a DAG file is
 -- not as it was, or else the rescue file that it read; these have no plan; the journal has no records of a run of the plan. Or one of these files
 -- is not as it was, and the system refuses the file that keeps them, the DAG files make no graph now, or the journal has no records of a run of the
 -- plan of the files that are kept.
@@ -122,11 +122,14 @@ pub data IsCutShortFault (sight : Sight) (top journal digest : List ℕ) (used :
       IsListSeen sight top digest listed files → IsOther sight listed top used files other → sight.has (begun_name_of top) begun →
       IsBegunPlan always_post top digest begun old → IsUnsalvaged old journal fault → IsCutShortFault sight top journal digest used always_post (Refused fault)
 
--- Why no round of the DAG file of this path is salvaged: none was cut short, by its journal; or one was, and what is beside it says why; or another
+-- Why no round of the DAG file of this path is salvaged: there is none that may be, by its journal; or it has ended, and has written its rescue file;
+-- or there is one, and what is beside it says why; or another
 -- manager has the lock, or the system refuses it; or the system refuses another file, or that one may be another user's; or memory ran out.
-pub data IsSalvageFault (sight : Sight) (top : List ℕ) : SalvageFault → Type 0 where
-  no_round : (fault : SalvageFault) → IsNoRound sight top fault → IsSalvageFault sight top fault
-  round_refused : (journal digest : List ℕ) (used next : ℕ) (always_post : Bool) (fault : SalvageFault) → sight.has (journal_name_of top) journal →
-      IsUnfinishedRound journal digest used next always_post → IsCutShortFault sight top journal digest used always_post fault → IsSalvageFault sight top fault
-  another_is_at_work : (fault : RunFault) → IsRefusalOf (lock_name_of top) fault → IsSalvageFault sight top (Refused fault)
-  system_refuses : (fault : RunFault) → IsFileFault fault → IsSalvageFault sight top (Refused fault)
+pub data IsSalvageFault (too : Bool) (sight : Sight) (top : List ℕ) : SalvageFault → Type 0 where
+  no_round : (fault : SalvageFault) → IsNoRound too sight top fault → IsSalvageFault too sight top fault
+  rescue_is_written : (journal : List ℕ) (found : Found) (bytes : List ℕ) → sight.has (journal_name_of top) journal → replay_of journal ≡ Ok (Some found) →
+      ends_with_finish found.records ≡ true → sight.has (rescue_name_of top found.header.next) bytes → IsSalvageFault too sight top (Ended (journal_name_of top))
+  round_refused : (ended : Bool) (journal digest : List ℕ) (used next : ℕ) (always_post : Bool) (fault : SalvageFault) → sight.has (journal_name_of top) journal →
+      IsRoundLeft too ended journal digest used next always_post → IsCutShortFault sight top journal digest used always_post fault → IsSalvageFault too sight top fault
+  another_is_at_work : (fault : RunFault) → IsRefusalOf (lock_name_of top) fault → IsSalvageFault too sight top (Refused fault)
+  system_refuses : (fault : RunFault) → IsFileFault fault → IsSalvageFault too sight top (Refused fault)

@@ -1,5 +1,5 @@
--- A round that was cut short, and the files that it was begun with.
-use Rattle.std.specs.Prelude.{◌≡◌, ◌⊎◌, ◌≤◌, ℕ, Bool, false, List, find, Option, Some, None, Ok}
+-- A round that is salvaged, and the files that it was begun with.
+use Rattle.std.specs.Prelude.{◌≡◌, ◌⊎◌, ◌≤◌, ℕ, Bool, false, not, ◌&&◌, List, find, Option, Some, None, Ok}
 use Rattle.std.specs.Option.{option_map}
 use Rattle.std.specs.Str.{bytes_eq}
 use Rattle.sha2.specs.Sha256.{sha256}
@@ -8,12 +8,17 @@ use Rattle.event_journal_log.specs.Image.{Found, replay_of, IsRescueNumber}
 use Rattle.event_journal_log.specs.Peeks.{ends_with_finish}
 use Rattle.round_inputs.specs.declared.inputs.Listed.{Listed}
 
--- A journal of these bytes is that of a round which has not ended, and its header has the digest of the round's plan, the number of the
--- rescue file that the round read, 0 for none, that of the one which it would write, and whether POST runs behind a failed PRE.
-pub record IsUnfinishedRound (journal digest : List ℕ) (used next : ℕ) (always_post : Bool) : Type 0 where
+-- a round is passed over: it has ended, and those that have ended are not asked for, too
+abbrev pub is_passed_over : (too ended : Bool) → Bool
+is_passed_over too ended = ended && not too
+
+-- A journal of these bytes is that of a round which has ended or not, and is not passed over. Its header has the digest of the round's plan, the
+-- number of the rescue file that the round read, 0 for none, that of the one which it would write, and whether POST runs behind a failed PRE.
+pub record IsRoundLeft (too ended : Bool) (journal digest : List ℕ) (used next : ℕ) (always_post : Bool) : Type 0 where
   pub found : Found
   pub reads : replay_of journal ≡ Ok (Some found)
-  pub unfinished : ends_with_finish found.records ≡ false
+  pub ended_is : ends_with_finish found.records ≡ ended
+  pub left : is_passed_over too ended ≡ false
   pub digest_is : digest ≡ found.header.digest
   pub used_is : used ≡ found.header.used
   pub next_is : next ≡ found.header.next

@@ -16,7 +16,7 @@ use Rattle.event_journal_log.specs.declared.fault.JournalFault.{JournalFault}
 use Rattle.event_journal_log.specs.Image.{Found, replay_of}
 use Rattle.recovery_manager.specs.Rescue.{marks_of, rescue_text_for}
 use Rattle.dag_main_check.specs.Planned.{IsGraphOf}
-use Rattle.salvage.specs.Round.{IsUnfinishedRound, IsSame, IsSameRescue}
+use Rattle.salvage.specs.Round.{IsRoundLeft, IsSame, IsSameRescue}
 use Rattle.round_inputs.specs.declared.inputs.Listed.{Listed}
 use Rattle.salvage.specs.declared.here.Change.{Change}
 use Rattle.salvage.specs.declared.here.Change.TheVariants.{Other, Missing}
@@ -71,12 +71,13 @@ any_change file change = Unit {0}
 abbrev pub report_line : ℕ → ℕ → List ℕ → List ℕ
 report_line done total name = decimal done ++ (codes " of " ++ (decimal total ++ (codes " nodes are done: " ++ (name ++ codes "\n"))))
 
--- What is known of a round that is salvaged. Its journal is that of a round which was cut short. Files, and a rescue file or none, are as they
+-- What is known of a round that is salvaged. Its journal is that of a round which is not passed over. Files, and a rescue file or none, are as they
 -- were when the round began, by sums which these are; and this is the rescue file that marks what is done by the journal's records, in the plan
 -- of those files.
-pub record IsReadRound (path journal digest : List ℕ) (used next : ℕ) (always_post : Bool) (listed : List Listed) (files : FileSet) (rescue : Option (List ℕ))
+pub record IsReadRound (too : Bool) (path journal digest : List ℕ) (used next : ℕ) (always_post : Bool) (listed : List Listed) (files : FileSet) (rescue : Option (List ℕ))
     (plan : Plan) (rescue_text : List ℕ) (done : ℕ) : Type 0 where
-  pub cut_short : IsUnfinishedRound journal digest used next always_post
+  pub ended : Bool
+  pub is_left : IsRoundLeft too ended journal digest used next always_post
   pub are_same : All (IsSame listed) (entries_of files)
   pub is_same : IsSameRescue listed path used rescue
   pub planned : IsBarePlan always_post (bytes_of files) path rescue plan

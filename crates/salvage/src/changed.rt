@@ -12,7 +12,7 @@ ghost use Rattle.salvage.specs.Sight.{held_files_if};
 
 use crate::carried::{carry_over, warnings_of};
 use crate::fault::SalvageFault;
-use crate::rounds::CutShort;
+use crate::rounds::RoundLeft;
 use dag_main_check::{RunFault, graph_of, plan_with};
 use dag_main_files::Folder;
 use round_inputs::{BadBegun, Begun, begun_in, begun_path};
@@ -77,7 +77,7 @@ fn old_plan<F: Folder>(
     alloc: Global,
     folder: &F,
     top: &str,
-    round: &CutShort,
+    round: &RoundLeft,
 ) -> Result<Option<Plan>, RunFault>
     ensures plan { IfOk result (λ plan. IfSome plan (λ old. (begun : List ℕ)
         × IsBegunPlan round.now.always_post top.now round.now.digest begun old
@@ -110,7 +110,7 @@ pub(crate) fn made_of_changed<F: Folder>(
     folder: &F,
     top: &str,
     files: &FileSet,
-    round: &CutShort,
+    round: &RoundLeft,
     other: SalvageFault,
 ) -> Result<Made, SalvageFault>
     ensures made { IfOk result (λ made. IsMadeOfChanged (λ begun. F.honest folder.now → F.holds folder.now (begun_name_of top.now) ≡ Some begun)

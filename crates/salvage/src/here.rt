@@ -1,4 +1,4 @@
-//! A round that was cut short, made into a rescue file.
+//! A round that was cut short, or has ended, made into a rescue file.
 
 ghost use Rattle.std.specs.Str.{bytes_eq};
 ghost use Rattle.sha2.specs.Sha256.{sha256};
@@ -9,16 +9,16 @@ ghost use Rattle.dag_main_check.specs.declared.fault.RunFault.TheVariants.{Memor
 ghost use Rattle.dag_main_files.specs.Beside.{journal_name_of, IsFileFault};
 ghost use Rattle.dag_main_files.specs.Folder.{IsReadFrom};
 ghost use Rattle.round_inputs.specs.Inputs.{inputs_name_of, inputs_text_of};
-ghost use Rattle.salvage.specs.Round.{IsUnfinishedRound};
+ghost use Rattle.salvage.specs.Round.{IsRoundLeft};
 ghost use Rattle.salvage.specs.Salvaged.{IsBarePlan, change_line, IsChangeFrom, any_change, AreChanges, report_line};
-ghost use Rattle.salvage.specs.Answered.{IsMadeOfSame, IsMadeOf, IsHeldMade, IsSalvageOf, IsSalvageFrom};
+ghost use Rattle.salvage.specs.Answered.{IsMadeOfSame, IsMadeOf, HasWrittenNone, IsHeldMade, IsSalvageOf, IsSalvageFrom};
 ghost use Rattle.salvage.specs.Refused.{IsBarePlanFault, IsUnmade, IsSalvageFault};
 ghost use Rattle.salvage.specs.Sight.{held_files_if};
 
 use crate::changed::{Made, made_of_changed};
 use crate::fault::SalvageFault;
 use crate::rescue::{Salvaged, salvage_text};
-use crate::rounds::{CutShort, cut_short, inputs_with, rescue_as_it_was};
+use crate::rounds::{RoundLeft, inputs_with, rescue_as_it_was, round_left};
 use dag_main_check::{Answer, RunFault, graph_of, warning_text};
 use dag_main_files::{
     Folder, Place, Reading, files_of, journal_path, named, rescue_disk, rescue_path,
@@ -42,7 +42,7 @@ fn plan_of_round(
     alloc: Global,
     top: &str,
     files: &FileSet,
-    round: &CutShort,
+    round: &RoundLeft,
     rescue: Option<&[u8]>,
 ) -> Result<Plan, RunFault>
     requires { round.now.used ≤ 999 }
@@ -71,7 +71,7 @@ fn made_of_same(
     alloc: Global,
     top: &str,
     files: &FileSet,
-    round: &CutShort,
+    round: &RoundLeft,
     rescue: Option<&[u8]>,
 ) -> Result<Made, RunFault>
     requires { round.now.used ≤ 999 }
@@ -201,16 +201,16 @@ pub fn write_rescue<R: Files<File = File> + AllocGlobal + Copy + Drop>(
     }
 }
 
-/// A round that was cut short, once nothing of it is refused: what it is, what it was begun with, and what is
+/// A round, once nothing of it is refused: what it is, what it was begun with, and what is
 /// made of it.
 #[derive(Drop)]
 struct Found {
-    round: CutShort,
+    round: RoundLeft,
     inputs: Inputs,
     made: Made,
 }
 
-/// What is made of a round that was cut short, by these DAG files as they are now.
+/// What is made of a round by these DAG files as they are now.
 ///
 /// # Errors
 /// As `salvage_here` has them from the DAG files on that are not as they were.
@@ -220,18 +220,20 @@ fn made_of_round<F: Folder>(
     top: &str,
     inputs: &Inputs,
     files: &FileSet,
-    round: &CutShort,
+    round: &RoundLeft,
+    too: bool,
 ) -> Result<Made, SalvageFault>
-    requires cut_short { IsUnfinishedRound round.now.journal.items round.now.digest round.now.used round.now.next round.now.always_post }
+    requires left { IsRoundLeft too round.now.ended round.now.journal.items round.now.digest round.now.used round.now.next round.now.always_post }
     requires journal { F.honest folder.now → F.holds folder.now (journal_name_of top.now) ≡ Some round.now.journal.items }
     requires inputs { F.honest folder.now → F.holds folder.now (inputs_name_of top.now)
         ≡ Some (inputs_text_of round.now.digest inputs.now.files.items) }
     requires files { F.honest folder.now → IsReadFrom (F.holds folder.now) top.now files.now }
-    ensures made { IfOk result (λ made. (is : IsMadeOf top.now round.now.next inputs.now.files.items (string_bytes made.text)
+    requires none { F.honest folder.now → HasWrittenNone (F.holds folder.now) top.now round.now.next round.now.ended }
+    ensures made { IfOk result (λ made. (is : IsMadeOf too top.now round.now.next inputs.now.files.items (string_bytes made.text)
         made.done made.total (string_bytes made.warnings))
-        × (F.honest folder.now → IsHeldMade (F.holds folder.now) top.now round.now.next inputs.now.files.items (string_bytes made.text)
+        × (F.honest folder.now → IsHeldMade too (F.holds folder.now) top.now round.now.next inputs.now.files.items (string_bytes made.text)
         made.done made.total (string_bytes made.warnings) is)) }
-    ensures refused { IfErr result (IsSalvageFault (held_files_if (F.honest folder.now) (F.holds folder.now) (F.has folder.now) top.now) top.now) }
+    ensures refused { IfErr result (IsSalvageFault too (held_files_if (F.honest folder.now) (F.holds folder.now) (F.has folder.now) top.now) top.now) }
 {
     let other = match rescue_as_it_was(alloc, folder, top, inputs, files, round.used) {
         Ok(rescue) => return Ok(made_of_same(alloc, top, files, round, rescue.as_deref())?),
@@ -243,22 +245,54 @@ fn made_of_round<F: Folder>(
     }
 }
 
-/// The round of a DAG file that was cut short, read under the lock.
+/// Sees to it that a round that has ended has written no rescue file: the next round goes by that one.
+///
+/// # Errors
+/// `Ended` where the file is there; a file that the system refuses to read; `Memory`.
+fn has_written_none<F: Folder>(
+    alloc: Global,
+    folder: &F,
+    top: &str,
+    round: &RoundLeft,
+    too: bool,
+) -> Result<(), SalvageFault>
+    requires left { IsRoundLeft too round.now.ended round.now.journal.items round.now.digest round.now.used round.now.next round.now.always_post }
+    requires journal { F.honest folder.now → F.holds folder.now (journal_name_of top.now) ≡ Some round.now.journal.items }
+    ensures none { F.honest folder.now → OnOk result (HasWrittenNone (F.holds folder.now) top.now round.now.next round.now.ended) }
+    ensures refused { IfErr result (IsSalvageFault too (held_files_if (F.honest folder.now) (F.holds folder.now) (F.has folder.now) top.now) top.now) }
+{
+    if !round.ended {
+        return Ok(());
+    }
+    let path = rescue_path(alloc, top, round.next)?;
+    match folder.beside(alloc, path.as_str())? {
+        Some(_bytes) => Err(SalvageFault::Ended(journal_path(alloc, top)?)),
+        None => Ok(()),
+    }
+}
+
+/// The round of a DAG file, read under the lock; one that has ended is taken too, or not.
 ///
 /// # Errors
 /// As `salvage_here` has them from the journal on, before anything is changed.
-fn read_round<F: Folder>(alloc: Global, folder: &F, top: &str) -> Result<Found, SalvageFault>
-    ensures read { IfOk result (λ found. (is : IsMadeOf top.now found.round.next found.inputs.files.items (string_bytes found.made.text)
+fn read_round<F: Folder>(
+    alloc: Global,
+    folder: &F,
+    top: &str,
+    too: bool,
+) -> Result<Found, SalvageFault>
+    ensures read { IfOk result (λ found. (is : IsMadeOf too top.now found.round.next found.inputs.files.items (string_bytes found.made.text)
         found.made.done found.made.total (string_bytes found.made.warnings))
-        × (F.honest folder.now → IsHeldMade (F.holds folder.now) top.now found.round.next found.inputs.files.items (string_bytes found.made.text)
+        × (F.honest folder.now → IsHeldMade too (F.holds folder.now) top.now found.round.next found.inputs.files.items (string_bytes found.made.text)
         found.made.done found.made.total (string_bytes found.made.warnings) is)) }
     ensures next { IfOk result (λ found. IsFileNumber found.round.next) }
-    ensures refused { IfErr result (IsSalvageFault (held_files_if (F.honest folder.now) (F.holds folder.now) (F.has folder.now) top.now) top.now) }
+    ensures refused { IfErr result (IsSalvageFault too (held_files_if (F.honest folder.now) (F.holds folder.now) (F.has folder.now) top.now) top.now) }
 {
-    let round = cut_short(alloc, folder, top)?;
+    let round = round_left(alloc, folder, top, too)?;
+    has_written_none(alloc, folder, top, &round, too)?;
     let inputs = inputs_with(alloc, folder, top, &round.digest)?;
     let files = files_of(alloc, folder, top, Reading::SplicesAlone)?;
-    let made = made_of_round(alloc, folder, top, &inputs, &files, &round)?;
+    let made = made_of_round(alloc, folder, top, &inputs, &files, &round, too)?;
     Ok(Found {
         round,
         inputs,
@@ -274,15 +308,16 @@ fn salvage_locked<R: Files<File = File> + AllocGlobal + Copy + Drop, F: Folder>(
     rt: R,
     folder: &F,
     place: &Place<'_>,
+    too: bool,
 ) -> Result<Answer, SalvageFault>
-    ensures salvaged { IfOk result (λ answer. IsSalvageOf place.now.top.now
+    ensures salvaged { IfOk result (λ answer. IsSalvageOf too place.now.top.now
         (string_bytes answer.text) (string_bytes answer.warnings) answer.status) }
-    ensures held { F.honest folder.now → IfOk result (λ answer. IsSalvageFrom (F.holds folder.now) place.now.top.now
+    ensures held { F.honest folder.now → IfOk result (λ answer. IsSalvageFrom too (F.holds folder.now) place.now.top.now
         (string_bytes answer.text) (string_bytes answer.warnings) answer.status) }
-    ensures refused { IfErr result (IsSalvageFault (held_files_if (F.honest folder.now) (F.holds folder.now) (F.has folder.now) place.now.top.now) place.now.top.now) }
+    ensures refused { IfErr result (IsSalvageFault too (held_files_if (F.honest folder.now) (F.holds folder.now) (F.has folder.now) place.now.top.now) place.now.top.now) }
 {
     let alloc = rt.alloc();
-    let found = read_round(alloc, folder, place.top)?;
+    let found = read_round(alloc, folder, place.top, too)?;
     let changes = changes(alloc, folder, &found.inputs)?;
     let Found { round, made, .. } = found;
     let text = report_of(alloc, place, round.next, &made, changes.as_str())?;
@@ -334,7 +369,7 @@ pub fn has_own_files<R: Files + AllocGlobal>(
 }
 
 /// Makes a rescue file of the last round of the DAG file of this path, which was cut short, of the files that stand
-/// in a folder. Relative paths are taken from its path, which is absolute; both are as they were for `run`.
+/// in a folder; and of one that has ended, where such a round is taken `too`. Relative paths are taken from its path, which is absolute; both are as they were for `run`.
 ///
 /// The rescue file has the number that the journal's header names as the next, and marks the nodes that are
 /// done by the journal's records: it is the one that the round would have written had it stopped there. Where a DAG file
@@ -348,7 +383,7 @@ pub fn has_own_files<R: Files + AllocGlobal>(
 /// In this order, each before anything is changed: no journal (`NoJournal`), a journal or a lock that may be another
 /// user's (`FileRefused`, as `Place::trusts` tells it), a folder that has the name `.journal.old` (`FileRefused` with it), another manager that runs the DAG
 /// (`FileRefused` with the file that it has locked), a journal that the system refuses or that can't be read,
-/// a round that has ended (`Ended`), a number in the header that no rescue file has (`NotThere`), what the round
+/// a round that has ended (`Ended`) and is not taken, or whose rescue file is there, a number in the header that no rescue file has (`NotThere`), what the round
 /// was begun with (`NoInputs`, `BadInputs`, `OtherRound`), the first DAG file in the order of paths that is not
 /// as it was (`NotListed`, `Changed`), then so the rescue file that the round read, but where the file that keeps them
 /// is there, is spelled as it is written and has the journal's digest (a file there that may be another user's is
@@ -359,14 +394,15 @@ pub fn salvage_here<R: Files<File = File> + Clock + AllocGlobal + Copy + Drop, F
     rt: R,
     folder: &F,
     place: &Place<'_>,
+    too: bool,
     trust_owner: bool,
 ) -> Result<Answer, SalvageFault>
-    ensures salvaged { IfOk result (λ answer. IsSalvageOf place.now.top.now
+    ensures salvaged { IfOk result (λ answer. IsSalvageOf too place.now.top.now
         (string_bytes answer.text) (string_bytes answer.warnings) answer.status) }
     // It is that of the files that the folder holds.
-    ensures held { F.honest folder.now → IfOk result (λ answer. IsSalvageFrom (F.holds folder.now) place.now.top.now
+    ensures held { F.honest folder.now → IfOk result (λ answer. IsSalvageFrom too (F.holds folder.now) place.now.top.now
         (string_bytes answer.text) (string_bytes answer.warnings) answer.status) }
-    ensures refused { IfErr result (IsSalvageFault (held_files_if (F.honest folder.now) (F.holds folder.now) (F.has folder.now) place.now.top.now) place.now.top.now) }
+    ensures refused { IfErr result (IsSalvageFault too (held_files_if (F.honest folder.now) (F.holds folder.now) (F.has folder.now) place.now.top.now) place.now.top.now) }
 {
     let alloc = rt.alloc();
     let journal = journal_path(alloc, place.top)?;
@@ -375,7 +411,7 @@ pub fn salvage_here<R: Files<File = File> + Clock + AllocGlobal + Copy + Drop, F
     }
     has_own_files(&rt, place, journal.as_str(), trust_owner)?;
     let lock = place.lock(&rt)?;
-    let answer = salvage_locked(rt, folder, place);
+    let answer = salvage_locked(rt, folder, place, too);
     place.unlock(&rt, lock);
     answer
 }

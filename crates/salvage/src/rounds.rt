@@ -1,13 +1,13 @@
-//! Rounds that were cut short, and what they were begun with.
+//! Rounds that may be salvaged, and what they were begun with.
 
 ghost use Rattle.std.specs.Prelude.{◌≡◌, ◌≤◌, ◌↔◌, Some, All, IsTrue, IfOk, IfErr, OnOk, is_some, length, slice_range, option_map};
 ghost use Rattle.splices_flat.specs.FileSet.{entries_of};
 ghost use Rattle.event_journal_log.specs.Image.{IsRescueNumber};
-ghost use Rattle.salvage.specs.Round.{IsUnfinishedRound, sum_in, IsSame, IsSameRescue};
+ghost use Rattle.salvage.specs.Round.{is_passed_over, IsRoundLeft, sum_in, IsSame, IsSameRescue};
 ghost use Rattle.dag_main_files.specs.Beside.{journal_name_of};
 ghost use Rattle.dag_main_files.specs.Folder as held;
 ghost use Rattle.round_inputs.specs.Inputs.{inputs_name_of, inputs_text_of};
-ghost use Rattle.salvage.specs.Refused.{IsNoNumber, IsNotCutShort, IsNoRound, IsNoInputs};
+ghost use Rattle.salvage.specs.Refused.{IsNoNumber, IsNotLeft, IsNoRound, IsNoInputs};
 ghost use Rattle.salvage.specs.Others.{IsOtherFile, IsFirstOther, IsOtherRescue, IsOther};
 ghost use Rattle.salvage.specs.Sight.{held_files_if};
 
@@ -21,11 +21,13 @@ use sha2::{Digest, Sha256};
 use splices_flat::FileSet;
 use std::alloc::Global;
 
-/// A round that was cut short, as its journal says.
+/// A round that may be salvaged, as its journal says.
 #[derive(Drop)]
-pub(crate) struct CutShort {
+pub(crate) struct RoundLeft {
     /// The bytes of the journal.
     pub journal: Vec<u8>,
+    /// Whether it has ended; else it was cut short.
+    pub ended: bool,
     /// The digest of its plan.
     pub digest: [u8; 32],
     /// The number of the rescue file that it read, 0 for none.
@@ -66,50 +68,64 @@ fn numbers_in(peek: &Peek) -> Result<(u16, u16), RunFault>
     Ok((peek.used, peek.next))
 }
 
-/// The round of a journal of this path that has these bytes.
+/// Whether a round is passed over: it has ended, and those that have ended are not taken, too.
+fn is_passed_over(too: bool, ended: bool) -> bool
+    ensures { result ≡ is_passed_over too ended }
+{
+    ended && !too
+}
+
+/// The round of a journal of this path that has these bytes; those that have ended are taken too, or not.
 ///
 /// # Errors
 /// A journal that can't be read (`Refused`), one that was not begun (`NoJournal`), one of a round that has
-/// ended (`Ended`), and a number in its header that no rescue file has (`Refused`).
-fn round_in(alloc: Global, name: Text, journal: Vec<u8>) -> Result<CutShort, SalvageFault>
-    ensures cut_short { IfOk result (λ round. IsUnfinishedRound round.journal.items round.digest round.used round.next round.always_post) }
+/// ended, where such a round is not taken (`Ended`), and a number in its header that no rescue file has (`Refused`).
+fn round_in(
+    alloc: Global,
+    name: Text,
+    journal: Vec<u8>,
+    too: bool,
+) -> Result<RoundLeft, SalvageFault>
+    ensures left { IfOk result (λ round. IsRoundLeft too round.ended round.journal.items round.digest round.used round.next round.always_post) }
     ensures kept { IfOk result (λ round. round.journal.items ≡ journal.items) }
-    ensures refused { IfErr result (IsNotCutShort name journal.items) }
+    ensures refused { IfErr result (IsNotLeft too name journal.items) }
 {
     let Some(peek) = peek_in(alloc, journal.as_slice())? else {
         return Err(SalvageFault::NoJournal(name));
     };
-    if peek.finished {
+    if is_passed_over(too, peek.finished) {
         return Err(SalvageFault::Ended(name));
     }
     let (used, next) = numbers_in(&peek)?;
-    Ok(CutShort {
+    Ok(RoundLeft {
         digest: digest_in(journal.as_slice()),
         journal,
+        ended: peek.finished,
         used,
         next,
         always_post: peek.always_post,
     })
 }
 
-/// The last round of a DAG file, which was cut short.
+/// The last round of a DAG file, which was cut short, or has ended where such a round is taken, too.
 ///
 /// # Errors
 /// `NoJournal`, a journal that the system refuses to read, and then as `round_in`.
-pub(crate) fn cut_short<F: Folder>(
+pub(crate) fn round_left<F: Folder>(
     alloc: Global,
     folder: &F,
     top: &str,
-) -> Result<CutShort, SalvageFault>
-    ensures cut_short { IfOk result (λ round. IsUnfinishedRound round.journal.items round.digest round.used round.next round.always_post) }
+    too: bool,
+) -> Result<RoundLeft, SalvageFault>
+    ensures left { IfOk result (λ round. IsRoundLeft too round.ended round.journal.items round.digest round.used round.next round.always_post) }
     // Its journal is the one that the folder holds.
     ensures held { F.honest folder.now → IfOk result (λ round.
         F.holds folder.now (journal_name_of top.now) ≡ Some round.journal.items) }
-    ensures refused { IfErr result (IsNoRound (held_files_if (F.honest folder.now) (F.holds folder.now) (F.has folder.now) top.now) top.now) }
+    ensures refused { IfErr result (IsNoRound too (held_files_if (F.honest folder.now) (F.holds folder.now) (F.has folder.now) top.now) top.now) }
 {
     let name = journal_path(alloc, top)?;
     match folder.beside(alloc, name.as_str())? {
-        Some(journal) => round_in(alloc, name, journal),
+        Some(journal) => round_in(alloc, name, journal, too),
         None => Err(SalvageFault::NoJournal(name)),
     }
 }

@@ -29,6 +29,11 @@ returns-in_err-orphans-clause-refused g c =
     handed-on (IsStopFault _ _) c.from_residual.result c.from_residual.ensures.1
     (λ fault same. subst (IsStopFault _ _) (sym same) (not_cleared c.in_err-orphans.field-0.0 c.in_err-orphans.ensures))
 
+pub returns-in_err-status-clause-refused : goal.returns-in_err-status-clause-refused
+returns-in_err-status-clause-refused g c =
+    handed-on (IsStopFault _ _) c.from_residual-in_err-status.result c.from_residual-in_err-status.ensures.1
+    (λ fault same. subst (IsStopFault _ _) (sym same) (not_cleared c.in_err-status.field-0.0 c.in_err-status.ensures))
+
 pub returns-in_err-left_out-clause-refused : goal.returns-in_err-left_out-clause-refused
 returns-in_err-left_out-clause-refused g c =
     by-fault (IsStopFault _ _) c.in_err-left_out.field-0.0 (subst (IsStopFault _ _) (sym c.in_err-left_out.ensures) leading_had_no_memory)

@@ -23,9 +23,9 @@ returns-in_err-own-in-Err-clause-refused g c =
     let honest = g.F.Folder.honest c.args.folder.now in
     let holds = g.F.Folder.holds c.args.folder.now in
     let has = g.F.Folder.has c.args.folder.now in
-    handed-on (λ fault. IsSalvageFault any_files path (Refused fault)) c.from_residual.result c.from_residual.ensures.1
-    (λ fault same. subst (λ (f : RunFault). IsSalvageFault any_files path (Refused f)) (sym same)
-    (fault-of-any honest holds has path _ (subst (IsSalvageFault (held_files_if honest holds has path) path) c.in_err-own-in-Err.ensures.other c.in-Err.ensures.refused)))
+    handed-on (λ fault. IsSalvageFault c.args.ended any_files path (Refused fault)) c.from_residual.result c.from_residual.ensures.1
+    (λ fault same. subst (λ (f : RunFault). IsSalvageFault c.args.ended any_files path (Refused f)) (sym same)
+    (fault-of-any honest holds has path c.args.ended _ (subst (IsSalvageFault c.args.ended (held_files_if honest holds has path) path) c.in_err-own-in-Err.ensures.other c.in-Err.ensures.refused)))
 
 pub returns-in_err-own-in-Err-clause-refused_held : goal.returns-in_err-own-in-Err-clause-refused_held
 returns-in_err-own-in-Err-clause-refused_held g c = λ premise.
@@ -33,9 +33,9 @@ returns-in_err-own-in-Err-clause-refused_held g c = λ premise.
     let honest = g.F.Folder.honest c.args.folder.now in
     let holds = g.F.Folder.holds c.args.folder.now in
     let has = g.F.Folder.has c.args.folder.now in
-    handed-on (λ fault. IsSalvageFault (held_files holds has path) path (Refused fault)) c.from_residual.result c.from_residual.ensures.1
-    (λ fault same. subst (λ (f : RunFault). IsSalvageFault (held_files holds has path) path (Refused f)) (sym same)
-    (fault-of-held honest holds has path premise _ (subst (IsSalvageFault (held_files_if honest holds has path) path) c.in_err-own-in-Err.ensures.other c.in-Err.ensures.refused)))
+    handed-on (λ fault. IsSalvageFault c.args.ended (held_files holds has path) path (Refused fault)) c.from_residual.result c.from_residual.ensures.1
+    (λ fault same. subst (λ (f : RunFault). IsSalvageFault c.args.ended (held_files holds has path) path (Refused f)) (sym same)
+    (fault-of-held honest holds has path premise c.args.ended _ (subst (IsSalvageFault c.args.ended (held_files_if honest holds has path) path) c.in_err-own-in-Err.ensures.other c.in-Err.ensures.refused)))
 
 pub returns-in_ok-own-in-Err-clause-answered : goal.returns-in_ok-own-in-Err-clause-answered
 returns-in_ok-own-in-Err-clause-answered g c =
@@ -43,8 +43,8 @@ returns-in_ok-own-in-Err-clause-answered g c =
     let honest = g.F.Folder.honest c.args.folder.now in
     let holds = g.F.Folder.holds c.args.folder.now in
     let has = g.F.Folder.has c.args.folder.now in
-    line-warned _ (IsSalvageFault any_files path) c.in_ok-own-in-Err.own c.not_salvaged.result
-    (fault-of-any honest holds has path _ (subst (IsSalvageFault (held_files_if honest holds has path) path) (sym c.in_ok-own-in-Err.ensures.own.0) c.in-Err.ensures.refused))
+    line-warned _ (IsSalvageFault c.args.ended any_files path) c.in_ok-own-in-Err.own c.not_salvaged.result
+    (fault-of-any honest holds has path c.args.ended _ (subst (IsSalvageFault c.args.ended (held_files_if honest holds has path) path) (sym c.in_ok-own-in-Err.ensures.own.0) c.in-Err.ensures.refused))
     c.in_ok-own-in-Err.ensures.own.1 c.not_salvaged.ensures.warned c.not_salvaged.ensures.text c.not_salvaged.ensures.status
 
 pub returns-in_ok-own-in-Err-clause-held : goal.returns-in_ok-own-in-Err-clause-held
@@ -53,18 +53,18 @@ returns-in_ok-own-in-Err-clause-held g c = λ premise.
     let honest = g.F.Folder.honest c.args.folder.now in
     let holds = g.F.Folder.holds c.args.folder.now in
     let has = g.F.Folder.has c.args.folder.now in
-    line-warned _ (IsSalvageFault (held_files holds has path) path) c.in_ok-own-in-Err.own c.not_salvaged.result
-    (fault-of-held honest holds has path premise _ (subst (IsSalvageFault (held_files_if honest holds has path) path) (sym c.in_ok-own-in-Err.ensures.own.0) c.in-Err.ensures.refused))
+    line-warned _ (IsSalvageFault c.args.ended (held_files holds has path) path) c.in_ok-own-in-Err.own c.not_salvaged.result
+    (fault-of-held honest holds has path premise c.args.ended _ (subst (IsSalvageFault c.args.ended (held_files_if honest holds has path) path) (sym c.in_ok-own-in-Err.ensures.own.0) c.in-Err.ensures.refused))
     c.in_ok-own-in-Err.ensures.own.1 c.not_salvaged.ensures.warned c.not_salvaged.ensures.text c.not_salvaged.ensures.status
 
 pub returns-in_ok-own-in-Err-clause-refused : goal.returns-in_ok-own-in-Err-clause-refused
 returns-in_ok-own-in-Err-clause-refused g c =
-    weaker (λ fault. IsSalvageFault any_files c.args.place.now.top.now (Refused fault)) c.not_salvaged.result c.not_salvaged.ensures.err
-    (λ fault is. subst (λ (f : RunFault). IsSalvageFault any_files c.args.place.now.top.now (Refused f)) (sym is) (system_refuses Memory reading_had_no_memory))
+    weaker (λ fault. IsSalvageFault c.args.ended any_files c.args.place.now.top.now (Refused fault)) c.not_salvaged.result c.not_salvaged.ensures.err
+    (λ fault is. subst (λ (f : RunFault). IsSalvageFault c.args.ended any_files c.args.place.now.top.now (Refused f)) (sym is) (system_refuses Memory reading_had_no_memory))
 
 pub returns-in_ok-own-in-Err-clause-refused_held : goal.returns-in_ok-own-in-Err-clause-refused_held
 returns-in_ok-own-in-Err-clause-refused_held g c = λ premise.
     let path = c.args.place.now.top.now in
     let sight = held_files (g.F.Folder.holds c.args.folder.now) (g.F.Folder.has c.args.folder.now) path in
-    weaker (λ fault. IsSalvageFault sight path (Refused fault)) c.not_salvaged.result c.not_salvaged.ensures.err
-    (λ fault is. subst (λ (f : RunFault). IsSalvageFault sight path (Refused f)) (sym is) (system_refuses Memory reading_had_no_memory))
+    weaker (λ fault. IsSalvageFault c.args.ended sight path (Refused fault)) c.not_salvaged.result c.not_salvaged.ensures.err
+    (λ fault is. subst (λ (f : RunFault). IsSalvageFault c.args.ended sight path (Refused f)) (sym is) (system_refuses Memory reading_had_no_memory))

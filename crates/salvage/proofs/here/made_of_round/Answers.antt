@@ -26,7 +26,8 @@ returns-in-Ok-clause-made g c =
         rescue = option_map (λ b. b.items) c.in-Ok.rescue;
         plan = same.plan;
         read = record {
-          cut_short = c.requires.cut_short;
+          ended = round.ended;
+          is_left = c.requires.left;
           are_same = c.in-Ok.ensures.files;
           is_same = c.in-Ok.ensures.same;
           planned = same.planned;
@@ -36,6 +37,7 @@ returns-in-Ok-clause-made g c =
         warnings_are = same.warnings_are;
       }),
       λ honest. record {
+        none_written = c.requires.none honest;
         journal_is = c.requires.journal honest;
         listed_are = c.requires.inputs honest;
         read = c.requires.files honest;
@@ -46,9 +48,9 @@ returns-in-Ok-clause-made g c =
 pub returns-in_err-made_of_same-in-Ok-clause-refused : goal.returns-in_err-made_of_same-in-Ok-clause-refused
 returns-in_err-made_of_same-in-Ok-clause-refused g c =
     let round = c.args.round.now in
-    told-as (IsSalvageFault (held_files_if (g.F.Folder.honest c.args.folder.now) (g.F.Folder.holds c.args.folder.now) (g.F.Folder.has c.args.folder.now) c.args.top.now) c.args.top.now) (Refused c.in_err-made_of_same-in-Ok.field-0.0)
-    (same-refused (held_files_if (g.F.Folder.honest c.args.folder.now) (g.F.Folder.holds c.args.folder.now) (g.F.Folder.has c.args.folder.now) c.args.top.now) c.args.top.now round.journal.items round.digest round.used round.next round.always_post c.args.inputs.now.files.items c.args.files.now
-    c.requires.journal c.requires.cut_short (record { listed_are = c.requires.inputs; files_are = c.requires.files })
+    told-as (IsSalvageFault c.args.too (held_files_if (g.F.Folder.honest c.args.folder.now) (g.F.Folder.holds c.args.folder.now) (g.F.Folder.has c.args.folder.now) c.args.top.now) c.args.top.now) (Refused c.in_err-made_of_same-in-Ok.field-0.0)
+    (same-refused c.args.too round.ended (held_files_if (g.F.Folder.honest c.args.folder.now) (g.F.Folder.holds c.args.folder.now) (g.F.Folder.has c.args.folder.now) c.args.top.now) c.args.top.now round.journal.items round.digest round.used round.next round.always_post c.args.inputs.now.files.items c.args.files.now
+    c.requires.journal c.requires.left (record { listed_are = c.requires.inputs; files_are = c.requires.files })
     (option_map (λ b. b.items) c.in-Ok.rescue) c.in_err-made_of_same-in-Ok.field-0.0 c.in-Ok.ensures.files
     (rescue-seen (g.F.Folder.honest c.args.folder.now) (g.F.Folder.holds c.args.folder.now) (g.F.Folder.has c.args.folder.now) c.args.top.now round.used
     (option_map (λ b. b.items) c.in-Ok.rescue) c.in-Ok.ensures.held)
@@ -60,17 +62,17 @@ returns-in_err-made_of_same-in-Ok-clause-refused g c =
 pub returns-in-Err-own-clause-refused : goal.returns-in-Err-own-clause-refused
 returns-in-Err-own-clause-refused g c =
     let round = c.args.round.now in
-    subst (IsSalvageFault (held_files_if (g.F.Folder.honest c.args.folder.now) (g.F.Folder.holds c.args.folder.now) (g.F.Folder.has c.args.folder.now) c.args.top.now) c.args.top.now) c.in-Err-own.ensures.other
-    (other-refused (held_files_if (g.F.Folder.honest c.args.folder.now) (g.F.Folder.holds c.args.folder.now) (g.F.Folder.has c.args.folder.now) c.args.top.now) c.args.top.now round.journal.items round.digest round.used round.next round.always_post c.args.inputs.now.files.items c.args.files.now
-    c.requires.journal c.requires.cut_short (record { listed_are = c.requires.inputs; files_are = c.requires.files })
+    subst (IsSalvageFault c.args.too (held_files_if (g.F.Folder.honest c.args.folder.now) (g.F.Folder.holds c.args.folder.now) (g.F.Folder.has c.args.folder.now) c.args.top.now) c.args.top.now) c.in-Err-own.ensures.other
+    (other-refused c.args.too round.ended (held_files_if (g.F.Folder.honest c.args.folder.now) (g.F.Folder.holds c.args.folder.now) (g.F.Folder.has c.args.folder.now) c.args.top.now) c.args.top.now round.journal.items round.digest round.used round.next round.always_post c.args.inputs.now.files.items c.args.files.now
+    c.requires.journal c.requires.left (record { listed_are = c.requires.inputs; files_are = c.requires.files })
     c.in-Err.other c.in-Err.ensures.refused)
 
 pub returns-in-Ok-own-clause-refused : goal.returns-in-Ok-own-clause-refused
 returns-in-Ok-own-clause-refused g c =
     let round = c.args.round.now in
-    weaker-as (IsSalvageFault (held_files_if (g.F.Folder.honest c.args.folder.now) (g.F.Folder.holds c.args.folder.now) (g.F.Folder.has c.args.folder.now) c.args.top.now) c.args.top.now) c.made_of_changed.result c.made_of_changed.ensures.refused
-    (λ fault is. change-refused (held_files_if (g.F.Folder.honest c.args.folder.now) (g.F.Folder.holds c.args.folder.now) (g.F.Folder.has c.args.folder.now) c.args.top.now) c.args.top.now round.journal.items round.digest round.used round.next round.always_post c.args.inputs.now.files.items c.args.files.now
-    c.requires.journal c.requires.cut_short (record { listed_are = c.requires.inputs; files_are = c.requires.files })
+    weaker-as (IsSalvageFault c.args.too (held_files_if (g.F.Folder.honest c.args.folder.now) (g.F.Folder.holds c.args.folder.now) (g.F.Folder.has c.args.folder.now) c.args.top.now) c.args.top.now) c.made_of_changed.result c.made_of_changed.ensures.refused
+    (λ fault is. change-refused c.args.too round.ended (held_files_if (g.F.Folder.honest c.args.folder.now) (g.F.Folder.holds c.args.folder.now) (g.F.Folder.has c.args.folder.now) c.args.top.now) c.args.top.now round.journal.items round.digest round.used round.next round.always_post c.args.inputs.now.files.items c.args.files.now
+    c.requires.journal c.requires.left (record { listed_are = c.requires.inputs; files_are = c.requires.files })
     c.in-Ok-own.change fault
     (subst (IsOther (held_files_if (g.F.Folder.honest c.args.folder.now) (g.F.Folder.holds c.args.folder.now) (g.F.Folder.has c.args.folder.now) c.args.top.now) c.args.inputs.now.files.items c.args.top.now round.used c.args.files.now) (sym c.in-Ok-own.ensures.own.0) c.in-Err.ensures.refused) is)
 
@@ -87,7 +89,8 @@ returns-in-Ok-own-clause-made g c =
         files = c.args.files.now;
         other = c.in-Ok-own.change;
         begun = is.begun;
-        cut_short = c.requires.cut_short;
+        ended = round.ended;
+        is_left = c.requires.left;
         is_other = subst (IsOther any_files c.args.inputs.now.files.items c.args.top.now round.used c.args.files.now) (sym c.in-Ok-own.ensures.own.0)
             (other-of-any (g.F.Folder.honest c.args.folder.now) (g.F.Folder.holds c.args.folder.now) (g.F.Folder.has c.args.folder.now) c.args.top.now
             c.args.inputs.now.files.items round.used c.args.files.now c.in-Err.other c.in-Err.ensures.refused);
@@ -106,6 +109,7 @@ returns-in-Ok-own-clause-made g c =
         };
       }),
       λ honest. record {
+        none_written = c.requires.none honest;
         journal_is = c.requires.journal honest;
         listed_are = c.requires.inputs honest;
         begun_is = is.is_held honest;

@@ -9,25 +9,25 @@ use Rattle.salvage.proofs.here.salvage_here.Goals as goal
 
 pub returns-in_err-journal-clause-refused : goal.returns-in_err-journal-clause-refused
 returns-in_err-journal-clause-refused g c =
-    told-as (IsSalvageFault (held_files_if (g.F.Folder.honest c.args.folder.now) (g.F.Folder.holds c.args.folder.now) (g.F.Folder.has c.args.folder.now) c.args.place.now.top.now) c.args.place.now.top.now) (Refused Memory) (system_refuses _ reading_had_no_memory) c.from_residual.result c.from_residual.ensures.1
+    told-as (IsSalvageFault c.args.too (held_files_if (g.F.Folder.honest c.args.folder.now) (g.F.Folder.holds c.args.folder.now) (g.F.Folder.has c.args.folder.now) c.args.place.now.top.now) c.args.place.now.top.now) (Refused Memory) (system_refuses _ reading_had_no_memory) c.from_residual.result c.from_residual.ensures.1
 
 pub returns-in_err-is_there-clause-refused : goal.returns-in_err-is_there-clause-refused
 returns-in_err-is_there-clause-refused g c =
-    told-as (IsSalvageFault (held_files_if (g.F.Folder.honest c.args.folder.now) (g.F.Folder.holds c.args.folder.now) (g.F.Folder.has c.args.folder.now) c.args.place.now.top.now) c.args.place.now.top.now) (Refused c.in_err-is_there.field-0.0)
+    told-as (IsSalvageFault c.args.too (held_files_if (g.F.Folder.honest c.args.folder.now) (g.F.Folder.holds c.args.folder.now) (g.F.Folder.has c.args.folder.now) c.args.place.now.top.now) c.args.place.now.top.now) (Refused c.in_err-is_there.field-0.0)
     (system_refuses _ (subst IsFileFault (sym c.in_err-is_there.ensures.refused) reading_had_no_memory))
     c.from_residual-in_err-is_there.result c.from_residual-in_err-is_there.ensures.1
 
 pub returns-then-not-branch-clause-refused : goal.returns-then-not-branch-clause-refused
 returns-then-not-branch-clause-refused g c =
-    subst (λ (n : List ℕ). IsSalvageFault (held_files_if (g.F.Folder.honest c.args.folder.now) (g.F.Folder.holds c.args.folder.now) (g.F.Folder.has c.args.folder.now) c.args.place.now.top.now) c.args.place.now.top.now (NoJournal n)) (sym c.in_ok-journal.ensures)
+    subst (λ (n : List ℕ). IsSalvageFault c.args.too (held_files_if (g.F.Folder.honest c.args.folder.now) (g.F.Folder.holds c.args.folder.now) (g.F.Folder.has c.args.folder.now) c.args.place.now.top.now) c.args.place.now.top.now (NoJournal n)) (sym c.in_ok-journal.ensures)
     (no_round _ (has_no_journal (λ honest. inr (ap (g.F.Folder.has c.args.folder.now) (sym (c.as_str.ensures ∙ c.in_ok-journal.ensures)) ∙ sym (c.in_ok-is_there.ensures.there honest)
     ∙ c.if-not-branch.true))))
 
 pub returns-in_err-has_own_files-clause-refused : goal.returns-in_err-has_own_files-clause-refused
 returns-in_err-has_own_files-clause-refused g c =
-    told-as (IsSalvageFault (held_files_if (g.F.Folder.honest c.args.folder.now) (g.F.Folder.holds c.args.folder.now) (g.F.Folder.has c.args.folder.now) c.args.place.now.top.now) c.args.place.now.top.now) (Refused c.in_err-has_own_files.field-0.0) (system_refuses _ c.in_err-has_own_files.ensures)
+    told-as (IsSalvageFault c.args.too (held_files_if (g.F.Folder.honest c.args.folder.now) (g.F.Folder.holds c.args.folder.now) (g.F.Folder.has c.args.folder.now) c.args.place.now.top.now) c.args.place.now.top.now) (Refused c.in_err-has_own_files.field-0.0) (system_refuses _ c.in_err-has_own_files.ensures)
     c.from_residual-in_err-has_own_files.result c.from_residual-in_err-has_own_files.ensures.1
 
 pub returns-in_err-lock-clause-refused : goal.returns-in_err-lock-clause-refused
 returns-in_err-lock-clause-refused g c =
-    told-as (IsSalvageFault (held_files_if (g.F.Folder.honest c.args.folder.now) (g.F.Folder.holds c.args.folder.now) (g.F.Folder.has c.args.folder.now) c.args.place.now.top.now) c.args.place.now.top.now) (Refused c.in_err-lock.field-0.0) (another_is_at_work _ c.in_err-lock.ensures) c.from_residual-in_err-lock.result c.from_residual-in_err-lock.ensures.1
+    told-as (IsSalvageFault c.args.too (held_files_if (g.F.Folder.honest c.args.folder.now) (g.F.Folder.holds c.args.folder.now) (g.F.Folder.has c.args.folder.now) c.args.place.now.top.now) c.args.place.now.top.now) (Refused c.in_err-lock.field-0.0) (another_is_at_work _ c.in_err-lock.ensures) c.from_residual-in_err-lock.result c.from_residual-in_err-lock.ensures.1

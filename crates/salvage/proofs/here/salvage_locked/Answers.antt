@@ -48,24 +48,24 @@ returns-clause-held g c = λ honest.
 
 pub returns-in_err-found-clause-refused : goal.returns-in_err-found-clause-refused
 returns-in_err-found-clause-refused g c =
-    told-as (IsSalvageFault (held_files_if (g.F.Folder.honest c.args.folder.now) (g.F.Folder.holds c.args.folder.now) (g.F.Folder.has c.args.folder.now) c.args.place.now.top.now) c.args.place.now.top.now) c.in_err-found.field-0.0 c.in_err-found.ensures.refused c.from_residual.result c.from_residual.ensures.1
+    told-as (IsSalvageFault c.args.too (held_files_if (g.F.Folder.honest c.args.folder.now) (g.F.Folder.holds c.args.folder.now) (g.F.Folder.has c.args.folder.now) c.args.place.now.top.now) c.args.place.now.top.now) c.in_err-found.field-0.0 c.in_err-found.ensures.refused c.from_residual.result c.from_residual.ensures.1
 
 pub returns-in_err-changes-clause-refused : goal.returns-in_err-changes-clause-refused
 returns-in_err-changes-clause-refused g c =
-    told-as (IsSalvageFault (held_files_if (g.F.Folder.honest c.args.folder.now) (g.F.Folder.holds c.args.folder.now) (g.F.Folder.has c.args.folder.now) c.args.place.now.top.now) c.args.place.now.top.now) (Refused c.in_err-changes.field-0.0) (system_refuses _ c.in_err-changes.ensures.refused)
+    told-as (IsSalvageFault c.args.too (held_files_if (g.F.Folder.honest c.args.folder.now) (g.F.Folder.holds c.args.folder.now) (g.F.Folder.has c.args.folder.now) c.args.place.now.top.now) c.args.place.now.top.now) (Refused c.in_err-changes.field-0.0) (system_refuses _ c.in_err-changes.ensures.refused)
     c.from_residual-in_err-changes.result c.from_residual-in_err-changes.ensures.1
 
 pub returns-in_err-text-clause-refused : goal.returns-in_err-text-clause-refused
 returns-in_err-text-clause-refused g c =
-    told-as (IsSalvageFault (held_files_if (g.F.Folder.honest c.args.folder.now) (g.F.Folder.holds c.args.folder.now) (g.F.Folder.has c.args.folder.now) c.args.place.now.top.now) c.args.place.now.top.now) (Refused c.in_err-text.field-0.0) (system_refuses _ (subst IsFileFault (sym c.in_err-text.ensures.err) reading_had_no_memory))
+    told-as (IsSalvageFault c.args.too (held_files_if (g.F.Folder.honest c.args.folder.now) (g.F.Folder.holds c.args.folder.now) (g.F.Folder.has c.args.folder.now) c.args.place.now.top.now) c.args.place.now.top.now) (Refused c.in_err-text.field-0.0) (system_refuses _ (subst IsFileFault (sym c.in_err-text.ensures.err) reading_had_no_memory))
     c.from_residual-in_err-text.result c.from_residual-in_err-text.ensures.1
 
 pub returns-in_err-write_rescue-clause-refused : goal.returns-in_err-write_rescue-clause-refused
 returns-in_err-write_rescue-clause-refused g c =
-    told-as (IsSalvageFault (held_files_if (g.F.Folder.honest c.args.folder.now) (g.F.Folder.holds c.args.folder.now) (g.F.Folder.has c.args.folder.now) c.args.place.now.top.now) c.args.place.now.top.now) (Refused c.in_err-write_rescue.field-0.0) (system_refuses _ c.in_err-write_rescue.ensures)
+    told-as (IsSalvageFault c.args.too (held_files_if (g.F.Folder.honest c.args.folder.now) (g.F.Folder.holds c.args.folder.now) (g.F.Folder.has c.args.folder.now) c.args.place.now.top.now) c.args.place.now.top.now) (Refused c.in_err-write_rescue.field-0.0) (system_refuses _ c.in_err-write_rescue.ensures)
     c.from_residual-in_err-write_rescue.result c.from_residual-in_err-write_rescue.ensures.1
 
 pub returns-in_err-put_journal_away-clause-refused : goal.returns-in_err-put_journal_away-clause-refused
 returns-in_err-put_journal_away-clause-refused g c =
-    told-as (IsSalvageFault (held_files_if (g.F.Folder.honest c.args.folder.now) (g.F.Folder.holds c.args.folder.now) (g.F.Folder.has c.args.folder.now) c.args.place.now.top.now) c.args.place.now.top.now) (Refused c.in_err-put_journal_away.field-0.0) (system_refuses _ c.in_err-put_journal_away.ensures)
+    told-as (IsSalvageFault c.args.too (held_files_if (g.F.Folder.honest c.args.folder.now) (g.F.Folder.holds c.args.folder.now) (g.F.Folder.has c.args.folder.now) c.args.place.now.top.now) c.args.place.now.top.now) (Refused c.in_err-put_journal_away.field-0.0) (system_refuses _ c.in_err-put_journal_away.ensures)
     c.from_residual-in_err-put_journal_away.result c.from_residual-in_err-put_journal_away.ensures.1

@@ -8,7 +8,7 @@ pub returns-then-is_empty-clause-err : goal.returns-then-is_empty-clause-err
 returns-then-is_empty-clause-err g c = no_child_runs (sym c.running.ensures ∙ ap reverse (no_items c.running.result.now (search rules))) refl
 
 pub returns-in-Err-clause-err : goal.returns-in-Err-clause-err
-returns-in-Err-clause-err g c = ask-waits _ _ _ c.in-Err.fault (ask-before _ _ _ c.in-Err.fault c.loop.invariant.1 c.in-Err.ensures.err)
+returns-in-Err-clause-err g c = ask-waits _ _ _ c.in-Err.fault (ask-before _ _ _ c.in-Err.fault c.loop-round.invariant.1 c.in-Err.ensures.err)
 
 pub returns-in-Err-wait-clause-err : goal.returns-in-Err-wait-clause-err
-returns-in-Err-wait-clause-err g c = ask-waits _ _ _ c.in-Err-wait.fault (ask-before _ _ _ c.in-Err-wait.fault c.loop.invariant.1 c.in-Err-wait.ensures.err)
+returns-in-Err-wait-clause-err g c = ask-waits _ _ _ c.in-Err-wait.fault (ask-before _ _ _ c.in-Err-wait.fault c.loop-round.invariant.1 c.in-Err-wait.ensures.err)
