@@ -2554,7 +2554,24 @@ while grep -q '^ShdPnd:.*[4-7c-f].\\{4\\}$' /proc/$PPID/status; do sleep 0.01; d
     folder.write("a.sub", "executable = /bin/sh\narguments = a.sh $(name)\noutput = $(name).out\nerror = $(name).err\nqueue\n")
     folder.write("c.sub", "executable = /bin/sh\narguments = c.sh\noutput = c.out\nerror = c.out\nqueue\n")
     words = ["strace", "-qqq", "-y", "-o", "calls", "-e", "trace=pwrite64,fsync", "-e", "signal=none", folder.program, "run", "x.dag"]
-    same(subprocess.run(words, cwd=folder.path, capture_output=True, timeout=PATIENCE).returncode, 0)
+    wanted = ["a.out", "a.err", "b.out", "b.err", "c.out", "folder", "three"]
+    # The manager may be stopped within a look at its children, so that this look sees some of the endings, and the next one the others.
+    for _ in range(8):
+        for name in ("a.process", "b.process", "stopped"):
+            with contextlib.suppress(FileNotFoundError):
+                os.remove(folder.at(name))
+        same(subprocess.run(words, cwd=folder.path, capture_output=True, timeout=PATIENCE).returncode, 0)
+        seen = calls_of_batches(folder)
+        if seen == wanted:
+            break
+    same(seen, wanted)
+    # Life, three launches and three ends, each behind one gate, Finish.
+    places, batches = slots_in(folder.read("x.dag.journal"))
+    same((len(places), batches), (8, 2))
+
+
+def calls_of_batches(folder):
+    """What was synced from the first output on, and when a batch of three records was written, as strace saw it."""
     last = os.path.basename(os.path.realpath(folder.path))
     seen = []
     for line in folder.read("calls").decode(errors="replace").splitlines():
@@ -2563,10 +2580,7 @@ while grep -q '^ShdPnd:.*[4-7c-f].\\{4\\}$' /proc/$PPID/status; do sleep 0.01; d
         elif match := re.search(r"fsync\(\d+<[^>]*/([^/>]+)>", line):
             seen.append("folder" if match[1] == last else match[1])
     # The folder is synced as the round begins, too, and the launches are a batch of three.
-    same(seen[seen.index("a.out"):], ["a.out", "a.err", "b.out", "b.err", "c.out", "folder", "three"])
-    # Life, three launches and three ends, each behind one gate, Finish.
-    places, batches = slots_in(folder.read("x.dag.journal"))
-    same((len(places), batches), (8, 2))
+    return seen[seen.index("a.out"):] if "a.out" in seen else seen
 
 
 def outputs_that_are_refused(folder):
@@ -3844,13 +3858,86 @@ def halted_and_killed(folder):
     folder.wait_for_launch(5)
     run.kill()
     run.communicate(timeout=PATIENCE)
-    refused(folder, ("run", "x.dag"), "H1 Halted x.dag.halt")
+    # Nothing is started in the place of B and C, so they are left as they are, also by a second run.
+    for _ in range(2):
+        refused(folder, ("run", "x.dag"), "H1 Halted x.dag.halt")
     same([len(folder.read(f"{name}.began").split()) for name in names], [1, 1, 1])
+    left = [line for line in fields_of(folder) if line[0] == "orphan"]
+    # A job has a process more while it sleeps.
+    same(sorted({(line[1], line[4]["done"]) for line in left}), [("B", "left"), ("C", "left")])
     os.remove(folder.at("x.dag.halt"))
+    run = folder.start("run", "x.dag")
+    wait_until(lambda: all(len(folder.read(f"{name}.began").split()) == 2 for name in "BC"), "B and C don't begin again")
     folder.write("late", "")
-    same(folder.call("run", "x.dag"), ("".join(f"{name} DONE attempts=1 value=0\n" for name in "ABCD") + "result 0\n", "", 0))
+    same((run.communicate(timeout=PATIENCE), run.returncode), ((("".join(f"{name} DONE attempts=1 value=0\n" for name in "ABCD") + "result 0\n").encode(), b""), 0))
     same([len(folder.read(f"{name}.began").split()) for name in "ABCD"], [1, 2, 2, 1])
     same([len(folder.read(f"{name}.done").split()) for name in "ABCD"], [1, 1, 1, 1])
+
+
+def two_waiting(folder):
+    """A waits for a file, and B comes after it."""
+    folder.write("x.dag", "JOB A a.sub\nJOB B b.sub\nPARENT A CHILD B\n")
+    folder.shell("a", "echo x >>a.began\nuntil [ -e go ]; do sleep 0.01; done\n")
+    folder.shell("b", "echo x >>b.began\n")
+
+
+def halted_in_a_folder_that_is_renamed(folder):
+    """What is left to be started is not started in another folder that has the name of the round's by then; in its own the round goes on."""
+    work, moved = folder.at("work"), folder.at("moved")
+    for path in (work, folder.at("other")):
+        os.mkdir(path)
+        two_waiting(Folder(folder.program, path))
+    run = Folder(folder.program, work).start("run", "x.dag")
+    Folder(folder.program, work).wait_for("a.began")
+    os.rename(work, moved)
+    os.rename(folder.at("other"), work)
+    before = sorted(os.listdir(work))
+    inner = Folder(folder.program, moved)
+    inner.write("go", "")
+    halted(folder, run, "x.dag")
+    same((sorted(os.listdir(work)), inner.there("b.began")), (before, False))
+    same(inner.call("run", "x.dag"), (done_lines("A", "B") + "result 0\n", "", 0))
+    same((inner.read("a.began"), inner.read("b.began")), (b"x\n", b"x\n"))
+
+
+def halted_behind_a_link_that_is_switched(folder):
+    """The same where a link on the way to the DAG file is switched."""
+    two_waiting(folder)
+    for name in ("one", "two"):
+        os.mkdir(folder.at(name))
+        shutil.copy(folder.at("x.dag"), folder.at(name))
+    os.symlink("one", folder.at("now"))
+    run = folder.start("run", "now/x.dag")
+    folder.wait_for("a.began")
+    os.remove(folder.at("now"))
+    os.symlink("two", folder.at("now"))
+    folder.write("go", "")
+    halted(folder, run, "now/x.dag")
+    same((os.listdir(folder.at("two")), folder.there("b.began")), (["x.dag"], False))
+    same(folder.call("run", "one/x.dag")[1:], ("dagrun: J5 OtherInputs\n", 125))
+    os.remove(folder.at("now"))
+    os.symlink("one", folder.at("now"))
+    same(folder.call("run", "now/x.dag"), (done_lines("A", "B") + "result 0\n", "", 0))
+    same((folder.read("a.began"), folder.read("b.began")), (b"x\n", b"x\n"))
+
+
+def a_rescue_file_of_a_folder_that_is_renamed(folder):
+    """A rescue file is never written into another folder that has the name of the round's by then; the next run in its own writes it."""
+    work, moved = folder.at("work"), folder.at("moved")
+    os.mkdir(work)
+    inner = Folder(folder.program, work)
+    two_waiting(inner)
+    inner.shell("a", "echo x >>a.began\nuntil [ -e go ]; do sleep 0.01; done\nexit 3\n")
+    run = inner.start("run", "x.dag")
+    inner.wait_for("a.began")
+    os.rename(work, moved)
+    os.mkdir(work)
+    inner = Folder(folder.program, moved)
+    inner.write("go", "")
+    same(tuple(text.decode() for text in run.communicate(timeout=PATIENCE)) + (run.returncode,), ("", "dagrun: J1 Device\n", 125))
+    same((os.listdir(work), inner.there("x.dag.rescue001")), ([], False))
+    same(inner.call("run", "x.dag"), ("A ERROR attempts=1 value=3\nB NOT_READY attempts=0 value=-\nresult 1\n", "", 1))
+    same((inner.there("x.dag.rescue001"), inner.read("a.began")), (True, b"x\n"))
 
 
 def halted_with_nothing_left(folder):
@@ -4753,6 +4840,9 @@ ROWS = [
     halted_before_the_first_launch,
     halted_and_killed,
     halted_with_nothing_left,
+    halted_in_a_folder_that_is_renamed,
+    halted_behind_a_link_that_is_switched,
+    a_rescue_file_of_a_folder_that_is_renamed,
     halted_at_a_script,
     stopped_at_the_first_error,
     not_stopped_by_what_is_tried_again,

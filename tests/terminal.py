@@ -481,7 +481,7 @@ def a_halt(folder):
     kept = told.kept()
     holds(kept[0] in [f"halted: nothing more is launched; {running}" for running in ("1 still runs", "2 still run")], f"{kept}")
     same(kept[1], "dagrun: H1 Halted x.dag.halt")
-    holds(any("Remove the file that is named, and call `dagrun run` again" in line for line in kept), f"{kept}")
+    holds(any("remove that file, and call `dagrun run` again" in line for line in kept), f"{kept}")
 
 
 def at_20_columns(folder):

@@ -39,20 +39,20 @@ _dagrun() {
     fi
     case $command in
         '') options='run status why times report salvage redo audit check rehearse graph explain help version --help' ;;
-        run) options='--maxjobs --maxpre --maxpost --autorescue --dorescuefrom --always-run-post --stop-at-first-error --sync-output --script-output --log-limit --status-file --status-every --launcher --launcher-final --launcher-grace --orphans --progress --resume --trust-owner --help' ;;
+        run) options='--maxjobs --maxpre --maxpost --autorescue --dorescuefrom --always-run-post --stop-at-first-error --sync-output --script-output --log-limit --status-file --status-every --launcher --launcher-final --launcher-grace --orphans --progress --resume --json --trust-owner --help' ;;
         status) options='--json --as-begun --trust-owner --help' ;;
-        why) options='--all --as-begun --trust-owner --help' ;;
-        times) options='--svg --json --as-begun --trust-owner --help' ;;
+        why) options='--all --json --as-begun --trust-owner --help' ;;
+        times) options='--svg --json --summary --as-begun --trust-owner --help' ;;
         report) options='--reload --as-begun --trust-owner --help' ;;
         salvage) options='--ended --trust-owner --help' ;;
         redo) options='--only --trust-owner --help' ;;
-        audit) options='--as-begun --trust-owner --help' ;;
-        check) options='--all --hints --condor --help' ;;
+        audit) options='--json --as-begun --trust-owner --help' ;;
+        check) options='--all --json --hints --condor --help' ;;
         rehearse) options='--maxjobs --maxpre --maxpost --always-run-post --help' ;;
-        graph) options='--as-is --as-begun --trust-owner --help' ;;
+        graph) options='--fold --as-is --as-begun --trust-owner --help' ;;
         explain) options='--help' ;;
         help) options='--help' ;;
-        version) options='--help' ;;
+        version) options='--json --help' ;;
     esac
     if [ -z "$command" ] || [[ $word == -* ]]; then
         COMPREPLY=($(compgen -W "$options" -- "$word"))

@@ -58,6 +58,7 @@ _dagrun() {
                 '--orphans=[What is done with processes that a manager which was killed left running; kill where it is not given \[possible values\: kill, wait, leave\]]:kill or wait or leave:(kill wait leave)' \
                 '--progress=[Whether standard error shows how far the run is; auto where it is not given\: on a terminal \[possible values\: auto, always, never\]]:auto or always or never:(auto always never)' \
                 '--resume[Where the last round has ended, prints its report again and starts nothing]' \
+                '--json[Prints at the end where each node is as JSON, for other programs, in place of the report]' \
                 '--trust-owner[Root goes by the journal, the rescue files and the lock of another user, and others by those of root]' \
                 '1:DAG:_files -g "*.dag"'
             ;;
@@ -73,6 +74,7 @@ _dagrun() {
             _arguments \
                 '(-h --help)'{-h,--help}'[Print help]' \
                 '--all[Each node in error by itself; without it those with one cause are shown once]' \
+                '--json[The same as JSON, for other programs]' \
                 '--as-begun[Goes by the files with which the round began, as x.dag.begun keeps them, whatever was changed since]' \
                 '--trust-owner[Root goes by the journal, the rescue files and the lock of another user, and others by those of root]' \
                 '1:DAG:_files -g "*.dag"' \
@@ -83,6 +85,7 @@ _dagrun() {
                 '(-h --help)'{-h,--help}'[Print help]' \
                 '--svg[A picture of the run over time, in place of a table]' \
                 '--json[The phases as JSON, for other programs, in place of a table]' \
+                '--summary[Where the time went, in place of a table\: the critical path, what it waited for, and what more at once could gain]' \
                 '--as-begun[Goes by the files with which the round began, as x.dag.begun keeps them, whatever was changed since]' \
                 '--trust-owner[Root goes by the journal, the rescue files and the lock of another user, and others by those of root]' \
                 '1:DAG:_files -g "*.dag"'
@@ -113,6 +116,7 @@ _dagrun() {
         audit)
             _arguments \
                 '(-h --help)'{-h,--help}'[Print help]' \
+                '--json[The same as JSON, for other programs]' \
                 '--as-begun[Goes by the files with which the round began, as x.dag.begun keeps them, whatever was changed since]' \
                 '--trust-owner[Root goes by the journal, the rescue files and the lock of another user, and others by those of root]' \
                 '1:DAG:_files -g "*.dag"'
@@ -121,6 +125,7 @@ _dagrun() {
             _arguments \
                 '(-h --help)'{-h,--help}'[Print help]' \
                 '--all[Lists all faults of lines at once, in place of the first]' \
+                '--json[The same as JSON, for other programs]' \
                 '--hints[Says on standard error, with places, what is odd in the files, and what to write instead]' \
                 '--condor[Says there, with places, what would be otherwise under condor_submit_dag]' \
                 '1:DAG:_files -g "*.dag"'
@@ -138,6 +143,7 @@ _dagrun() {
         graph)
             _arguments \
                 '(-h --help)'{-h,--help}'[Print help]' \
+                '--fold[Nodes of one submit file with the same parents and children have one box, with how many they are]' \
                 '--as-is[Draws the files as they are, also where they were changed since the round began]' \
                 '--as-begun[Goes by the files with which the round began, as x.dag.begun keeps them, whatever was changed since]' \
                 '--trust-owner[Root goes by the journal, the rescue files and the lock of another user, and others by those of root]' \
@@ -155,7 +161,8 @@ _dagrun() {
             ;;
         version)
             _arguments \
-                '(-h --help)'{-h,--help}'[Print help]'
+                '(-h --help)'{-h,--help}'[Print help]' \
+                '--json[The same as JSON, for other programs]'
             ;;
     esac
 }

@@ -10,7 +10,7 @@ use Rattle.dag_main_args.specs.declared.request.Request.{Request}
 use Rattle.dag_main_args.specs.declared.request.Request.TheVariants.{Check, Run, Status, Audit, Rehearse, Graph, Why, Times, Report, Salvage, Redo, Page}
 use Rattle.dag_main_args.specs.Launchers.{IsLauncherOf, given, not_given}
 use Rattle.dag_main_args.specs.Requests.{Asked, asked_by, asks_why, no_limits, rehearses, runs, shows}
-use Rattle.dag_main_args.specs.Matched.{AreOptionsOf, AsksFor, IsRequestOf, dag_path, is_on, is_set, limits_asked, nodes_asked, number_asked, orphan_rule_of, progress_of, trusts_owner, version_text}
+use Rattle.dag_main_args.specs.Matched.{AreOptionsOf, AsksFor, IsRequestOf, dag_path, is_on, is_set, limits_asked, nodes_asked, number_asked, orphan_rule_of, progress_of, trusts_owner, version_asked, version_text}
 use Rattle.dag_main_args.specs.Table.{dagrun_app}
 use Rattle.dag_main_args.specs.Answered.{clashes}
 use Rattle.dag_main_args.specs.Examples.{AskForAlone, AskInVain, plain_options}
@@ -43,6 +43,7 @@ record AsksRun (rows : List Row) (options : RunOptions) : Type 0 where
   launcher_final : is_set (codes "launcher-final") rows ≡ options.launcher_final
   progress : progress_of rows ≡ options.progress
   resume : is_set (codes "resume") rows ≡ options.resume
+  json : is_set (codes "json") rows ≡ options.json
   trust_owner : is_set (codes "trust-owner") rows ≡ options.trust_owner
 
 same_options : (rows : List Row) (options plain : RunOptions) → AreOptionsOf rows options → AsksRun rows plain → options ≡ plain
@@ -63,19 +64,20 @@ same_options rows options plain a b = λ i. record {
   launcher_final = (a.launcher_final ∙ b.launcher_final) i;
   progress = (a.progress ∙ b.progress) i;
   resume = (a.resume ∙ b.resume) i;
+  json = (a.json ∙ b.json) i;
   trust_owner = (a.trust_owner ∙ b.trust_owner) i;
 }
 
 run_alone : (rows : List Row) (dag : Text) (plain : RunOptions) (request : Request) → IsRequestOf (codes "run") rows request → dag_path rows ≡ dag
     → AsksRun rows plain → asked_by request ≡ runs dag plain
 run_alone rows dag plain (Run path options) h is asks = ap₂ runs (h.1 ∙ is) (same_options rows options plain h.2 asks)
-run_alone rows dag plain (Check path all hints condor) h is asks = absurd (differ _ _ refl h.0)
+run_alone rows dag plain (Check path all json hints condor) h is asks = absurd (differ _ _ refl h.0)
 run_alone rows dag plain (Status path json begun owned) h is asks = absurd (differ _ _ refl h.0)
-run_alone rows dag plain (Audit path begun owned) h is asks = absurd (differ _ _ refl h.0)
+run_alone rows dag plain (Audit path json begun owned) h is asks = absurd (differ _ _ refl h.0)
 run_alone rows dag plain (Rehearse path outcomes limits always_post) h is asks = absurd (differ _ _ refl h.0)
-run_alone rows dag plain (Graph path as_is begun owned) h is asks = absurd (differ _ _ refl h.0)
-run_alone rows dag plain (Why path nodes all begun owned) h is asks = absurd (differ _ _ refl h.0)
-run_alone rows dag plain (Times path svg json begun owned) h is asks = absurd (differ _ _ refl h.0)
+run_alone rows dag plain (Graph path fold as_is begun owned) h is asks = absurd (differ _ _ refl h.0)
+run_alone rows dag plain (Why path nodes all json begun owned) h is asks = absurd (differ _ _ refl h.0)
+run_alone rows dag plain (Times path svg json summary begun owned) h is asks = absurd (differ _ _ refl h.0)
 run_alone rows dag plain (Report path reload begun owned) h is asks = absurd (differ _ _ refl h.0)
 run_alone rows dag plain (Salvage path ended owned) h is asks = absurd (differ _ _ refl h.0)
 run_alone rows dag plain (Redo path names only owned) h is asks = absurd (differ _ _ refl h.0)
@@ -84,22 +86,22 @@ run_alone rows dag plain (Page text) (inr (inl h)) is asks = absurd (differ _ _ 
 run_alone rows dag plain (Page text) (inr (inr h)) is asks = absurd (differ _ _ refl h.0)
 
 why_alone : (rows : List Row) (dag : Text) (nodes : List Text) (request : Request) → IsRequestOf (codes "why") rows request → dag_path rows ≡ dag
-    → nodes_asked rows ≡ nodes → is_set (codes "all") rows ≡ false → is_set (codes "as-begun") rows ≡ false → trusts_owner rows ≡ false
-    → asked_by request ≡ asks_why dag nodes false false false
-why_alone rows dag nodes (Why path names all begun owned) h is asks grouped now distrusts = λ i. asks_why ((h.3.0 ∙ is) i) ((h.1 ∙ asks) i) ((h.2 ∙ grouped) i) ((h.3.1 ∙ now) i) ((h.3.2 ∙ distrusts) i)
-why_alone rows dag nodes (Run path options) h is asks grouped now distrusts = absurd (differ _ _ refl h.0)
-why_alone rows dag nodes (Check path all hints condor) h is asks grouped now distrusts = absurd (differ _ _ refl h.0)
-why_alone rows dag nodes (Status path json begun owned) h is asks grouped now distrusts = absurd (differ _ _ refl h.0)
-why_alone rows dag nodes (Audit path begun owned) h is asks grouped now distrusts = absurd (differ _ _ refl h.0)
-why_alone rows dag nodes (Rehearse path outcomes limits always_post) h is asks grouped now distrusts = absurd (differ _ _ refl h.0)
-why_alone rows dag nodes (Graph path as_is begun owned) h is asks grouped now distrusts = absurd (differ _ _ refl h.0)
-why_alone rows dag nodes (Times path svg json begun owned) h is asks grouped now distrusts = absurd (differ _ _ refl h.0)
-why_alone rows dag nodes (Report path reload begun owned) h is asks grouped now distrusts = absurd (differ _ _ refl h.0)
-why_alone rows dag nodes (Salvage path ended owned) h is asks grouped now distrusts = absurd (differ _ _ refl h.0)
-why_alone rows dag nodes (Redo path names only owned) h is asks grouped now distrusts = absurd (differ _ _ refl h.0)
-why_alone rows dag nodes (Page text) (inl h) is asks grouped now distrusts = absurd (differ _ _ refl h.0)
-why_alone rows dag nodes (Page text) (inr (inl h)) is asks grouped now distrusts = absurd (differ _ _ refl h)
-why_alone rows dag nodes (Page text) (inr (inr h)) is asks grouped now distrusts = absurd (differ _ _ refl h.0)
+    → nodes_asked rows ≡ nodes → is_set (codes "all") rows ≡ false → is_set (codes "json") rows ≡ false → is_set (codes "as-begun") rows ≡ false
+    → trusts_owner rows ≡ false → asked_by request ≡ asks_why dag nodes false false false false
+why_alone rows dag nodes (Why path names all json begun owned) h is asks grouped plain now distrusts = λ i. asks_why ((h.4.0 ∙ is) i) ((h.1 ∙ asks) i) ((h.2 ∙ grouped) i) ((h.3 ∙ plain) i) ((h.4.1 ∙ now) i) ((h.4.2 ∙ distrusts) i)
+why_alone rows dag nodes (Run path options) h is asks grouped plain now distrusts = absurd (differ _ _ refl h.0)
+why_alone rows dag nodes (Check path all json hints condor) h is asks grouped plain now distrusts = absurd (differ _ _ refl h.0)
+why_alone rows dag nodes (Status path json begun owned) h is asks grouped plain now distrusts = absurd (differ _ _ refl h.0)
+why_alone rows dag nodes (Audit path json begun owned) h is asks grouped plain now distrusts = absurd (differ _ _ refl h.0)
+why_alone rows dag nodes (Rehearse path outcomes limits always_post) h is asks grouped plain now distrusts = absurd (differ _ _ refl h.0)
+why_alone rows dag nodes (Graph path fold as_is begun owned) h is asks grouped plain now distrusts = absurd (differ _ _ refl h.0)
+why_alone rows dag nodes (Times path svg json summary begun owned) h is asks grouped plain now distrusts = absurd (differ _ _ refl h.0)
+why_alone rows dag nodes (Report path reload begun owned) h is asks grouped plain now distrusts = absurd (differ _ _ refl h.0)
+why_alone rows dag nodes (Salvage path ended owned) h is asks grouped plain now distrusts = absurd (differ _ _ refl h.0)
+why_alone rows dag nodes (Redo path names only owned) h is asks grouped plain now distrusts = absurd (differ _ _ refl h.0)
+why_alone rows dag nodes (Page text) (inl h) is asks grouped plain now distrusts = absurd (differ _ _ refl h.0)
+why_alone rows dag nodes (Page text) (inr (inl h)) is asks grouped plain now distrusts = absurd (differ _ _ refl h)
+why_alone rows dag nodes (Page text) (inr (inr h)) is asks grouped plain now distrusts = absurd (differ _ _ refl h.0)
 
 rehearsal_alone : (rows : List Row) (dag : Text) (outcomes : Option Text) (plain : Limits) (post : Bool) (request : Request)
     → IsRequestOf (codes "rehearse") rows request → dag_path rows ≡ dag → first_of (codes "OUTCOMES") rows ≡ outcomes → limits_asked rows ≡ plain
@@ -107,12 +109,12 @@ rehearsal_alone : (rows : List Row) (dag : Text) (outcomes : Option Text) (plain
 rehearsal_alone rows dag outcomes plain post (Rehearse path table limits always_post) h is asks most posts = λ i.
     rehearses ((h.1 ∙ is) i) ((h.2 ∙ asks) i) ((h.3 ∙ most) i) ((h.4 ∙ posts) i)
 rehearsal_alone rows dag outcomes plain post (Run path options) h is asks most posts = absurd (differ _ _ refl h.0)
-rehearsal_alone rows dag outcomes plain post (Check path all hints condor) h is asks most posts = absurd (differ _ _ refl h.0)
+rehearsal_alone rows dag outcomes plain post (Check path all json hints condor) h is asks most posts = absurd (differ _ _ refl h.0)
 rehearsal_alone rows dag outcomes plain post (Status path json begun owned) h is asks most posts = absurd (differ _ _ refl h.0)
-rehearsal_alone rows dag outcomes plain post (Audit path begun owned) h is asks most posts = absurd (differ _ _ refl h.0)
-rehearsal_alone rows dag outcomes plain post (Graph path as_is begun owned) h is asks most posts = absurd (differ _ _ refl h.0)
-rehearsal_alone rows dag outcomes plain post (Why path names all begun owned) h is asks most posts = absurd (differ _ _ refl h.0)
-rehearsal_alone rows dag outcomes plain post (Times path svg json begun owned) h is asks most posts = absurd (differ _ _ refl h.0)
+rehearsal_alone rows dag outcomes plain post (Audit path json begun owned) h is asks most posts = absurd (differ _ _ refl h.0)
+rehearsal_alone rows dag outcomes plain post (Graph path fold as_is begun owned) h is asks most posts = absurd (differ _ _ refl h.0)
+rehearsal_alone rows dag outcomes plain post (Why path names all json begun owned) h is asks most posts = absurd (differ _ _ refl h.0)
+rehearsal_alone rows dag outcomes plain post (Times path svg json summary begun owned) h is asks most posts = absurd (differ _ _ refl h.0)
 rehearsal_alone rows dag outcomes plain post (Report path reload begun owned) h is asks most posts = absurd (differ _ _ refl h.0)
 rehearsal_alone rows dag outcomes plain post (Salvage path ended owned) h is asks most posts = absurd (differ _ _ refl h.0)
 rehearsal_alone rows dag outcomes plain post (Redo path names only owned) h is asks most posts = absurd (differ _ _ refl h.0)
@@ -120,21 +122,22 @@ rehearsal_alone rows dag outcomes plain post (Page text) (inl h) is asks most po
 rehearsal_alone rows dag outcomes plain post (Page text) (inr (inl h)) is asks most posts = absurd (differ _ _ refl h)
 rehearsal_alone rows dag outcomes plain post (Page text) (inr (inr h)) is asks most posts = absurd (differ _ _ refl h.0)
 
-version_alone : (rows : List Row) (request : Request) → IsRequestOf (codes "version") rows request → asked_by request ≡ shows version_text
-version_alone rows (Run path options) h = absurd (differ _ _ refl h.0)
-version_alone rows (Check path all hints condor) h = absurd (differ _ _ refl h.0)
-version_alone rows (Status path json begun owned) h = absurd (differ _ _ refl h.0)
-version_alone rows (Audit path begun owned) h = absurd (differ _ _ refl h.0)
-version_alone rows (Rehearse path outcomes limits always_post) h = absurd (differ _ _ refl h.0)
-version_alone rows (Graph path as_is begun owned) h = absurd (differ _ _ refl h.0)
-version_alone rows (Why path names all begun owned) h = absurd (differ _ _ refl h.0)
-version_alone rows (Times path svg json begun owned) h = absurd (differ _ _ refl h.0)
-version_alone rows (Report path reload begun owned) h = absurd (differ _ _ refl h.0)
-version_alone rows (Salvage path ended owned) h = absurd (differ _ _ refl h.0)
-version_alone rows (Redo path names only owned) h = absurd (differ _ _ refl h.0)
-version_alone rows (Page text) (inl h) = absurd (differ _ _ refl h.0)
-version_alone rows (Page text) (inr (inl h)) = absurd (differ _ _ refl h)
-version_alone rows (Page text) (inr (inr h)) = ap shows h.1
+version_alone : (rows : List Row) (request : Request) → IsRequestOf (codes "version") rows request → is_set (codes "json") rows ≡ false
+    → asked_by request ≡ shows version_text
+version_alone rows (Run path options) h plain = absurd (differ _ _ refl h.0)
+version_alone rows (Check path all json hints condor) h plain = absurd (differ _ _ refl h.0)
+version_alone rows (Status path json begun owned) h plain = absurd (differ _ _ refl h.0)
+version_alone rows (Audit path json begun owned) h plain = absurd (differ _ _ refl h.0)
+version_alone rows (Rehearse path outcomes limits always_post) h plain = absurd (differ _ _ refl h.0)
+version_alone rows (Graph path fold as_is begun owned) h plain = absurd (differ _ _ refl h.0)
+version_alone rows (Why path names all json begun owned) h plain = absurd (differ _ _ refl h.0)
+version_alone rows (Times path svg json summary begun owned) h plain = absurd (differ _ _ refl h.0)
+version_alone rows (Report path reload begun owned) h plain = absurd (differ _ _ refl h.0)
+version_alone rows (Salvage path ended owned) h plain = absurd (differ _ _ refl h.0)
+version_alone rows (Redo path names only owned) h plain = absurd (differ _ _ refl h.0)
+version_alone rows (Page text) (inl h) plain = absurd (differ _ _ refl h.0)
+version_alone rows (Page text) (inr (inl h)) plain = absurd (differ _ _ refl h)
+version_alone rows (Page text) (inr (inr h)) plain = ap shows (h.1 ∙ ap version_asked plain)
 
 abbrev rows_in : Option (Text × List Row) → List Row
 rows_in None = []
@@ -179,6 +182,7 @@ four_only orphans progress request h = run_alone (rows_in (subcommand_of (dagrun
   launcher_final = refl;
   progress = refl;
   resume = refl;
+  json = refl;
   trust_owner = refl;
 })
 
@@ -213,6 +217,7 @@ fresh_only orphans progress request h = run_alone (rows_in (subcommand_of (dagru
   launcher_final = refl;
   progress = refl;
   resume = refl;
+  json = refl;
   trust_owner = refl;
 })
 
@@ -249,6 +254,10 @@ why_grouped : (orphans progress : Bor (List (Bor Text))) → is_set (codes "all"
 unfolding clap_on_literals why_matched
 why_grouped orphans progress = refl
 
+why_plain : (orphans progress : Bor (List (Bor Text))) → is_set (codes "json") (why_rows orphans progress) ≡ false
+unfolding clap_on_literals why_matched
+why_plain orphans progress = refl
+
 why_now : (orphans progress : Bor (List (Bor Text))) → is_set (codes "as-begun") (why_rows orphans progress) ≡ false
 unfolding clap_on_literals why_matched
 why_now orphans progress = refl
@@ -258,17 +267,17 @@ unfolding clap_on_literals why_matched
 why_distrusts orphans progress = refl
 
 why_asks : (orphans progress : Bor (List (Bor Text))) (request : Request) → AsksFor (why_matched orphans progress) request
-    → asked_by request ≡ asks_why (codes "x.dag") (codes "B" ∷ codes "A" ∷ []) false false false
+    → asked_by request ≡ asks_why (codes "x.dag") (codes "B" ∷ codes "A" ∷ []) false false false false
 why_asks orphans progress request h = why_alone (why_rows orphans progress) (codes "x.dag") _ request
     (subst (λ (o : Option (Text × List Row)). AsksFor o request) (why_found orphans progress) h)
-    (why_dag orphans progress) (why_nodes orphans progress) (why_grouped orphans progress) (why_now orphans progress) (why_distrusts orphans progress)
+    (why_dag orphans progress) (why_nodes orphans progress) (why_grouped orphans progress) (why_plain orphans progress) (why_now orphans progress) (why_distrusts orphans progress)
 
 why_only : (orphans progress : Bor (List (Bor Text))) (request : Request) → AsksFor (subcommand_of (dagrun_app false orphans progress) why_words) request
-    → asked_by request ≡ asks_why (codes "x.dag") (codes "B" ∷ codes "A" ∷ []) false false false
+    → asked_by request ≡ asks_why (codes "x.dag") (codes "B" ∷ codes "A" ∷ []) false false false false
 unfolding why_matched
 why_only orphans progress request h = why_asks orphans progress request h
 
-pub nodes_in_order : AskForAlone why_words (asks_why (codes "x.dag") (codes "B" ∷ codes "A" ∷ []) false false false)
+pub nodes_in_order : AskForAlone why_words (asks_why (codes "x.dag") (codes "B" ∷ codes "A" ∷ []) false false false false)
 nodes_in_order = by_table why_words _ why_taken why_only
 
 abbrev clash_words : List Text
@@ -317,7 +326,7 @@ version_taken orphans progress = refl
 version_only : (orphans progress : Bor (List (Bor Text))) (request : Request) → AsksFor (subcommand_of (dagrun_app false orphans progress) version_words) request
     → asked_by request ≡ shows version_text
 unfolding clap_on_literals
-version_only orphans progress request h = version_alone (rows_in (subcommand_of (dagrun_app false orphans progress) version_words)) request h
+version_only orphans progress request h = version_alone (rows_in (subcommand_of (dagrun_app false orphans progress) version_words)) request h refl
 
 pub version_alone_shown : AskForAlone version_words (shows version_text)
 version_alone_shown = by_table version_words _ version_taken version_only

@@ -30,6 +30,7 @@ plain_options = record {
   launcher_final = false;
   progress = Auto;
   resume = false;
+  json = false;
   trust_owner = false;
 }
 

@@ -1,5 +1,5 @@
 -- What the rows that `clap` matched to words ask for, by the rules of the manual, "The command line".
-use Rattle.std.specs.Prelude.{◌≡◌, ◌⊎◌, ◌==◌, ◌^◌, ◌&&◌, not, ℕ, Bool, false, List, [], ◌∷◌, Option, Some, None, map, codes, nat_lt, unwrap_or, option_map, option_and_then, if◌then◌else◌, string_bytes}
+use Rattle.std.specs.Prelude.{◌≡◌, ◌⊎◌, ◌==◌, ◌^◌, ◌&&◌, not, ℕ, Bool, true, false, List, [], ◌∷◌, Option, Some, None, map, codes, nat_lt, unwrap_or, option_map, option_and_then, if◌then◌else◌, string_bytes}
 use Rattle.std.specs.List.{list_any}
 use Rattle.std.specs.Option.{option_map_or}
 use Rattle.std.specs.Str.{bytes_eq}
@@ -95,6 +95,7 @@ pub record AreOptionsOf (rows : List Row) (options : RunOptions) : Type 0 where
   pub launcher_final : options.launcher_final ≡ is_set (codes "launcher-final") rows
   pub progress : options.progress ≡ progress_of rows
   pub resume : options.resume ≡ is_set (codes "resume") rows
+  pub json : options.json ≡ is_set (codes "json") rows
   pub trust_owner : options.trust_owner ≡ trusts_owner rows
 
 -- the path of the DAG file, which each command has that reads one
@@ -105,9 +106,13 @@ dag_path rows = unwrap_or (first_of (codes "DAG") rows) (codes "-")
 abbrev pub nodes_asked : List Row → List Text
 nodes_asked rows = unwrap_or (all_of (codes "NODE") rows) []
 
--- what `version` prints
+-- what `version` prints, and what for other programs
 abbrev pub version_text : Text
 version_text = codes "dagrun 1.0.0\n"
+
+abbrev pub version_asked : (json : Bool) → Text
+version_asked false = version_text
+version_asked true = codes "{\"version\":\"1.0.0\"}\n"
 
 -- the commands whose answer is a page; with those that make a rescue file of a round; with those that draw a round; with those that
 -- tell of one; and all commands
@@ -132,7 +137,7 @@ is_text_among names command = list_any (bytes_eq command) names
 -- the page that a command asks for: that of a code, or of all where none is given; a page of help; the version
 abbrev pub IsPageOf : Text → List Row → Text → Type 0
 IsPageOf command rows page = ((command ≡ codes "explain") × IsExplained (first_of (codes "CODE") rows) page)
-    ⊎ ((command ≡ codes "help") ⊎ ((command ≡ codes "version") × (page ≡ version_text)))
+    ⊎ ((command ≡ codes "help") ⊎ ((command ≡ codes "version") × (page ≡ version_asked (is_set (codes "json") rows))))
 
 -- the path of a DAG file of whose round something is told, whether by the files with which that began, and whether their owner is trusted
 abbrev pub TellsOfRound : List Row → (path : Text) → (as_begun trust_owner : Bool) → Type 0
@@ -141,20 +146,20 @@ TellsOfRound rows path as_begun trust_owner =
 
 -- the request that a command asks for by what was matched to it: each kind of request by one command alone
 abbrev pub IsRequestOf : Text → List Row → Request → Type 0
-IsRequestOf command rows (Check dag all hints condor) = (command ≡ codes "check") × (dag.now ≡ dag_path rows) × (all ≡ is_set (codes "all") rows)
-    × (hints ≡ is_set (codes "hints") rows) × (condor ≡ is_set (codes "condor") rows)
+IsRequestOf command rows (Check dag all json hints condor) = (command ≡ codes "check") × (dag.now ≡ dag_path rows) × (all ≡ is_set (codes "all") rows)
+    × (json ≡ is_set (codes "json") rows) × (hints ≡ is_set (codes "hints") rows) × (condor ≡ is_set (codes "condor") rows)
 IsRequestOf command rows (Run dag options) = (command ≡ codes "run") × (dag.now ≡ dag_path rows) × AreOptionsOf rows options
 IsRequestOf command rows (Status dag json as_begun trust_owner) = (command ≡ codes "status") × (json ≡ is_set (codes "json") rows)
     × TellsOfRound rows dag.now as_begun trust_owner
-IsRequestOf command rows (Audit dag as_begun trust_owner) = (command ≡ codes "audit") × TellsOfRound rows dag.now as_begun trust_owner
+IsRequestOf command rows (Audit dag json as_begun trust_owner) = (command ≡ codes "audit") × (json ≡ is_set (codes "json") rows) × TellsOfRound rows dag.now as_begun trust_owner
 IsRequestOf command rows (Rehearse dag outcomes limits always_post) = (command ≡ codes "rehearse") × (dag.now ≡ dag_path rows)
     × (option_map (λ t. t.now) outcomes ≡ first_of (codes "OUTCOMES") rows) × (limits ≡ limits_asked rows)
     × (always_post ≡ is_set (codes "always-run-post") rows)
-IsRequestOf command rows (Graph dag as_is as_begun trust_owner) = (command ≡ codes "graph") × (as_is ≡ is_set (codes "as-is") rows) × TellsOfRound rows dag.now as_begun trust_owner
-IsRequestOf command rows (Why dag nodes all as_begun trust_owner) = (command ≡ codes "why") × (map (λ n. n.now) nodes.items ≡ nodes_asked rows)
-    × (all ≡ is_set (codes "all") rows) × TellsOfRound rows dag.now as_begun trust_owner
-IsRequestOf command rows (Times dag svg json as_begun trust_owner) = (command ≡ codes "times") × (svg ≡ is_set (codes "svg") rows)
-    × (json ≡ is_set (codes "json") rows) × TellsOfRound rows dag.now as_begun trust_owner
+IsRequestOf command rows (Graph dag fold as_is as_begun trust_owner) = (command ≡ codes "graph") × (fold ≡ is_set (codes "fold") rows) × (as_is ≡ is_set (codes "as-is") rows) × TellsOfRound rows dag.now as_begun trust_owner
+IsRequestOf command rows (Why dag nodes all json as_begun trust_owner) = (command ≡ codes "why") × (map (λ n. n.now) nodes.items ≡ nodes_asked rows)
+    × (all ≡ is_set (codes "all") rows) × (json ≡ is_set (codes "json") rows) × TellsOfRound rows dag.now as_begun trust_owner
+IsRequestOf command rows (Times dag svg json summary as_begun trust_owner) = (command ≡ codes "times") × (svg ≡ is_set (codes "svg") rows)
+    × (json ≡ is_set (codes "json") rows) × (summary ≡ is_set (codes "summary") rows) × TellsOfRound rows dag.now as_begun trust_owner
 IsRequestOf command rows (Report dag reload as_begun trust_owner) = (command ≡ codes "report") × (reload ≡ is_set (codes "reload") rows)
     × TellsOfRound rows dag.now as_begun trust_owner
 IsRequestOf command rows (Salvage dag ended trust_owner) = (command ≡ codes "salvage") × (dag.now ≡ dag_path rows) × (ended ≡ is_set (codes "ended") rows)

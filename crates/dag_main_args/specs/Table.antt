@@ -66,9 +66,9 @@ trust_owner = flag (codes "trust-owner")
 abbrev pub as_it_began : Rule
 as_it_began = flag (codes "as-begun")
 
--- a command that tells of a round, and has no other argument: also whether it is by the files with which the round began
-abbrev pub of_round : Text → Shape
-of_round name = command name (dag ∷ as_it_began ∷ trust_owner ∷ [])
+-- whether the answer is for other programs
+abbrev pub json : Rule
+json = flag (codes "json")
 
 -- what a run may be given
 abbrev pub run_rules : (is_tied : Bool) → (orphans progress : Bor (List (Bor Text))) → List Rule
@@ -76,7 +76,7 @@ run_rules is_tied orphans progress = dag ∷ number (codes "maxjobs") ∷ number
     ∷ number (codes "dorescuefrom") ∷ flag (codes "always-run-post") ∷ flag (codes "stop-at-first-error") ∷ switch (codes "sync-output") ∷ switch (codes "script-output") ∷ number (codes "log-limit")
     ∷ named_text (codes "status-file") ∷ number (codes "status-every") ∷ named_text (codes "launcher")
     ∷ flag (codes "launcher-final") ∷ number (codes "launcher-grace") ∷ choice (codes "orphans") orphans ∷ choice (codes "progress") progress
-    ∷ tied_flag is_tied (codes "resume") ∷ trust_owner ∷ []
+    ∷ tied_flag is_tied (codes "resume") ∷ json ∷ trust_owner ∷ []
 
 -- what a rehearsal may be given
 abbrev pub rehearsal_rules : List Rule
@@ -86,19 +86,19 @@ rehearsal_rules = dag ∷ optional (codes "OUTCOMES") ∷ number (codes "maxjobs
 -- the commands of the program, each with what it may be given
 abbrev pub commands : (is_tied : Bool) → (orphans progress : Bor (List (Bor Text))) → List Shape
 commands is_tied orphans progress = command (codes "run") (run_rules is_tied orphans progress)
-    ∷ command (codes "status") (dag ∷ flag (codes "json") ∷ as_it_began ∷ trust_owner ∷ [])
-    ∷ command (codes "why") (dag ∷ many (codes "NODE") ∷ flag (codes "all") ∷ as_it_began ∷ trust_owner ∷ [])
-    ∷ command (codes "times") (dag ∷ flag (codes "svg") ∷ tied_flag is_tied (codes "json") ∷ as_it_began ∷ trust_owner ∷ [])
+    ∷ command (codes "status") (dag ∷ json ∷ as_it_began ∷ trust_owner ∷ [])
+    ∷ command (codes "why") (dag ∷ many (codes "NODE") ∷ flag (codes "all") ∷ json ∷ as_it_began ∷ trust_owner ∷ [])
+    ∷ command (codes "times") (dag ∷ tied_flag is_tied (codes "svg") ∷ tied_flag is_tied (codes "json") ∷ tied_flag is_tied (codes "summary") ∷ as_it_began ∷ trust_owner ∷ [])
     ∷ command (codes "report") (dag ∷ flag (codes "reload") ∷ as_it_began ∷ trust_owner ∷ [])
     ∷ command (codes "salvage") (dag ∷ flag (codes "ended") ∷ trust_owner ∷ [])
     ∷ command (codes "redo") (dag ∷ many (codes "NODE") ∷ flag (codes "only") ∷ trust_owner ∷ [])
-    ∷ of_round (codes "audit")
-    ∷ command (codes "check") (dag ∷ flag (codes "all") ∷ flag (codes "hints") ∷ flag (codes "condor") ∷ [])
+    ∷ command (codes "audit") (dag ∷ json ∷ as_it_began ∷ trust_owner ∷ [])
+    ∷ command (codes "check") (dag ∷ flag (codes "all") ∷ json ∷ flag (codes "hints") ∷ flag (codes "condor") ∷ [])
     ∷ command (codes "rehearse") rehearsal_rules
-    ∷ command (codes "graph") (dag ∷ tied_flag is_tied (codes "as-is") ∷ as_it_began ∷ trust_owner ∷ [])
+    ∷ command (codes "graph") (dag ∷ flag (codes "fold") ∷ tied_flag is_tied (codes "as-is") ∷ as_it_began ∷ trust_owner ∷ [])
     ∷ command (codes "explain") (optional (codes "CODE") ∷ [])
     ∷ command (codes "help") (optional (codes "COMMAND") ∷ [])
-    ∷ command (codes "version") []
+    ∷ command (codes "version") (json ∷ [])
     ∷ []
 
 abbrev pub dagrun_app : (is_tied : Bool) → (orphans progress : Bor (List (Bor Text))) → App

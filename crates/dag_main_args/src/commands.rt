@@ -202,8 +202,20 @@ const ENDED: ArgumentRow = ArgumentRow {
 
 const SVG: ArgumentRow = ArgumentRow {
     name: "svg",
-    kind: Kind::Flag,
+    kind: Kind::FlagWithout("summary"),
     help: "A picture of the run over time, in place of a table",
+};
+
+const SUMMARY: ArgumentRow = ArgumentRow {
+    name: "summary",
+    kind: Kind::FlagWithout("json"),
+    help: "Where the time went, in place of a table: the critical path, what it waited for, and what more at once could gain",
+};
+
+const FOLD: ArgumentRow = ArgumentRow {
+    name: "fold",
+    kind: Kind::Flag,
+    help: "Nodes of one submit file with the same parents and children have one box, with how many they are",
 };
 
 const AS_IS: ArgumentRow = ArgumentRow {
@@ -212,10 +224,16 @@ const AS_IS: ArgumentRow = ArgumentRow {
     help: "Draws the files as they are, also where they were changed since the round began",
 };
 
-const STATUS_JSON: ArgumentRow = ArgumentRow {
+const JSON: ArgumentRow = ArgumentRow {
     name: "json",
     kind: Kind::Flag,
     help: "The same as JSON, for other programs",
+};
+
+const RUN_JSON: ArgumentRow = ArgumentRow {
+    name: "json",
+    kind: Kind::Flag,
+    help: "Prints at the end where each node is as JSON, for other programs, in place of the report",
 };
 
 const TIMES_JSON: ArgumentRow = ArgumentRow {
@@ -302,23 +320,24 @@ static COMMANDS: [CommandRow; 14] = [
             ORPHANS,
             PROGRESS,
             RESUME,
+            RUN_JSON,
             TRUST_OWNER,
         ],
     },
     CommandRow {
         name: "status",
         about: "Says where each node of a run stands, by its journal",
-        arguments: &[FILE, STATUS_JSON, AS_BEGUN, TRUST_OWNER],
+        arguments: &[FILE, JSON, AS_BEGUN, TRUST_OWNER],
     },
     CommandRow {
         name: "why",
         about: "Says why nodes are in error, and for whom others wait",
-        arguments: &[FILE, NODES, EACH, AS_BEGUN, TRUST_OWNER],
+        arguments: &[FILE, NODES, EACH, JSON, AS_BEGUN, TRUST_OWNER],
     },
     CommandRow {
         name: "times",
         about: "Says when each phase of a run began and how long it took, by its log",
-        arguments: &[FILE, SVG, TIMES_JSON, AS_BEGUN, TRUST_OWNER],
+        arguments: &[FILE, SVG, TIMES_JSON, SUMMARY, AS_BEGUN, TRUST_OWNER],
     },
     CommandRow {
         name: "report",
@@ -338,12 +357,12 @@ static COMMANDS: [CommandRow; 14] = [
     CommandRow {
         name: "audit",
         about: "Says whether a journal is that of a finished run, and what its nodes came to",
-        arguments: &[FILE, AS_BEGUN, TRUST_OWNER],
+        arguments: &[FILE, JSON, AS_BEGUN, TRUST_OWNER],
     },
     CommandRow {
         name: "check",
         about: "Reads a DAG file with its splices, and says whether it is right",
-        arguments: &[FILE_OR_INPUT, ALL, HINTS, CONDOR],
+        arguments: &[FILE_OR_INPUT, ALL, JSON, HINTS, CONDOR],
     },
     CommandRow {
         name: "rehearse",
@@ -353,7 +372,7 @@ static COMMANDS: [CommandRow; 14] = [
     CommandRow {
         name: "graph",
         about: "Draws the graph of a DAG, coloured by where its nodes stand, for graphviz",
-        arguments: &[FILE, AS_IS, AS_BEGUN, TRUST_OWNER],
+        arguments: &[FILE, FOLD, AS_IS, AS_BEGUN, TRUST_OWNER],
     },
     CommandRow {
         name: "explain",
@@ -368,7 +387,7 @@ static COMMANDS: [CommandRow; 14] = [
     CommandRow {
         name: "version",
         about: "Says which version this is",
-        arguments: &[],
+        arguments: &[JSON],
     },
 ];
 
@@ -407,6 +426,7 @@ static EXAMPLES: [Examples; 14] = [
         command: "times",
         text: "  dagrun times x.dag                  a table, for a spreadsheet
   dagrun times --svg x.dag > x.svg    a picture of the run over time
+  dagrun times --summary x.dag        where the time went, and what could be faster
   dagrun times --json x.dag | jq .    the phases for other programs
 ",
     },
@@ -450,6 +470,7 @@ static EXAMPLES: [Examples; 14] = [
     Examples {
         command: "graph",
         text: "  dagrun graph x.dag | dot -Tsvg > x.svg   a picture, by graphviz
+  dagrun graph --fold x.dag | dot -Tsvg > x.svg   the same where many nodes are alike
 ",
     },
     Examples {

@@ -20,7 +20,7 @@ pub fn no_rescue_file()
 /// `dagrun why x.dag B A`: the nodes in the order of the words.
 pub fn nodes_in_order()
     ensures { AskForAlone (codes "dagrun" ∷ codes "why" ∷ codes "x.dag" ∷ codes "B" ∷ codes "A" ∷ [])
-        (asks_why (codes "x.dag") (codes "B" ∷ codes "A" ∷ []) false false false) }
+        (asks_why (codes "x.dag") (codes "B" ∷ codes "A" ∷ []) false false false false) }
 {}
 
 /// `dagrun rehearse --maxpre 2 --maxpost=3 x.dag table`: each limit by its own option.

@@ -1,6 +1,6 @@
 //! What the words of a command line ask for.
 
-ghost use Rattle.std.specs.Prelude.{◌≡◌, ◌<◌, ◌≤◌, true, false, None, length, codes, ◌⊎◌, IsOkAnd, IfOk, IfErr, IfSome, map, option_map};
+ghost use Rattle.std.specs.Prelude.{◌≡◌, ◌<◌, ◌≤◌, true, false, None, length, codes, ◌⊎◌, IsOkAnd, IfOk, IfErr, IfSome, map, option_map, string_bytes};
 ghost use Rattle.std.specs.Option.{option_map_or};
 ghost use Rattle.clap.specs.Words.{found_of, rows_of, first_of, kind_of, subcommand_rows_of};
 ghost use Rattle.dag_main_args.specs.Requests.{rehearses, asked_by, no_limits, limits_in, AreLimits};
@@ -22,6 +22,9 @@ use throttles::Limits;
 
 /// What `version` prints.
 pub const VERSION: &str = "dagrun 1.0.0\n";
+
+/// What `version --json` prints.
+const VERSION_JSON: &str = "{\"version\":\"1.0.0\"}\n";
 
 /// No limits but that on all children.
 const NO_LIMITS: Limits = Limits {
@@ -90,6 +93,8 @@ pub struct RunOptions {
     pub progress: ProgressRule,
     /// Whether no round begins where the last one has ended: its report is printed again.
     pub resume: bool,
+    /// Whether where each node is is printed at the end as JSON, in place of the report.
+    pub json: bool,
     /// Whether root goes by files of others that stand beside the DAG file, and others by those of root.
     pub trust_owner: bool,
 }
@@ -114,6 +119,7 @@ impl Drop for RunOptions {
             launcher_final: _,
             progress: _,
             resume: _,
+            json: _,
             trust_owner: _,
         } = self;
     }
@@ -122,11 +128,13 @@ impl Drop for RunOptions {
 /// What the words of a command line ask for.
 #[derive(Debug, Drop)]
 pub enum Request<'a> {
-    /// `check DAG`: the path of the DAG file, `-` for standard input; whether all faults of lines are listed, whether it is said
-    /// what is odd in the files, and what would be otherwise under `condor_submit_dag`.
+    /// `check DAG`: the path of the DAG file, `-` for standard input; whether all faults of lines are listed, whether the answer is
+    /// for other programs (JSON), whether it is said what is odd in the files, and what would be otherwise under
+    /// `condor_submit_dag`.
     Check {
         dag: &'a str,
         all: bool,
+        json: bool,
         hints: bool,
         condor: bool,
     },
@@ -147,9 +155,10 @@ pub enum Request<'a> {
         trust_owner: bool,
     },
 
-    /// `audit DAG`: the path of the DAG file.
+    /// `audit DAG`: the path of the DAG file, and whether the answer is for other programs (JSON).
     Audit {
         dag: &'a str,
+        json: bool,
         as_begun: bool,
         trust_owner: bool,
     },
@@ -164,30 +173,33 @@ pub enum Request<'a> {
         always_post: bool,
     },
 
-    /// `graph DAG`: the path of the DAG file, and whether its files are drawn as they are, also where they were changed since the round
-    /// began.
+    /// `graph DAG`: the path of the DAG file, whether nodes that are alike have one box, and whether its files are drawn as they are,
+    /// also where they were changed since the round began.
     Graph {
         dag: &'a str,
+        fold: bool,
         as_is: bool,
         as_begun: bool,
         trust_owner: bool,
     },
 
     /// `why DAG [NODE ..]`: the path of the DAG file, and the names of nodes; none for all that are in
-    /// error, and then whether each is shown by itself.
+    /// error, and then whether each is shown by itself; and whether the answer is for other programs (JSON).
     Why {
         dag: &'a str,
         nodes: Vec<&'a str>,
         all: bool,
+        json: bool,
         as_begun: bool,
         trust_owner: bool,
     },
 
-    /// `times DAG`: the path of the DAG file, and whether a picture is asked for.
+    /// `times DAG`: the path of the DAG file, and whether a picture, JSON or a summary is asked for; never two of them.
     Times {
         dag: &'a str,
         svg: bool,
         json: bool,
+        summary: bool,
         as_begun: bool,
         trust_owner: bool,
     },
@@ -400,6 +412,7 @@ fn options_of(alloc: Global, found: &ArgMatches<'_>) -> Result<RunOptions, Words
         launcher_final: is_set(found, "launcher-final"),
         progress: progress_of(found),
         resume: is_set(found, "resume"),
+        json: is_set(found, "json"),
         trust_owner: trusts_owner(found),
     })
 }
@@ -447,6 +460,17 @@ fn page<'a>(text: String) -> Request<'a>
     Request::Page { text }
 }
 
+/// What `version` prints, also for other programs.
+fn version_of(alloc: Global, json: bool) -> Result<String, AllocError>
+    ensures { IfOk result (λ text. string_bytes text ≡ matched.version_asked json) }
+{
+    if json {
+        String::from_str(alloc, VERSION_JSON)
+    } else {
+        String::from_str(alloc, VERSION)
+    }
+}
+
 /// The request for the page that the words name.
 fn page_of<'a>(
     alloc: Global,
@@ -461,7 +485,7 @@ fn page_of<'a>(
     match command {
         "explain" => Ok(page(explained(alloc, value_of(found, "CODE"))?)),
         "help" => Ok(page(help_text(alloc, value_of(found, "COMMAND"))?)),
-        _ => Ok(page(String::from_str(alloc, VERSION)?)),
+        _ => Ok(page(version_of(alloc, is_set(found, "json"))?)),
     }
 }
 
@@ -524,6 +548,7 @@ fn drawn_of_round<'a>(
     match command {
         "graph" => Ok(Request::Graph {
             dag,
+            fold: is_set(found, "fold"),
             as_is: is_set(found, "as-is"),
             as_begun,
             trust_owner,
@@ -532,6 +557,7 @@ fn drawn_of_round<'a>(
             dag,
             svg: is_set(found, "svg"),
             json: is_set(found, "json"),
+            summary: is_set(found, "summary"),
             as_begun,
             trust_owner,
         }),
@@ -559,17 +585,19 @@ fn told_of_round<'a>(
 {
     let dag = dag_of(found);
     let all = is_set(found, "all");
+    let json = is_set(found, "json");
     let as_begun = goes_by_begun(found);
     let trust_owner = trusts_owner(found);
     match command {
         "status" => Ok(Request::Status {
             dag,
-            json: is_set(found, "json"),
+            json,
             as_begun,
             trust_owner,
         }),
         "audit" => Ok(Request::Audit {
             dag,
+            json,
             as_begun,
             trust_owner,
         }),
@@ -577,6 +605,7 @@ fn told_of_round<'a>(
             dag,
             nodes: nodes_of(alloc, found)?,
             all,
+            json,
             as_begun,
             trust_owner,
         }),
@@ -603,6 +632,7 @@ fn asked_for<'a>(
         "check" => Ok(Request::Check {
             dag: dag_of(found),
             all: is_set(found, "all"),
+            json: is_set(found, "json"),
             hints: is_set(found, "hints"),
             condor: is_set(found, "condor"),
         }),
@@ -624,15 +654,27 @@ fn request_of<'a>(alloc: Global, matches: &ArgMatches<'a>) -> Result<Request<'a>
     }
 }
 
-/// Whether two options are given of which one can't be given with the other: `--resume` and `--dorescuefrom`, `--json` and `--svg`, or
-/// `--as-is` and `--as-begun`.
+/// Whether two of these flags are set.
+fn are_two(one: bool, other: bool, third: bool) -> bool
+    ensures { result ≡ answered.are_two one other third }
+{
+    (one && other) || (one && third) || (other && third)
+}
+
+/// Whether two options are given of which one can't be given with the other: `--resume` and `--dorescuefrom`, two of `--json`, `--svg`
+/// and `--summary`, or `--as-is` and `--as-begun`.
 fn has_clash(found: &ArgMatches<'_>) -> bool
     ensures { result ≡ answered.has_clash (rows_of (found_of found.now)) }
 {
     if is_set(found, "resume") && value_of(found, "dorescuefrom").is_some() {
         return true;
     }
-    if is_set(found, "json") && is_set(found, "svg") {
+    let (json, svg, summary) = (
+        is_set(found, "json"),
+        is_set(found, "svg"),
+        is_set(found, "summary"),
+    );
+    if are_two(json, svg, summary) {
         return true;
     }
     is_set(found, "as-is") && is_set(found, "as-begun")

@@ -5,7 +5,6 @@ use Rattle.std.specs.Option.{option_map}
 use Rattle.splices_flat.specs.Dag.{Dag}
 use Rattle.splices_flat.specs.Opening.{Files}
 use Rattle.splices_flat.specs.declared.flat.FlatNode.{FlatNode}
-use Rattle.splices_flat.specs.declared.fault.DagFault.TheVariants.{MissingFile}
 use Rattle.splices_flat.specs.Opened.{dag_at}
 use Rattle.dag_graph.specs.Graph.{Network, parents_of}
 use Rattle.run_plan_node.specs.Node.{Job, NodeSpec, Program}
@@ -18,10 +17,10 @@ use Rattle.run_plan.specs.declared.fault.PlanFault.TheVariants as plans
 use Rattle.run_plan.specs.Submitted.{◌>>=◌, submit_at, described_by, job_at, job_or_program, first_plan_fault, all_nodes, rescued_in, sources_of, plan_at}
 use Rattle.run_plan.proofs.PlanMade.{faults_append}
 use Rattle.dag_main_check.specs.Planned.{IsPlanOf, IsGraphOf, IsGraphFault, not_opened, cyclic, opening_had_no_memory, IsPlanBy, IsPlanByFault, has_plan_fault, planning_had_no_memory, IsPlanWith, IsPlanWithFault, has_no_graph as without_graph, not_planned}
+use Rattle.dag_main_check.specs.declared.form.CheckForm.{CheckForm}
 use Rattle.dag_main_check.specs.Checked.{IsCheckOf, IsCheckFault, has_no_graph, not_sound, checking_had_no_memory}
 use Rattle.dag_main_check.specs.Missing.{missing_in}
 use Rattle.dag_main_check.specs.declared.fault.RunFault.{RunFault}
-use Rattle.dag_main_check.specs.declared.fault.RunFault.TheVariants.{Memory}
 use Rattle.dag_main_check.proofs.Openings.{dag-same}
 
 module _ (set holds : Files) (held : (path bytes : List ℕ) → set path ≡ Some bytes → holds path ≡ Some bytes) where
@@ -55,8 +54,8 @@ module _ (set holds : Files) (held : (path bytes : List ℕ) → set path ≡ So
   pub found-dag : (top : List ℕ) (dag : Dag) → dag_at set top ≡ Ok dag → dag_at holds top ≡ Ok dag
   found-dag top dag is = dag-same set holds held top (λ path missing. absurd cc) ∙ is
 
-  pub checked : (top text warnings : List ℕ) (status : ℕ) → IsCheckOf set top text warnings status → IsCheckOf holds top text warnings status
-  checked top text warnings status is = record {
+  pub checked : (form : CheckForm) (top text warnings : List ℕ) (status : ℕ) → IsCheckOf form set top text warnings status → IsCheckOf form holds top text warnings status
+  checked form top text warnings status is = record {
     dag = is.dag;
     is_dag = found-dag top is.dag is.is_dag;
     acyclic = is.acyclic;

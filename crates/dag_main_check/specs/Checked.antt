@@ -12,7 +12,10 @@ use Rattle.run_plan.specs.declared.fault.PlanFault.{PlanFault}
 use Rattle.dag_main_check.specs.declared.fault.RunFault.{RunFault}
 use Rattle.dag_main_check.specs.declared.fault.RunFault.TheVariants.{InPlan, Memory}
 use Rattle.dag_main_check.specs.Planned.{IsGraphFault}
+use Rattle.dag_main_check.specs.CheckData.{check_json_of}
 use Rattle.dag_main_check.specs.Warnings.{warning_lines}
+use Rattle.dag_main_check.specs.declared.form.CheckForm.{CheckForm}
+use Rattle.dag_main_check.specs.declared.form.CheckForm.TheVariants.{Line, Json}
 
 abbrev pub yes_or_no : Option FlatNode → List ℕ
 yes_or_no None = codes "no"
@@ -23,14 +26,19 @@ abbrev pub ok_line : Dag → List ℕ
 ok_line dag = codes "ok nodes=" ++ (decimal (length dag.nodes) ++ (codes " edges=" ++ (decimal (edge_count_of dag)
     ++ (codes " final=" ++ (yes_or_no dag.final_node ++ codes "\n")))))
 
--- The line of the DAG of the file with this path, and its warnings: no node of it is its own ancestor, and each has a submit
+-- the text in a form, where the DAG file has this path: the line, or its JSON
+abbrev pub check_text_of : CheckForm → List ℕ → Dag → List ℕ
+check_text_of Line path = ok_line
+check_text_of Json path = check_json_of path
+
+-- The text in a form of the DAG of the file with this path, and its warnings: no node of it is its own ancestor, and each has a submit
 -- file that can be read, with texts that can be expanded.
-pub record IsCheckOf (files : Files) (path text warnings : List ℕ) (status : ℕ) : Type 0 where
+pub record IsCheckOf (form : CheckForm) (files : Files) (path text warnings : List ℕ) (status : ℕ) : Type 0 where
   pub dag : Dag
   pub is_dag : dag_at files path ≡ Ok dag
   pub acyclic : IsAcyclic dag.edges
   pub sound : first_plan_fault (Some files) (all_nodes dag) ≡ Ok tt
-  pub text_is : text ≡ ok_line dag
+  pub text_is : text ≡ check_text_of form path dag
   pub warnings_are : warnings ≡ warning_lines dag.warnings
   pub status_is : status ≡ 0
 

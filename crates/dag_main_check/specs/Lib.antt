@@ -1,4 +1,5 @@
 pub mod Warnings
+pub mod CheckData
 pub mod Checked
 pub mod Planned
 pub mod ByPlan

@@ -4,9 +4,11 @@ ghost use Rattle.std.specs.Prelude.{◌≡◌, IfOk, IfErr, string_bytes};
 ghost use Rattle.splices_flat.specs.FileSet.{bytes_of};
 ghost use Rattle.dag_main_check.specs.Warnings.{warning_lines};
 ghost use Rattle.dag_main_check.specs.declared.fault.RunFault.TheVariants.{Memory};
-ghost use Rattle.dag_main_check.specs.Checked.{IsCheckOf, IsCheckFault, ok_line, yes_or_no};
+ghost use Rattle.dag_main_check.specs.Checked.{IsCheckOf, IsCheckFault, check_text_of, ok_line, yes_or_no};
 
+use crate::check_data::check_json;
 use crate::fault::RunFault;
+use crate::form::CheckForm;
 use crate::plans::full_plan_of;
 use crate::warnings::{Answer, warning_text};
 use dag_graph::Graph;
@@ -19,34 +21,49 @@ use std::alloc::{AllocError, Global};
 /// of each job can be expanded. The submit file of a NOOP is not looked at.
 ///
 /// The answer is the line `ok nodes=N edges=E final=yes` or `final=no`, with the ordinary nodes and
-/// the distinct pairs of a parent and a child, and status 0.
+/// the distinct pairs of a parent and a child, or the same as JSON; and status 0.
 ///
 /// # Errors
 /// The first fault that opening the files meets (`InFiles`), a cycle (`Cycle`), the first fault of
 /// the submit files and the texts of jobs, in plan order (`InPlan`), and want of memory.
 /// After a missing file the caller may add it and ask again.
-pub fn check_text(alloc: Global, files: &FileSet, path: &str) -> Result<Answer, RunFault>
-    ensures checked { IfOk result (λ answer. IsCheckOf (bytes_of files.now) path.now
+pub fn check_text(
+    alloc: Global,
+    files: &FileSet,
+    path: &str,
+    form: CheckForm,
+) -> Result<Answer, RunFault>
+    ensures checked { IfOk result (λ answer. IsCheckOf form (bytes_of files.now) path.now
         (string_bytes answer.text) (string_bytes answer.warnings) answer.status) }
     ensures refused { IfErr result (IsCheckFault (bytes_of files.now) path.now) }
 {
     let plan = full_plan_of(alloc, files, path)?;
-    answer_of(alloc, &plan)
+    answer_of(alloc, &plan, path, form)
 }
 
-/// The line of a plan, and the warnings of its files.
-fn answer_of(alloc: Global, plan: &Plan) -> Result<Answer, RunFault>
-    ensures text { IfOk result (λ answer. string_bytes answer.text ≡ ok_line plan.now.graph.dag) }
+/// The text of a plan in a form, and the warnings of its files; the DAG file has this path.
+fn answer_of(alloc: Global, plan: &Plan, path: &str, form: CheckForm) -> Result<Answer, RunFault>
+    ensures text { IfOk result (λ answer. string_bytes answer.text ≡ check_text_of form path.now plan.now.graph.dag) }
     ensures warnings { IfOk result (λ answer. string_bytes answer.warnings ≡ warning_lines plan.now.graph.dag.warnings) }
     ensures status { IfOk result (λ answer. answer.status ≡ 0) }
     ensures err { IfErr result (λ fault. fault ≡ Memory) }
 {
     let graph = plan.graph();
     Ok(Answer {
-        text: line_of(alloc, graph)?,
+        text: text_of(alloc, graph, path, form)?,
         warnings: warning_text(alloc, graph.flat().warnings())?,
         status: 0,
     })
+}
+
+/// The text of a graph in a form; the DAG file has this path.
+fn text_of(alloc: Global, graph: &Graph, path: &str, form: CheckForm) -> Result<String, AllocError>
+    ensures { IfOk result (λ text. string_bytes text ≡ check_text_of form path.now graph.now.dag) }
+{
+    match form {
+        CheckForm::Line => line_of(alloc, graph),
+        CheckForm::Json => check_json(alloc, graph, path),
+    }
 }
 
 fn yes_or_no(graph: &Graph) -> &'static str

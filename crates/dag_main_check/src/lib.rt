@@ -2,13 +2,16 @@
 #![tactic(auto)]
 
 mod check;
+mod check_data;
 mod fault;
+mod form;
 mod missing;
 mod plans;
 mod warnings;
 
 pub use check::check_text;
 pub use fault::RunFault;
+pub use form::CheckForm;
 pub use missing::missing_in;
 pub use plans::{graph_of, plan_by, plan_of, plan_with};
 pub use warnings::{Answer, warning_text};

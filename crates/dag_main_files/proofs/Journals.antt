@@ -44,14 +44,14 @@ unread journal faults.Broken is = absurd is
 unread journal (faults.BadSlot slot) is = bad_journal (faults.BadSlot slot) is
 
 -- its fault is one of a journal, or memory ran out
-pub of-journal : (fault : JournalFault) → IsReadFault fault → IsJournalFault (read_fault fault)
-of-journal _ read_had_no_memory = peeking_had_no_memory
-of-journal _ read_failed = journal_refused faults.Device read_failed
-of-journal _ reads_no_journal = journal_refused faults.NotAJournal reads_no_journal
-of-journal _ (reads_version v) = journal_refused (faults.Version v) (reads_version v)
-of-journal _ reads_other_inputs = journal_refused faults.OtherInputs reads_other_inputs
-of-journal _ reads_other_flag = journal_refused faults.OtherFlag reads_other_flag
-of-journal _ (reads_bad_slot slot) = journal_refused (faults.BadSlot slot) (reads_bad_slot slot)
+pub of-journal : (top : List ℕ) (fault : JournalFault) → IsReadFault fault → IsJournalFault top (read_fault fault)
+of-journal top _ read_had_no_memory = peeking_had_no_memory
+of-journal top _ read_failed = journal_refused faults.Device read_failed
+of-journal top _ reads_no_journal = journal_refused faults.NotAJournal reads_no_journal
+of-journal top _ (reads_version v) = journal_refused (faults.Version v) (reads_version v)
+of-journal top _ reads_other_inputs = journal_refused faults.OtherInputs reads_other_inputs
+of-journal top _ reads_other_flag = journal_refused faults.OtherFlag reads_other_flag
+of-journal top _ (reads_bad_slot slot) = journal_refused (faults.BadSlot slot) (reads_bad_slot slot)
 
 -- a round that goes on is the one that is found where a journal is held that has not ended
 pub goes-on : (holds : Files) (has : List ℕ → Bool) (top : List ℕ) (autorescue always_post : Bool) (peek : Peek) (result : Result Round RunFault)

@@ -3,3 +3,4 @@ pub mod Above
 pub mod Held
 pub mod Journals
 pub mod OpenedFiles
+pub mod Folders

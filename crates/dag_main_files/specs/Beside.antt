@@ -1,8 +1,9 @@
 -- What stands beside a DAG file, and what is answered of it.
-use Rattle.std.specs.Prelude.{◌≡◌, ◌≢◌, ◌<◌, ◌≤◌, ◌+◌, ◌-◌, ℕ, Bool, true, false, nat_lt, List, ◌++◌, length, slice_index, Option, Some, None, Result, Ok, Err, is_some, codes, string_bytes, String, if◌then◌else◌}
+use Rattle.std.specs.Prelude.{◌≡◌, ◌≢◌, ◌<◌, ◌≤◌, ◌+◌, ◌-◌, ℕ, Bool, true, false, zero, suc, take, nat_lt, List, ◌++◌, length, slice_index, Option, Some, None, Result, Ok, Err, is_some, codes, string_bytes, String, if◌then◌else◌}
 use Rattle.std.specs.Global.{Global}
+use Rattle.std.specs.Path.{rfind_below}
 use Rattle.splices_flat.specs.Opening.{Files}
-use Rattle.rescue_file.specs.Numbered.{IsFileNumber}
+use Rattle.rescue_file.specs.Numbered.{IsFileNumber, rescue_name_of}
 use Rattle.event_journal_log.specs.declared.fault.JournalFault.{JournalFault}
 use Rattle.event_journal_log.specs.Journal.{IsReadFault}
 use Rattle.event_journal_log.specs.Image.{Found}
@@ -21,6 +22,15 @@ journal_name_of top = top ++ codes ".journal"
 -- `top.lock`, the file that a manager locks
 abbrev pub lock_name_of : List ℕ → List ℕ
 lock_name_of top = top ++ codes ".lock"
+
+-- the folder of a file, by its path and where the last slash of that is: what is before the slash; `/` where that is nothing, and `.` where there is no slash
+abbrev pub folder_before : List ℕ → Option ℕ → List ℕ
+folder_before path None = codes "."
+folder_before path (Some zero) = codes "/"
+folder_before path (Some (suc n)) = take (suc n) path
+
+abbrev pub folder_name_of : List ℕ → List ℕ
+folder_name_of path = folder_before path (rfind_below 47 path (length path))
 
 -- How many bytes the name of a file has by its path: those behind the last slash, or all where there is none.
 pub data IsNameLength (path : List ℕ) : ℕ → Type 0 where
@@ -62,11 +72,16 @@ pub data IsInputFault (path : List ℕ) : RunFault → Type 0 where
   input_refused : (file : String Global) → path ≡ codes "-" → string_bytes file ≡ codes "-" → IsInputFault path (FileRefused file)
   input_had_no_memory : IsInputFault path Memory
 
--- the journal may be another user's; it can't be read; or memory ran out
-pub data IsJournalFault : RunFault → Type 0 where
-  journal_of_another : (fault : RunFault) → IsFileFault fault → IsJournalFault fault
-  journal_refused : (fault : JournalFault) → IsReadFault fault → IsJournalFault (InManager (manager.Journal fault))
-  peeking_had_no_memory : IsJournalFault Memory
+-- the journal of a DAG file may be another user's; it can't be read; or memory ran out
+pub data IsJournalFault (top : List ℕ) : RunFault → Type 0 where
+  journal_of_another : (fault : RunFault) → IsRefusalOf (journal_name_of top) fault → IsJournalFault top fault
+  journal_refused : (fault : JournalFault) → IsReadFault fault → IsJournalFault top (InManager (manager.Journal fault))
+  peeking_had_no_memory : IsJournalFault top Memory
+
+-- Why the rescue files of higher numbers are not put away: the system refuses their folder, or the one of a number above `from`. Or memory ran out.
+pub data IsRescueMoveFault (top : List ℕ) (from : ℕ) : RunFault → Type 0 where
+  folder_not_listed : (fault : RunFault) → IsRefusalOf (folder_name_of top) fault → IsRescueMoveFault top from fault
+  rescue_not_renamed : (number : ℕ) (fault : RunFault) → from < number → IsFileNumber number → IsRefusalOf (rescue_name_of top number) fault → IsRescueMoveFault top from fault
 
 -- where a round is to go back to a rescue file, its number is one that such a file can have
 abbrev pub MayGoBack : Option ℕ → Type 0
@@ -76,12 +91,12 @@ MayGoBack (Some number) = IsFileNumber number
 -- Why it is not known which round this is, the first cause first. The rescue file is not there to which the round is to go back, if it is
 -- to: no file has its number, or it is missing; then, the journal may be another user's, or can't be read; the run is to go back and has not ended; it is to go on,
 -- and the header of its journal has a number that no rescue file has; the system refuses the folder. Or memory ran out.
-pub data IsRoundFault (from : Option ℕ) : RunFault → Type 0 where
-  not_there : (number : ℕ) → from ≡ Some number → IsRoundFault from (NotThere number)
-  journal_not_read : (fault : RunFault) → MayGoBack from → IsJournalFault fault → IsRoundFault from fault
-  not_ended : (number : ℕ) → from ≡ Some number → IsFileNumber number → IsRoundFault from Unfinished
-  no_such_number : (number : ℕ) → from ≡ None → ¬ (IsFileNumber number) → IsRoundFault from (NotThere number)
-  folder_not_read : (fault : RunFault) → MayGoBack from → IsFileFault fault → IsRoundFault from fault
+pub data IsRoundFault (top : List ℕ) (from : Option ℕ) : RunFault → Type 0 where
+  not_there : (number : ℕ) → from ≡ Some number → IsRoundFault top from (NotThere number)
+  journal_not_read : (fault : RunFault) → MayGoBack from → IsJournalFault top fault → IsRoundFault top from fault
+  not_ended : (number : ℕ) → from ≡ Some number → IsFileNumber number → IsRoundFault top from Unfinished
+  no_such_number : (number : ℕ) → from ≡ None → ¬ (IsFileNumber number) → IsRoundFault top from (NotThere number)
+  folder_not_read : (fault : RunFault) → MayGoBack from → IsRefusalOf (folder_name_of top) fault → IsRoundFault top from fault
 
 -- the number behind the highest; 999 is written again
 abbrev pub number_behind : ℕ → ℕ
@@ -132,6 +147,6 @@ pub record IsRescueOf (round : Round) (rescue : Option (List ℕ)) : Type 0 wher
   pub one_read : round.goes_back ≡ true → is_some rescue ≡ true
 
 -- Why it is not known which they are: the file is missing to which the round goes back; the system refuses it; memory ran out.
-pub data IsRescueReadFault (round : Round) : RunFault → Type 0 where
-  missing : round.goes_back ≡ true → IsRescueReadFault round (NotThere round.used)
-  rescue_not_read : (fault : RunFault) → IsFileFault fault → IsRescueReadFault round fault
+pub data IsRescueReadFault (top : List ℕ) (round : Round) : RunFault → Type 0 where
+  missing : round.goes_back ≡ true → IsRescueReadFault top round (NotThere round.used)
+  rescue_not_read : (fault : RunFault) → IsRefusalOf (rescue_name_of top round.used) fault → IsRescueReadFault top round fault

@@ -11,7 +11,7 @@ use Rattle.dag_main_files.specs.declared.rounds.Round.{Round}
 use Rattle.dag_main_check.specs.declared.fault.RunFault.{RunFault}
 use Rattle.dag_main_check.specs.declared.fault.RunFault.TheVariants.{NotThere, Unfinished}
 use Rattle.dag_main_files.specs.Journals.{IsUnread}
-use Rattle.dag_main_files.specs.Beside.{journal_name_of, IsFileFault, IsRefusalOf, IsRefusalHeld, MayGoBack, IsRoundWith, HasJournal}
+use Rattle.dag_main_files.specs.Beside.{journal_name_of, folder_name_of, IsRefusalOf, IsRefusalHeld, MayGoBack, IsRoundWith, HasJournal}
 
 -- each file of a set is one that is held, with these bytes
 abbrev pub AreHeld : Files → FileSet → Type 0
@@ -78,7 +78,7 @@ pub data IsRoundFaultHeld (holds : Files) (has : List ℕ → Bool) (top : List 
       IsRoundFaultHeld holds has top from Unfinished
   held_bad_header : (found : Found) (fault : RunFault) → from ≡ None → IsUnfinishedHeld holds top found → IsBadHeader found.header.used found.header.next fault →
       IsRoundFaultHeld holds has top from fault
-  held_folder_not_read : (fault : RunFault) → MayGoBack from → IsFileFault fault → IsRoundFaultHeld holds has top from fault
+  held_folder_not_read : (fault : RunFault) → MayGoBack from → IsRefusalOf (folder_name_of top) fault → IsRoundFaultHeld holds has top from fault
 
 -- Why it is not known what the rescue file of a round says, where these files are held: none is held, and the round goes back to it; or it is refused. Or memory
 -- ran out.

@@ -4,7 +4,7 @@ ghost use Rattle.std.specs.Prelude.{◌≡◌, ◌≤◌, IfOk, IfErr};
 ghost use Rattle.rescue_file.specs.Numbered.{IsFileNumber, rescue_name_of};
 ghost use Rattle.splices_flat.specs.Paths.{join};
 ghost use Rattle.dag_main_check.specs.declared.fault.RunFault.TheVariants.{Memory};
-ghost use Rattle.dag_main_files.specs.Beside.{journal_name_of, lock_name_of, IsFileFault, IsRefusalOf, IsNameLength, HasRoomForNames, IsRoomFault};
+ghost use Rattle.dag_main_files.specs.Beside.{journal_name_of, lock_name_of, folder_name_of, IsFileFault, IsRefusalOf, IsRescueMoveFault, IsNameLength, HasRoomForNames, IsRoomFault};
 
 use crate::locking::{Lock, is_locked, lock_in_time, lock_opened};
 use crate::owners::is_trusted;
@@ -100,10 +100,12 @@ fn base_of(path: &str) -> &str {
 }
 
 /// The folder of a file, `.` where its path has none.
-fn folder_of(path: &str) -> &str {
-    match path.rsplit_once('/') {
-        Some(("", _)) => "/",
-        Some((folder, _)) => folder,
+fn folder_of(path: &str) -> &str
+    ensures { result.now ≡ folder_name_of path.now }
+{
+    match path.rfind('/') {
+        Some(0) => "/",
+        Some(slash) => &path[..slash],
         None => ".",
     }
 }
@@ -121,7 +123,7 @@ impl<'a> Place<'a> {
     /// # Errors
     /// `FileRefused` with the folder that the system refuses to list; `Memory`.
     fn names<R: Files + AllocGlobal + Clone + Drop>(&self, rt: &R) -> Result<Vec<Text>, RunFault>
-        ensures { IfErr result IsFileFault }
+        ensures { IfErr result (IsRefusalOf (folder_name_of self.now.top.now)) }
     {
         let alloc = rt.alloc();
         let folder = folder_of(self.top);
@@ -138,7 +140,7 @@ impl<'a> Place<'a> {
     /// `FileRefused` with the folder that the system refuses to list; `Memory`.
     pub fn highest<R: Files + AllocGlobal + Clone + Drop>(&self, rt: &R) -> Result<u16, RunFault>
         ensures highest { IfOk result (λ number. number ≤ 999) }
-        ensures refused { IfErr result IsFileFault }
+        ensures refused { IfErr result (IsRefusalOf (folder_name_of self.now.top.now)) }
     {
         let names = self.names(rt)?;
         Ok(pick_number(names.as_slice(), base_of(self.top)))
@@ -318,7 +320,7 @@ impl<'a> Place<'a> {
 
     /// Gives the file of a path another one, in place of the file that has it.
     fn rename<R: Files + AllocGlobal>(&self, rt: &R, path: &str, new: &str) -> Result<(), RunFault>
-        ensures { IfErr result IsFileFault }
+        ensures { IfErr result (IsRefusalOf path.now) }
     {
         let alloc = rt.alloc();
         let from = self.at(alloc, path)?;
@@ -336,7 +338,7 @@ impl<'a> Place<'a> {
         rt: &R,
         path: &str,
     ) -> Result<(), RunFault>
-        ensures { IfErr result IsFileFault }
+        ensures { IfErr result (IsRefusalOf path.now) }
     {
         let alloc = rt.alloc();
         let folder = self.at(alloc, folder_of(self.top))?;
@@ -355,7 +357,7 @@ impl<'a> Place<'a> {
         &self,
         rt: &R,
     ) -> Result<(), RunFault>
-        ensures { IfErr result IsFileFault }
+        ensures { IfErr result (IsRefusalOf (journal_name_of self.now.top.now)) }
     {
         let alloc = rt.alloc();
         let path = journal_path(alloc, self.top)?;
@@ -368,7 +370,7 @@ impl<'a> Place<'a> {
     /// that has it.
     fn put_rescue_away<R: Files + AllocGlobal>(&self, rt: &R, number: u16) -> Result<(), RunFault>
         requires { IsFileNumber number }
-        ensures { IfErr result IsFileFault }
+        ensures { IfErr result (IsRefusalOf (rescue_name_of self.now.top.now number)) }
     {
         let alloc = rt.alloc();
         let path = rescue_path(alloc, self.top, number)?;
@@ -387,7 +389,7 @@ impl<'a> Place<'a> {
         rt: &R,
         from: u16,
     ) -> Result<(), RunFault>
-        ensures { IfErr result IsFileFault }
+        ensures { IfErr result (IsRescueMoveFault self.now.top.now from) }
     {
         let names = self.names(rt)?;
         let numbers = numbers_above(rt.alloc(), names.as_slice(), base_of(self.top), from)?;

@@ -6,7 +6,7 @@ ghost use Rattle.splices_flat.specs.Opening as opening;
 ghost use Rattle.splices_flat.specs.FileSet.{bytes_of};
 ghost use Rattle.event_journal_log.specs.Peeks.{ReadsPeek};
 ghost use Rattle.dag_main_check.specs.declared.fault.RunFault.TheVariants.{Memory};
-ghost use Rattle.dag_main_files.specs.Beside.{IsFileFault, IsRefusalOf, IsRefusalHeld, IsInputFault, IsJournalFault};
+ghost use Rattle.dag_main_files.specs.Beside.{folder_name_of, IsFileFault, IsRefusalOf, IsRefusalHeld, IsInputFault, IsJournalFault};
 ghost use Rattle.dag_main_files.specs.Folder.{journal_in, IsHighestThere, IsJournalFaultHeld};
 
 use crate::beside::{LAST_NUMBER, Place, journal_path, read_beside, rescue_path};
@@ -85,7 +85,7 @@ pub trait Folder {
     fn highest(&self, alloc: Global, top: &str) -> Result<u16, RunFault>
         ensures highest { IfOk result (λ number. number ≤ 999) }
         ensures there { honest self.now → IfOk result (IsHighestThere (has self.now) top.now) }
-        ensures refused { IfErr result IsFileFault };
+        ensures refused { IfErr result (IsRefusalOf (folder_name_of top.now)) };
 
     /// What the header of the journal of this DAG file says, and whether its last record is the end of a run; none
     /// where no journal was begun.
@@ -95,7 +95,7 @@ pub trait Folder {
     /// be read; `Memory`.
     fn journal(&self, alloc: Global, top: &str) -> Result<Option<Peek>, RunFault>
         ensures peek { honest self.now → IfOk result (λ peek. ReadsPeek peek (journal_in (holds self.now) top.now)) }
-        ensures refused { IfErr result IsJournalFault }
+        ensures refused { IfErr result (IsJournalFault top.now) }
         // One that is refused isn't held, or its bytes are no journal.
         ensures refused_held { honest self.now → IfErr result (IsJournalFaultHeld (holds self.now) top.now) };
 }

@@ -1,6 +1,6 @@
 //! What the header of a journal says.
 
-ghost use Rattle.std.specs.Prelude.{◌≡◌, IfOk, IfErr};
+ghost use Rattle.std.specs.Prelude.{◌≡◌, ℕ, List, IfOk, IfErr};
 ghost use Rattle.event_journal_log.specs.Image.{replay_of};
 ghost use Rattle.event_journal_log.specs.Peeks.{ReadsPeek};
 ghost use Rattle.dag_main_files.specs.Beside.{IsJournalFault};
@@ -28,7 +28,7 @@ pub fn read_fault(fault: JournalFault) -> RunFault
 pub fn peek_in(alloc: Global, bytes: &[u8]) -> Result<Option<Peek>, RunFault>
     ensures peek { IfOk result (λ peek. ReadsPeek peek (replay_of bytes.now)) }
     ensures refused { IfErr result (IsUnread bytes.now) }
-    ensures kind { IfErr result IsJournalFault }
+    ensures kind { (top : List ℕ) → IfErr result (IsJournalFault top) }
 {
     match peek_bytes(alloc, bytes) {
         Ok(peek) => Ok(peek),
@@ -42,7 +42,7 @@ pub fn peek_in(alloc: Global, bytes: &[u8]) -> Result<Option<Peek>, RunFault>
 /// `InManager` with the fault of a journal that can't be read, and `Memory`.
 pub(crate) fn peek_on<D: Disk + Drop>(alloc: Global, disk: &mut D) -> Result<Option<Peek>, RunFault>
     ensures gives { D.honest disk.old → IfOk result (λ peek. ReadsPeek peek (replay_of (D.seen disk.old))) }
-    ensures refused { IfErr result IsJournalFault }
+    ensures refused { (top : List ℕ) → IfErr result (IsJournalFault top) }
 {
     match Journal::peek(alloc, disk) {
         Ok(peek) => Ok(peek),

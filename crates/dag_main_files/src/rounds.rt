@@ -1,6 +1,6 @@
 //! Which round of a DAG a run is: what its journal and its rescue files say.
 
-ghost use Rattle.std.specs.Prelude.{◌≡◌, ◌≤◌, Bool, true, false, None, Some, IfOk, IfErr, option_map, if◌then◌else◌};
+ghost use Rattle.std.specs.Prelude.{ℕ, List, ◌≡◌, ◌≤◌, Bool, true, false, None, Some, IfOk, IfErr, option_map, if◌then◌else◌};
 ghost use Rattle.event_journal_log.specs.Image.{IsRescueNumber};
 ghost use Rattle.event_journal.specs.Files.{file_path};
 ghost use Rattle.splices_flat.specs.Paths.{join};
@@ -148,7 +148,7 @@ pub fn round_of<F: Folder>(
     ensures numbers { IfOk result (λ round. IsRescueNumber round.next × (round.used ≤ 999)) }
     ensures back { IfOk result (λ round. round.goes_back ≡ true → IsFileNumber round.used) }
     ensures by { IfOk result (IsRoundBy autorescue from always_post) }
-    ensures refused { IfErr result (IsRoundFault from) }
+    ensures refused { IfErr result (IsRoundFault top.now from) }
     // The refusal too is for what the folder holds.
     ensures refused_held { F.honest folder.now → IfErr result (IsRoundFaultHeld (F.holds folder.now) (F.has folder.now) top.now from) }
 {
@@ -180,7 +180,7 @@ fn next_round<F: Folder>(
     ensures numbers { IfOk result (λ round. IsRescueNumber round.next × (round.used ≤ 999)) }
     ensures back { IfOk result (λ round. round.goes_back ≡ true → IsFileNumber round.used) }
     ensures by { IfOk result (IsRoundBy autorescue None always_post) }
-    ensures refused { IfErr result (IsRoundFault None) }
+    ensures refused { IfErr result (IsRoundFault top.now None) }
     ensures refused_held { F.honest folder.now → IfErr result (IsRoundFaultHeld (F.holds folder.now) (F.has folder.now) top.now None) }
 {
     let journal = match folder.journal(alloc, top)? {
@@ -217,7 +217,7 @@ fn round_behind<F: Folder>(
     ensures numbers { IfOk result (λ round. IsRescueNumber round.next × (round.used ≤ 999)) }
     ensures back { IfOk result (λ round. round.goes_back ≡ true → IsFileNumber round.used) }
     ensures by { (autorescue : Bool) → IfOk result (IsRoundBy autorescue (Some number) always_post) }
-    ensures refused { IfErr result (IsRoundFault (Some number)) }
+    ensures refused { IfErr result (IsRoundFault top.now (Some number)) }
     ensures refused_held { F.honest folder.now → IfErr result (IsRoundFaultHeld (F.holds folder.now) (F.has folder.now) top.now (Some number)) }
 {
     let path = rescue_path(alloc, top, number)?;
@@ -247,7 +247,7 @@ fn unfinished(peek: &Peek) -> Result<Round, RunFault>
     ensures by { (autorescue asked : Bool) → IfOk result (IsRoundBy autorescue None asked) }
     ensures ahead { IfOk result (λ round. round.goes_back ≡ false) }
     ensures header { IfOk result (GoesOnBy peek.now.used peek.now.next peek.now.always_post) }
-    ensures refused { IfErr result (IsRoundFault None) }
+    ensures refused { (top : List ℕ) → IfErr result (IsRoundFault top None) }
     ensures bad { IfErr result (IsBadHeader peek.now.used peek.now.next) }
 {
     if peek.used > LAST_NUMBER {
@@ -285,7 +285,7 @@ pub fn rescue_of<R: Files + AllocGlobal, F: Folder>(
     ensures held { F.honest folder.now → IfOk result (λ bytes.
         option_map (λ b. b.items) bytes ≡ rescue_in (F.holds folder.now) place.now.top.now round.now.used) }
     ensures read { IfOk result (λ bytes. IsRescueOf round.now (option_map (λ b. b.items) bytes)) }
-    ensures refused { IfErr result (IsRescueReadFault round.now) }
+    ensures refused { IfErr result (IsRescueReadFault place.now.top.now round.now) }
     // The refusal too is for what the folder holds, and for this file.
     ensures refused_held { F.honest folder.now → IfErr result (IsRescueReadFaultHeld (F.holds folder.now) place.now.top.now round.now) }
 {

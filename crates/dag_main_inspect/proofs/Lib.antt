@@ -1,5 +1,5 @@
 mod StatusFaults
-mod StatusTexts
+pub mod StatusTexts
 mod AuditTexts
 mod Pictures
 pub mod Rounds

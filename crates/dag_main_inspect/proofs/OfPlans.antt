@@ -4,6 +4,8 @@ use Rattle.std.specs.Prelude.{IfNone}
 use Rattle.splices_flat.specs.Opening.{Files}
 use Rattle.run_plan.specs.Plan.{Plan}
 use Rattle.node_machine.specs.declared.Record.{Record}
+use Rattle.sched_core.specs.Fate.{Fate}
+use Rattle.fate_audit.specs.declared.fault.AuditNo.{AuditNo}
 use Rattle.dag_main_check.specs.ByPlan.{IsAnswerByPlan}
 use Rattle.dag_main_check.specs.Planned.{opening_had_no_memory}
 use Rattle.dag_main_check.specs.Warnings.{warning_lines}
@@ -12,10 +14,11 @@ use Rattle.dag_main_check.specs.declared.fault.RunFault.TheVariants.{Memory}
 use Rattle.dag_main_check.specs.declared.warnings.Answer.{Answer}
 use Rattle.dag_main_files.specs.Opened.{IsOfFiles, IsRefusedFor, for_files, HasPlan, HasNoPlan, HasBarePlan, HasNoGraph}
 use Rattle.dag_main_files.proofs.OpenedFiles.{refused-more}
-use Rattle.graph_text.specs.Picture.{dot_text_of, unknown}
+use Rattle.graph_text.specs.Picture.{unknown}
+use Rattle.dag_main_inspect.specs.declared.graphs.Shape.{Shape}
 use Rattle.dag_main_inspect.specs.Statused.{journal_bytes, flag_by, IsStatusBy, IsStatusOf, IsRecordsFault, IsStatusFault, no_plan, no_records}
-use Rattle.dag_main_inspect.specs.Audited.{IsAuditText, IsAuditedAs, IsAuditFault, no_plan as unaudited, auditing_had_no_memory}
-use Rattle.dag_main_inspect.specs.Drawn.{IsPicture, IsBareDrawn, IsDrawnOf, IsDrawnFault, IsJournalDrawnFault, no_graph, no_plan as undrawn, not_drawn}
+use Rattle.dag_main_inspect.specs.Audited.{IsAuditText, IsAuditedBy, IsAuditFault, no_plan as unaudited, auditing_had_no_memory}
+use Rattle.dag_main_inspect.specs.Drawn.{IsDrawnText, IsPicture, IsBareDrawn, IsDrawnOf, IsDrawnFault, IsJournalDrawnFault, no_graph, no_plan as undrawn, not_drawn}
 use Rattle.dag_main_inspect.specs.Reported.{IsReport, HasNotEnded, IsReportOf, IsUnendedRun}
 
 module _ (holds : Files) (path : List ℕ) (rescue : Option (List ℕ)) where
@@ -44,26 +47,27 @@ module _ (holds : Files) (path : List ℕ) (rescue : Option (List ℕ)) where
       says = no_records plan fault planned.says (subst (λ (x : List ℕ). IsRecordsFault plan x fault) same why);
     })
 
-    pub audit : (bytes : List ℕ) → bytes ≡ journal_bytes journal → (answer : Result Answer RunFault) → IfOk answer (λ (a : Answer). IsAuditText plan bytes (string_bytes a.text) a.status)
+    pub audit : (text_of : Plan → Result (List Fate) AuditNo → List ℕ) (bytes : List ℕ) → bytes ≡ journal_bytes journal → (answer : Result Answer RunFault)
+        → IfOk answer (λ (a : Answer). IsAuditText text_of plan bytes (string_bytes a.text) a.status)
         → IfOk answer (λ (a : Answer). string_bytes a.warnings ≡ warning_lines plan.graph.dag.warnings)
-        → IfOk answer (λ (a : Answer). IsOfFiles holds path (λ files entries. IsAuditedAs files entries path rescue journal (string_bytes a.text) (string_bytes a.warnings) a.status))
-    audit bytes same (Ok a) is warnings =
-        by-plan (flag_by journal) plan planned (λ p (b : Answer). IsAuditText p (journal_bytes journal) (string_bytes b.text) b.status) a
-        (subst (λ (x : List ℕ). IsAuditText plan x (string_bytes a.text) a.status) same is) warnings
-    audit bytes same (Err fault) is warnings = tt
+        → IfOk answer (λ (a : Answer). IsOfFiles holds path (λ files entries. IsAuditedBy text_of files entries path rescue journal (string_bytes a.text) (string_bytes a.warnings) a.status))
+    audit text_of bytes same (Ok a) is warnings =
+        by-plan (flag_by journal) plan planned (λ p (b : Answer). IsAuditText text_of p (journal_bytes journal) (string_bytes b.text) b.status) a
+        (subst (λ (x : List ℕ). IsAuditText text_of plan x (string_bytes a.text) a.status) same is) warnings
+    audit text_of bytes same (Err fault) is warnings = tt
 
     pub no-audit : (fault : RunFault) → fault ≡ Memory → IsRefusedFor holds path (λ files entries. IsAuditFault files entries path rescue) fault
     no-audit fault is = subst (IsRefusedFor holds path (λ files entries. IsAuditFault files entries path rescue)) (sym is)
         (for_files Memory (record { files = planned.files; read = planned.read; says = auditing_had_no_memory }))
 
   module _ (bytes : List ℕ) (plan : Plan) (planned : IsOfFiles holds path (HasPlan (flag_by (Some bytes)) path rescue plan)) where
-    pub picture : (answer : Result Answer RunFault) → IfOk answer (λ (a : Answer). IsPicture plan bytes (string_bytes a.text))
+    pub picture : (shape : Shape) (answer : Result Answer RunFault) → IfOk answer (λ (a : Answer). IsPicture shape plan bytes (string_bytes a.text))
         → IfOk answer (λ (a : Answer). string_bytes a.warnings ≡ warning_lines plan.graph.dag.warnings) → IfOk answer (λ (a : Answer). a.status ≡ 0)
-        → IfOk answer (λ (a : Answer). IsOfFiles holds path (λ files entries. IsDrawnOf files entries path rescue (Some bytes) (string_bytes a.text) (string_bytes a.warnings) a.status))
-    picture (Ok a) is warnings status =
-        let said = by-plan (flag_by (Some bytes)) plan planned (λ p (b : Answer). IsPicture p bytes (string_bytes b.text)) a is warnings in
+        → IfOk answer (λ (a : Answer). IsOfFiles holds path (λ files entries. IsDrawnOf shape files entries path rescue (Some bytes) (string_bytes a.text) (string_bytes a.warnings) a.status))
+    picture shape (Ok a) is warnings status =
+        let said = by-plan (flag_by (Some bytes)) plan planned (λ p (b : Answer). IsPicture shape p bytes (string_bytes b.text)) a is warnings in
         record { files = said.files; read = said.read; says = (said.says, status) }
-    picture (Err fault) is warnings status = tt
+    picture shape (Err fault) is warnings status = tt
 
     pub no-picture : (fault : RunFault) → IsJournalDrawnFault plan bytes fault → IsRefusedFor holds path (λ files entries. IsDrawnFault files entries path rescue (Some bytes)) fault
     no-picture fault why = for_files fault (record { files = planned.files; read = planned.read; says = not_drawn plan bytes fault planned.says why })
@@ -110,11 +114,11 @@ module _ (holds : Files) (path : List ℕ) (rescue : Option (List ℕ)) where
 
 -- the picture of the DAG files alone
 module _ (holds : Files) (path : List ℕ) (plan : Plan) (planned : IsOfFiles holds path (HasBarePlan false path plan)) where
-  pub bare-picture : (answer : Result Answer RunFault) → IfOk answer (λ (a : Answer). string_bytes a.text ≡ dot_text_of plan unknown)
+  pub bare-picture : (shape : Shape) (answer : Result Answer RunFault) → IfOk answer (λ (a : Answer). IsDrawnText shape plan unknown (string_bytes a.text))
       → IfOk answer (λ (a : Answer). string_bytes a.warnings ≡ warning_lines plan.graph.dag.warnings) → IfOk answer (λ (a : Answer). a.status ≡ 0)
-      → IfOk answer (λ (a : Answer). IsOfFiles holds path (λ files entries. IsBareDrawn files path (string_bytes a.text) (string_bytes a.warnings) a.status))
-  bare-picture (Ok a) text warnings status = record { files = planned.files; read = planned.read; says = ((plan, planned.says, text, warnings), status) }
-  bare-picture (Err fault) text warnings status = tt
+      → IfOk answer (λ (a : Answer). IsOfFiles holds path (λ files entries. IsBareDrawn shape files path (string_bytes a.text) (string_bytes a.warnings) a.status))
+  bare-picture shape (Ok a) text warnings status = record { files = planned.files; read = planned.read; says = ((plan, planned.says, text, warnings), status) }
+  bare-picture shape (Err fault) text warnings status = tt
 
   pub memory-no-graph : (fault : RunFault) → fault ≡ Memory → IsRefusedFor holds path (HasNoGraph path) fault
   memory-no-graph fault is = subst (IsRefusedFor holds path (HasNoGraph path)) (sym is)

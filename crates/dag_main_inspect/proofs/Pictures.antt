@@ -7,13 +7,14 @@ use Rattle.sched_core.specs.Core.{Progress}
 use Rattle.sched_core.specs.Run.{chronological, is_lawful}
 use Rattle.event_journal_log.specs.declared.fault.JournalFault.TheVariants as journal
 use Rattle.recovery_manager.specs.Inputs.{replay_by}
-use Rattle.graph_text.specs.Picture.{unknown, known, dot_text_of}
+use Rattle.graph_text.specs.Picture.{unknown, known}
 use Rattle.dag_main_check.specs.Warnings.{warning_lines}
 use Rattle.dag_main_check.specs.declared.fault.RunFault.{RunFault}
 use Rattle.dag_main_check.specs.declared.fault.RunFault.TheVariants.{Memory}
 use Rattle.dag_main_check.specs.declared.warnings.Answer.{Answer}
 use Rattle.dag_main_inspect.specs.Statused.{records_read, records_in_bytes, IsRecordsFault, no_journal, foreign_record, reading_had_no_memory}
-use Rattle.dag_main_inspect.specs.Drawn.{IsPicture, of_run, of_others, of_other_flag, tells_of_others, IsJournalDrawnFault, no_records, drawing_had_no_memory}
+use Rattle.dag_main_inspect.specs.declared.graphs.Shape.{Shape}
+use Rattle.dag_main_inspect.specs.Drawn.{IsDrawnText, IsPicture, of_run, of_others, of_other_flag, tells_of_others, IsJournalDrawnFault, no_records, drawing_had_no_memory}
 
 -- the picture by a journal
 module _ (plan : Plan) (bytes : List ℕ) where
@@ -35,20 +36,20 @@ module _ (plan : Plan) (bytes : List ℕ) where
   others _ (foreign_record slot first) answered = absurd (false≢true answered)
   others _ reading_had_no_memory answered = absurd (false≢true answered)
 
-  pub other-picture : (replay_by plan bytes ≡ Err journal.OtherInputs) ⊎ (replay_by plan bytes ≡ Err journal.OtherFlag) → (answer : Result Answer RunFault)
-      → IfOk answer (λ (a : Answer). string_bytes a.text ≡ dot_text_of plan unknown) → IfOk answer (λ (a : Answer). IsPicture plan bytes (string_bytes a.text))
-  other-picture (inl other) (Ok a) text = subst (IsPicture plan bytes) (sym text) (of_others other)
-  other-picture (inr other) (Ok a) text = subst (IsPicture plan bytes) (sym text) (of_other_flag other)
-  other-picture other (Err fault) text = tt
+  pub other-picture : (shape : Shape) → (replay_by plan bytes ≡ Err journal.OtherInputs) ⊎ (replay_by plan bytes ≡ Err journal.OtherFlag) → (answer : Result Answer RunFault)
+      → IfOk answer (λ (a : Answer). IsDrawnText shape plan unknown (string_bytes a.text)) → IfOk answer (λ (a : Answer). IsPicture shape plan bytes (string_bytes a.text))
+  other-picture shape (inl other) (Ok a) text = of_others (string_bytes a.text) other text
+  other-picture shape (inr other) (Ok a) text = of_other_flag (string_bytes a.text) other text
+  other-picture shape other (Err fault) text = tt
 
-  pub run-picture : (records : List Record) (core : Progress) → records_in_bytes plan bytes ≡ Some records → core.plan ≡ plan → records ≡ chronological core.past
+  pub run-picture : (shape : Shape) (records : List Record) (core : Progress) → records_in_bytes plan bytes ≡ Some records → core.plan ≡ plan → records ≡ chronological core.past
       → is_lawful core.plan core.past ≡ true → (answer : Result Answer RunFault)
-      → IfOk answer (λ (a : Answer). string_bytes a.text ≡ dot_text_of core.plan (known core.plan core.past))
-      → IfOk answer (λ (a : Answer). IsPicture plan bytes (string_bytes a.text))
-  run-picture records core are p r lawful (Ok a) text =
-      subst (IsPicture plan bytes) (sym (text ∙ (λ j. dot_text_of (p j) (known (p j) core.past))))
-      (of_run core.past (are ∙ ap (λ (rs : List Record). Some rs) r) (subst (λ (q : Plan). is_lawful q core.past ≡ true) p lawful))
-  run-picture records core are p r lawful (Err fault) text = tt
+      → IfOk answer (λ (a : Answer). IsDrawnText shape core.plan (known core.plan core.past) (string_bytes a.text))
+      → IfOk answer (λ (a : Answer). IsPicture shape plan bytes (string_bytes a.text))
+  run-picture shape records core are p r lawful (Ok a) text =
+      of_run core.past (string_bytes a.text) (are ∙ ap (λ (rs : List Record). Some rs) r) (subst (λ (q : Plan). is_lawful q core.past ≡ true) p lawful)
+      (subst (λ (q : Plan). IsDrawnText shape q (known q core.past) (string_bytes a.text)) p text)
+  run-picture shape records core are p r lawful (Err fault) text = tt
 
   pub run-warnings : (core : Progress) → core.plan ≡ plan → (answer : Result Answer RunFault)
       → IfOk answer (λ (a : Answer). string_bytes a.warnings ≡ warning_lines core.plan.graph.dag.warnings)

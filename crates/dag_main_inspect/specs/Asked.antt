@@ -1,31 +1,36 @@
 -- What is answered of a run by what stands beside its DAG file.
-use Rattle.std.specs.Prelude.{ℕ, List, Option, None}
+use Rattle.std.specs.Prelude.{ℕ, List, Option}
 use Rattle.splices_flat.specs.Opening.{Files}
 use Rattle.dag_main_check.specs.Planned.{in_line, named_by}
 use Rattle.dag_main_inspect.specs.StatusData.{status_json_of}
+use Rattle.dag_main_inspect.specs.AuditData.{audit_json_of}
 use Rattle.dag_main_inspect.specs.Statused.{IsStatusOf, IsStatusTextOf, IsStatusFault}
-use Rattle.dag_main_inspect.specs.Audited.{IsAuditedAs, IsAuditFault}
+use Rattle.dag_main_inspect.specs.Audited.{IsAuditedAs, IsAuditedBy, IsAuditFault}
 use Rattle.dag_main_inspect.specs.Drawn.{IsDrawnOf, IsDrawnFault}
 use Rattle.dag_main_check.specs.declared.fault.RunFault.{RunFault}
-use Rattle.dag_main_files.specs.Beside.{IsRoundFault}
 use Rattle.dag_main_files.specs.Opened.{IsOfFiles, IsOfSome, IsRefusedFor, IsRefusedForSome}
-use Rattle.dag_main_inspect.specs.LastRound.{IsLastRound, IsNoLastRound, used_by, used_name}
+use Rattle.dag_main_inspect.specs.LastRound.{IsLastRound, IsNoLastRound, IsNoLastRoundOfSome, used_by, used_name}
+use Rattle.dag_main_inspect.specs.declared.graphs.Shape.TheVariants.{Nodes, Boxes}
 use Rattle.dag_main_inspect.specs.declared.by_journal.Question.{Question}
-use Rattle.dag_main_inspect.specs.declared.by_journal.Question.TheVariants.{Status, StatusJson, Audit, Graph}
+use Rattle.dag_main_inspect.specs.declared.by_journal.Question.TheVariants.{Status, StatusJson, Audit, AuditJson, Graph, FoldedGraph}
 
 -- the answer to a question, by the files of a path, a rescue file and a journal
 abbrev pub IsAskAnswered : Question → Files → List (List ℕ × List ℕ) → List ℕ → Option (List ℕ) → Option (List ℕ) → List ℕ → List ℕ → ℕ → Type 0
 IsAskAnswered Status files entries path rescue journal text warnings status = IsStatusTextOf files entries path rescue journal text warnings status
 IsAskAnswered StatusJson files entries path rescue journal text warnings status = IsStatusOf (status_json_of path) files entries path rescue journal text warnings status
 IsAskAnswered Audit files entries path rescue journal text warnings status = IsAuditedAs files entries path rescue journal text warnings status
-IsAskAnswered Graph files entries path rescue journal text warnings status = IsDrawnOf files entries path rescue journal text warnings status
+IsAskAnswered AuditJson files entries path rescue journal text warnings status = IsAuditedBy (audit_json_of path) files entries path rescue journal text warnings status
+IsAskAnswered Graph files entries path rescue journal text warnings status = IsDrawnOf Nodes files entries path rescue journal text warnings status
+IsAskAnswered FoldedGraph files entries path rescue journal text warnings status = IsDrawnOf Boxes files entries path rescue journal text warnings status
 
 -- why there is none
 abbrev pub IsNotAnswered : Question → Files → List (List ℕ × List ℕ) → List ℕ → Option (List ℕ) → Option (List ℕ) → RunFault → Type 0
 IsNotAnswered Status files entries path rescue journal fault = IsStatusFault files entries path rescue journal fault
 IsNotAnswered StatusJson files entries path rescue journal fault = IsStatusFault files entries path rescue journal fault
 IsNotAnswered Audit files entries path rescue journal fault = IsAuditFault files entries path rescue fault
+IsNotAnswered AuditJson files entries path rescue journal fault = IsAuditFault files entries path rescue fault
 IsNotAnswered Graph files entries path rescue journal fault = IsDrawnFault files entries path rescue journal fault
+IsNotAnswered FoldedGraph files entries path rescue journal fault = IsDrawnFault files entries path rescue journal fault
 
 -- that is the answer by these files, where they are what a folder holds
 abbrev pub AnswersBy : Question → (path : List ℕ) → (rescue journal : Option (List ℕ)) → (text warnings : List ℕ) → (status : ℕ) → Files → List (List ℕ × List ℕ) → Type 0
@@ -50,7 +55,7 @@ pub record IsAnswerHeld (holds : Files) (question : Question) (path text warning
 -- Why there is no answer: it is not known which round is the last one; or what some files and a journal say is refused, the fault of a line of the
 -- rescue file returned with that file's name.
 pub data IsAnswerFault (question : Question) (path : List ℕ) : RunFault → Type 0 where
-  no_last_round : (fault : RunFault) → IsRoundFault None fault → IsAnswerFault question path fault
+  no_last_round : (fault : RunFault) → IsNoLastRoundOfSome path fault → IsAnswerFault question path fault
   not_told : (rescue journal name : Option (List ℕ)) (fault : RunFault) →
       IsRefusedForSome path (IsNotAnsweredBy question path rescue journal) fault →
       IsAnswerFault question path (named_by (in_line fault) name fault)

@@ -1,5 +1,5 @@
 -- What `audit` prints.
-use Rattle.std.specs.Prelude.{◌≢◌, ℕ, List, ◌++◌, Option, codes}
+use Rattle.std.specs.Prelude.{◌≢◌, ℕ, List, ◌++◌, Option, Result, Ok, Err, codes}
 use Rattle.splices_flat.specs.Opening.{Files}
 use Rattle.run_plan.specs.Plan.{Plan, count_of}
 use Rattle.sched_core.specs.Fate.{Fate}
@@ -10,7 +10,10 @@ use Rattle.fate_audit.specs.declared.fault.AuditNo.{AuditNo}
 use Rattle.fate_audit.specs.declared.fault.AuditNo.TheVariants as audit_no
 use Rattle.dag_main_check.specs.Planned.{IsPlanWithFault}
 use Rattle.dag_main_check.specs.ByPlan.{IsAnswerByPlan}
+use Rattle.dag_main_inspect.specs.AuditData.{audit_json_of}
 use Rattle.dag_main_inspect.specs.Statused.{journal_bytes, flag_by}
+use Rattle.dag_main_inspect.specs.declared.statuses.Form.{Form}
+use Rattle.dag_main_inspect.specs.declared.statuses.Form.TheVariants.{Lines, Json}
 use Rattle.dag_main_check.specs.declared.fault.RunFault.{RunFault}
 use Rattle.dag_main_check.specs.declared.fault.RunFault.TheVariants.{Memory}
 
@@ -22,15 +25,30 @@ passed_text plan fates = fate_lines plan (fate_at fates) (count_of plan) ++ code
 abbrev pub refused_text : AuditNo → List ℕ
 refused_text cause = codes "audit no " ++ (no_text cause ++ codes "\n")
 
--- The text and the exit status of the audit of a journal that has these bytes: the fates and 0, or why there are none and 1.
-pub data IsAuditText (plan : Plan) (bytes : List ℕ) : List ℕ → ℕ → Type 0 where
-  passed : (fates : List Fate) → IsAuditOf plan bytes fates → IsAuditText plan bytes (passed_text plan fates) 0
-  not_passed : (cause : AuditNo) → cause ≢ audit_no.Memory → IsAuditNo plan bytes cause → IsAuditText plan bytes (refused_text cause) 1
+-- the text of an audit that gave these fates, or this cause
+abbrev pub audit_text_of : Plan → Result (List Fate) AuditNo → List ℕ
+audit_text_of plan (Ok fates) = passed_text plan fates
+audit_text_of plan (Err cause) = refused_text cause
 
--- The audit of a journal, by the plan of these files. One that is not there has no bytes, so none was begun.
+-- the text of an audit in a form, where the DAG file has this path: the lines, or their JSON
+abbrev pub audit_form_text : Form → List ℕ → Plan → Result (List Fate) AuditNo → List ℕ
+audit_form_text Lines path = audit_text_of
+audit_form_text Json path = audit_json_of path
+
+-- The text that is made so of the audit of a journal that has these bytes, and the exit status: of the fates, with 0; or of the cause why there are
+-- none, with 1.
+pub data IsAuditText (text_of : Plan → Result (List Fate) AuditNo → List ℕ) (plan : Plan) (bytes : List ℕ) : List ℕ → ℕ → Type 0 where
+  passed : (fates : List Fate) → IsAuditOf plan bytes fates → IsAuditText text_of plan bytes (text_of plan (Ok fates)) 0
+  not_passed : (cause : AuditNo) → cause ≢ audit_no.Memory → IsAuditNo plan bytes cause → IsAuditText text_of plan bytes (text_of plan (Err cause)) 1
+
+-- The text that is made so of the audit of a journal, by the plan of these files. One that is not there has no bytes, so none was begun.
+abbrev pub IsAuditedBy : (Plan → Result (List Fate) AuditNo → List ℕ) → Files → List (List ℕ × List ℕ) → List ℕ → Option (List ℕ) → Option (List ℕ) → List ℕ → List ℕ → ℕ → Type 0
+IsAuditedBy text_of files entries path rescue journal text warnings status =
+    IsAnswerByPlan (flag_by journal) files entries path rescue (λ plan. IsAuditText text_of plan (journal_bytes journal) text status) warnings
+
+-- the lines of that audit
 abbrev pub IsAuditedAs : Files → List (List ℕ × List ℕ) → List ℕ → Option (List ℕ) → Option (List ℕ) → List ℕ → List ℕ → ℕ → Type 0
-IsAuditedAs files entries path rescue journal text warnings status =
-    IsAnswerByPlan (flag_by journal) files entries path rescue (λ plan. IsAuditText plan (journal_bytes journal) text status) warnings
+IsAuditedAs = IsAuditedBy audit_text_of
 
 -- why there is none: there is no plan, or memory ran out; a journal is no cause
 pub data IsAuditFault (files : Files) (entries : List (List ℕ × List ℕ)) (path : List ℕ) (rescue : Option (List ℕ)) : RunFault → Type 0 where

@@ -9,36 +9,45 @@ use Rattle.event_journal_log.specs.declared.fault.JournalFault.TheVariants as jo
 use Rattle.recovery_manager.specs.declared.fault.ManagerFault.{ManagerFault}
 use Rattle.recovery_manager.specs.declared.fault.ManagerFault.TheVariants as manager
 use Rattle.recovery_manager.specs.Inputs.{replay_by}
+use Rattle.status_report.specs.declared.status.Status.{Status}
 use Rattle.graph_text.specs.Picture.{unknown, known, dot_text_of}
+use Rattle.graph_text.specs.Folded.{IsFoldedText}
 use Rattle.dag_main_check.specs.Planned.{IsGraphFault, IsPlanOf, IsPlanWith, IsPlanWithFault}
 use Rattle.dag_main_check.specs.ByPlan.{IsAnswerByPlan}
 use Rattle.dag_main_check.specs.Warnings.{warning_lines}
 use Rattle.dag_main_check.specs.declared.fault.RunFault.{RunFault}
 use Rattle.dag_main_check.specs.declared.fault.RunFault.TheVariants.{InFiles, Cycle, InPlan, InTable, InRescue, NotThere, Unfinished, InManager, StartMemory, WaitFault, Halted, FileRefused, Memory}
+use Rattle.dag_main_inspect.specs.declared.graphs.Shape.{Shape}
+use Rattle.dag_main_inspect.specs.declared.graphs.Shape.TheVariants.{Nodes, Boxes}
 use Rattle.dag_main_inspect.specs.Statused.{flag_by, records_in_bytes, IsRecordsFault}
+
+-- The text of a picture of a plan whose nodes stand so: of each node, or of boxes in which those of one shape are folded.
+abbrev pub IsDrawnText : Shape → Plan → (ℕ → Option Status) → List ℕ → Type 0
+IsDrawnText Nodes plan states text = text ≡ dot_text_of plan states
+IsDrawnText Boxes plan states text = IsFoldedText plan states text
 
 -- The picture of a plan that has a journal of these bytes: its nodes stand as the records say; or the journal is that of other files, or of a
 -- run with the other flag, and says nothing of them.
-pub data IsPicture (plan : Plan) (bytes : List ℕ) : List ℕ → Type 0 where
-  of_run : (past : List Record) → records_in_bytes plan bytes ≡ Some (chronological past) → IsTrue (is_lawful plan past) →
-      IsPicture plan bytes (dot_text_of plan (known plan past))
-  of_others : replay_by plan bytes ≡ Err journal.OtherInputs → IsPicture plan bytes (dot_text_of plan unknown)
-  of_other_flag : replay_by plan bytes ≡ Err journal.OtherFlag → IsPicture plan bytes (dot_text_of plan unknown)
+pub data IsPicture (shape : Shape) (plan : Plan) (bytes : List ℕ) : List ℕ → Type 0 where
+  of_run : (past : List Record) (text : List ℕ) → records_in_bytes plan bytes ≡ Some (chronological past) → IsTrue (is_lawful plan past) →
+      IsDrawnText shape plan (known plan past) text → IsPicture shape plan bytes text
+  of_others : (text : List ℕ) → replay_by plan bytes ≡ Err journal.OtherInputs → IsDrawnText shape plan unknown text → IsPicture shape plan bytes text
+  of_other_flag : (text : List ℕ) → replay_by plan bytes ≡ Err journal.OtherFlag → IsDrawnText shape plan unknown text → IsPicture shape plan bytes text
 
 -- the picture of the DAG files of a path alone
-abbrev pub IsBarePicture : Files → List ℕ → List ℕ → List ℕ → Type 0
-IsBarePicture files path text warnings =
-    (plan : Plan) × IsPlanOf false files path plan × (text ≡ dot_text_of plan unknown) × (warnings ≡ warning_lines plan.graph.dag.warnings)
+abbrev pub IsBarePicture : Shape → Files → List ℕ → List ℕ → List ℕ → Type 0
+IsBarePicture shape files path text warnings =
+    (plan : Plan) × IsPlanOf false files path plan × IsDrawnText shape plan unknown text × (warnings ≡ warning_lines plan.graph.dag.warnings)
 
 -- that is the answer where there is no journal, and the exit status is 0
-abbrev pub IsBareDrawn : Files → List ℕ → List ℕ → List ℕ → ℕ → Type 0
-IsBareDrawn files path text warnings status = IsBarePicture files path text warnings × (status ≡ 0)
+abbrev pub IsBareDrawn : Shape → Files → List ℕ → List ℕ → List ℕ → ℕ → Type 0
+IsBareDrawn shape files path text warnings status = IsBarePicture shape files path text warnings × (status ≡ 0)
 
 -- the answer for the files of a path: by the journal, where there is one; the exit status is 0
-abbrev pub IsDrawnOf : Files → List (List ℕ × List ℕ) → List ℕ → Option (List ℕ) → Option (List ℕ) → List ℕ → List ℕ → ℕ → Type 0
-IsDrawnOf files entries path rescue None text warnings status = IsBareDrawn files path text warnings status
-IsDrawnOf files entries path rescue (Some bytes) text warnings status =
-    IsAnswerByPlan (flag_by (Some bytes)) files entries path rescue (λ plan. IsPicture plan bytes text) warnings × (status ≡ 0)
+abbrev pub IsDrawnOf : Shape → Files → List (List ℕ × List ℕ) → List ℕ → Option (List ℕ) → Option (List ℕ) → List ℕ → List ℕ → ℕ → Type 0
+IsDrawnOf shape files entries path rescue None text warnings status = IsBareDrawn shape files path text warnings status
+IsDrawnOf shape files entries path rescue (Some bytes) text warnings status =
+    IsAnswerByPlan (flag_by (Some bytes)) files entries path rescue (λ plan. IsPicture shape plan bytes text) warnings × (status ≡ 0)
 
 -- a fault tells that a journal is that of other files (J5), or of a run with the other flag (J10)
 abbrev pub is_of_others : JournalFault → Bool

@@ -1,11 +1,11 @@
 -- What stands beside a DAG file of its last round.
 use Rattle.std.specs.Prelude.{◌≡◌, ◌<◌, ℕ, zero, suc, Bool, false, List, Option, Some, None, Result, Ok, Err}
 use Rattle.splices_flat.specs.Opening.{Files}
-use Rattle.rescue_file.specs.Numbered.{rescue_name_of}
+use Rattle.rescue_file.specs.Numbered.{IsFileNumber, rescue_name_of}
 use Rattle.event_journal_log.specs.declared.fault.JournalFault.{JournalFault}
 use Rattle.event_journal_log.specs.Image.{Found, replay_of}
 use Rattle.event_journal_log.specs.Peeks.{ends_with_finish}
-use Rattle.dag_main_files.specs.Beside.{journal_name_of, IsRefusalHeld}
+use Rattle.dag_main_files.specs.Beside.{journal_name_of, IsRefusalOf, IsRefusalHeld}
 use Rattle.dag_main_check.specs.declared.fault.RunFault.{RunFault}
 use Rattle.dag_main_check.specs.declared.fault.RunFault.TheVariants.{NotThere, Memory}
 use Rattle.dag_main_inspect.specs.Statused.{journal_bytes}
@@ -52,3 +52,9 @@ pub data IsNoLastRound (holds : Files) (path : List ℕ) : RunFault → Type 0 w
   rescue_refused : (name : List ℕ) (fault : RunFault) → used_name path (used_by (holds (journal_name_of path))) ≡ Some name → IsRefusalHeld holds name fault →
       IsNoLastRound holds path fault
   looking_had_no_memory : IsNoLastRound holds path Memory
+
+-- The same of some files: the journal is refused; it has a number that no rescue file has; or the rescue file of a number is. Or memory ran out.
+pub data IsNoLastRoundOfSome (path : List ℕ) : RunFault → Type 0 where
+  some_journal_refused : (fault : RunFault) → IsRefusalOf (journal_name_of path) fault → IsNoLastRoundOfSome path fault
+  some_no_such_rescue : (number : ℕ) → 999 < number → IsNoLastRoundOfSome path (NotThere number)
+  some_rescue_refused : (number : ℕ) (fault : RunFault) → IsFileNumber number → IsRefusalOf (rescue_name_of path number) fault → IsNoLastRoundOfSome path fault

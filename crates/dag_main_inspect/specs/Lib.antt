@@ -1,6 +1,7 @@
 pub mod StatusData
 pub mod Statused
 pub mod Reported
+pub mod AuditData
 pub mod Audited
 pub mod Drawn
 pub mod LastRound

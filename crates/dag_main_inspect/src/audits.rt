@@ -1,16 +1,17 @@
 //! The audit of a run, by its journal.
 
-ghost use Rattle.std.specs.Prelude.{◌≡◌, ◌++◌, length, OnOk, IfOk, IfErr, string_bytes};
+ghost use Rattle.std.specs.Prelude.{◌≡◌, ◌++◌, Ok, Err, length, OnOk, IfOk, IfErr, string_bytes};
 ghost use Rattle.std.specs.Option.{option_map};
 ghost use Rattle.splices_flat.specs.FileSet.{bytes_of, entries_of};
-ghost use Rattle.run_plan.specs.Plan.{count_of};
+ghost use Rattle.run_plan.specs.Plan.{Plan, count_of};
 ghost use Rattle.status_report.specs.Text.{fate_line};
 ghost use Rattle.dag_main_check.specs.declared.fault.RunFault.TheVariants.{Memory};
 ghost use Rattle.dag_main_check.specs.Warnings.{warning_lines};
 ghost use Rattle.dag_main_files.specs.Opened.{IsOfFiles, IsOfSome, IsRefusedFor, IsRefusedForSome};
-ghost use Rattle.dag_main_inspect.specs.Audited.{passed_text, refused_text, IsAuditText, IsAuditedAs, IsAuditFault};
+ghost use Rattle.dag_main_inspect.specs.Audited.{passed_text, refused_text, audit_form_text, IsAuditText, IsAuditedAs, IsAuditedBy, IsAuditFault};
 
-use crate::statuses::{bytes_in, plan_by, plan_of_round};
+use crate::audit_data::{passed_json, refused_json};
+use crate::statuses::{Form, bytes_in, plan_by, plan_of_round};
 use dag_main_check::{Answer, RunFault, warning_text};
 use dag_main_files::Folder;
 use fate_audit::{AuditNo, Fate, audit};
@@ -46,10 +47,10 @@ pub fn audit_of(
         (option_map (λ b. b.now) rescue.entry)) }
 {
     let plan = plan_by(alloc, files, path, rescue, journal)?;
-    audit_plan(alloc, &plan, bytes_in(journal))
+    audit_plan(alloc, &plan, bytes_in(journal), Form::Lines, path)
 }
 
-/// The audit of the last round of the DAG file of this path, which read this rescue file and has this journal.
+/// The audit of the last round of the DAG file of this path, which read this rescue file and has this journal, in a form.
 ///
 /// # Errors
 /// Those of `plan_here`.
@@ -59,11 +60,12 @@ pub(crate) fn audit_here<F: Folder>(
     top: &str,
     rescue: Option<&[u8]>,
     journal: Option<&[u8]>,
+    form: Form,
 ) -> Result<Answer, RunFault>
-    ensures audited { IfOk result (λ answer. IsOfSome top.now (λ files entries. IsAuditedAs files entries top.now
+    ensures audited { IfOk result (λ answer. IsOfSome top.now (λ files entries. IsAuditedBy (audit_form_text form top.now) files entries top.now
         (option_map (λ b. b.now) rescue.entry) (option_map (λ b. b.now) journal.entry)
         (string_bytes answer.text) (string_bytes answer.warnings) answer.status)) }
-    ensures held { F.honest folder.now → IfOk result (λ answer. IsOfFiles (F.holds folder.now) top.now (λ files entries. IsAuditedAs files entries top.now
+    ensures held { F.honest folder.now → IfOk result (λ answer. IsOfFiles (F.holds folder.now) top.now (λ files entries. IsAuditedBy (audit_form_text form top.now) files entries top.now
         (option_map (λ b. b.now) rescue.entry) (option_map (λ b. b.now) journal.entry)
         (string_bytes answer.text) (string_bytes answer.warnings) answer.status)) }
     ensures refused { IfErr result (IsRefusedForSome top.now (λ files entries. IsAuditFault files entries top.now (option_map (λ b. b.now) rescue.entry))) }
@@ -71,16 +73,22 @@ pub(crate) fn audit_here<F: Folder>(
         → IfErr result (IsRefusedFor (F.holds folder.now) top.now (λ files entries. IsAuditFault files entries top.now (option_map (λ b. b.now) rescue.entry))) }
 {
     let plan = plan_of_round(alloc, folder, top, rescue, journal)?;
-    audit_plan(alloc, &plan, bytes_in(journal))
+    audit_plan(alloc, &plan, bytes_in(journal), form, top)
 }
 
-/// The audit of the run of a plan whose journal has these bytes.
-fn audit_plan(alloc: Global, plan: &Plan, bytes: &[u8]) -> Result<Answer, RunFault>
-    ensures says { IfOk result (λ answer. IsAuditText plan.now bytes.now (string_bytes answer.text) answer.status) }
+/// The audit of the run of a plan whose journal has these bytes, in a form; the DAG file has this path.
+fn audit_plan(
+    alloc: Global,
+    plan: &Plan,
+    bytes: &[u8],
+    form: Form,
+    path: &str,
+) -> Result<Answer, RunFault>
+    ensures says { IfOk result (λ answer. IsAuditText (audit_form_text form path.now) plan.now bytes.now (string_bytes answer.text) answer.status) }
     ensures warnings { IfOk result (λ answer. string_bytes answer.warnings ≡ warning_lines plan.now.graph.dag.warnings) }
     ensures err { IfErr result (λ fault. fault ≡ Memory) }
 {
-    let audited = audit_bytes(alloc, plan, bytes)?;
+    let audited = audit_bytes(alloc, plan, bytes, form, path)?;
     Ok(Answer {
         text: audited.text,
         warnings: warning_text(alloc, plan.graph().flat().warnings())?,
@@ -95,20 +103,26 @@ struct Audited {
     status: Verdict,
 }
 
-/// Audits the bytes of a journal of this plan.
-fn audit_bytes(alloc: Global, plan: &Plan, bytes: &[u8]) -> Result<Audited, RunFault>
-    ensures says { IfOk result (λ audited. IsAuditText plan.now bytes.now (string_bytes audited.text) audited.status) }
+/// Audits the bytes of a journal of this plan, in a form; the DAG file has this path.
+fn audit_bytes(
+    alloc: Global,
+    plan: &Plan,
+    bytes: &[u8],
+    form: Form,
+    path: &str,
+) -> Result<Audited, RunFault>
+    ensures says { IfOk result (λ audited. IsAuditText (audit_form_text form path.now) plan.now bytes.now (string_bytes audited.text) audited.status) }
     ensures err { IfErr result (λ fault. fault ≡ Memory) }
 {
     match audit(alloc, plan, bytes) {
         Ok(fates) => Ok(Audited {
-            text: passed_text(alloc, plan, &fates)?,
+            text: passed_in(alloc, plan, &fates, form, path)?,
             status: 0,
         }),
         Err(cause) => match cause {
             AuditNo::Memory => Err(RunFault::Memory),
             _ => Ok(Audited {
-                text: refused_text(alloc, cause)?,
+                text: refused_in(alloc, cause, form, path)?,
                 status: 1,
             }),
         },
@@ -148,4 +162,31 @@ fn refused_text(alloc: Global, cause: AuditNo) -> Result<String, AllocError>
     let mut text = String::new(alloc);
     writeln!(text, "audit no {cause}")?;
     Ok(text)
+}
+
+/// The text of the fates in a form; the DAG file has this path.
+fn passed_in(
+    alloc: Global,
+    plan: &Plan,
+    fates: &[Fate],
+    form: Form,
+    path: &str,
+) -> Result<String, AllocError>
+    requires { length fates.now ≡ count_of plan.now }
+    ensures { IfOk result (λ text. string_bytes text ≡ audit_form_text form path.now plan.now (Ok fates.now)) }
+{
+    match form {
+        Form::Lines => passed_text(alloc, plan, fates),
+        Form::Json => passed_json(alloc, plan, fates, path),
+    }
+}
+
+/// The text of why there are no fates, in a form; the DAG file has this path.
+fn refused_in(alloc: Global, cause: AuditNo, form: Form, path: &str) -> Result<String, AllocError>
+    ensures { IfOk result (λ text. (plan : Plan) → string_bytes text ≡ audit_form_text form path.now plan (Err cause)) }
+{
+    match form {
+        Form::Lines => refused_text(alloc, cause),
+        Form::Json => refused_json(alloc, cause, path),
+    }
 }

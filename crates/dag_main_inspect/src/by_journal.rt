@@ -2,16 +2,17 @@
 
 ghost use Rattle.std.specs.Prelude.{◌≡◌, ◌⊎◌, ◌<◌, false, None, IfOk, IfErr, IfSome, IfNone, option_map, string_bytes};
 ghost use Rattle.event_journal_log.specs.Image.{replay_of};
+ghost use Rattle.rescue_file.specs.Numbered.{IsFileNumber};
 ghost use Rattle.dag_main_check.specs.declared.fault.RunFault.TheVariants.{Memory};
-ghost use Rattle.dag_main_files.specs.Beside.{IsRoundFault, IsRefusalHeld, journal_name_of};
-ghost use Rattle.dag_main_inspect.specs.LastRound.{used_read, used_by, finished_read, has_ended_by, used_name, IsLastRound, IsNoLastRound};
+ghost use Rattle.dag_main_files.specs.Beside.{IsRefusalOf, IsRefusalHeld, journal_name_of};
+ghost use Rattle.dag_main_inspect.specs.LastRound.{used_read, used_by, finished_read, has_ended_by, used_name, IsLastRound, IsNoLastRound, IsNoLastRoundOfSome};
 ghost use Rattle.dag_main_files.specs.Opened.{IsOfFiles, IsOfSome, IsRefusedFor, IsRefusedForSome};
 ghost use Rattle.dag_main_inspect.specs.Asked.{AnswersBy, IsNotAnsweredBy, IsAnswerOfRun, IsAnswerHeld, IsAnswerFault, IsAnswerFaultHeld};
 ghost use Rattle.dag_main_inspect.specs.Reported.{IsReportHere, IsReportFrom, IsNoReportFrom};
 ghost use Rattle.dag_main_inspect.specs.declared.by_journal.Question.TheVariants.{Status};
 
 use crate::audits::audit_here;
-use crate::graphs::graph_here;
+use crate::graphs::{Shape, graph_here};
 use crate::reports::reported;
 use crate::statuses::{Form, bytes_in, status_here};
 use dag_main_check::{Answer, RunFault};
@@ -61,8 +62,9 @@ fn has_ended(alloc: Global, journal: Option<&[u8]>) -> Result<bool, RunFault>
 /// The path of the rescue file that a run read, if it read one.
 fn used_path(alloc: Global, top: &str, used: u16) -> Result<Option<Text>, RunFault>
     ensures name { IfOk result (λ name. name ≡ used_name top.now used) }
-    ensures refused { IfErr result (IsRoundFault None) }
+    ensures refused { IfErr result (IsNoLastRoundOfSome top.now) }
     ensures number { IfErr result (λ fault. (fault ≡ Memory) ⊎ ((999 < used) × (fault ≡ RunFault.NotThere used))) }
+    ensures within { IfOk result (λ name. IfSome name (λ name. IsFileNumber used)) }
 {
     if used == 0 {
         return Ok(None);
@@ -85,7 +87,7 @@ const MOST_LOOKS: usize = 100;
 fn journal_of<F: Folder>(alloc: Global, folder: &F, top: &str) -> Result<Option<Vec<u8>>, RunFault>
     ensures journal { F.honest folder.now
         → IfOk result (λ bytes. option_map (λ b. b.items) bytes ≡ F.holds folder.now (journal_name_of top.now)) }
-    ensures refused { IfErr result (IsRoundFault None) }
+    ensures refused { IfErr result (IsRefusalOf (journal_name_of top.now)) }
     ensures unheld { F.honest folder.now → IfErr result (IsRefusalHeld (F.holds folder.now) (journal_name_of top.now)) }
 {
     let path = journal_path(alloc, top)?;
@@ -140,7 +142,7 @@ pub fn last_round<F: Folder>(alloc: Global, folder: &F, top: &str) -> Result<Las
     ensures round { F.honest folder.now → IfOk result (λ round. IsLastRound (F.holds folder.now) top.now
         (option_map (λ b. b.items) round.journal) (option_map (λ b. b.items) round.rescue)) }
     ensures name { IfOk result (λ round. round.name ≡ used_name top.now (used_by (option_map (λ b. b.items) round.journal))) }
-    ensures refused { IfErr result (IsRoundFault None) }
+    ensures refused { IfErr result (IsNoLastRoundOfSome top.now) }
     // The refusal too is for what the folder holds.
     ensures refused_held { F.honest folder.now → IfErr result (IsNoLastRound (F.holds folder.now) top.now) }
 {
@@ -167,8 +169,12 @@ pub enum Question {
     StatusJson,
     /// Whether it is that of a finished run, and what its nodes came to.
     Audit,
+    /// The same as JSON.
+    AuditJson,
     /// A picture of the graph, with where each node stands.
     Graph,
+    /// The same with one box for the nodes of one shape.
+    FoldedGraph,
 }
 
 /// What is answered for the DAG file of this path by these bytes of a rescue file and of a journal.
@@ -197,8 +203,10 @@ fn asked<F: Folder>(
     match question {
         Question::Status => status_here(alloc, folder, top, rescue, journal, Form::Lines),
         Question::StatusJson => status_here(alloc, folder, top, rescue, journal, Form::Json),
-        Question::Audit => audit_here(alloc, folder, top, rescue, journal),
-        Question::Graph => graph_here(alloc, folder, top, rescue, journal),
+        Question::Audit => audit_here(alloc, folder, top, rescue, journal, Form::Lines),
+        Question::AuditJson => audit_here(alloc, folder, top, rescue, journal, Form::Json),
+        Question::Graph => graph_here(alloc, folder, top, rescue, journal, Shape::Nodes),
+        Question::FoldedGraph => graph_here(alloc, folder, top, rescue, journal, Shape::Boxes),
     }
 }
 

@@ -4,20 +4,29 @@ ghost use Rattle.std.specs.Prelude.{◌≡◌, Some, IfOk, IfErr, string_bytes};
 ghost use Rattle.std.specs.Option.{option_map};
 ghost use Rattle.dag_main_check.specs.declared.fault.RunFault.TheVariants.{Memory};
 ghost use Rattle.dag_main_check.specs.Warnings.{warning_lines};
-ghost use Rattle.graph_text.specs.Picture.{drawn_plan, states_of, dot_text_of};
+ghost use Rattle.graph_text.specs.Picture.{drawn_plan, states_of};
 ghost use Rattle.dag_main_files.specs.Opened.{IsOfFiles, IsOfSome, IsRefusedFor, IsRefusedForSome, HasNoGraph};
 ghost use Rattle.dag_main_inspect.specs.Statused.{records_in_bytes, IsRecordsFault};
-ghost use Rattle.dag_main_inspect.specs.Drawn.{IsPicture, IsBareDrawn, IsDrawnOf, IsDrawnFault, IsJournalDrawnFault, tells_of_others};
+ghost use Rattle.dag_main_inspect.specs.Drawn.{IsDrawnText, IsPicture, IsBareDrawn, IsDrawnOf, IsDrawnFault, IsJournalDrawnFault, tells_of_others};
 
 use crate::statuses::{core_of, plan_of_round, records_of};
 use dag_main_check::{Answer, RunFault, warning_text};
 use dag_main_files::{Folder, bare_plan_here};
 use event_journal_log::JournalFault;
-use graph_text::{Drawn, dot_text};
+use graph_text::{Drawn, dot_text, folded_text};
 use node_machine::Record;
 use recovery_manager::ManagerFault;
 use run_plan::Plan;
-use std::alloc::Global;
+use std::alloc::{AllocError, Global};
+
+/// What is drawn of a plan.
+#[derive(Clone, Copy)]
+pub(crate) enum Shape {
+    /// Each node, within the clusters of its splices.
+    Nodes,
+    /// Boxes, in which the nodes of one shape are folded.
+    Boxes,
+}
 
 /// The picture of the DAG of the file of this path, as a graph in DOT. Where there is a journal of a
 /// run of these files, its nodes have the colours of where they are in it; `rescue` is the rescue file that the run read, if it
@@ -32,11 +41,12 @@ pub(crate) fn graph_here<F: Folder>(
     top: &str,
     rescue: Option<&[u8]>,
     journal: Option<&[u8]>,
+    shape: Shape,
 ) -> Result<Answer, RunFault>
-    ensures drawn { IfOk result (λ answer. IsOfSome top.now (λ files entries. IsDrawnOf files entries top.now
+    ensures drawn { IfOk result (λ answer. IsOfSome top.now (λ files entries. IsDrawnOf shape files entries top.now
         (option_map (λ b. b.now) rescue.entry) (option_map (λ b. b.now) journal.entry)
         (string_bytes answer.text) (string_bytes answer.warnings) answer.status)) }
-    ensures held { F.honest folder.now → IfOk result (λ answer. IsOfFiles (F.holds folder.now) top.now (λ files entries. IsDrawnOf files entries top.now
+    ensures held { F.honest folder.now → IfOk result (λ answer. IsOfFiles (F.holds folder.now) top.now (λ files entries. IsDrawnOf shape files entries top.now
         (option_map (λ b. b.now) rescue.entry) (option_map (λ b. b.now) journal.entry)
         (string_bytes answer.text) (string_bytes answer.warnings) answer.status)) }
     ensures refused { IfErr result (IsRefusedForSome top.now (λ files entries. IsDrawnFault files entries top.now
@@ -45,22 +55,27 @@ pub(crate) fn graph_here<F: Folder>(
         (option_map (λ b. b.now) rescue.entry) (option_map (λ b. b.now) journal.entry))) }
 {
     match journal {
-        Some(bytes) => graph_by(alloc, folder, top, rescue, bytes),
-        None => bare_graph(alloc, folder, top),
+        Some(bytes) => graph_by(alloc, folder, top, rescue, bytes, shape),
+        None => bare_graph(alloc, folder, top, shape),
     }
 }
 
 /// The picture of the DAG files alone.
-fn bare_graph<F: Folder>(alloc: Global, folder: &F, top: &str) -> Result<Answer, RunFault>
+fn bare_graph<F: Folder>(
+    alloc: Global,
+    folder: &F,
+    top: &str,
+    shape: Shape,
+) -> Result<Answer, RunFault>
     ensures drawn { IfOk result (λ answer. IsOfSome top.now (λ files entries.
-        IsBareDrawn files top.now (string_bytes answer.text) (string_bytes answer.warnings) answer.status)) }
+        IsBareDrawn shape files top.now (string_bytes answer.text) (string_bytes answer.warnings) answer.status)) }
     ensures held { F.honest folder.now → IfOk result (λ answer. IsOfFiles (F.holds folder.now) top.now (λ files entries.
-        IsBareDrawn files top.now (string_bytes answer.text) (string_bytes answer.warnings) answer.status)) }
+        IsBareDrawn shape files top.now (string_bytes answer.text) (string_bytes answer.warnings) answer.status)) }
     ensures refused { IfErr result (IsRefusedForSome top.now (HasNoGraph top.now)) }
     ensures refused_held { F.honest folder.now → IfErr result (IsRefusedFor (F.holds folder.now) top.now (HasNoGraph top.now)) }
 {
     let plan = bare_plan_here(alloc, folder, top, false)?;
-    answer_for(alloc, &Drawn::Bare(&plan))
+    answer_for(alloc, &Drawn::Bare(&plan), shape)
 }
 
 /// The picture of the plan of a round, by a journal of these bytes.
@@ -70,11 +85,12 @@ fn graph_by<F: Folder>(
     top: &str,
     rescue: Option<&[u8]>,
     bytes: &[u8],
+    shape: Shape,
 ) -> Result<Answer, RunFault>
-    ensures drawn { IfOk result (λ answer. IsOfSome top.now (λ files entries. IsDrawnOf files entries top.now
+    ensures drawn { IfOk result (λ answer. IsOfSome top.now (λ files entries. IsDrawnOf shape files entries top.now
         (option_map (λ b. b.now) rescue.entry) (Some bytes.now)
         (string_bytes answer.text) (string_bytes answer.warnings) answer.status)) }
-    ensures held { F.honest folder.now → IfOk result (λ answer. IsOfFiles (F.holds folder.now) top.now (λ files entries. IsDrawnOf files entries top.now
+    ensures held { F.honest folder.now → IfOk result (λ answer. IsOfFiles (F.holds folder.now) top.now (λ files entries. IsDrawnOf shape files entries top.now
         (option_map (λ b. b.now) rescue.entry) (Some bytes.now)
         (string_bytes answer.text) (string_bytes answer.warnings) answer.status)) }
     ensures refused { IfErr result (IsRefusedForSome top.now (λ files entries. IsDrawnFault files entries top.now
@@ -83,34 +99,44 @@ fn graph_by<F: Folder>(
         (option_map (λ b. b.now) rescue.entry) (Some bytes.now))) }
 {
     let plan = plan_of_round(alloc, folder, top, rescue, Some(bytes))?;
-    graph_plan(alloc, &plan, bytes)
+    graph_plan(alloc, &plan, bytes, shape)
+}
+
+/// The text of a picture.
+fn text_for(alloc: Global, drawn: &Drawn<'_>, shape: Shape) -> Result<String, AllocError>
+    ensures { IfOk result (λ text. IsDrawnText shape (drawn_plan drawn.now) (states_of drawn.now) (string_bytes text)) }
+{
+    match shape {
+        Shape::Nodes => dot_text(alloc, drawn),
+        Shape::Boxes => folded_text(alloc, drawn),
+    }
 }
 
 /// The picture of a plan, and the warnings of its files.
-fn answer_for(alloc: Global, drawn: &Drawn<'_>) -> Result<Answer, RunFault>
-    ensures text { IfOk result (λ answer. string_bytes answer.text ≡ dot_text_of (drawn_plan drawn.now) (states_of drawn.now)) }
+fn answer_for(alloc: Global, drawn: &Drawn<'_>, shape: Shape) -> Result<Answer, RunFault>
+    ensures text { IfOk result (λ answer. IsDrawnText shape (drawn_plan drawn.now) (states_of drawn.now) (string_bytes answer.text)) }
     ensures warnings { IfOk result (λ answer. string_bytes answer.warnings ≡ warning_lines (drawn_plan drawn.now).graph.dag.warnings) }
     ensures status { IfOk result (λ answer. answer.status ≡ 0) }
     ensures err { IfErr result (λ fault. fault ≡ Memory) }
 {
     let plan = drawn.plan();
     Ok(Answer {
-        text: dot_text(alloc, drawn)?,
+        text: text_for(alloc, drawn, shape)?,
         warnings: warning_text(alloc, plan.graph().flat().warnings())?,
         status: 0,
     })
 }
 
 /// The picture of a plan that has a journal of these bytes.
-fn graph_plan(alloc: Global, plan: &Plan, bytes: &[u8]) -> Result<Answer, RunFault>
-    ensures drawn { IfOk result (λ answer. IsPicture plan.now bytes.now (string_bytes answer.text)) }
+fn graph_plan(alloc: Global, plan: &Plan, bytes: &[u8], shape: Shape) -> Result<Answer, RunFault>
+    ensures drawn { IfOk result (λ answer. IsPicture shape plan.now bytes.now (string_bytes answer.text)) }
     ensures warnings { IfOk result (λ answer. string_bytes answer.warnings ≡ warning_lines plan.now.graph.dag.warnings) }
     ensures status { IfOk result (λ answer. answer.status ≡ 0) }
     ensures refused { IfErr result (IsJournalDrawnFault plan.now bytes.now) }
 {
     match records_of(alloc, plan, bytes) {
-        Ok(records) => graph_run(alloc, plan, bytes, &records),
-        Err(fault) => graph_unless(alloc, plan, bytes, fault),
+        Ok(records) => graph_run(alloc, plan, bytes, &records, shape),
+        Err(fault) => graph_unless(alloc, plan, bytes, fault, shape),
     }
 }
 
@@ -133,16 +159,17 @@ fn graph_unless(
     plan: &Plan,
     bytes: &[u8],
     fault: RunFault,
+    shape: Shape,
 ) -> Result<Answer, RunFault>
     requires { IsRecordsFault plan.now bytes.now fault }
-    ensures drawn { IfOk result (λ answer. IsPicture plan.now bytes.now (string_bytes answer.text)) }
+    ensures drawn { IfOk result (λ answer. IsPicture shape plan.now bytes.now (string_bytes answer.text)) }
     ensures warnings { IfOk result (λ answer. string_bytes answer.warnings ≡ warning_lines plan.now.graph.dag.warnings) }
     ensures status { IfOk result (λ answer. answer.status ≡ 0) }
     ensures refused { IfErr result (IsJournalDrawnFault plan.now bytes.now) }
 {
     let _bytes = bytes;
     if tells_of_others(&fault) {
-        return answer_for(alloc, &Drawn::Bare(plan));
+        return answer_for(alloc, &Drawn::Bare(plan), shape);
     }
     Err(fault)
 }
@@ -153,14 +180,15 @@ fn graph_run(
     plan: &Plan,
     bytes: &[u8],
     records: &[Record],
+    shape: Shape,
 ) -> Result<Answer, RunFault>
     requires { records_in_bytes plan.now bytes.now ≡ Some records.now }
-    ensures drawn { IfOk result (λ answer. IsPicture plan.now bytes.now (string_bytes answer.text)) }
+    ensures drawn { IfOk result (λ answer. IsPicture shape plan.now bytes.now (string_bytes answer.text)) }
     ensures warnings { IfOk result (λ answer. string_bytes answer.warnings ≡ warning_lines plan.now.graph.dag.warnings) }
     ensures status { IfOk result (λ answer. answer.status ≡ 0) }
     ensures refused { IfErr result (IsJournalDrawnFault plan.now bytes.now) }
 {
     let core = core_of(alloc, plan, bytes, records)?;
     core.keeps_the_law();
-    answer_for(alloc, &Drawn::Run(&core))
+    answer_for(alloc, &Drawn::Run(&core), shape)
 }

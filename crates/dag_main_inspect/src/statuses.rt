@@ -24,10 +24,10 @@ use splices_flat::FileSet;
 use status_report::status_text;
 use std::alloc::{AllocError, Global};
 
-/// The form of a status.
+/// The form of an answer.
 #[derive(Clone, Copy)]
 pub(crate) enum Form {
-    /// The status text: a line for each node.
+    /// A line for each node.
     Lines,
     /// The same as JSON.
     Json,

@@ -1,2 +1,3 @@
 mod RunPlans
 pub mod Sites
+mod OwnFiles

@@ -8,11 +8,12 @@ use Rattle.rescue_file.specs.Numbered.{rescue_name_of}
 use Rattle.recovery_manager.specs.declared.fault.ManagerFault.{ManagerFault}
 use Rattle.dag_main_args.specs.declared.request.RunOptions.{RunOptions}
 use Rattle.dag_main_run.specs.Launching.{IsLauncherFault}
+use Rattle.dag_main_run.specs.InTheWay.{IsOwnerFault, IsOrphanFault, IsReadyFault}
 use Rattle.dag_main_run.specs.Sites.{Rounds}
 use Rattle.dag_main_files.specs.declared.rounds.Round.{Round}
 use Rattle.splices_flat.specs.Opening.{Files}
 use Rattle.dag_main_files.specs.Folder.{IsReadFrom, IsRoundFrom, IsRoundFaultHeld, IsRescueReadFaultHeld, rescue_in}
-use Rattle.dag_main_files.specs.Beside.{lock_name_of, IsFileFault, IsRefusalOf, IsRoomFault, IsRoundFault, IsRoundBy, IsRescueOf, IsRescueReadFault}
+use Rattle.dag_main_files.specs.Beside.{lock_name_of, IsRefusalOf, IsRoomFault, IsRoundFault, IsRoundBy, IsRescueOf, IsRescueReadFault}
 use Rattle.dag_main_check.specs.Planned.{IsGraphOf, IsGraphFault, IsPlanBy, IsPlanByFault, in_line, named_by}
 use Rattle.dag_main_check.specs.ByPlan.{IsAnswerByPlan}
 use Rattle.dag_main_check.specs.declared.fault.RunFault.{RunFault}
@@ -31,9 +32,10 @@ pub record RoundSight : Type 1 where
   pub not_found : RunFault → Type 0
 
 -- Why it is not known which round this is and what its rescue file says, the first cause first: the second is met where the first is not.
-pub data IsFindingFault (options : RunOptions) : RunFault → Type 0 where
-  no_round : (fault : RunFault) → IsRoundFault options.dorescuefrom fault → IsFindingFault options fault
-  no_rescue : (round : Round) (fault : RunFault) → IsRoundBy options.autorescue options.dorescuefrom options.always_post round → IsRescueReadFault round fault → IsFindingFault options fault
+pub data IsFindingFault (path : List ℕ) (options : RunOptions) : RunFault → Type 0 where
+  no_round : (fault : RunFault) → IsRoundFault path options.dorescuefrom fault → IsFindingFault path options fault
+  no_rescue : (round : Round) (fault : RunFault) → IsRoundBy options.autorescue options.dorescuefrom options.always_post round → IsRescueReadFault path round fault →
+      IsFindingFault path options fault
 
 -- The same where these files are held and these paths are there.
 pub data IsFindingFaultHeld (holds : Files) (has : List ℕ → Bool) (path : List ℕ) (options : RunOptions) : RunFault → Type 0 where
@@ -43,11 +45,11 @@ pub data IsFindingFaultHeld (holds : Files) (has : List ℕ → Bool) (path : Li
 
 -- What the options say of it; and where these files are held and these paths are there: it is the one that the journal and the rescue files make of it, and its
 -- rescue file is the one that is held.
-abbrev pub any_round : RunOptions → RoundSight
-any_round options = record {
+abbrev pub any_round : (path : List ℕ) → RunOptions → RoundSight
+any_round path options = record {
   is_round = IsRoundBy options.autorescue options.dorescuefrom options.always_post;
   is_rescue = IsRescueOf;
-  not_found = IsFindingFault options;
+  not_found = IsFindingFault path options;
 }
 
 abbrev pub held_round : Files → (List ℕ → Bool) → (path : List ℕ) → RunOptions → RoundSight
@@ -71,7 +73,7 @@ pub record IsRunWhere (says : FileSet → Files) (IsRead : FileSet → Type 0) (
 
 -- Of some files, with the rescue file of the round that this is, or without one.
 abbrev pub IsRunOf : Rounds → (path : List ℕ) → RunOptions → (text warnings : List ℕ) → (status : ℕ) → Type 0
-IsRunOf rounds path options text warnings status = IsRunWhere bytes_of (λ files. Unit {0}) (any_round options) rounds path options text warnings status
+IsRunOf rounds path options text warnings status = IsRunWhere bytes_of (λ files. Unit {0}) (any_round path options) rounds path options text warnings status
 
 -- Where these files are held and these paths are there: of all that the DAG file names, and of the round that is found there.
 abbrev pub IsRunFrom : Files → (List ℕ → Bool) → Rounds → (path : List ℕ) → RunOptions → (text warnings : List ℕ) → (status : ℕ) → Type 0
@@ -88,7 +90,7 @@ pub data IsLockedFault (path : List ℕ) (NotFound : RunFault → Type 0) : RunF
 -- The same as it is found first: a file beside the DAG file may be another user's, or is no regular one, or memory ran out; then as above,
 -- but a journal that can't be read is looked at again under the lock.
 pub data IsFirstRunFault (path : List ℕ) (NotFound : RunFault → Type 0) : RunFault → Type 0 where
-  not_ours : (fault : RunFault) → IsFileFault fault → IsFirstRunFault path NotFound fault
+  not_ours : (fault : RunFault) → IsOwnerFault path fault → IsFirstRunFault path NotFound fault
   not_found_at_first : (fault : RunFault) → NotFound fault → IsFirstRunFault path NotFound fault
   looked_again : (journal : ManagerFault) (fault : RunFault) → NotFound (InManager journal) → IsLockedFault path NotFound fault → IsFirstRunFault path NotFound fault
 
@@ -100,20 +102,22 @@ pub data IsRoundPlanFault (files : Files) (set : FileSet) (path : List ℕ) (gra
       IsRoundPlanFault files set path graph round rescue (named_by (in_line fault) (Some (rescue_name_of path round.used)) fault)
   planning_had_no_memory : IsRoundPlanFault files set path graph round rescue Memory
 
--- Why a run is not led to its end: what an earlier manager left running can't be ended, a rescue file, or the journal of the round before,
--- can't be renamed, or another process has locked the journal; nobody is told how children end; the round is stopped; or memory ran out.
-pub data IsStopFault (IsDeaf : Type 0) (Stopped : RunFault → Type 0) : RunFault → Type 0 where
-  not_cleared : (fault : RunFault) → IsFileFault fault → IsStopFault IsDeaf Stopped fault
-  no_endings : IsDeaf → IsStopFault IsDeaf Stopped WaitFault
-  round_stopped : (fault : RunFault) → Stopped fault → IsStopFault IsDeaf Stopped fault
-  leading_had_no_memory : IsStopFault IsDeaf Stopped Memory
+-- Why a round is not led to its end: nobody is told how children end; processes of an earlier manager are in the way; the file that is to have the status can't be
+-- made; the journal is not readied; the round is stopped. Or memory ran out.
+pub data IsStopFault (path : List ℕ) (options : RunOptions) (round : Round) (IsDeaf : Type 0) (Stopped : RunFault → Type 0) : RunFault → Type 0 where
+  no_endings : IsDeaf → IsStopFault path options round IsDeaf Stopped WaitFault
+  orphans_in_the_way : (fault : RunFault) → IsOrphanFault path fault → IsStopFault path options round IsDeaf Stopped fault
+  no_status_file : (name : List ℕ) (fault : RunFault) → options.status_file ≡ Some name → IsRefusalOf name fault → IsStopFault path options round IsDeaf Stopped fault
+  not_readied : (fault : RunFault) → IsReadyFault path round fault → IsStopFault path options round IsDeaf Stopped fault
+  round_stopped : (fault : RunFault) → Stopped fault → IsStopFault path options round IsDeaf Stopped fault
+  leading_had_no_memory : IsStopFault path options round IsDeaf Stopped Memory
 
 -- Why the round is not led to its end once the lock is held, the first cause first: it is not found again which round this is, or it is
 -- another one by now; or it is stopped.
-pub data IsHeldFault (path : List ℕ) (NotFound : RunFault → Type 0) (IsDeaf : Type 0) (Stopped : RunFault → Type 0) : RunFault → Type 0 where
-  not_found_again : (fault : RunFault) → NotFound fault → IsHeldFault path NotFound IsDeaf Stopped fault
-  another_was_at_work : (fault : RunFault) → IsRefusalOf (lock_name_of path) fault → IsHeldFault path NotFound IsDeaf Stopped fault
-  not_led : (fault : RunFault) → IsStopFault IsDeaf Stopped fault → IsHeldFault path NotFound IsDeaf Stopped fault
+pub data IsHeldFault (path : List ℕ) (options : RunOptions) (round : Round) (NotFound : RunFault → Type 0) (IsDeaf : Type 0) (Stopped : RunFault → Type 0) : RunFault → Type 0 where
+  not_found_again : (fault : RunFault) → NotFound fault → IsHeldFault path options round NotFound IsDeaf Stopped fault
+  another_was_at_work : (fault : RunFault) → IsRefusalOf (lock_name_of path) fault → IsHeldFault path options round NotFound IsDeaf Stopped fault
+  not_led : (fault : RunFault) → IsStopFault path options round IsDeaf Stopped fault → IsHeldFault path options round NotFound IsDeaf Stopped fault
 
 -- The plan of the round that the options ask for, by what is known of the files that were read and of the round.
 pub record IsPlannedFor (says : FileSet → Files) (IsRead : FileSet → Type 0) (IsRound : Round → Type 0) (path : List ℕ) : Type 0 where
@@ -141,12 +145,12 @@ pub data IsRunFaultWhere (says : FileSet → Files) (IsRead : FileSet → Type 0
   no_room : (fault : RunFault) → IsPlannedFor says IsRead sight.is_round path → IsRoomFault path fault → IsRunFaultWhere says IsRead sight rounds path options fault
   not_alone : (fault : RunFault) → IsPlannedFor says IsRead sight.is_round path → IsRefusalOf (lock_name_of path) fault → IsRunFaultWhere says IsRead sight rounds path options fault
   not_held : (planned : IsPlannedFor says IsRead sight.is_round path) (fault : RunFault) →
-      IsHeldFault path sight.not_found rounds.is_deaf (rounds.stopped path options.limits planned.plan planned.round) fault → IsRunFaultWhere says IsRead sight rounds path options fault
+      IsHeldFault path options planned.round sight.not_found rounds.is_deaf (rounds.stopped path options.limits planned.plan planned.round) fault → IsRunFaultWhere says IsRead sight rounds path options fault
   no_memory : IsRunFaultWhere says IsRead sight rounds path options Memory
 
 -- of some files, and a round that the options ask for
 abbrev pub IsRunFault : Rounds → (path : List ℕ) → RunOptions → RunFault → Type 0
-IsRunFault rounds path options = IsRunFaultWhere bytes_of (λ files. Unit {0}) (any_round options) rounds path options
+IsRunFault rounds path options = IsRunFaultWhere bytes_of (λ files. Unit {0}) (any_round path options) rounds path options
 
 -- Where these files are held and these paths are there: of all that the DAG file names, and of the round that is found there.
 abbrev pub IsRunFaultFrom : Files → (List ℕ → Bool) → Rounds → (path : List ℕ) → RunOptions → RunFault → Type 0

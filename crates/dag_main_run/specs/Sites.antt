@@ -105,9 +105,9 @@ pub record IsRoundLedAt {D R : Type 0} (disks : Ghosts D) (rescues : Ghosts R) (
   pub at_site : IsAtSite disks rescues own Honest holds top round journal rescue calls before now
   pub led : IsRoundRun disks rescues plan (start_by round) limits any_ending [] calls journal left rescue text status rest
 
--- what asks for a halt: the file of the DAG file's name and `.halt`, or the option
+-- What asks for a halt: the file of the DAG file's name and `.halt`; the option; or the DAG file's path, which leads into another folder by now.
 abbrev pub AsksToHalt : (top asked : List ℕ) → Type 0
-AsksToHalt top asked = (asked ≡ top ++ codes ".halt") ⊎ (asked ≡ codes "--stop-at-first-error")
+AsksToHalt top asked = (asked ≡ top ++ codes ".halt") ⊎ ((asked ≡ codes "--stop-at-first-error") ⊎ (asked ≡ top))
 
 -- what is returned for the fault of a manager
 abbrev pub manager_refusal : ManagerFault → RunFault

@@ -5,11 +5,13 @@ ghost use Rattle.dag_main_run.specs.Sites.{AsksToHalt, IsReturned};
 ghost use Rattle.job_starter_drive.specs.declared.driving.DriveFault.TheVariants.{Halted};
 
 use crate::progress::records_before;
-use dag_main_args::RunOptions;
+use crate::rounds::seat_at;
+use dag_main_args::{OrphanRule, RunOptions};
 use dag_main_check::RunFault;
 use dag_main_files::{Place, Round};
 use dag_reader::Text;
 use node_machine::{Key, Outcome};
+use run_log::Seat;
 use run_plan::Plan;
 use run_progress::ErrorWatcher;
 use std::alloc::{AllocError, Global};
@@ -22,21 +24,33 @@ const HALT: &str = ".halt";
 /// The option that asks for a halt once a node is in error.
 const FIRST_ERROR: &str = "--stop-at-first-error";
 
-/// What asked for a halt: the option, or the file.
-fn asked_by(alloc: Global, top: &str, by_error: bool) -> Result<Text, AllocError>
-    ensures { IfOk result (AsksToHalt top.now) }
-{
-    if by_error {
-        return Text::new(alloc, FIRST_ERROR);
-    }
-    Text::joined(alloc, top, HALT)
+/// Why a run is halted.
+#[derive(Clone, Copy, Debug, PartialEq, Eq)]
+pub(crate) enum HaltCause {
+    /// The file beside the DAG file asks for it.
+    File,
+    /// A node failed, where the option asks for it.
+    Error,
+    /// The folder of the DAG file has another name by now.
+    Moved,
 }
 
-/// What is returned where a run was halted, by the option or by the file.
-pub(crate) fn halted(alloc: Global, top: &str, by_error: bool) -> RunFault
+/// What asked for a halt: the file, the option, or the path of the DAG file.
+fn asked_by(alloc: Global, top: &str, cause: HaltCause) -> Result<Text, AllocError>
+    ensures { IfOk result (AsksToHalt top.now) }
+{
+    match cause {
+        HaltCause::File => Text::joined(alloc, top, HALT),
+        HaltCause::Error => Text::new(alloc, FIRST_ERROR),
+        HaltCause::Moved => Text::new(alloc, top),
+    }
+}
+
+/// What is returned where a run was halted, by what asked for it.
+pub(crate) fn halted(alloc: Global, top: &str, cause: HaltCause) -> RunFault
     ensures { IsReturned top.now Halted result }
 {
-    match asked_by(alloc, top, by_error) {
+    match asked_by(alloc, top, cause) {
         Ok(asked) => RunFault::Halted(asked),
         Err(_) => RunFault::Memory,
     }
@@ -50,8 +64,12 @@ pub(crate) struct HaltWatcher<'a, R: Drop> {
     path: Text,
     trusts_owner: bool,
     errors: Option<ErrorWatcher<'a>>,
-    /// whether a node that failed was what asked for the halt
-    pub(crate) by_error: bool,
+    /// where the folder of the DAG file is, as far as the system said it
+    seat: Option<Seat>,
+    /// whether processes of an earlier manager were left for the file's sake
+    leaves_orphans: bool,
+    /// what asked for the halt
+    pub(crate) cause: HaltCause,
 }
 
 impl<'a, R: Files + AllocGlobal + Drop> HaltWatcher<'a, R> {
@@ -75,14 +93,33 @@ impl<'a, R: Files + AllocGlobal + Drop> HaltWatcher<'a, R> {
         } else {
             None
         };
+        let seat = seat_at(&rt, place);
         Ok(HaltWatcher {
             rt,
             place: *place,
             path,
             trusts_owner: options.trust_owner,
             errors,
-            by_error: false,
+            seat,
+            leaves_orphans: false,
+            cause: HaltCause::File,
         })
+    }
+
+    /// What is done with processes that an earlier manager left: where the file asks for a halt, so that nothing is started in their
+    /// place, they are left in place of killed. Then this run is halted, even if the file is removed meanwhile.
+    pub(crate) fn rule_for(&mut self, rule: OrphanRule) -> OrphanRule {
+        if rule == OrphanRule::Kill && self.is_asked() {
+            self.leaves_orphans = true;
+            return OrphanRule::Leave;
+        }
+        rule
+    }
+
+    /// Whether the folder of the DAG file has another name by now, or another folder has its name: what is started there is not of this
+    /// round.
+    fn has_moved(&self) -> bool {
+        self.seat.is_some() && seat_at(&self.rt, &self.place) != self.seat
     }
 
     /// Whether the file is there that asks for a halt, and was put there by nobody else.
@@ -121,10 +158,20 @@ impl<'a, R: Files + AllocGlobal + Drop> HaltWatcher<'a, R> {
 
     /// Whether nothing more is to be launched.
     pub(crate) fn halts(&mut self) -> bool {
-        self.by_error = match &self.errors {
-            Some(errors) => errors.has_failed(),
-            None => false,
+        let has_failed = self
+            .errors
+            .as_ref()
+            .map_or(false, |errors| errors.has_failed());
+        let cause = if has_failed {
+            HaltCause::Error
+        } else if self.has_moved() {
+            HaltCause::Moved
+        } else if self.leaves_orphans || self.is_asked() {
+            HaltCause::File
+        } else {
+            return false;
         };
-        self.by_error || self.is_asked()
+        self.cause = cause;
+        true
     }
 }

@@ -1,7 +1,8 @@
 //! By what the processes of a round are known, and what is done with those that an earlier manager left.
 
-ghost use Rattle.std.specs.Prelude.{IfErr};
-ghost use Rattle.dag_main_files.specs.Beside.{IsFileFault};
+ghost use Rattle.std.specs.Prelude.{◌≡◌, ℕ, List, IfOk, IfErr};
+ghost use Rattle.dag_main_files.specs.Beside.{IsRefusalOf};
+ghost use Rattle.dag_main_run.specs.InTheWay.{IsOrphanFault};
 
 use crate::beginning::{children_name, children_path, log_of, round_name, round_path};
 use dag_main_args::{OrphanRule, RunOptions};
@@ -53,35 +54,40 @@ fn folder_path(alloc: Global, place: &Place<'_>) -> Result<Text, AllocError> {
     }
 }
 
-/// The name of what could not be read or asked, of the lock of a manager that still works, or of the file of the processes of which one
-/// still runs.
-fn named_of(alloc: Global, place: &Place<'_>, fault: OrphanFault) -> Result<Text, AllocError> {
-    match fault {
-        OrphanFault::NotAsked => Text::new(alloc, "/proc"),
-        OrphanFault::NotKnown => round_name(alloc, place),
-        OrphanFault::StillWorks => Text::joined(alloc, place.top, ".lock"),
-        _ => children_name(alloc, place),
-    }
-}
-
-/// What is returned where processes of an earlier manager can't be dealt with.
-fn refused_for(alloc: Global, place: &Place<'_>, fault: OrphanFault) -> RunFault
-    ensures { IsFileFault result }
+/// What is returned for the file of this name, where there is memory for it.
+fn refused_file(alloc: Global, name: Result<Text, AllocError>) -> RunFault
+    ensures { (path : List ℕ) → IfOk name (λ name. name ≡ path) → IsRefusalOf path result }
 {
-    if fault == OrphanFault::Memory {
-        return RunFault::Memory;
-    }
-    let Ok(name) = named_of(alloc, place, fault) else {
+    let Ok(name) = name else {
         return RunFault::Memory;
     };
     match String::from_str(alloc, name.as_str()) {
-        Ok(name) => RunFault::FileRefused(name),
+        Ok(file) => RunFault::FileRefused(file),
         Err(_) => RunFault::Memory,
     }
 }
 
-/// What a person is shown before it is waited for processes that an earlier manager left.
-fn waiting_text(alloc: Global, count: usize, rule: OrphanRule) -> Result<String, AllocError> {
+/// What is returned where processes of an earlier manager can't be dealt with: with the name of what could not be read or asked, of the
+/// lock of a manager that still works, or of the file of the processes of which one still runs.
+fn refused_for(alloc: Global, place: &Place<'_>, fault: OrphanFault) -> RunFault
+    ensures { IsOrphanFault place.now.top.now result }
+{
+    match fault {
+        OrphanFault::NotAsked => refused_file(alloc, Text::new(alloc, "/proc")),
+        OrphanFault::NotKnown => refused_file(alloc, round_name(alloc, place)),
+        OrphanFault::StillWorks => refused_file(alloc, Text::joined(alloc, place.top, ".lock")),
+        OrphanFault::Memory => RunFault::Memory,
+        _ => refused_file(alloc, children_name(alloc, place)),
+    }
+}
+
+/// What a person is shown before it is waited for processes that an earlier manager left; where they are left, what asks for it.
+fn waiting_text(
+    alloc: Global,
+    count: usize,
+    rule: OrphanRule,
+    cause: &str,
+) -> Result<String, AllocError> {
     let processes = if count == 1 { "process" } else { "processes" };
     match rule {
         OrphanRule::Kill => format!(in alloc;
@@ -91,15 +97,25 @@ fn waiting_text(alloc: Global, count: usize, rule: OrphanRule) -> Result<String,
             "waiting for {count} {processes} that the earlier manager left running"
         ),
         OrphanRule::Leave => format!(in alloc;
-            "{count} {processes} that the earlier manager left go on (--orphans leave)"
+            "{count} {processes} that the earlier manager left go on ({cause})"
         ),
     }
 }
 
 /// Shows it where it is shown how far a run is.
-fn show<R: Processes + Clock + Screen + AllocGlobal>(rt: &R, count: usize, options: &RunOptions) {
+fn show<R: Processes + Clock + Screen + AllocGlobal>(
+    rt: &R,
+    count: usize,
+    options: &RunOptions,
+    rule: OrphanRule,
+) {
+    let cause = if options.orphans == rule {
+        "--orphans leave"
+    } else {
+        "the round is halted"
+    };
     if count > 0 && way_of(rt, options.progress).is_some() {
-        if let Ok(text) = waiting_text(rt.alloc(), count, options.orphans) {
+        if let Ok(text) = waiting_text(rt.alloc(), count, rule, cause) {
             let _ = eprintln!(rt; "{text}");
         }
     }
@@ -153,7 +169,7 @@ pub(crate) fn orphans_found<R: Files<File = File> + Clock + AllocGlobal + Clone 
     rt: &R,
     place: &Place<'_>,
 ) -> Result<Orphans, RunFault>
-    ensures { IfErr result IsFileFault }
+    ensures { IfErr result (IsOrphanFault place.now.top.now) }
 {
     match find_orphans(rt, place) {
         Ok(orphans) => Ok(orphans),
@@ -161,13 +177,14 @@ pub(crate) fn orphans_found<R: Files<File = File> + Clock + AllocGlobal + Clone 
     }
 }
 
-/// Deals with these processes, as the options say. They are left alone where the manager will be refused.
+/// Deals with these processes by this rule. They are left alone where the manager will be refused.
 fn settle<R: Processes + Files<File = File> + Clock + Screen + AllocGlobal + Clone + Drop>(
     rt: &R,
     place: &Place<'_>,
     plan: &Plan,
     round: &Round,
     options: &RunOptions,
+    rule: OrphanRule,
     orphans: &mut Orphans,
 ) -> Result<bool, OrphanFault> {
     if orphans.is_empty() {
@@ -176,9 +193,9 @@ fn settle<R: Processes + Files<File = File> + Clock + Screen + AllocGlobal + Clo
     if is_of_others(rt, place, plan, round)? {
         return Ok(true);
     }
-    show(rt, orphans.count(), options);
+    show(rt, orphans.count(), options, rule);
     let mut log = log_of(rt, place, options)?;
-    orphans.settle(rt, options.orphans, &mut log)
+    orphans.settle(rt, rule, &mut log)
 }
 
 /// What is kept of a round whose processes were dealt with, of which some may be left.
@@ -199,7 +216,7 @@ fn kept_of<R: Files + AllocGlobal>(
     })
 }
 
-/// Deals with these processes, which an earlier manager of the round left, as the options say, and answers by which identifiers they
+/// Deals with these processes, which an earlier manager of the round left, by this rule, and answers by which identifiers they
 /// are known. Whatever else may refuse the run was asked before: they are left alone where the manager will be refused for the
 /// journal's sake.
 ///
@@ -214,14 +231,15 @@ pub(crate) fn settled<
     plan: &Plan,
     round: &Round,
     options: &RunOptions,
+    rule: OrphanRule,
     orphans: Orphans,
 ) -> Result<Kept, RunFault>
-    ensures { IfErr result IsFileFault }
+    ensures { IfErr result (IsOrphanFault place.now.top.now) }
 {
     let mut orphans = orphans;
-    let kept = settle(rt, place, plan, round, options, &mut orphans).and_then(|some_left| kept_of(
-        rt, orphans, some_left,
-    ));
+    let kept = settle(rt, place, plan, round, options, rule, &mut orphans).and_then(
+        |some_left| kept_of(rt, orphans, some_left),
+    );
     match kept {
         Ok(kept) => Ok(kept),
         Err(fault) => Err(refused_for(rt.alloc(), place, fault)),
@@ -268,7 +286,7 @@ impl Known {
 }
 
 /// Where the folder of the DAG file is now, as far as the system says it.
-fn seat_at<R: Files + AllocGlobal>(rt: &R, place: &Place<'_>) -> Option<Seat> {
+pub(crate) fn seat_at<R: Files + AllocGlobal>(rt: &R, place: &Place<'_>) -> Option<Seat> {
     let folder = folder_path(rt.alloc(), place).ok()?;
     seat_of(rt, folder.as_str()).ok()
 }

@@ -11,7 +11,7 @@ ghost use Rattle.dag_main_run.specs.Sites.{start_by, journal_found, rounds_at, m
 ghost use Rattle.dag_main_run.specs.Runs.{IsPlannedRun, any_round, held_round, IsRunWhere, IsRunOf, IsRunFrom, IsFindingFault, IsFindingFaultHeld, IsLockedFault, IsFirstRunFault, IsRoundPlanFault, IsStopFault, IsHeldFault, IsRunFaultWhere, IsRunFault, IsRunFaultFrom};
 
 use crate::beginning::{Inputs, forget_processes, has_own_files, keep_inputs, life_of, watcher_of};
-use crate::halting::{HaltWatcher, halted};
+use crate::halting::{HaltCause, HaltWatcher, halted};
 use crate::launching::launcher_of;
 use crate::progress::{RoundWatcher, progress_of};
 use crate::rounds::{Known, identified, orphans_found, settled};
@@ -66,8 +66,8 @@ fn in_manager(fault: ManagerFault) -> RunFault
     }
 }
 
-/// Why the command is refused whose round was stopped; where it was halted, by a node that failed or by the file beside the DAG file.
-fn in_run(alloc: Global, top: &str, cause: DriveFault, by_error: bool) -> RunFault
+/// Why the command is refused whose round was stopped; where it was halted, by what asked for that.
+fn in_run(alloc: Global, top: &str, cause: DriveFault, halt: HaltCause) -> RunFault
     ensures { IsReturned top.now cause result }
 {
     match cause {
@@ -75,7 +75,7 @@ fn in_run(alloc: Global, top: &str, cause: DriveFault, by_error: bool) -> RunFau
         DriveFault::Manager(fault) => in_manager(fault),
         DriveFault::StartMemory => RunFault::StartMemory,
         DriveFault::WaitFault => RunFault::WaitFault,
-        DriveFault::Halted => halted(alloc, top, by_error),
+        DriveFault::Halted => halted(alloc, top, halt),
     }
 }
 
@@ -245,7 +245,7 @@ fn led_watched<
             Ok(report)
         }
         Err(stop) => {
-            let fault = in_run(rt.alloc(), place.top, stop.cause, watcher.halt.by_error);
+            let fault = in_run(rt.alloc(), place.top, stop.cause, watcher.halt.cause);
             log_stop(rt, &mut watcher, &fault, &stop.reason);
             forget_children(rt, place, &watcher.log, known, false);
             Err(fault)
@@ -273,7 +273,7 @@ fn run_on<R: Processes + Files<File = File> + Clock + Screen + AllocGlobal + Cop
     requires by_journal { H.honest site.now → HasJournal (journal_in (H.holds site.now) place.now.top.now) round.now }
     ensures led { IfOk result (λ report. IsRoundLedAt H.Journal.Disk H.Rescue.Disk (H.own site.now) (H.honest site.now) (H.holds site.now)
         place.now.top.now options.now.limits plan.now round.now (string_bytes report.text) report.status) }
-    ensures refused { IfErr result (IsStopFault (H.own site.now).is_deaf (IsRoundStoppedAt H.Journal.Disk H.Rescue.Disk (H.own site.now) (H.honest site.now)
+    ensures refused { IfErr result (IsStopFault place.now.top.now options.now round.now (H.own site.now).is_deaf (IsRoundStoppedAt H.Journal.Disk H.Rescue.Disk (H.own site.now) (H.honest site.now)
         (H.holds site.now) place.now.top.now options.now.limits plan.now round.now)) }
 {
     if site.is_deaf() {
@@ -283,9 +283,10 @@ fn run_on<R: Processes + Files<File = File> + Clock + Screen + AllocGlobal + Cop
     let status = status_watcher(rt, place, plan, options)?;
     let (journal, rescue) = disks;
     let journal = site.readied(place.top, journal, round, lock)?;
-    let kept = settled(&rt, place, plan, round, options, orphans)?;
+    let mut halt = HaltWatcher::new(rt, place, plan, round, options)?;
+    let rule = halt.rule_for(options.orphans);
+    let kept = settled(&rt, place, plan, round, options, rule, orphans)?;
     let left_out = keep_inputs(rt, place, plan, round, inputs)?;
-    let halt = HaltWatcher::new(rt, place, plan, round, options)?;
     let mut log = watcher_of(rt, place, plan, round, options)?;
     let is_launched = !options.launcher.as_slice().is_empty();
     let known = identified(rt, place, round, kept, is_launched, &mut log)?;
@@ -330,7 +331,7 @@ fn run_planned<
     requires by_journal { H.honest site.now → HasJournal (journal_in (H.holds site.now) place.now.top.now) round.now }
     ensures led { IfOk result (λ report. IsRoundLedAt H.Journal.Disk H.Rescue.Disk (H.own site.now) (H.honest site.now) (H.holds site.now)
         place.now.top.now options.now.limits plan.now round.now (string_bytes report.text) report.status) }
-    ensures refused { IfErr result (IsStopFault (H.own site.now).is_deaf (IsRoundStoppedAt H.Journal.Disk H.Rescue.Disk (H.own site.now) (H.honest site.now)
+    ensures refused { IfErr result (IsStopFault place.now.top.now options.now round.now (H.own site.now).is_deaf (IsRoundStoppedAt H.Journal.Disk H.Rescue.Disk (H.own site.now) (H.honest site.now)
         (H.holds site.now) place.now.top.now options.now.limits plan.now round.now)) }
 {
     let rescue = site.rescue_disk(place.top, round.next)?;
@@ -365,7 +366,7 @@ fn round_with_rescue<R: Files<File = File> + AllocGlobal + Copy + Drop, F: Folde
     ensures numbers { IfOk result (λ found. IsRescueNumber found.0.next × (found.0.used ≤ 999)) }
     ensures by { IfOk result (λ found. IsRoundBy options.now.autorescue options.now.dorescuefrom options.now.always_post found.0) }
     ensures rescue { IfOk result (λ found. IsRescueOf found.0 (option_map (λ b. b.items) found.1)) }
-    ensures refused { IfErr result (IsFindingFault options.now) }
+    ensures refused { IfErr result (IsFindingFault place.now.top.now options.now) }
     ensures refused_held { F.honest folder.now → IfErr result (IsFindingFaultHeld (F.holds folder.now) (F.has folder.now) place.now.top.now options.now) }
 {
     let round = round_of(
@@ -401,7 +402,7 @@ fn first_look<R: Files<File = File> + Clock + AllocGlobal + Copy + Drop, F: Fold
     ensures numbers { IfOk result (λ found. IsRescueNumber found.0.next × (found.0.used ≤ 999)) }
     ensures by { IfOk result (λ found. IsRoundBy options.now.autorescue options.now.dorescuefrom options.now.always_post found.0) }
     ensures rescue { IfOk result (λ found. IsRescueOf found.0 (option_map (λ b. b.items) found.1)) }
-    ensures refused { IfErr result (IsFirstRunFault place.now.top.now (IsFindingFault options.now)) }
+    ensures refused { IfErr result (IsFirstRunFault place.now.top.now (IsFindingFault place.now.top.now options.now)) }
     ensures refused_held { F.honest folder.now → IfErr result (IsFirstRunFault place.now.top.now
         (IsFindingFaultHeld (F.holds folder.now) (F.has folder.now) place.now.top.now options.now)) }
 {
@@ -430,7 +431,7 @@ fn look_locked<R: Files<File = File> + Clock + AllocGlobal + Copy + Drop, F: Fol
     ensures numbers { IfOk result (λ found. IsRescueNumber found.0.next × (found.0.used ≤ 999)) }
     ensures by { IfOk result (λ found. IsRoundBy options.now.autorescue options.now.dorescuefrom options.now.always_post found.0) }
     ensures rescue { IfOk result (λ found. IsRescueOf found.0 (option_map (λ b. b.items) found.1)) }
-    ensures refused { IfErr result (IsLockedFault place.now.top.now (IsFindingFault options.now)) }
+    ensures refused { IfErr result (IsLockedFault place.now.top.now (IsFindingFault place.now.top.now options.now)) }
     ensures refused_held { F.honest folder.now → IfErr result (IsLockedFault place.now.top.now
         (IsFindingFaultHeld (F.holds folder.now) (F.has folder.now) place.now.top.now options.now)) }
 {
@@ -470,10 +471,10 @@ fn run_locked<
     ensures led { IfOk result (λ answer. IsRoundLedAt H.Journal.Disk H.Rescue.Disk (H.own site.now) (H.honest site.now) (H.holds site.now)
         place.now.top.now options.now.limits plan.now found.now.0 (string_bytes answer.text) answer.status) }
     ensures warnings { IfOk result (λ answer. string_bytes answer.warnings ≡ warning_lines plan.now.graph.dag.warnings) }
-    ensures refused { IfErr result (IsHeldFault place.now.top.now (IsFindingFault options.now) (H.own site.now).is_deaf
+    ensures refused { IfErr result (IsHeldFault place.now.top.now options.now found.now.0 (IsFindingFault place.now.top.now options.now) (H.own site.now).is_deaf
         (IsRoundStoppedAt H.Journal.Disk H.Rescue.Disk (H.own site.now)
         (H.honest site.now) (H.holds site.now) place.now.top.now options.now.limits plan.now found.now.0)) }
-    ensures refused_held { H.honest site.now → IfErr result (IsHeldFault place.now.top.now
+    ensures refused_held { H.honest site.now → IfErr result (IsHeldFault place.now.top.now options.now found.now.0
         (IsFindingFaultHeld (H.holds site.now) (H.has site.now) place.now.top.now options.now) (H.own site.now).is_deaf
         (IsRoundStoppedAt H.Journal.Disk H.Rescue.Disk (H.own site.now)
         (H.honest site.now) (H.holds site.now) place.now.top.now options.now.limits plan.now found.now.0)) }
@@ -517,7 +518,7 @@ fn run_files<
     options: &RunOptions,
 ) -> Result<Answer, RunFault>
     ensures run { IfOk result (λ answer. IsRunWhere bytes_of (λ set. set ≡ files.now)
-        (any_round options.now)
+        (any_round place.now.top.now options.now)
         (rounds_at H.Journal.Disk H.Rescue.Disk (H.own site.now) (H.honest site.now) (H.holds site.now))
         place.now.top.now options.now (string_bytes answer.text) (string_bytes answer.warnings) answer.status) }
     ensures held { H.honest site.now → IfOk result (λ answer. IsRunWhere bytes_of (λ set. set ≡ files.now)
@@ -525,7 +526,7 @@ fn run_files<
         (rounds_at H.Journal.Disk H.Rescue.Disk (H.own site.now) (H.honest site.now) (H.holds site.now))
         place.now.top.now options.now (string_bytes answer.text) (string_bytes answer.warnings) answer.status) }
     ensures refused { IfErr result (IsRunFaultWhere bytes_of (λ set. set ≡ files.now)
-        (any_round options.now)
+        (any_round place.now.top.now options.now)
         (rounds_at H.Journal.Disk H.Rescue.Disk (H.own site.now) (H.honest site.now) (H.holds site.now))
         place.now.top.now options.now) }
     ensures refused_held { H.honest site.now → IfErr result (IsRunFaultWhere bytes_of (λ set. set ≡ files.now)

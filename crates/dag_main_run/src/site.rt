@@ -6,7 +6,7 @@ ghost use Rattle.job_starter_drive.specs.declared.Call.{Call};
 ghost use Rattle.run_round.specs.Rounds.{FitsIn, IsRoundRun};
 ghost use Rattle.run_round.specs.Causes.{IsRoundRefusal, MayStop};
 ghost use Rattle.dag_main_check.specs.declared.fault.RunFault.TheVariants.{Memory};
-ghost use Rattle.dag_main_files.specs.Beside.{IsFileFault};
+ghost use Rattle.dag_main_run.specs.InTheWay.{IsReadyFault};
 ghost use Rattle.dag_main_run.specs.Sites.{Own, own_from, journal_found};
 ghost use Rattle.job_starter_drive.specs.Calls.{any_ending, running};
 
@@ -90,7 +90,7 @@ pub trait Site: Folder {
             Self.Journal.seen disk ≡ journal_found (Self.holds self.now) top.now round.now) }
         ensures honest { Self.honest self.now → IfOk result (λ disk. Self.Journal.honest disk) }
         ensures back { IfOk result (λ disk. Self.Journal.honest disk → Self.honest self.now) }
-        ensures refused { IfErr result IsFileFault };
+        ensures refused { IfErr result (IsReadyFault top.now round.now) };
 
     /// Leads a round to its end on these disks, with children of this site, which inherit the identity of the round and of which the
     /// watcher is informed. None is left as it returns.
@@ -150,7 +150,7 @@ fn put_away<R: Files<File = File> + AllocGlobal + Clone + Drop>(
     place: &Place<'_>,
     round: &Round,
 ) -> Result<(), RunFault>
-    ensures { IfErr result IsFileFault }
+    ensures { IfErr result (IsReadyFault place.now.top.now round.now) }
 {
     if round.goes_back {
         place.put_rescues_away(rt, round.used)?;

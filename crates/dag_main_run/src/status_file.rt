@@ -1,7 +1,7 @@
 //! The file into which the status of a run is written while it goes on, for others who look on.
 
-ghost use Rattle.std.specs.Prelude.{IfErr};
-ghost use Rattle.dag_main_files.specs.Beside.{IsFileFault};
+ghost use Rattle.std.specs.Prelude.{◌≡◌, ℕ, List, Some, IfErr};
+ghost use Rattle.dag_main_files.specs.Beside.{IsRefusalOf};
 
 use dag_main_args::RunOptions;
 use dag_main_check::RunFault;
@@ -85,7 +85,7 @@ fn paths_of<R: Files<File = File> + AllocGlobal>(
     place: &Place<'_>,
     name: &str,
 ) -> Result<Paths, RunFault>
-    ensures { IfErr result IsFileFault }
+    ensures { IfErr result (IsRefusalOf name.now) }
 {
     let alloc = rt.alloc();
     let file = place.at(alloc, name)?;
@@ -113,7 +113,7 @@ pub(crate) fn status_watcher<'a, R: Files<File = File> + AllocGlobal + Drop>(
     plan: &'a Plan,
     options: &RunOptions,
 ) -> Result<StatusWatcher<'a, R>, RunFault>
-    ensures { IfErr result IsFileFault }
+    ensures { IfErr result (λ fault. (name : List ℕ) × (options.now.status_file ≡ Some name) × IsRefusalOf name fault) }
 {
     let paths = match &options.status_file {
         Some(name) => Some(paths_of(&rt, place, name.as_str())?),

@@ -42,16 +42,16 @@ exits-without-memory Replies words status not_printed = of_no_memory
 
 -- nothing is displayed of no hints
 pub no-hints : (asked : Asked) (reply : Result Answer RunFault) (streams : Streams) → AreHints asked reply streams streams
-no-hints (checks path all true) (Err fault) streams = no-warning streams
-no-hints (checks path all true) (Ok answer) streams = refl
-no-hints (checks path all false) reply streams = refl
+no-hints (checks path all json true) (Err fault) streams = no-warning streams
+no-hints (checks path all json true) (Ok answer) streams = refl
+no-hints (checks path all json false) reply streams = refl
 no-hints (runs path options) reply streams = refl
 no-hints (tells_status path json begun owned) reply streams = refl
-no-hints (audits path begun owned) reply streams = refl
+no-hints (audits path json begun owned) reply streams = refl
 no-hints (rehearses path outcomes limits always_post) reply streams = refl
-no-hints (draws path as_is begun owned) reply streams = refl
-no-hints (asks_why path nodes all begun owned) reply streams = refl
-no-hints (times path svg json begun owned) reply streams = refl
+no-hints (draws path fold as_is begun owned) reply streams = refl
+no-hints (asks_why path nodes all json begun owned) reply streams = refl
+no-hints (times path svg json summary begun owned) reply streams = refl
 no-hints (reports path reload begun owned) reply streams = refl
 no-hints (salvages path ended owned) reply streams = refl
 no-hints (redoes path nodes only owned) reply streams = refl

@@ -16,8 +16,8 @@ use Rattle.dag_main_files.specs.Beside.{IsRefusalOf, path_refused, refusing_had_
 use Rattle.dag_main_check.specs.declared.fault.RunFault.{RunFault}
 use Rattle.dag_main_check.specs.declared.warnings.Answer.{Answer}
 use Rattle.dag_main_run.specs.Sites.{Own, IsKnownTo, IsAtSite, Rounds, rounds_at, journal_found}
-use Rattle.dag_main_run.specs.Runs.{RoundSight, IsRunWhere, IsStopFault, not_cleared, no_endings, round_stopped, leading_had_no_memory, IsHeldFault, not_found_again, another_was_at_work, not_led, IsRunFaultWhere, no_graph, not_found, no_plan, no_launcher, no_room, not_alone, not_held, no_memory}
-use Rattle.dagrun.specs.Answered.{Said, World, files_for, is_beside, IsRunWith, led, reported_again, IsRunRefusal, not_run, not_reported, CommandContract, command_of_some, command_from, IsAnswerUnder, ComesTo, IsFolderFault, folder_refused, folder_had_no_memory, IsReply, of_command, of_no_folder, is_run}
+use Rattle.dag_main_run.specs.Runs.{RoundSight, IsRunWhere, IsStopFault, no_endings, orphans_in_the_way, no_status_file, not_readied, round_stopped, leading_had_no_memory, IsHeldFault, not_found_again, another_was_at_work, not_led, IsRunFaultWhere, no_graph, not_found, no_plan, no_launcher, no_room, not_alone, not_held, no_memory}
+use Rattle.dagrun.specs.Answered.{as_text, as_json, run_refused, not_stated, Said, World, files_for, is_beside, IsRunWith, led, reported_again, IsRunRefusal, not_run, not_reported, CommandContract, command_of_some, command_from, IsAnswerUnder, ComesTo, IsFolderFault, folder_refused, folder_had_no_memory, IsReply, of_command, of_no_folder, is_run}
 
 -- what a command comes to, by what is said of its answer and of its refusal
 pub comes-to : (command : CommandContract) (r : Result Answer RunFault) → IfOk r (IsAnswerUnder command) → IfErr r command.refused → ComesTo command r
@@ -75,19 +75,22 @@ module _ (rounds known : Rounds) (told : AreToldAs rounds known) where
       led none (run-by says IsRead sight path options text warnings status run)
   run-with says IsRead sight Again NoReport path options text warnings status (reported_again asked again) = reported_again asked again
 
-  stop-fault : (path : List ℕ) (limits : Limits) (plan : Plan) (round : Round) (fault : RunFault)
-      → IsStopFault rounds.is_deaf (rounds.stopped path limits plan round) fault → IsStopFault known.is_deaf (known.stopped path limits plan round) fault
-  stop-fault path limits plan round _ (not_cleared fault why) = not_cleared fault why
-  stop-fault path limits plan round _ (no_endings deaf) = no_endings (told.deaf deaf)
-  stop-fault path limits plan round _ (round_stopped fault why) = round_stopped fault (told.stopped path limits plan round fault why)
-  stop-fault path limits plan round _ leading_had_no_memory = leading_had_no_memory
+  stop-fault : (options : RunOptions) (path : List ℕ) (plan : Plan) (round : Round) (fault : RunFault)
+      → IsStopFault path options round rounds.is_deaf (rounds.stopped path options.limits plan round) fault
+      → IsStopFault path options round known.is_deaf (known.stopped path options.limits plan round) fault
+  stop-fault options path plan round _ (no_endings deaf) = no_endings (told.deaf deaf)
+  stop-fault options path plan round _ (orphans_in_the_way fault why) = orphans_in_the_way fault why
+  stop-fault options path plan round _ (no_status_file name fault is why) = no_status_file name fault is why
+  stop-fault options path plan round _ (not_readied fault why) = not_readied fault why
+  stop-fault options path plan round _ (round_stopped fault why) = round_stopped fault (told.stopped path options.limits plan round fault why)
+  stop-fault options path plan round _ leading_had_no_memory = leading_had_no_memory
 
   held-fault : (NotFound : RunFault → Type 0) (options : RunOptions) (path : List ℕ) (plan : Plan) (round : Round) (fault : RunFault)
-      → IsHeldFault path NotFound rounds.is_deaf (rounds.stopped path options.limits plan round) fault
-      → IsHeldFault path NotFound known.is_deaf (known.stopped path options.limits plan round) fault
+      → IsHeldFault path options round NotFound rounds.is_deaf (rounds.stopped path options.limits plan round) fault
+      → IsHeldFault path options round NotFound known.is_deaf (known.stopped path options.limits plan round) fault
   held-fault NotFound options path plan round _ (not_found_again fault why) = not_found_again fault why
   held-fault NotFound options path plan round _ (another_was_at_work fault why) = another_was_at_work fault why
-  held-fault NotFound options path plan round _ (not_led fault why) = not_led fault (stop-fault path options.limits plan round fault why)
+  held-fault NotFound options path plan round _ (not_led fault why) = not_led fault (stop-fault options path plan round fault why)
 
   run-fault : (says : FileSet → Files) (IsRead : FileSet → Type 0) (sight : RoundSight) (path : List ℕ) (options : RunOptions) (fault : RunFault)
       → IsRunFaultWhere says IsRead sight rounds path options fault → IsRunFaultWhere says IsRead sight known path options fault
@@ -107,15 +110,17 @@ module _ (rounds known : Rounds) (told : AreToldAs rounds known) where
   run-refusal says IsRead sight NotTold NoReport path options _ (not_reported fault asked why) = not_reported fault asked why
 
   pub told-some : (asked : Asked) (r : Result Answer RunFault) → ComesTo (command_of_some rounds asked) r → ComesTo (command_of_some known asked) r
-  told-some (checks path all hinted) r is = is
-  told-some (runs path options) (Ok answer) is = run-with _ _ _ _ _ path options _ _ _ is
-  told-some (runs path options) (Err fault) is = run-refusal _ _ _ _ _ path options fault is
+  told-some (checks path all json hinted) r is = is
+  told-some (runs path options) (Ok answer) (as_text isnt is) = as_text isnt (run-with _ _ _ _ _ path options _ _ _ is)
+  told-some (runs path options) (Ok answer) (as_json report others other asked is states) = as_json report others other asked (run-with _ _ _ _ _ path options _ _ _ is) states
+  told-some (runs path options) (Err _) (run_refused fault why) = run_refused fault (run-refusal _ _ _ _ _ path options fault why)
+  told-some (runs path options) (Err _) (not_stated fault asked why) = not_stated fault asked why
   told-some (tells_status path json begun owned) r is = is
-  told-some (audits path begun owned) r is = is
+  told-some (audits path json begun owned) r is = is
   told-some (rehearses path outcomes limits always_post) r is = is
-  told-some (draws path as_is begun owned) r is = is
-  told-some (asks_why path nodes all begun owned) r is = is
-  told-some (times path svg json begun owned) r is = is
+  told-some (draws path fold as_is begun owned) r is = is
+  told-some (asks_why path nodes all json begun owned) r is = is
+  told-some (times path svg json summary begun owned) r is = is
   told-some (reports path reload begun owned) r is = is
   told-some (salvages path ended owned) r is = is
   told-some (redoes path nodes only owned) r is = is
@@ -123,15 +128,17 @@ module _ (rounds known : Rounds) (told : AreToldAs rounds known) where
 
   pub told-from : (holds : Files) (has : List ℕ → Bool) (asked : Asked) (r : Result Answer RunFault) → ComesTo (command_from holds has rounds asked) r
       → ComesTo (command_from holds has known asked) r
-  told-from holds has (checks path all hinted) r is = is
-  told-from holds has (runs path options) (Ok answer) is = run-with _ _ _ _ _ path options _ _ _ is
-  told-from holds has (runs path options) (Err fault) is = run-refusal _ _ _ _ _ path options fault is
+  told-from holds has (checks path all json hinted) r is = is
+  told-from holds has (runs path options) (Ok answer) (as_text isnt is) = as_text isnt (run-with _ _ _ _ _ path options _ _ _ is)
+  told-from holds has (runs path options) (Ok answer) (as_json report others other asked is states) = as_json report others other asked (run-with _ _ _ _ _ path options _ _ _ is) states
+  told-from holds has (runs path options) (Err _) (run_refused fault why) = run_refused fault (run-refusal _ _ _ _ _ path options fault why)
+  told-from holds has (runs path options) (Err _) (not_stated fault asked why) = not_stated fault asked why
   told-from holds has (tells_status path json begun owned) r is = is
-  told-from holds has (audits path begun owned) r is = is
+  told-from holds has (audits path json begun owned) r is = is
   told-from holds has (rehearses path outcomes limits always_post) r is = is
-  told-from holds has (draws path as_is begun owned) r is = is
-  told-from holds has (asks_why path nodes all begun owned) r is = is
-  told-from holds has (times path svg json begun owned) r is = is
+  told-from holds has (draws path fold as_is begun owned) r is = is
+  told-from holds has (asks_why path nodes all json begun owned) r is = is
+  told-from holds has (times path svg json summary begun owned) r is = is
   told-from holds has (reports path reload begun owned) r is = is
   told-from holds has (salvages path ended owned) r is = is
   told-from holds has (redoes path nodes only owned) r is = is
@@ -150,14 +157,14 @@ module _ (rounds known : Rounds) (told : AreToldAs rounds known) where
 -- what isn't asked of what stands beside a DAG file, is asked of no round
 pub unbeside-some : (rounds known : Rounds) (asked : Asked) → is_beside asked ≡ false → (r : Result Answer RunFault) → ComesTo (command_of_some rounds asked) r
     → ComesTo (command_of_some known asked) r
-unbeside-some rounds known (checks path all hinted) isnt r is = is
+unbeside-some rounds known (checks path all json hinted) isnt r is = is
 unbeside-some rounds known (runs path options) isnt r is = absurd (false≢true (sym isnt))
 unbeside-some rounds known (tells_status path json begun owned) isnt r is = is
-unbeside-some rounds known (audits path begun owned) isnt r is = is
+unbeside-some rounds known (audits path json begun owned) isnt r is = is
 unbeside-some rounds known (rehearses path outcomes limits always_post) isnt r is = is
-unbeside-some rounds known (draws path as_is begun owned) isnt r is = is
-unbeside-some rounds known (asks_why path nodes all begun owned) isnt r is = is
-unbeside-some rounds known (times path svg json begun owned) isnt r is = is
+unbeside-some rounds known (draws path fold as_is begun owned) isnt r is = is
+unbeside-some rounds known (asks_why path nodes all json begun owned) isnt r is = is
+unbeside-some rounds known (times path svg json summary begun owned) isnt r is = is
 unbeside-some rounds known (reports path reload begun owned) isnt r is = is
 unbeside-some rounds known (salvages path ended owned) isnt r is = is
 unbeside-some rounds known (redoes path nodes only owned) isnt r is = is
@@ -165,14 +172,14 @@ unbeside-some rounds known (shows page) isnt r is = is
 
 pub unbeside-from : (holds : Files) (has there : List ℕ → Bool) (rounds known : Rounds) (asked : Asked) → is_beside asked ≡ false → (r : Result Answer RunFault)
     → ComesTo (command_from holds has rounds asked) r → ComesTo (command_from holds there known asked) r
-unbeside-from holds has there rounds known (checks path all hinted) isnt r is = is
+unbeside-from holds has there rounds known (checks path all json hinted) isnt r is = is
 unbeside-from holds has there rounds known (runs path options) isnt r is = absurd (false≢true (sym isnt))
 unbeside-from holds has there rounds known (tells_status path json begun owned) isnt r is = is
-unbeside-from holds has there rounds known (audits path begun owned) isnt r is = is
+unbeside-from holds has there rounds known (audits path json begun owned) isnt r is = is
 unbeside-from holds has there rounds known (rehearses path outcomes limits always_post) isnt r is = is
-unbeside-from holds has there rounds known (draws path as_is begun owned) isnt r is = is
-unbeside-from holds has there rounds known (asks_why path nodes all begun owned) isnt r is = is
-unbeside-from holds has there rounds known (times path svg json begun owned) isnt r is = is
+unbeside-from holds has there rounds known (draws path fold as_is begun owned) isnt r is = is
+unbeside-from holds has there rounds known (asks_why path nodes all json begun owned) isnt r is = is
+unbeside-from holds has there rounds known (times path svg json summary begun owned) isnt r is = is
 unbeside-from holds has there rounds known (reports path reload begun owned) isnt r is = is
 unbeside-from holds has there rounds known (salvages path ended owned) isnt r is = absurd (false≢true (sym isnt))
 unbeside-from holds has there rounds known (redoes path nodes only owned) isnt r is = absurd (false≢true (sym isnt))
@@ -190,14 +197,14 @@ input-reply Honest IsLost world rounds known holds has asked isnt reply same som
 
 -- no round is asked for where nothing is asked of what stands beside a DAG file
 pub unasked : {P : Type 0} (asked : Asked) → is_beside asked ≡ false → is_run asked ≡ true → P
-unasked (checks path all hinted) isnt run = absurd (false≢true run)
+unasked (checks path all json hinted) isnt run = absurd (false≢true run)
 unasked (runs path options) isnt run = absurd (false≢true (sym isnt))
 unasked (tells_status path json begun owned) isnt run = absurd (false≢true run)
-unasked (audits path begun owned) isnt run = absurd (false≢true run)
+unasked (audits path json begun owned) isnt run = absurd (false≢true run)
 unasked (rehearses path outcomes limits always_post) isnt run = absurd (false≢true run)
-unasked (draws path as_is begun owned) isnt run = absurd (false≢true run)
-unasked (asks_why path nodes all begun owned) isnt run = absurd (false≢true run)
-unasked (times path svg json begun owned) isnt run = absurd (false≢true run)
+unasked (draws path fold as_is begun owned) isnt run = absurd (false≢true run)
+unasked (asks_why path nodes all json begun owned) isnt run = absurd (false≢true run)
+unasked (times path svg json summary begun owned) isnt run = absurd (false≢true run)
 unasked (reports path reload begun owned) isnt run = absurd (false≢true run)
 unasked (salvages path ended owned) isnt run = absurd (false≢true run)
 unasked (redoes path nodes only owned) isnt run = absurd (false≢true run)

@@ -23,18 +23,21 @@ use Rattle.dag_main_inspect.specs.Asked.{IsAnswerOfRun, IsAnswerHeld, IsAnswerFa
 use Rattle.dag_main_inspect.specs.Reported.{IsReportHere, IsReportFrom, IsNoReportFrom}
 use Rattle.run_times.specs.Answered.{IsTimesOf, IsTimesFrom, IsTimesFault, IsTimesFaultHeld}
 use Rattle.dag_main_inspect.specs.declared.by_journal.Question.{Question}
-use Rattle.dag_main_inspect.specs.declared.by_journal.Question.TheVariants.{Status, StatusJson, Audit, Graph}
+use Rattle.dag_main_inspect.specs.declared.by_journal.Question.TheVariants.{Status, StatusJson, Audit, AuditJson, Graph, FoldedGraph}
 use Rattle.run_times.specs.declared.form.Form.{Form}
-use Rattle.run_times.specs.declared.form.Form.TheVariants.{Table, Picture, Json}
+use Rattle.run_times.specs.declared.form.Form.TheVariants.{Table, Picture, Json, Summary}
 use Rattle.salvage.specs.Answered.{IsSalvageOf, IsSalvageFrom}
 use Rattle.salvage.specs.Faults.{fault_text}
 use Rattle.salvage.specs.declared.fault.SalvageFault.{SalvageFault}
 use Rattle.salvage.specs.Sight.{any_files, held_files}
 use Rattle.salvage.specs.Refused.{IsSalvageFault}
 use Rattle.salvage.specs.declared.fault.SalvageFault.TheVariants.{Refused}
-use Rattle.failure_report.specs.declared.why.Grouping.{Grouping}
 use Rattle.failure_report.specs.declared.why.Grouping.TheVariants.{ByCause, Each}
-use Rattle.failure_answers.specs.Answered.{IsWhyOf, IsWhyHeld, IsWhyFaultHeld}
+use Rattle.failure_answers.specs.declared.form.WhyForm.{WhyForm}
+use Rattle.failure_answers.specs.declared.form.WhyForm.TheVariants.{Text as WhyText, Json as WhyJson}
+use Rattle.failure_answers.specs.Answered.{IsWhyOf, IsWhyHeld, IsWhyFault, IsWhyFaultHeld}
+use Rattle.dag_main_check.specs.declared.form.CheckForm.{CheckForm}
+use Rattle.dag_main_check.specs.declared.form.CheckForm.TheVariants.{Line as CheckLine, Json as CheckJson}
 use Rattle.dag_main_args.specs.Matched.{version_text}
 use Rattle.report_answers.specs.Answered.{IsReportPageOf, IsReportPageHeld}
 use Rattle.round_inputs.specs.declared.begun.Begun.{Begun}
@@ -53,6 +56,17 @@ pub data IsRunWith (RunToEnd Again : Said) (NoReport : Type 0) (options : RunOpt
   led : (options.resume ≡ true → NoReport) → RunToEnd text warnings status → IsRunWith RunToEnd Again NoReport options text warnings status
   reported_again : options.resume ≡ true → Again text warnings status → IsRunWith RunToEnd Again NoReport options text warnings status
 
+-- What `run` prints where JSON is asked for, in place of that: where each node is then, by the journal that the run left. Its warnings and its exit status stay.
+pub data IsPrintedAs (json : Bool) (Printed States : Said) (text warnings : List ℕ) (status : ℕ) : Type 0 where
+  as_text : json ≡ false → Printed text warnings status → IsPrintedAs json Printed States text warnings status
+  as_json : (report others : List ℕ) (other : ℕ) → json ≡ true → Printed report warnings status → States text others other →
+      IsPrintedAs json Printed States text warnings status
+
+-- Why nothing is printed: the run is refused; or JSON is asked for, and it isn't known where each node is.
+pub data IsPrintFault (json : Bool) (Refused NotStated : RunFault → Type 0) : RunFault → Type 0 where
+  run_refused : (fault : RunFault) → Refused fault → IsPrintFault json Refused NotStated fault
+  not_stated : (fault : RunFault) → json ≡ true → NotStated fault → IsPrintFault json Refused NotStated fault
+
 -- What `rehearse` answers, by the text of a table where one is named.
 pub record IsRehearsalWith (Rehearsed : Option (List ℕ) → Said) (outcomes : Option (List ℕ)) (text warnings : List ℕ) (status : ℕ) : Type 0 where
   pub table : Option (List ℕ)
@@ -70,23 +84,28 @@ pub data IsSalvageWith (Salvaged : Said) (NotSalvaged : SalvageFault → Type 0)
   not_salvaged : (fault : SalvageFault) (warnings : List ℕ) → NotSalvaged fault → IsWarnedCause fault warnings → IsSalvageWith Salvaged NotSalvaged [] warnings 125
 
 -- The faults of lines that are listed where these files are held: of the files that are; or of those that were read once, for hints too.
-pub data IsCheckOfAllHeld (holds : Files) (path text warnings : List ℕ) (status : ℕ) : Type 0 where
-  all_of_held_files : IsCheckOfAllFrom holds path text warnings status → IsCheckOfAllHeld holds path text warnings status
-  all_of_files_read_once : (files : FileSet) → IsReadFrom holds path files → IsCheckOfAllFrom (bytes_of files) path text warnings status →
-      IsCheckOfAllHeld holds path text warnings status
+pub data IsCheckOfAllHeld (form : CheckForm) (holds : Files) (path text warnings : List ℕ) (status : ℕ) : Type 0 where
+  all_of_held_files : IsCheckOfAllFrom form holds path text warnings status → IsCheckOfAllHeld form holds path text warnings status
+  all_of_files_read_once : (files : FileSet) → IsReadFrom holds path files → IsCheckOfAllFrom form (bytes_of files) path text warnings status →
+      IsCheckOfAllHeld form holds path text warnings status
 
--- What a check answers of some files, by whether all faults of lines are asked for; of these files; and where they are held.
-abbrev pub checks_some : (all : Bool) → (path : List ℕ) → Said
-checks_some false path = IsCheckOfSome path
-checks_some true path = IsCheckOfAllSome path
+-- a check answers in a line, or as JSON
+abbrev pub check_form : (json : Bool) → CheckForm
+check_form false = CheckLine
+check_form true = CheckJson
 
-abbrev pub checks_in : (all : Bool) → Files → (path : List ℕ) → Said
-checks_in false holds path = IsCheckOf holds path
-checks_in true holds path = IsCheckOfAllFrom holds path
+-- What a check answers of some files in a form, by whether all faults of lines are asked for; of these files; and where they are held.
+abbrev pub checks_some : (all : Bool) → CheckForm → (path : List ℕ) → Said
+checks_some false form path = IsCheckOfSome form path
+checks_some true form path = IsCheckOfAllSome form path
 
-abbrev pub checks_from : (all : Bool) → Files → (path : List ℕ) → Said
-checks_from false holds path = IsCheckOf holds path
-checks_from true holds path = IsCheckOfAllHeld holds path
+abbrev pub checks_in : (all : Bool) → CheckForm → Files → (path : List ℕ) → Said
+checks_in false form holds path = IsCheckOf form holds path
+checks_in true form holds path = IsCheckOfAllFrom form holds path
+
+abbrev pub checks_from : (all : Bool) → CheckForm → Files → (path : List ℕ) → Said
+checks_from false form holds path = IsCheckOf form holds path
+checks_from true form holds path = IsCheckOfAllHeld form holds path
 
 -- What `check` answers; where hints are asked for, with these behind its warnings.
 pub data IsCheckWith (Checked : Said) (hinted : Bool) (text : List ℕ) : (warnings : List ℕ) → (status : ℕ) → Type 0 where
@@ -107,7 +126,7 @@ is_run _ = false
 
 -- it is asked for what stands beside a DAG file: `-` is a path like others
 abbrev pub is_beside : Asked → Bool
-is_beside (checks path all hinted) = false
+is_beside (checks path all json hinted) = false
 is_beside (rehearses path outcomes limits always_post) = false
 is_beside (shows page) = false
 is_beside _ = true
@@ -116,10 +135,10 @@ is_beside _ = true
 abbrev pub is_owner_trusted : Asked → Bool
 is_owner_trusted (runs path options) = options.trust_owner
 is_owner_trusted (tells_status path json begun trust_owner) = trust_owner
-is_owner_trusted (audits path begun trust_owner) = trust_owner
-is_owner_trusted (draws path as_is begun trust_owner) = trust_owner
-is_owner_trusted (asks_why path nodes all begun trust_owner) = trust_owner
-is_owner_trusted (times path svg json begun trust_owner) = trust_owner
+is_owner_trusted (audits path json begun trust_owner) = trust_owner
+is_owner_trusted (draws path fold as_is begun trust_owner) = trust_owner
+is_owner_trusted (asks_why path nodes all json begun trust_owner) = trust_owner
+is_owner_trusted (times path svg json summary begun trust_owner) = trust_owner
 is_owner_trusted (reports path reload begun trust_owner) = trust_owner
 is_owner_trusted (salvages path ended trust_owner) = trust_owner
 is_owner_trusted (redoes path nodes only trust_owner) = trust_owner
@@ -196,16 +215,28 @@ abbrev pub status_question : (json : Bool) → Question
 status_question false = Status
 status_question true = StatusJson
 
--- how `times` shows the phases; a picture and JSON are never asked for together
-abbrev pub times_form : (svg json : Bool) → Form
-times_form true json = Picture
-times_form false true = Json
-times_form false false = Table
+-- what `audit` asks, and for what it is asked as JSON
+abbrev pub audit_question : (json : Bool) → Question
+audit_question false = Audit
+audit_question true = AuditJson
 
--- nodes in error with one cause are shown once, or each by itself
-abbrev pub grouping_by : (all : Bool) → Grouping
-grouping_by false = ByCause
-grouping_by true = Each
+-- what `graph` asks: a box for each node, or one for those that are alike
+abbrev pub graph_question : (fold : Bool) → Question
+graph_question false = Graph
+graph_question true = FoldedGraph
+
+-- how `times` shows the phases; no two of a picture, JSON and a summary are ever asked for together
+abbrev pub times_form : (svg json summary : Bool) → Form
+times_form true json summary = Picture
+times_form false true summary = Json
+times_form false false true = Summary
+times_form false false false = Table
+
+-- how `why` shows nodes in error: those with one cause once, or each by itself; or as JSON
+abbrev pub why_form : (all json : Bool) → WhyForm
+why_form all true = WhyJson
+why_form true false = WhyText Each
+why_form false false = WhyText ByCause
 
 -- What is said of a command: of the text that it prints, its warnings and its exit status; and of why it is refused.
 pub record CommandContract : Type 1 where
@@ -215,29 +246,49 @@ pub record CommandContract : Type 1 where
 abbrev pub IsPage : (page text warnings : List ℕ) → (status : ℕ) → Type 0
 IsPage page text warnings status = (text ≡ page) × (warnings ≡ []) × (status ≡ 0)
 
--- The command that a request is for, of some files of its path, where this is said of the rounds of a run.
-abbrev pub command_of_some : Rounds → Asked → CommandContract
-command_of_some rounds (checks path all hinted) = record { answers = IsCheckWith (checks_some all path) hinted; refused = check_refused_some all path }
-command_of_some rounds (runs path options) = record {
+-- A run of some files, where this is said of its rounds; and where these files are held and these paths are there.
+abbrev pub run_of_some : Rounds → (path : List ℕ) → RunOptions → CommandContract
+run_of_some rounds path options = record {
   answers = IsRunWith (IsRunOf rounds path options) (IsReportHere path) (Unit {0}) options;
   refused = IsRunRefusal (IsRunFault rounds path options) (IsAnswerFault Status path) (Unit {0}) options;
 }
+
+abbrev pub run_from : Files → (List ℕ → Bool) → Rounds → (path : List ℕ) → RunOptions → CommandContract
+run_from holds has rounds path options = record {
+  answers = IsRunWith (IsRunFrom holds has rounds path options) (IsReportFrom holds path) (IsNoReportFrom holds path) options;
+  refused = IsRunRefusal (IsRunFaultFrom holds has rounds path options) (IsAnswerFaultHeld holds Status path) (IsNoReportFrom holds path) options;
+}
+
+-- what it prints, as JSON where that is asked for
+abbrev pub printed_run : (path : List ℕ) → RunOptions → CommandContract → CommandContract
+printed_run path options run = record {
+  answers = IsPrintedAs options.json run.answers (IsAnswerOfRun StatusJson path);
+  refused = IsPrintFault options.json run.refused (IsAnswerFault StatusJson path);
+}
+
+-- The command that a request is for, of some files of its path, where this is said of the rounds of a run.
+abbrev pub command_of_some : Rounds → Asked → CommandContract
+command_of_some rounds (checks path all json hinted) = record { answers = IsCheckWith (checks_some all (check_form json) path) hinted; refused = check_refused_some all path }
+command_of_some rounds (runs path options) = printed_run path options (run_of_some rounds path options)
 command_of_some rounds (tells_status path json begun trust_owner) = record {
   answers = IsAnswerOfRun (status_question json) path;
   refused = IsRefusedBySome (files_asked begun) path (IsAnswerFault (status_question json) path);
 }
-command_of_some rounds (audits path begun trust_owner) = record { answers = IsAnswerOfRun Audit path; refused = IsRefusedBySome (files_asked begun) path (IsAnswerFault Audit path) }
+command_of_some rounds (audits path json begun trust_owner) = record {
+  answers = IsAnswerOfRun (audit_question json) path;
+  refused = IsRefusedBySome (files_asked begun) path (IsAnswerFault (audit_question json) path);
+}
 command_of_some rounds (rehearses path outcomes limits always_post) = record {
   answers = IsRehearsalWith (λ table. IsRehearsalOfSome always_post path table limits) outcomes;
   refused = IsRehearsalRefusalWith (λ table. IsRehearsalRefusal always_post path table limits) outcomes;
 }
-command_of_some rounds (draws path as_is begun trust_owner) = record {
-  answers = IsAnswerOfRun Graph path;
-  refused = IsRefusedBySome (graph_asked as_is begun) path (IsAnswerFault Graph path);
+command_of_some rounds (draws path fold as_is begun trust_owner) = record {
+  answers = IsAnswerOfRun (graph_question fold) path;
+  refused = IsRefusedBySome (graph_asked as_is begun) path (IsAnswerFault (graph_question fold) path);
 }
-command_of_some rounds (asks_why path nodes all begun trust_owner) = record { answers = IsWhyOf (grouping_by all) path nodes; refused = IsRefusedBySome (round_asked begun) path (IsAnswerFault Status path) }
-command_of_some rounds (times path svg json begun trust_owner) = record { answers = IsTimesOf path (times_form svg json); refused = IsRefusedBySome (round_asked begun) path (IsTimesFault path) }
-command_of_some rounds (reports path reload begun trust_owner) = record { answers = IsReportPageOf path version_text reload; refused = IsRefusedBySome (round_asked begun) path (IsAnswerFault Status path) }
+command_of_some rounds (asks_why path nodes all json begun trust_owner) = record { answers = IsWhyOf (why_form all json) path nodes; refused = IsRefusedBySome (round_asked begun) path (IsWhyFault path) }
+command_of_some rounds (times path svg json summary begun trust_owner) = record { answers = IsTimesOf path (times_form svg json summary); refused = IsRefusedBySome (round_asked begun) path (IsTimesFault path) }
+command_of_some rounds (reports path reload begun trust_owner) = record { answers = IsReportPageOf path version_text reload; refused = IsRefusedBySome (round_asked begun) path (IsWhyFault path) }
 command_of_some rounds (salvages path ended trust_owner) = record {
   answers = IsSalvageWith (IsSalvageOf ended path) (IsSalvageFault ended any_files path);
   refused = λ fault. IsSalvageFault ended any_files path (Refused fault);
@@ -254,24 +305,21 @@ question_from question holds path by = record {
 
 -- The same where these files are held and these paths are there: of the files that are held.
 abbrev pub command_from : Files → (List ℕ → Bool) → Rounds → Asked → CommandContract
-command_from holds has rounds (checks path all hinted) = record { answers = IsCheckWith (checks_from all holds path) hinted; refused = IsCheckRefusalHeld all hinted holds path }
-command_from holds has rounds (runs path options) = record {
-  answers = IsRunWith (IsRunFrom holds has rounds path options) (IsReportFrom holds path) (IsNoReportFrom holds path) options;
-  refused = IsRunRefusal (IsRunFaultFrom holds has rounds path options) (IsAnswerFaultHeld holds Status path) (IsNoReportFrom holds path) options;
-}
+command_from holds has rounds (checks path all json hinted) = record { answers = IsCheckWith (checks_from all (check_form json) holds path) hinted; refused = IsCheckRefusalHeld all hinted holds path }
+command_from holds has rounds (runs path options) = printed_run path options (run_from holds has rounds path options)
 command_from holds has rounds (tells_status path json begun trust_owner) = question_from (status_question json) holds path (files_asked begun)
-command_from holds has rounds (audits path begun trust_owner) = question_from Audit holds path (files_asked begun)
+command_from holds has rounds (audits path json begun trust_owner) = question_from (audit_question json) holds path (files_asked begun)
 command_from holds has rounds (rehearses path outcomes limits always_post) = record {
   answers = IsRehearsalWith (λ table. IsRehearsalOf always_post holds path table limits) outcomes;
   refused = IsRehearsalRefusalWith (λ table. IsRehearsalRefusalFrom always_post holds path table limits) outcomes;
 }
-command_from holds has rounds (draws path as_is begun trust_owner) = question_from Graph holds path (graph_asked as_is begun)
-command_from holds has rounds (asks_why path nodes all begun trust_owner) = record {
-  answers = SaidByFiles (round_asked begun) holds path (λ files. IsWhyHeld (grouping_by all) files path nodes);
+command_from holds has rounds (draws path fold as_is begun trust_owner) = question_from (graph_question fold) holds path (graph_asked as_is begun)
+command_from holds has rounds (asks_why path nodes all json begun trust_owner) = record {
+  answers = SaidByFiles (round_asked begun) holds path (λ files. IsWhyHeld (why_form all json) files path nodes);
   refused = IsRefusedByFiles (round_asked begun) holds path (λ files. IsWhyFaultHeld files path);
 }
-command_from holds has rounds (times path svg json begun trust_owner) = record {
-  answers = SaidByFiles (round_asked begun) holds path (λ files. IsTimesFrom files path (times_form svg json));
+command_from holds has rounds (times path svg json summary begun trust_owner) = record {
+  answers = SaidByFiles (round_asked begun) holds path (λ files. IsTimesFrom files path (times_form svg json summary));
   refused = IsRefusedByFiles (round_asked begun) holds path (λ files. IsTimesFaultHeld files path);
 }
 command_from holds has rounds (reports path reload begun trust_owner) = record {
@@ -324,7 +372,7 @@ pub data IsExit (Replies : Asked → Result Answer RunFault → Type 0) (words :
 -- What is displayed before the reply to a request: the hints of a check that is refused, where they are asked for; else nothing, since an answer has
 -- its hints behind its warnings.
 abbrev pub AreHints : Asked → Result Answer RunFault → Streams → Streams → Type 0
-AreHints (checks path all true) (Err fault) before after = OnlyWarns before after
+AreHints (checks path all json true) (Err fault) before after = OnlyWarns before after
 AreHints _ _ before after = after ≡ before
 
 -- a reply is displayed, and at a terminal more behind it on standard error

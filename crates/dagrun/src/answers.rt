@@ -13,18 +13,18 @@ ghost use Rattle.salvage.specs.Refused.{IsSalvageFault};
 ghost use Rattle.salvage.specs.Sight.{any_files, held_files};
 ghost use Rattle.salvage.specs.declared.fault.SalvageFault.TheVariants.{Refused};
 ghost use Rattle.dag_main_run.specs.Sites.{rounds_at};
-ghost use Rattle.dagrun.specs.Answered.{is_run, command_of_some, command_from, ComesTo, IsPage, IsRehearsalWith, IsRehearsalRefusalWith, IsSalvageWith, AreHints};
+ghost use Rattle.dagrun.specs.Answered.{is_run, run_of_some, run_from, command_of_some, command_from, ComesTo, IsPage, IsRehearsalWith, IsRehearsalRefusalWith, IsSalvageWith, AreHints};
 
-use crate::checking::check;
+use crate::checking::{check, check_form};
 use crate::of_round::{
-    answer_of_round, graph_of_round, grouping_by, page_of_round, status_question, times_form,
-    times_of_round, why_of_round,
+    answer_of_round, audit_question, graph_of_round, graph_question, page_of_round,
+    status_question, times_form, times_of_round, why_form, why_of_round,
 };
 use answer_console::Console;
 use dag_main_args::{Request, RunOptions};
 use dag_main_check::{Answer, RunFault};
 use dag_main_files::{Folder, Place, read_input, refused};
-use dag_main_inspect::{Question, report_here};
+use dag_main_inspect::{Question, answer_here, report_here};
 use dag_main_run::{Screen, Site, run_dag};
 use file_hints::Wanted;
 use folder_answers::rehearse_here;
@@ -72,19 +72,24 @@ pub(crate) fn answer_in<
             as_begun,
             ..
         } => answer_of_round(alloc, folder, dag, status_question(json), as_begun),
-        Request::Audit { dag, as_begun, .. } => {
-            answer_of_round(alloc, folder, dag, Question::Audit, as_begun)
-        }
+        Request::Audit {
+            dag,
+            json,
+            as_begun,
+            ..
+        } => answer_of_round(alloc, folder, dag, audit_question(json), as_begun),
         Request::Graph {
             dag,
+            fold,
             as_is,
             as_begun,
             ..
-        } => graph_of_round(alloc, folder, dag, as_is, as_begun),
+        } => graph_of_round(alloc, folder, dag, graph_question(fold), as_is, as_begun),
         Request::Why {
             dag,
             nodes,
             all,
+            json,
             as_begun,
             trust_owner,
         } => {
@@ -97,7 +102,7 @@ pub(crate) fn answer_in<
                 folder,
                 &place,
                 &nodes,
-                grouping_by(all),
+                why_form(all, json),
                 as_begun,
                 trust_owner,
             )
@@ -106,9 +111,10 @@ pub(crate) fn answer_in<
             dag,
             svg,
             json,
+            summary,
             as_begun,
             ..
-        } => times_of_round(alloc, folder, dag, times_form(svg, json), as_begun),
+        } => times_of_round(alloc, folder, dag, times_form(svg, json, summary), as_begun),
         Request::Report {
             dag,
             reload,
@@ -148,9 +154,18 @@ pub(crate) fn answer_in<
         Request::Check {
             dag,
             all,
+            json,
             hints,
             condor,
-        } => check(rt, console, folder, dag, all, Wanted { hints, condor }),
+        } => check(
+            rt,
+            console,
+            folder,
+            dag,
+            all,
+            check_form(json),
+            Wanted { hints, condor },
+        ),
         Request::Rehearse {
             dag,
             outcomes,
@@ -171,8 +186,11 @@ fn page(alloc: Global, text: String) -> Answer
     }
 }
 
-/// Runs a DAG file; or, where the options ask for it and its last round has ended, answers
-/// what that printed.
+/// Runs a DAG file. Where JSON is asked for, it is answered where each node is then, by the journal that the run left, in place of what
+/// the run prints; its warnings and its exit status stay.
+///
+/// # Errors
+/// Those of `run_or_report`; then, where JSON is asked for, those of `answer_here`.
 fn run_in<R: Files<File = File> + Processes + Clock + Screen + AllocGlobal + Copy + Drop, F: Site>(
     rt: &R,
     folder: &F,
@@ -185,6 +203,31 @@ fn run_in<R: Files<File = File> + Processes + Clock + Screen + AllocGlobal + Cop
     ensures held { F.honest folder.now → ¬ (F.streams folder.now) → ComesTo (command_from (F.holds folder.now) (F.has folder.now)
         (rounds_at F.Journal.Disk F.Rescue.Disk (F.own folder.now) (F.honest folder.now) (F.holds folder.now))
         (runs dag.now options.now)) result }
+{
+    let answer = run_or_report(rt, folder, dag, options)?;
+    if !options.json {
+        return Ok(answer);
+    }
+    let states = answer_here(rt.alloc(), folder, dag, Question::StatusJson)?;
+    Ok(Answer {
+        text: states.text,
+        warnings: answer.warnings,
+        status: answer.status,
+    })
+}
+
+/// Runs a DAG file; or, where the options ask for it and its last round has ended, answers
+/// what that printed.
+fn run_or_report<
+    R: Files<File = File> + Processes + Clock + Screen + AllocGlobal + Copy + Drop,
+    F: Site,
+>(rt: &R, folder: &F, dag: &str, options: &RunOptions) -> Result<Answer, RunFault>
+    ensures some { ¬ (F.streams folder.now) → ComesTo (run_of_some
+        (rounds_at F.Journal.Disk F.Rescue.Disk (F.own folder.now) (F.honest folder.now) (F.holds folder.now))
+        dag.now options.now) result }
+    ensures held { F.honest folder.now → ¬ (F.streams folder.now) → ComesTo (run_from (F.holds folder.now) (F.has folder.now)
+        (rounds_at F.Journal.Disk F.Rescue.Disk (F.own folder.now) (F.honest folder.now) (F.holds folder.now))
+        dag.now options.now) result }
 {
     let place = Place {
         folder: folder.seat(),

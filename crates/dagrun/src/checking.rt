@@ -1,11 +1,11 @@
 //! What `check` answers, with hints and without.
 
-ghost use Rattle.std.specs.Prelude.{◌≡◌, ◌⊎◌, ◌||◌, ◌++◌, true, IfOk, IfErr, string_bytes};
+ghost use Rattle.std.specs.Prelude.{◌≡◌, ◌⊎◌, ◌||◌, ◌++◌, Bool, true, IfOk, IfErr, string_bytes};
 ghost use Rattle.dag_main_args.specs.Requests.{checks};
-ghost use Rattle.dagrun.specs.Answered.{checks_some, checks_in, checks_from, check_refused_some, check_refused_in, IsCheckWith, IsCheckRefusalHeld, AreHints};
+ghost use Rattle.dagrun.specs.Answered.{check_form, checks_some, checks_in, checks_from, check_refused_some, check_refused_in, IsCheckWith, IsCheckRefusalHeld, AreHints};
 
 use answer_console::Console;
-use dag_main_check::{Answer, RunFault};
+use dag_main_check::{Answer, CheckForm, RunFault};
 use dag_main_files::{Folder, Reading, files_of};
 use dag_main_run::Screen;
 use file_hints::{Wanted, hints_of};
@@ -14,19 +14,36 @@ use std::alloc::Global;
 use std::fs::File;
 use std::rt::Files;
 
-/// What a check of the files of a folder answers: of the first fault, or of all faults of lines.
-fn checked<F: Folder>(alloc: Global, folder: &F, dag: &str, all: bool) -> Result<Answer, RunFault>
-    ensures answered { IfOk result (λ answer. checks_some all dag.now
+/// How `check` answers: in a line, or as JSON.
+pub(crate) fn check_form(json: bool) -> CheckForm
+    ensures { result ≡ check_form json }
+{
+    if json {
+        CheckForm::Json
+    } else {
+        CheckForm::Line
+    }
+}
+
+/// What a check of the files of a folder answers in a form: of the first fault, or of all faults of lines.
+fn checked<F: Folder>(
+    alloc: Global,
+    folder: &F,
+    dag: &str,
+    all: bool,
+    form: CheckForm,
+) -> Result<Answer, RunFault>
+    ensures answered { IfOk result (λ answer. checks_some all form dag.now
         (string_bytes answer.text) (string_bytes answer.warnings) answer.status) }
-    ensures held { F.honest folder.now → IfOk result (λ answer. checks_in all (F.holds folder.now) dag.now
+    ensures held { F.honest folder.now → IfOk result (λ answer. checks_in all form (F.holds folder.now) dag.now
         (string_bytes answer.text) (string_bytes answer.warnings) answer.status) }
     ensures refused { IfErr result (check_refused_some all dag.now) }
     ensures refused_held { F.honest folder.now → IfErr result (check_refused_in all (F.holds folder.now) dag.now) }
 {
     if all {
-        check_all_here(alloc, folder, dag)
+        check_all_here(alloc, folder, dag, form)
     } else {
-        check_here(alloc, folder, dag)
+        check_here(alloc, folder, dag, form)
     }
 }
 
@@ -40,21 +57,22 @@ pub(crate) fn check<R: Files<File = File> + Screen + AllocGlobal, C: Console, F:
     folder: &F,
     dag: &str,
     all: bool,
+    form: CheckForm,
     wanted: Wanted,
 ) -> Result<Answer, RunFault>
-    ensures answered { IfOk result (λ answer. IsCheckWith (checks_some all dag.now) (wanted.hints || wanted.condor)
+    ensures answered { IfOk result (λ answer. IsCheckWith (checks_some all form dag.now) (wanted.hints || wanted.condor)
         (string_bytes answer.text) (string_bytes answer.warnings) answer.status) }
-    ensures held { F.honest folder.now → IfOk result (λ answer. IsCheckWith (checks_from all (F.holds folder.now) dag.now) (wanted.hints || wanted.condor)
+    ensures held { F.honest folder.now → IfOk result (λ answer. IsCheckWith (checks_from all form (F.holds folder.now) dag.now) (wanted.hints || wanted.condor)
         (string_bytes answer.text) (string_bytes answer.warnings) answer.status) }
     ensures refused { IfErr result (check_refused_some all dag.now) }
     ensures refused_held { F.honest folder.now → IfErr result (IsCheckRefusalHeld all (wanted.hints || wanted.condor) (F.holds folder.now) dag.now) }
-    ensures hinted { C.honest console.new → AreHints (checks dag.now all (wanted.hints || wanted.condor)) result (C.shown console.old) (C.shown console.new) }
+    ensures hinted { (json : Bool) → C.honest console.new → AreHints (checks dag.now all json (wanted.hints || wanted.condor)) result (C.shown console.old) (C.shown console.new) }
     ensures back { C.honest console.new → C.honest console.old }
 {
     if wanted.any() {
-        check_with_hints(rt, console, folder, dag, all, wanted)
+        check_with_hints(rt, console, folder, dag, all, form, wanted)
     } else {
-        checked(rt.alloc(), folder, dag, all)
+        checked(rt.alloc(), folder, dag, all, form)
     }
 }
 
@@ -66,20 +84,21 @@ fn check_with_hints<R: Files<File = File> + Screen + AllocGlobal, C: Console, F:
     folder: &F,
     dag: &str,
     all: bool,
+    form: CheckForm,
     wanted: Wanted,
 ) -> Result<Answer, RunFault>
-    ensures checked { IfOk result (λ answer. IsCheckWith (checks_some all dag.now) true
+    ensures checked { IfOk result (λ answer. IsCheckWith (checks_some all form dag.now) true
         (string_bytes answer.text) (string_bytes answer.warnings) answer.status) }
-    ensures held { F.honest folder.now → IfOk result (λ answer. IsCheckWith (checks_from all (F.holds folder.now) dag.now) true
+    ensures held { F.honest folder.now → IfOk result (λ answer. IsCheckWith (checks_from all form (F.holds folder.now) dag.now) true
         (string_bytes answer.text) (string_bytes answer.warnings) answer.status) }
     ensures refused { IfErr result (check_refused_some all dag.now) }
     ensures refused_held { F.honest folder.now → IfErr result (IsCheckRefusalHeld all true (F.holds folder.now) dag.now) }
-    ensures hinted { C.honest console.new → AreHints (checks dag.now all true) result (C.shown console.old) (C.shown console.new) }
+    ensures hinted { (json : Bool) → C.honest console.new → AreHints (checks dag.now all json true) result (C.shown console.old) (C.shown console.new) }
     ensures back { C.honest console.new → C.honest console.old }
 {
     let alloc = rt.alloc();
     let files = files_of(alloc, folder, dag, Reading::SubmitFilesToo)?;
-    let reply = checked(alloc, &files, dag, all);
+    let reply = checked(alloc, &files, dag, all, form);
     let hints = match hints_of(rt, &files, dag, wanted) {
         Ok(hints) => hints,
         Err(_) => String::new(alloc),

@@ -137,10 +137,14 @@ fn dag_in<'a>(request: &Request<'a>) -> Option<&'a str> {
 /// What is displayed behind the answer to a request.
 fn postscript_to<R: Clock>(rt: &R, request: &Request<'_>) -> Postscript {
     match request {
-        Request::Run { options, .. } if options.progress != ProgressRule::Never => Postscript::Run {
-            began: rt.monotonic().unwrap_or(Duration::ZERO),
-        },
+        Request::Run { options, .. } if options.progress != ProgressRule::Never && !options.json =>
+            {
+                Postscript::Run {
+                    began: rt.monotonic().unwrap_or(Duration::ZERO),
+                }
+            }
         Request::Check {
+            json: false,
             hints: false,
             condor: false,
             ..
@@ -152,7 +156,11 @@ fn postscript_to<R: Clock>(rt: &R, request: &Request<'_>) -> Postscript {
         } => Postscript::Totals {
             trusts_owner: *trust_owner,
         },
-        Request::Why { trust_owner, .. } => Postscript::Worker {
+        Request::Why {
+            json: false,
+            trust_owner,
+            ..
+        } => Postscript::Worker {
             trusts_owner: *trust_owner,
         },
         Request::Graph { as_is: true, .. } => Postscript::Nothing,

@@ -2,18 +2,17 @@
 
 ghost use Rattle.std.specs.Prelude.{◌≡◌, map, IfOk, IfErr, string_bytes};
 ghost use Rattle.dag_main_inspect.specs.Asked.{IsAnswerOfRun, IsAnswerHeld, IsAnswerFault, IsAnswerFaultHeld};
-ghost use Rattle.dag_main_inspect.specs.declared.by_journal.Question.TheVariants.{Status, Graph};
-ghost use Rattle.failure_answers.specs.Answered.{IsWhyOf, IsWhyHeld, IsWhyFaultHeld};
+ghost use Rattle.failure_answers.specs.Answered.{IsWhyOf, IsWhyHeld, IsWhyFault, IsWhyFaultHeld};
 ghost use Rattle.dag_main_args.specs.Matched.{version_text};
 ghost use Rattle.report_answers.specs.Answered.{IsReportPageOf, IsReportPageHeld};
 ghost use Rattle.run_times.specs.Answered.{IsTimesOf, IsTimesFrom, IsTimesFault, IsTimesFaultHeld};
-ghost use Rattle.dagrun.specs.Answered.{grouping_by, status_question, times_form, files_asked, round_asked, graph_asked, SaidByFiles, IsRefusedByFiles, IsRefusedBySome};
+ghost use Rattle.dagrun.specs.Answered.{why_form, status_question, audit_question, graph_question, times_form, files_asked, round_asked, graph_asked, SaidByFiles, IsRefusedByFiles, IsRefusedBySome};
 
 use dag_main_args::VERSION;
 use dag_main_check::{Answer, RunFault};
 use dag_main_files::{Folder, Place};
 use dag_main_inspect::{Question, answer_here};
-use failure_answers::why_here;
+use failure_answers::{WhyForm, why_here};
 use failure_report::Grouping;
 use report_answers::{Wanted, page_here};
 use round_inputs::{ByFiles, seen_by};
@@ -22,14 +21,14 @@ use std::alloc::Global;
 use std::fs::File;
 use std::rt::Files;
 
-/// Whether nodes in error with one cause are shown once, or each by itself.
-pub(crate) fn grouping_by(all: bool) -> Grouping
-    ensures { result ≡ grouping_by all }
+/// How `why` shows nodes in error: those with one cause once, or each by itself; or as JSON.
+pub(crate) fn why_form(all: bool, json: bool) -> WhyForm
+    ensures { result ≡ why_form all json }
 {
-    if all {
-        Grouping::Each
-    } else {
-        Grouping::ByCause
+    match (all, json) {
+        (_, true) => WhyForm::Json,
+        (true, false) => WhyForm::Text(Grouping::Each),
+        (false, false) => WhyForm::Text(Grouping::ByCause),
     }
 }
 
@@ -44,14 +43,37 @@ pub(crate) fn status_question(json: bool) -> Question
     }
 }
 
-/// How `times` shows the phases; a picture and JSON are never asked for together.
-pub(crate) fn times_form(svg: bool, json: bool) -> Form
-    ensures { result ≡ times_form svg json }
+/// The question of `audit`: what the nodes came to, as lines or as JSON.
+pub(crate) fn audit_question(json: bool) -> Question
+    ensures { result ≡ audit_question json }
 {
-    match (svg, json) {
-        (true, _) => Form::Picture,
-        (false, true) => Form::Json,
-        (false, false) => Form::Table,
+    if json {
+        Question::AuditJson
+    } else {
+        Question::Audit
+    }
+}
+
+/// The question of `graph`: a picture with a box for each node, or one for those that are alike.
+pub(crate) fn graph_question(fold: bool) -> Question
+    ensures { result ≡ graph_question fold }
+{
+    if fold {
+        Question::FoldedGraph
+    } else {
+        Question::Graph
+    }
+}
+
+/// How `times` shows the phases; no two of a picture, JSON and a summary are ever asked for together.
+pub(crate) fn times_form(svg: bool, json: bool, summary: bool) -> Form
+    ensures { result ≡ times_form svg json summary }
+{
+    match (svg, json, summary) {
+        (true, _, _) => Form::Picture,
+        (false, true, _) => Form::Json,
+        (false, false, true) => Form::Summary,
+        (false, false, false) => Form::Table,
     }
 }
 
@@ -121,19 +143,20 @@ pub(crate) fn graph_of_round<F: Folder>(
     alloc: Global,
     folder: &F,
     dag: &str,
+    picture: Question,
     as_is: bool,
     as_begun: bool,
 ) -> Result<Answer, RunFault>
     ensures answered { IfOk result (λ answer.
-        IsAnswerOfRun Graph dag.now (string_bytes answer.text) (string_bytes answer.warnings) answer.status) }
+        IsAnswerOfRun picture dag.now (string_bytes answer.text) (string_bytes answer.warnings) answer.status) }
     ensures held { F.honest folder.now → IfOk result (λ answer. SaidByFiles (graph_asked as_is as_begun) (F.holds folder.now) dag.now
-        (λ files. IsAnswerHeld files Graph dag.now) (string_bytes answer.text) (string_bytes answer.warnings) answer.status) }
-    ensures refused { IfErr result (IsRefusedBySome (graph_asked as_is as_begun) dag.now (IsAnswerFault Graph dag.now)) }
+        (λ files. IsAnswerHeld files picture dag.now) (string_bytes answer.text) (string_bytes answer.warnings) answer.status) }
+    ensures refused { IfErr result (IsRefusedBySome (graph_asked as_is as_begun) dag.now (IsAnswerFault picture dag.now)) }
     ensures refused_held { F.honest folder.now → IfErr result (IsRefusedByFiles (graph_asked as_is as_begun) (F.holds folder.now) dag.now
-        (λ files. IsAnswerFaultHeld files Graph dag.now)) }
+        (λ files. IsAnswerFaultHeld files picture dag.now)) }
 {
     let seen = seen_by(alloc, folder, dag, graph_asked(as_is, as_begun))?;
-    answer_here(alloc, &seen, dag, Question::Graph)
+    answer_here(alloc, &seen, dag, picture)
 }
 
 /// Why nodes of the last round of a DAG file are in error.
@@ -145,21 +168,21 @@ pub(crate) fn why_of_round<R: Files<File = File> + AllocGlobal, F: Folder>(
     folder: &F,
     place: &Place<'_>,
     names: &[&str],
-    grouping: Grouping,
+    form: WhyForm,
     as_begun: bool,
     trust_owner: bool,
 ) -> Result<Answer, RunFault>
-    ensures answered { IfOk result (λ answer. IsWhyOf grouping place.now.top.now (map (λ n. n.now) names.now)
+    ensures answered { IfOk result (λ answer. IsWhyOf form place.now.top.now (map (λ n. n.now) names.now)
         (string_bytes answer.text) (string_bytes answer.warnings) answer.status) }
     ensures held { F.honest folder.now → IfOk result (λ answer. SaidByFiles (round_asked as_begun) (F.holds folder.now) place.now.top.now
-        (λ files. IsWhyHeld grouping files place.now.top.now (map (λ n. n.now) names.now))
+        (λ files. IsWhyHeld form files place.now.top.now (map (λ n. n.now) names.now))
         (string_bytes answer.text) (string_bytes answer.warnings) answer.status) }
-    ensures refused { IfErr result (IsRefusedBySome (round_asked as_begun) place.now.top.now (IsAnswerFault Status place.now.top.now)) }
+    ensures refused { IfErr result (IsRefusedBySome (round_asked as_begun) place.now.top.now (IsWhyFault place.now.top.now)) }
     ensures refused_held { F.honest folder.now → IfErr result (IsRefusedByFiles (round_asked as_begun) (F.holds folder.now) place.now.top.now
         (λ files. IsWhyFaultHeld files place.now.top.now)) }
 {
     let seen = seen_by(rt.alloc(), folder, place.top, round_asked(as_begun))?;
-    why_here(rt, &seen, place, names, trust_owner, grouping)
+    why_here(rt, &seen, place, names, trust_owner, form)
 }
 
 /// When the phases of the last round of a DAG file ran.
@@ -202,7 +225,7 @@ pub(crate) fn page_of_round<R: Files<File = File> + AllocGlobal, F: Folder>(
     ensures held { F.honest folder.now → IfOk result (λ answer. SaidByFiles (round_asked as_begun) (F.holds folder.now) place.now.top.now
         (λ files. IsReportPageHeld files place.now.top.now version_text reloads)
         (string_bytes answer.text) (string_bytes answer.warnings) answer.status) }
-    ensures refused { IfErr result (IsRefusedBySome (round_asked as_begun) place.now.top.now (IsAnswerFault Status place.now.top.now)) }
+    ensures refused { IfErr result (IsRefusedBySome (round_asked as_begun) place.now.top.now (IsWhyFault place.now.top.now)) }
     ensures refused_held { F.honest folder.now → IfErr result (IsRefusedByFiles (round_asked as_begun) (F.holds folder.now) place.now.top.now
         (λ files. IsWhyFaultHeld files place.now.top.now)) }
 {

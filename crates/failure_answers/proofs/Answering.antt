@@ -6,15 +6,15 @@ use Rattle.run_plan.specs.Plan.{Plan}
 use Rattle.sched_core.specs.Run.{chronological, is_lawful}
 use Rattle.dag_main_files.specs.Opened.{IsOfFiles, HasPlan}
 use Rattle.dag_main_inspect.specs.Statused.{journal_bytes, flag_by, records_in_bytes}
-use Rattle.failure_report.specs.declared.why.Grouping.{Grouping}
+use Rattle.failure_answers.specs.declared.form.WhyForm.{WhyForm}
 use Rattle.failure_answers.specs.Answered.{IsAnswerOf, IsWhyFrom}
 
 pub why-from : (holds : Files) (path : List ℕ) (rescue journal : Option (List ℕ)) (plan : Plan) → IsOfFiles holds path (HasPlan (flag_by journal) path rescue plan)
     → (bytes : List ℕ) → bytes ≡ journal_bytes journal → (core : Plan) → core ≡ plan → (past : List Record) → records_in_bytes plan bytes ≡ Some (chronological past)
-    → IsTrue (is_lawful core past) → (grouping : Grouping) (names : List (List ℕ)) (text warnings : List ℕ) (status : ℕ)
-    → IsAnswerOf grouping core past path names text warnings status
-    → IsOfFiles holds path (IsWhyFrom grouping path rescue journal names text warnings status)
-why-from holds path rescue journal plan planned bytes same core is past read lawful grouping names text warnings status answer = record {
+    → IsTrue (is_lawful core past) → (form : WhyForm) (names : List (List ℕ)) (text warnings : List ℕ) (status : ℕ)
+    → IsAnswerOf form core past path names text warnings status
+    → IsOfFiles holds path (IsWhyFrom form path rescue journal names text warnings status)
+why-from holds path rescue journal plan planned bytes same core is past read lawful form names text warnings status answer = record {
   files = planned.files;
   read = planned.read;
   says = record {
@@ -23,6 +23,6 @@ why-from holds path rescue journal plan planned bytes same core is past read law
     past = past;
     are_records = subst (λ (b : List ℕ). records_in_bytes plan b ≡ Some (chronological past)) same read;
     lawful = subst (λ (p : Plan). IsTrue (is_lawful p past)) is lawful;
-    answer = subst (λ (p : Plan). IsAnswerOf grouping p past path names text warnings status) is answer;
+    answer = subst (λ (p : Plan). IsAnswerOf form p past path names text warnings status) is answer;
   };
 }

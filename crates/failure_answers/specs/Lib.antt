@@ -1,1 +1,2 @@
+pub mod WhyData
 pub mod Answered

@@ -1,22 +1,27 @@
 //! Why nodes of the last round of a DAG file are in error, from the files that stand beside it.
 #![tactic(auto)]
 
-ghost use Rattle.std.specs.Prelude.{◌≡◌, ◌++◌, codes, map, IfOk, IfErr, option_map, string_bytes};
+ghost use Rattle.std.specs.Prelude.{◌≡◌, ◌≢◌, ◌++◌, codes, length, map, IfOk, IfErr, option_map, string_bytes};
 ghost use Rattle.dag_main_check.specs.declared.fault.RunFault.TheVariants.{Memory};
 ghost use Rattle.dag_main_files.specs.Beside.{IsFileFault, IsRefusalOf};
 ghost use Rattle.dag_main_files.specs.Opened.{IsOfFiles, IsOfSome, IsRefusedFor, IsRefusedForSome};
-ghost use Rattle.dag_main_inspect.specs.Asked.{IsNotAnsweredBy, IsAnswerFault};
+ghost use Rattle.dag_main_inspect.specs.Asked.{IsNotAnsweredBy};
 ghost use Rattle.dag_main_inspect.specs.declared.by_journal.Question.TheVariants.{Status};
-ghost use Rattle.failure_answers.specs.Answered.{IsAnswerOf, IsWhyFrom, IsWhyOf, IsWhyHeld, IsWhyFaultHeld};
+ghost use Rattle.failure_answers.specs.Answered.{IsAnswerOf, IsWhyOfAllIn, IsWhyOfNamedIn, IsWhyFrom, IsWhyOf, IsWhyHeld, IsWhyFault, IsWhyFaultHeld};
 
+mod form;
+mod why_data;
+
+use crate::why_data::nodes_json;
 use dag_main_check::{Answer, RunFault, warning_text};
 use dag_main_files::{Folder, Place, named};
 use dag_main_inspect::{bytes_in, core_of, last_round, plan_of_round, records_of};
 use dag_reader::Text;
 use event_journal::require_regular;
-use failure_report::{Grouping, Surroundings, Why, why_text};
+use failure_report::{Found, Surroundings, Why, why_found, why_text};
+pub use form::WhyForm;
 use sched_core::Core;
-use std::alloc::Global;
+use std::alloc::{AllocError, Global};
 use std::fs::File;
 use std::io::{self, ErrorKind, Read, Seek, SeekFrom};
 use std::rt::Files;
@@ -74,15 +79,50 @@ pub fn has_own_log<R: Files + AllocGlobal>(
     place.trusts(rt, path.as_str(), trust_owner)
 }
 
+/// What is reported of nodes as JSON.
+fn why_json<R: Files<File = File> + AllocGlobal>(
+    rt: &R,
+    core: &Core<'_>,
+    place: &Surroundings<'_>,
+    names: &[&str],
+) -> Result<Why, AllocError>
+    ensures all { length names.now ≡ 0 → IfOk result (IsWhyOfAllIn WhyForm.Json core.now.plan core.now.past place.now.top.now) }
+    ensures named { length names.now ≢ 0 →
+        IfOk result (IsWhyOfNamedIn WhyForm.Json core.now.plan core.now.past place.now.top.now (map (λ n. n.now) names.now)) }
+{
+    match why_found(rt, core, place, names)? {
+        Found::Nodes(nodes) => Ok(Why::Reported(nodes_json(rt.alloc(), core, place.top, &nodes)?)),
+        Found::Unknown(line) => Ok(Why::Unknown(line)),
+    }
+}
+
+/// What is reported of nodes in a form.
+fn why_in<R: Files<File = File> + AllocGlobal>(
+    rt: &R,
+    core: &Core<'_>,
+    place: &Surroundings<'_>,
+    names: &[&str],
+    form: WhyForm,
+) -> Result<Why, AllocError>
+    ensures all { length names.now ≡ 0 → IfOk result (IsWhyOfAllIn form core.now.plan core.now.past place.now.top.now) }
+    ensures named { length names.now ≢ 0 →
+        IfOk result (IsWhyOfNamedIn form core.now.plan core.now.past place.now.top.now (map (λ n. n.now) names.now)) }
+{
+    match form {
+        WhyForm::Text(grouping) => why_text(rt, core, place, names, grouping),
+        WhyForm::Json => why_json(rt, core, place, names),
+    }
+}
+
 /// What is answered of nodes of a run.
 fn answer_of<R: Files<File = File> + AllocGlobal>(
     rt: &R,
     place: &Place<'_>,
     core: &Core<'_>,
     names: &[&str],
-    grouping: Grouping,
+    form: WhyForm,
 ) -> Result<Answer, RunFault>
-    ensures answered { IfOk result (λ answer. IsAnswerOf grouping core.now.plan core.now.past place.now.top.now (map (λ n. n.now) names.now)
+    ensures answered { IfOk result (λ answer. IsAnswerOf form core.now.plan core.now.past place.now.top.now (map (λ n. n.now) names.now)
         (string_bytes answer.text) (string_bytes answer.warnings) answer.status) }
     ensures refused { IfErr result (λ fault. fault ≡ Memory) }
 {
@@ -93,7 +133,7 @@ fn answer_of<R: Files<File = File> + AllocGlobal>(
         folder: place.folder,
         log: &log,
     };
-    match why_text(rt, core, &surroundings, names, grouping)? {
+    match why_in(rt, core, &surroundings, names, form)? {
         Why::Reported(text) => Ok(Answer {
             text,
             warnings: warning_text(alloc, core.plan().graph().flat().warnings())?,
@@ -118,12 +158,12 @@ fn why_of<R: Files<File = File> + AllocGlobal, F: Folder>(
     rescue: Option<&[u8]>,
     journal: Option<&[u8]>,
     names: &[&str],
-    grouping: Grouping,
+    form: WhyForm,
 ) -> Result<Answer, RunFault>
-    ensures answered { IfOk result (λ answer. IsOfSome place.now.top.now (IsWhyFrom grouping place.now.top.now
+    ensures answered { IfOk result (λ answer. IsOfSome place.now.top.now (IsWhyFrom form place.now.top.now
         (option_map (λ b. b.now) rescue.entry) (option_map (λ b. b.now) journal.entry) (map (λ n. n.now) names.now)
         (string_bytes answer.text) (string_bytes answer.warnings) answer.status)) }
-    ensures held { F.honest folder.now → IfOk result (λ answer. IsOfFiles (F.holds folder.now) place.now.top.now (IsWhyFrom grouping place.now.top.now
+    ensures held { F.honest folder.now → IfOk result (λ answer. IsOfFiles (F.holds folder.now) place.now.top.now (IsWhyFrom form place.now.top.now
         (option_map (λ b. b.now) rescue.entry) (option_map (λ b. b.now) journal.entry) (map (λ n. n.now) names.now)
         (string_bytes answer.text) (string_bytes answer.warnings) answer.status)) }
     ensures refused { IfErr result (IsRefusedForSome place.now.top.now (IsNotAnsweredBy Status place.now.top.now
@@ -137,13 +177,13 @@ fn why_of<R: Files<File = File> + AllocGlobal, F: Folder>(
     let records = records_of(alloc, &plan, bytes)?;
     let core = core_of(alloc, &plan, bytes, &records)?;
     core.keeps_the_law();
-    answer_of(rt, place, &core, names, grouping)
+    answer_of(rt, place, &core, names, form)
 }
 
 /// Why nodes of a DAG file are in error, and for whom others wait: by the files and the journal of this folder, and by
 /// the log and the files of jobs that the system has at its place. Of the nodes of these names in their order; where
 /// there is no name, of all that are in error, those first for which most nodes wait, and of as many in
-/// plan order; those with one cause once, or each by itself (`Grouping`).
+/// plan order; as a text, those with one cause once or each by itself, or as JSON, each by itself.
 ///
 /// A name that is none of a node is answered by a warning, with no text and with status 125.
 ///
@@ -158,15 +198,15 @@ pub fn why_here<R: Files<File = File> + AllocGlobal, F: Folder>(
     place: &Place<'_>,
     names: &[&str],
     trust_owner: bool,
-    grouping: Grouping,
+    form: WhyForm,
 ) -> Result<Answer, RunFault>
-    ensures answered { IfOk result (λ answer. IsWhyOf grouping place.now.top.now (map (λ n. n.now) names.now)
+    ensures answered { IfOk result (λ answer. IsWhyOf form place.now.top.now (map (λ n. n.now) names.now)
         (string_bytes answer.text) (string_bytes answer.warnings) answer.status) }
     // It is that of the files, the journal and the rescue file that the folder holds.
     ensures held { F.honest folder.now → IfOk result (λ answer.
-        IsWhyHeld grouping (F.holds folder.now) place.now.top.now (map (λ n. n.now) names.now)
+        IsWhyHeld form (F.holds folder.now) place.now.top.now (map (λ n. n.now) names.now)
         (string_bytes answer.text) (string_bytes answer.warnings) answer.status) }
-    ensures refused { IfErr result (IsAnswerFault Status place.now.top.now) }
+    ensures refused { IfErr result (IsWhyFault place.now.top.now) }
     // The refusal too is for what the folder holds.
     ensures refused_held { F.honest folder.now → IfErr result (IsWhyFaultHeld (F.holds folder.now) place.now.top.now) }
 {
@@ -175,7 +215,7 @@ pub fn why_here<R: Files<File = File> + AllocGlobal, F: Folder>(
     has_own_log(rt, place, trust_owner)?;
     let rescue = round.rescue.as_deref();
     let journal = round.journal.as_deref();
-    match why_of(rt, folder, place, rescue, journal, names, grouping) {
+    match why_of(rt, folder, place, rescue, journal, names, form) {
         Ok(answer) => Ok(answer),
         Err(fault) => Err(named(fault, round.name)),
     }

@@ -6,3 +6,4 @@ pub mod Reported
 pub mod Named
 pub mod Grouped
 pub mod Joining
+pub mod Found

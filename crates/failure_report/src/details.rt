@@ -14,7 +14,9 @@ pub(crate) struct SeenCommand {
     pub(crate) program: Text,
     /// Its first word, as a path seen from its folder.
     pub(crate) first: Option<Text>,
-    /// The program and its words, as a shell reads them.
+    /// The program and its words.
+    pub(crate) parts: Vec<String>,
+    /// The same, as a shell reads them.
     pub(crate) words: String,
     pub(crate) folder: Text,
     pub(crate) input: Option<Text>,
@@ -70,6 +72,16 @@ fn words_of(alloc: Global, program: &Text, words: &[Text]) -> Result<String, All
     Ok(text)
 }
 
+/// The program and the words of a command.
+fn parts_of(alloc: Global, program: &Text, words: &[Text]) -> Result<Vec<String>, AllocError> {
+    let mut parts = Vec::new(alloc);
+    parts.push(String::from_str(alloc, program.as_str())?)?;
+    for word in words {
+        parts.push(String::from_str(alloc, word.as_str())?)?;
+    }
+    Ok(parts)
+}
+
 /// How a child is started by a command, seen from this folder.
 ///
 /// # Errors
@@ -86,6 +98,7 @@ pub(crate) fn seen_command(
         None => None,
     };
     Ok(SeenCommand {
+        parts: parts_of(alloc, &program, command.words.as_slice())?,
         words: words_of(alloc, &program, command.words.as_slice())?,
         program,
         first,

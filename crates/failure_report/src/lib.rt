@@ -2,7 +2,7 @@
 //! jobs.
 //!
 //! Which nodes are in error, how each of them failed and how many wait for it are values (`failures`), the
-//! line of each is made of them, and behind it stands what is found by looking (`why_text`). Those with one cause
+//! line of each is made of them, and behind it stands what is found by looking (`why_text`; as values: `why_found`). Those with one cause
 //! are reported once, in groups.
 #![tactic(auto)]
 
@@ -10,6 +10,7 @@ mod causes;
 mod details;
 mod earlier;
 mod failed;
+mod found;
 mod groups;
 mod heads;
 mod launches;
@@ -25,6 +26,7 @@ mod waiting;
 mod why;
 
 pub use failed::{Failure, failures};
+pub use found::{FailedPhase, Found, FoundNode, why_found};
 pub use numbers::{Named, numbers_of};
 pub use reaching::reached_from;
 pub use why::{Grouping, Surroundings, Why, why_text};

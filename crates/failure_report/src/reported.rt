@@ -95,7 +95,11 @@ impl<'l> Run<'_, '_, 'l> {
     }
 
     /// The same with the file that keeps what a script has printed, where the log names it.
-    fn seen_at(&self, alloc: Global, story: &Story) -> Result<Option<SeenCommand>, AllocError> {
+    pub(crate) fn seen_at(
+        &self,
+        alloc: Global,
+        story: &Story,
+    ) -> Result<Option<SeenCommand>, AllocError> {
         let Some(command) = self.command_of(alloc, story)? else {
             return Ok(None);
         };
@@ -129,7 +133,7 @@ impl<'l> Run<'_, '_, 'l> {
     }
 
     /// How many seconds a phase took, where the log says it of this ending.
-    fn seconds_at(&self, story: &Story) -> Option<&'l str> {
+    pub(crate) fn seconds_at(&self, story: &Story) -> Option<&'l str> {
         let notes = self.notes_of(&story.key)?;
         if notes.outcome.is_some() && notes.outcome == story.outcome {
             notes.seconds
@@ -148,7 +152,7 @@ fn copy_of(alloc: Global, text: Option<&str>) -> Result<Option<String>, AllocErr
 }
 
 /// What the error output of a phase has that ended so.
-fn quote_at<R: Files<File = File> + AllocGlobal>(
+pub(crate) fn quote_at<R: Files<File = File> + AllocGlobal>(
     rt: &R,
     story: &Story,
     command: &SeenCommand,

@@ -56,7 +56,7 @@ pub enum Why {
 
 /// A node that is reported.
 #[derive(Clone, Copy)]
-enum Reported {
+pub(crate) enum Reported {
     /// It is in error.
     Failed(Failure),
     /// It is not.
@@ -75,7 +75,7 @@ fn as_reported(alloc: Global, failures: &[Failure]) -> Result<Vec<Reported>, All
 }
 
 /// All nodes in error.
-fn all_failed(alloc: Global, core: &Core<'_>) -> Result<Vec<Reported>, AllocError>
+pub(crate) fn all_failed(alloc: Global, core: &Core<'_>) -> Result<Vec<Reported>, AllocError>
     ensures { IfOk result (λ reported. AreAllFailed core.now.plan core.now.past reported.items) }
 {
     let failed = failures(alloc, core)?;
@@ -108,7 +108,11 @@ fn reported_of_node(
 }
 
 /// These nodes, in their order.
-fn all_named(alloc: Global, core: &Core<'_>, nodes: &[u32]) -> Result<Vec<Reported>, AllocError>
+pub(crate) fn all_named(
+    alloc: Global,
+    core: &Core<'_>,
+    nodes: &[u32],
+) -> Result<Vec<Reported>, AllocError>
     ensures { IfOk result (λ reported. AreReported core.now.plan core.now.past nodes.now reported.items) }
 {
     let ends = last_ends(alloc, core)?;
@@ -285,7 +289,7 @@ fn text_of_groups<R: Files<File = File> + AllocGlobal>(
 }
 
 /// What is known of a run in which these nodes are reported.
-fn run_of<'c, 'p, 'l>(
+pub(crate) fn run_of<'c, 'p, 'l>(
     alloc: Global,
     core: &'c Core<'p>,
     place: &Surroundings<'l>,

@@ -94,10 +94,12 @@ static RUNNING: [Fault; 9] = [
     $ dagrun run x.dag
     dagrun: H1 Halted x.dag.halt
 ",
-        advice: "    Remove the file that is named, and call `dagrun run` again, which goes on:
-    what ended is recorded, and no child was killed. Where --stop-at-first-error
-    is named, a node failed for good: `dagrun why` says how, and `dagrun run`
-    without the option runs what does not wait for it.
+        advice: "    Where a file .halt is named, remove that file, and call `dagrun run` again,
+    which goes on: what ended is recorded, and no child was killed. Where
+    --stop-at-first-error is named, a node failed for good: `dagrun why` says how,
+    and `dagrun run` without the option runs what does not wait for it. Where the
+    DAG file is named, its folder was renamed or replaced while the run went on:
+    call `dagrun run` where the folder is now.
 ",
     },
     Fault {

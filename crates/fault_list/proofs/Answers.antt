@@ -7,14 +7,15 @@ use Rattle.splices_flat.specs.FileSet.{bytes_of}
 use Rattle.fault_list.specs.FaultPlaces.{fault_place}
 use Rattle.dag_main_check.specs.declared.fault.RunFault.{RunFault}
 use Rattle.dag_main_check.specs.declared.fault.RunFault.TheVariants.{Memory}
+use Rattle.dag_main_check.specs.declared.form.CheckForm.{CheckForm}
 use Rattle.dag_main_check.proofs.Refusals.{handed-on}
 use Rattle.fault_list.specs.LineFaults.{AreLineFaults, one_more, IsCheckOfAll, lines_wrong, IsRefusalOfAll, fault_lines, most_faults}
 
 -- faults of lines were found
-pub wrong-lines : (files : FileSet) (path text warnings : List ℕ) (faults : List RunFault) → 0 < length faults → AreLineFaults path true most_faults files faults
-    → text ≡ [] → warnings ≡ fault_lines faults → IsCheckOfAll files path text warnings 125
-wrong-lines files path text warnings [] some are none is = absurd (omega arith)
-wrong-lines files path text warnings (fault ∷ others) some are none is =
+pub wrong-lines : (form : CheckForm) (files : FileSet) (path text warnings : List ℕ) (faults : List RunFault) → 0 < length faults → AreLineFaults path true most_faults files faults
+    → text ≡ [] → warnings ≡ fault_lines faults → IsCheckOfAll form files path text warnings 125
+wrong-lines form files path text warnings [] some are none is = absurd (omega arith)
+wrong-lines form files path text warnings (fault ∷ others) some are none is =
     lines_wrong (record { first = fault; others = others; are_faults = are; text_is = none; warnings_are = is; status_is = refl })
 
 -- want of memory may stop any check

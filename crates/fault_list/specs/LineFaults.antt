@@ -8,6 +8,8 @@ use Rattle.splices_flat.specs.declared.file_set.FileSet.{FileSet}
 use Rattle.dag_main_check.specs.Checked.{IsCheckOf, IsCheckFault}
 use Rattle.dag_main_check.specs.declared.fault.RunFault.{RunFault}
 use Rattle.dag_main_check.specs.declared.fault.RunFault.TheVariants.{Memory}
+use Rattle.dag_main_check.specs.declared.form.CheckForm.{CheckForm}
+use Rattle.dag_main_check.specs.declared.form.CheckForm.TheVariants.{Line}
 use Rattle.answer_console.specs.Display.{refusal_line}
 use Rattle.fault_list.specs.Emptied.{without_line}
 use Rattle.fault_list.specs.FaultPlaces.{fault_place, listed_place, is_of_names}
@@ -19,7 +21,7 @@ pub record IsEmptiedAt (files : FileSet) (place : List ℕ × ℕ) (after : File
 
 -- what `check` comes to: it answers, or is refused for a fault other than want of memory
 abbrev pub IsCheckedTo : Files → List ℕ → Option RunFault → Type 0
-IsCheckedTo files path None = (text warnings : List ℕ) × (status : ℕ) × IsCheckOf files path text warnings status
+IsCheckedTo files path None = (text warnings : List ℕ) × (status : ℕ) × IsCheckOf Line files path text warnings status
 IsCheckedTo files path (Some fault) = IsCheckFault files path fault × (fault ≢ Memory)
 
 -- nothing more is listed: the files are not refused, or for a fault that names no line, or for one of names where these don't count
@@ -53,10 +55,10 @@ pub record ListsLineFaults (files : FileSet) (path text warnings : List ℕ) (st
   pub warnings_are : warnings ≡ fault_lines (first ∷ others)
   pub status_is : status ≡ 125
 
--- What `check --all` answers: what `check` does where nothing is wrong, and else the faults of lines.
-pub data IsCheckOfAll (files : FileSet) (path text warnings : List ℕ) (status : ℕ) : Type 0 where
-  nothing_wrong : IsCheckOf (bytes_of files) path text warnings status → IsCheckOfAll files path text warnings status
-  lines_wrong : ListsLineFaults files path text warnings status → IsCheckOfAll files path text warnings status
+-- What `check --all` answers: what `check` does in this form where nothing is wrong, and else the faults of lines.
+pub data IsCheckOfAll (form : CheckForm) (files : FileSet) (path text warnings : List ℕ) (status : ℕ) : Type 0 where
+  nothing_wrong : IsCheckOf form (bytes_of files) path text warnings status → IsCheckOfAll form files path text warnings status
+  lines_wrong : ListsLineFaults files path text warnings status → IsCheckOfAll form files path text warnings status
 
 -- Why it is refused: for a fault of `check` that names no line; want of memory is one.
 pub record IsRefusalOfAll (files : FileSet) (path : List ℕ) (fault : RunFault) : Type 0 where

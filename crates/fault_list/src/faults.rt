@@ -9,7 +9,7 @@ ghost use Rattle.fault_list.specs.LineFaults.{AreLineFaults, IsCheckedTo, IsEmpt
 
 use crate::emptying::without_line;
 use crate::places::{LinePlace, is_of_names, listed_place};
-use dag_main_check::{RunFault, check_text};
+use dag_main_check::{CheckForm, RunFault, check_text};
 use splices_flat::FileSet;
 use std::alloc::{AllocError, Global};
 
@@ -52,7 +52,7 @@ fn refused_for(alloc: Global, files: &FileSet, path: &str) -> Result<Option<RunF
     ensures fault { IfOk result (IsCheckedTo (bytes_of files.now) path.now) }
     ensures err { IfErr result (λ fault. fault ≡ Memory) }
 {
-    match check_text(alloc, files, path) {
+    match check_text(alloc, files, path, CheckForm::Line) {
         Ok(_) => Ok(None),
         Err(RunFault::Memory) => Err(RunFault::Memory),
         Err(fault) => Ok(Some(fault)),

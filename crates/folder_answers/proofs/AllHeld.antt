@@ -1,5 +1,5 @@
 -- The faults of lines of files that are read where they are held.
-use Rattle.std.proofs.Common.{◌≡◌, ℕ, true, List, Option, Some, None, Result, IfErr, refl}
+use Rattle.std.proofs.Common.{◌≡◌, ℕ, true, List, Some, None, refl}
 use Rattle.std.specs.Prelude.{is_some}
 use Rattle.splices_flat.specs.Opening.{Files}
 use Rattle.splices_flat.specs.FileSet.{bytes_of}
@@ -13,9 +13,10 @@ use Rattle.dag_main_check.specs.declared.fault.RunFault.TheVariants.{InFiles, In
 use Rattle.dag_main_files.specs.Beside.{IsInputFault, input_refused, input_had_no_memory}
 use Rattle.dag_main_files.specs.Folder.{IsReadFrom}
 use Rattle.fault_list.specs.FaultPlaces.{dag_place, plan_place, fault_place}
-use Rattle.fault_list.specs.LineFaults.{IsCheckOfAll, nothing_wrong, lines_wrong, IsRefusalOfAll}
+use Rattle.fault_list.specs.LineFaults.{IsCheckOfAll, nothing_wrong, lines_wrong}
 use Rattle.fault_list.proofs.Answers.{first-fault}
 use Rattle.folder_answers.specs.Answered.{IsConfirmed, stays, came_meanwhile, asking_had_no_memory, IsCheckOfAllFrom, held_nothing_wrong, held_lines_wrong}
+use Rattle.dag_main_check.specs.declared.form.CheckForm.{CheckForm}
 use Rattle.dag_main_check.specs.Missing.{missing_file, missing_submit, missing_in}
 use Rattle.dag_main_check.proofs.HeldFiles.{checked, refused}
 
@@ -34,11 +35,11 @@ not-missing (InPlan fault) placed path is = submit-not-missing fault placed path
 not-missing _ placed path is = absurd cc
 
 -- what is answered of files that are read is answered of those that are held
-pub all-held : (holds : Files) (path : List ℕ) (set : FileSet) (text warnings : List ℕ) (status : ℕ) → IsReadFrom holds path set
-    → IsCheckOfAll set path text warnings status → IsCheckOfAllFrom holds path text warnings status
-all-held holds path set text warnings status read (nothing_wrong is) =
-    held_nothing_wrong (checked (bytes_of set) holds read.held path text warnings status is)
-all-held holds path set text warnings status read (lines_wrong list) =
+pub all-held : (form : CheckForm) (holds : Files) (path : List ℕ) (set : FileSet) (text warnings : List ℕ) (status : ℕ) → IsReadFrom holds path set
+    → IsCheckOfAll form set path text warnings status → IsCheckOfAllFrom form holds path text warnings status
+all-held form holds path set text warnings status read (nothing_wrong is) =
+    held_nothing_wrong (checked (bytes_of set) holds read.held form path text warnings status is)
+all-held form holds path set text warnings status read (lines_wrong list) =
     let first = first-fault path _ set list.first list.others list.are_faults in
     held_lines_wrong set read list (refused (bytes_of set) holds read.held path list.first (λ file missing. absurd (not-missing list.first first.1 file missing)) first.0)
 

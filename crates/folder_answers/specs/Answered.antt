@@ -7,6 +7,7 @@ use Rattle.splices_flat.specs.declared.file_set.FileSet.{FileSet}
 use Rattle.throttles.specs.declared.Limits.{Limits}
 use Rattle.dag_main_check.specs.declared.fault.RunFault.{RunFault}
 use Rattle.dag_main_check.specs.declared.fault.RunFault.TheVariants.{FileRefused, Memory}
+use Rattle.dag_main_check.specs.declared.form.CheckForm.{CheckForm}
 use Rattle.dag_main_check.specs.Missing.{missing_in}
 use Rattle.dag_main_check.specs.Checked.{IsCheckOf, IsCheckFault}
 use Rattle.dag_main_files.specs.Beside.{IsInputFault}
@@ -21,9 +22,9 @@ pub data IsConfirmed (holds : Files) (fault : RunFault) : RunFault → Type 0 wh
   came_meanwhile : (file : String Global) → missing_in fault ≡ Some (string_bytes file) → IsConfirmed holds fault (FileRefused file)
   asking_had_no_memory : IsConfirmed holds fault Memory
 
--- what `check` answers, of some files of the path
-abbrev pub IsCheckOfSome : (path text warnings : List ℕ) → (status : ℕ) → Type 0
-IsCheckOfSome path text warnings status = (files : FileSet) × IsCheckOf (bytes_of files) path text warnings status
+-- what `check` answers in a form, of some files of the path
+abbrev pub IsCheckOfSome : (form : CheckForm) → (path text warnings : List ℕ) → (status : ℕ) → Type 0
+IsCheckOfSome form path text warnings status = (files : FileSet) × IsCheckOf form (bytes_of files) path text warnings status
 
 -- Why it is refused where these files are held: standard input can't be read, or memory ran out; or for what the files say.
 pub data IsCheckRefusalFrom (holds : Files) (path : List ℕ) : RunFault → Type 0 where
@@ -44,16 +45,16 @@ pub data IsCheckOfAllRefusalFrom (holds : Files) (path : List ℕ) : RunFault �
 abbrev pub IsCheckOfAllRefusal : (path : List ℕ) → RunFault → Type 0
 IsCheckOfAllRefusal path fault = (holds : Files) × IsCheckOfAllRefusalFrom holds path fault
 
--- what `check --all` answers, of some files of the path
-abbrev pub IsCheckOfAllSome : (path text warnings : List ℕ) → (status : ℕ) → Type 0
-IsCheckOfAllSome path text warnings status = (files : FileSet) × IsCheckOfAll files path text warnings status
+-- what `check --all` answers in a form, of some files of the path
+abbrev pub IsCheckOfAllSome : (form : CheckForm) → (path text warnings : List ℕ) → (status : ℕ) → Type 0
+IsCheckOfAllSome form path text warnings status = (files : FileSet) × IsCheckOfAll form files path text warnings status
 
 -- The same where these files are held: what `check` answers for what they say; or the faults of lines of those that were read, the first of which is
 -- that of what they say.
-pub data IsCheckOfAllFrom (holds : Files) (path text warnings : List ℕ) (status : ℕ) : Type 0 where
-  held_nothing_wrong : IsCheckOf holds path text warnings status → IsCheckOfAllFrom holds path text warnings status
+pub data IsCheckOfAllFrom (form : CheckForm) (holds : Files) (path text warnings : List ℕ) (status : ℕ) : Type 0 where
+  held_nothing_wrong : IsCheckOf form holds path text warnings status → IsCheckOfAllFrom form holds path text warnings status
   held_lines_wrong : (files : FileSet) → IsReadFrom holds path files → (list : ListsLineFaults files path text warnings status) →
-      IsCheckFault holds path list.first → IsCheckOfAllFrom holds path text warnings status
+      IsCheckFault holds path list.first → IsCheckOfAllFrom form holds path text warnings status
 
 -- what `rehearse` answers, of some files of the path
 abbrev pub IsRehearsalOfSome : (always_post : Bool) → (path : List ℕ) → (table : Option (List ℕ)) → Limits → (text warnings : List ℕ) → (status : ℕ) → Type 0

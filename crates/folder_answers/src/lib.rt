@@ -11,7 +11,7 @@ ghost use Rattle.dag_main_rehearse.specs.Rehearsed.{IsRehearsalOf};
 mod reading;
 
 use crate::reading::all_files_of;
-use dag_main_check::{Answer, RunFault, check_text, missing_in};
+use dag_main_check::{Answer, CheckForm, RunFault, check_text, missing_in};
 use dag_main_files::{Folder, Reading, files_of, read_missing};
 use dag_main_rehearse::rehearse_text;
 use fault_list::check_all;
@@ -21,25 +21,30 @@ use throttles::Limits;
 /// How many files are read one by one that came while others were read; far more than a DAG has.
 const MOST_COME: usize = 1 << 20;
 
-/// What `check` answers of the DAG file of this path: `ok nodes=N edges=E final=yes` or `final=no`, with the
-/// warnings of its files.
+/// What `check` answers of the DAG file of this path: `ok nodes=N edges=E final=yes` or `final=no`, or the same as JSON, with
+/// the warnings of its files.
 ///
 /// # Errors
 /// Standard input that is asked for and can't be read (`FileRefused`); the first fault that opening the files meets
 /// (`InFiles`), a cycle (`Cycle`), the first fault of the submit files and the texts of jobs, in plan order (`InPlan`);
 /// want of memory.
-pub fn check_here<F: Folder>(alloc: Global, folder: &F, top: &str) -> Result<Answer, RunFault>
-    ensures checked { IfOk result (λ answer. IsCheckOfSome top.now
+pub fn check_here<F: Folder>(
+    alloc: Global,
+    folder: &F,
+    top: &str,
+    form: CheckForm,
+) -> Result<Answer, RunFault>
+    ensures checked { IfOk result (λ answer. IsCheckOfSome form top.now
         (string_bytes answer.text) (string_bytes answer.warnings) answer.status) }
     ensures refused { IfErr result (IsCheckRefusal top.now) }
     // It is the answer for what the folder holds, and the refusal too.
-    ensures held { F.honest folder.now → IfOk result (λ answer. IsCheckOf (F.holds folder.now) top.now
+    ensures held { F.honest folder.now → IfOk result (λ answer. IsCheckOf form (F.holds folder.now) top.now
         (string_bytes answer.text) (string_bytes answer.warnings) answer.status) }
     ensures refused_held { F.honest folder.now → IfErr result (IsCheckRefusalFrom (F.holds folder.now) top.now) }
 {
     let mut files = files_of(alloc, folder, top, Reading::SubmitFilesToo)?;
     for _ in 0..MOST_COME {
-        match check_text(alloc, &files, top) {
+        match check_text(alloc, &files, top, form) {
             Ok(answer) => return Ok(answer),
             Err(fault) => read_missing(alloc, folder, &mut files, fault)?,
         }
@@ -54,18 +59,23 @@ pub fn check_here<F: Folder>(alloc: Global, folder: &F, top: &str) -> Result<Ans
 /// # Errors
 /// Those of `check_here` that name no line; `FileRefused` with the path of a file that was missing as the files were read, and is there
 /// now.
-pub fn check_all_here<F: Folder>(alloc: Global, folder: &F, top: &str) -> Result<Answer, RunFault>
-    ensures checked { IfOk result (λ answer. IsCheckOfAllSome top.now
+pub fn check_all_here<F: Folder>(
+    alloc: Global,
+    folder: &F,
+    top: &str,
+    form: CheckForm,
+) -> Result<Answer, RunFault>
+    ensures checked { IfOk result (λ answer. IsCheckOfAllSome form top.now
         (string_bytes answer.text) (string_bytes answer.warnings) answer.status) }
     ensures refused { IfErr result (IsCheckOfAllRefusal top.now) }
     ensures has_no_line { IfErr result (λ fault. fault_place fault ≡ None) }
     // It is the answer for what the folder holds, and the refusal too.
-    ensures held { F.honest folder.now → IfOk result (λ answer. IsCheckOfAllFrom (F.holds folder.now) top.now
+    ensures held { F.honest folder.now → IfOk result (λ answer. IsCheckOfAllFrom form (F.holds folder.now) top.now
         (string_bytes answer.text) (string_bytes answer.warnings) answer.status) }
     ensures refused_held { F.honest folder.now → IfErr result (IsCheckOfAllRefusalFrom (F.holds folder.now) top.now) }
 {
     let files = all_files_of(alloc, folder, top)?;
-    match check_all(alloc, files, top) {
+    match check_all(alloc, files, top, form) {
         Ok(answer) => Ok(answer),
         Err(refusal) => Err(confirmed(alloc, folder, refusal)),
     }

@@ -1,2 +1,4 @@
 mod Sharing
 mod Drawing
+mod Rising
+mod Foldings

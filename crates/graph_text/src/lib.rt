@@ -3,8 +3,14 @@
 //! The language is that of graphviz's page "DOT Language", and what its attributes mean that of "Attributes".
 #![tactic(auto)]
 
+mod boxes;
+mod checking;
+mod classes;
 mod clusters;
 mod names;
 mod picture;
+mod refining;
+mod tally;
 
+pub use boxes::folded_text;
 pub use picture::{Drawn, dot_text};

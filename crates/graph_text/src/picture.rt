@@ -36,7 +36,7 @@ impl<'a> Drawn<'a> {
     }
 
     /// Where a node stands, if that is to be seen.
-    fn status(&self, node: u32) -> Option<Status>
+    pub(crate) fn status(&self, node: u32) -> Option<Status>
         requires { node ≤ count_of (drawn_plan self.now) }
         ensures { result ≡ states_of self.now node }
     {
@@ -74,7 +74,7 @@ fn state_text(status: Option<Status>) -> &'static str
 }
 
 /// What the frame of a node has: that of the FINAL node is double.
-fn frame_text(plan: &Plan, node: u32) -> &'static str
+pub(crate) fn frame_text(plan: &Plan, node: u32) -> &'static str
     ensures { result.now ≡ frame_text plan.now node }
 {
     if node == plan.count() {
@@ -85,7 +85,12 @@ fn frame_text(plan: &Plan, node: u32) -> &'static str
 }
 
 /// Adds what is shown of a node: its own name, its frame, and where it stands.
-fn push_attributes(text: &mut String, own: &str, frame: &str, state: &str) -> Result<(), AllocError>
+pub(crate) fn push_attributes(
+    text: &mut String,
+    own: &str,
+    frame: &str,
+    state: &str,
+) -> Result<(), AllocError>
     ensures { OnOk result (string_bytes text.new ≡ string_bytes text.old ++ attributes_text own.now frame.now state.now) }
 {
     text.push_str(" [label=")?;
@@ -133,7 +138,7 @@ fn push_next(
 }
 
 /// How many nodes are drawn: the ordinary ones, and the FINAL node behind them.
-fn drawn_nodes(plan: &Plan) -> u32
+pub(crate) fn drawn_nodes(plan: &Plan) -> u32
     ensures is { result ≡ reported plan.now }
     ensures few { result ≤ count_of plan.now + 1 }
 {
@@ -160,7 +165,12 @@ fn push_nodes(alloc: Global, text: &mut String, drawn: &Drawn<'_>) -> Result<(),
 }
 
 /// Adds the line of an edge.
-fn push_edge(text: &mut String, plan: &Plan, parent: u32, child: u32) -> Result<(), AllocError>
+pub(crate) fn push_edge(
+    text: &mut String,
+    plan: &Plan,
+    parent: u32,
+    child: u32,
+) -> Result<(), AllocError>
     requires { (parent ≤ count_of plan.now) × (child ≤ count_of plan.now) }
     ensures { OnOk result (string_bytes text.new ≡ string_bytes text.old ++ edge_line plan.now parent child) }
 {

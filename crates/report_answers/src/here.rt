@@ -3,9 +3,9 @@
 ghost use Rattle.std.specs.Prelude.{◌≡◌, IfOk, IfErr, option_map, string_bytes};
 ghost use Rattle.dag_main_check.specs.declared.fault.RunFault.TheVariants.{Memory};
 ghost use Rattle.dag_main_files.specs.Opened.{IsOfFiles, IsOfSome, IsRefusedFor, IsRefusedForSome};
-ghost use Rattle.dag_main_inspect.specs.Asked.{IsNotAnsweredBy, IsAnswerFault};
+ghost use Rattle.dag_main_inspect.specs.Asked.{IsNotAnsweredBy};
 ghost use Rattle.dag_main_inspect.specs.declared.by_journal.Question.TheVariants.{Status};
-ghost use Rattle.failure_answers.specs.Answered.{IsWhyFaultHeld};
+ghost use Rattle.failure_answers.specs.Answered.{IsWhyFault, IsWhyFaultHeld};
 ghost use Rattle.report_answers.specs.Answered.{IsPageAnswer, IsReportPageFrom, IsReportPageOf, IsReportPageHeld};
 
 use crate::pages::{Wanted, page_of};
@@ -86,7 +86,7 @@ pub fn page_here<R: Files<File = File> + AllocGlobal, F: Folder>(
     ensures held { F.honest folder.now → IfOk result (λ answer.
         IsReportPageHeld (F.holds folder.now) place.now.top.now wanted.now.version.now wanted.now.reloads
         (string_bytes answer.text) (string_bytes answer.warnings) answer.status) }
-    ensures refused { IfErr result (IsAnswerFault Status place.now.top.now) }
+    ensures refused { IfErr result (IsWhyFault place.now.top.now) }
     // The refusal too is for what the folder holds.
     ensures refused_held { F.honest folder.now → IfErr result (IsWhyFaultHeld (F.holds folder.now) place.now.top.now) }
 {

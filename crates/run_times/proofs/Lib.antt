@@ -1,5 +1,10 @@
 mod Apart
 mod Chains
+mod Ends
 mod Kept
 mod Levels
+mod LongestKinds
+mod OnePath
 mod TimesPhases
+mod Waiting
+mod Whole

@@ -8,32 +8,41 @@ use Rattle.dag_main_check.specs.Planned.{IsGraphOf}
 use Rattle.dag_main_check.specs.Warnings.{warning_lines}
 use Rattle.dag_main_check.specs.declared.fault.RunFault.{RunFault}
 use Rattle.run_times.specs.declared.form.Form.{Form}
-use Rattle.run_times.specs.declared.form.Form.TheVariants.{Table, Picture, Json}
+use Rattle.run_times.specs.declared.form.Form.TheVariants.{Table, Picture, Json, Summary}
 use Rattle.run_times.specs.declared.runs.PhaseRun.{PhaseRun}
 use Rattle.run_times.specs.Table.{table_text_of}
 use Rattle.run_times.specs.Reading.{IsRunsOf}
 use Rattle.run_times.specs.Picture.{IsTimesPicture}
 use Rattle.run_times.specs.TimesData.{times_json_of}
+use Rattle.run_times.specs.Critical.{IsCriticalPath, AreMarksOf}
+use Rattle.run_times.specs.Summary.{IsSummary}
 
--- phases with marks are shown in the form that is asked for
-abbrev pub IsShown : Form → List PhaseRun → List Bool → List ℕ → Type 0
-IsShown Table runs marks text = text ≡ table_text_of runs marks
-IsShown Picture runs marks text = IsTimesPicture runs marks text
-IsShown Json runs marks text = text ≡ times_json_of runs marks
+-- Phases of a graph are shown in the form that is asked for. A table, a picture and JSON have the marks of the critical path; a summary says its parts.
+abbrev pub IsShown : Form → Network → List PhaseRun → List ℕ → List Bool → List ℕ → Type 0
+IsShown Table graph runs path marks text = text ≡ table_text_of runs marks
+IsShown Picture graph runs path marks text = IsTimesPicture runs marks text
+IsShown Json graph runs path marks text = text ≡ times_json_of runs marks
+IsShown Summary graph runs path marks text = IsSummary graph runs path text
 
--- This is shown of a log: the phases that reading it gives, with a mark for each. Which of them are on the critical path is left open.
-pub record IsShownOf (log : List ℕ) (form : Form) (text : List ℕ) : Type 0 where
+-- the same with a mark for each phase: whether it is on the path
+pub record IsShownWith (graph : Network) (runs : List PhaseRun) (path : List ℕ) (form : Form) (text : List ℕ) : Type 0 where
+  pub marks : List Bool
+  pub are_marks : AreMarksOf path (length runs) marks
+  pub shown : IsShown form graph runs path marks text
+
+-- This is shown of a log and a graph: the phases that reading the log gives, with their critical path.
+pub record IsShownOf (log : List ℕ) (graph : Network) (form : Form) (text : List ℕ) : Type 0 where
   pub runs : List PhaseRun
   pub runs_are : IsRunsOf log runs
-  pub marks : List Bool
-  pub each : length marks ≡ length runs
-  pub shown : IsShown form runs marks text
+  pub path : List ℕ
+  pub is_path : IsCriticalPath graph runs path
+  pub shown : IsShownWith graph runs path form text
 
 -- This is printed of these files of a path, which make a graph, and of a log; and these are the warnings of the files.
 pub record IsTimesBy (log path : List ℕ) (form : Form) (text warnings : List ℕ) (status : ℕ) (files : Files) (entries : List (List ℕ × List ℕ)) : Type 0 where
   pub graph : Network
   pub is_graph : IsGraphOf files path graph
-  pub shown : IsShownOf log form text
+  pub shown : IsShownOf log graph form text
   pub warnings_are : warnings ≡ warning_lines graph.dag.warnings
   pub status_is : status ≡ 0
 

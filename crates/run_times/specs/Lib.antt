@@ -1,4 +1,11 @@
 pub mod Table
+pub mod Critical
+pub mod Waits
+pub mod Parts
+pub mod Soonest
+pub mod Kinds
+pub mod Totals
+pub mod Summary
 pub mod Reading
 pub mod Slots
 pub mod Canvas

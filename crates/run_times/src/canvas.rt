@@ -50,7 +50,7 @@ fn row_height(rows: usize) -> u64
 }
 
 /// The latest end of a phase, in milliseconds since the log began; 0 where there is none.
-fn latest_end(runs: &[PhaseRun<'_>]) -> u64
+pub(crate) fn latest_end(runs: &[PhaseRun<'_>]) -> u64
     ensures { result ≡ latest_end runs.now (length runs.now) }
 {
     let mut latest: u64 = 0;

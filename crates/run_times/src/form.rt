@@ -9,4 +9,6 @@ pub enum Form {
     Picture,
     /// JSON with an object for each phase.
     Json,
+    /// A text for a person: where the time went, and what would make it shorter.
+    Summary,
 }

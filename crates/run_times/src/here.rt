@@ -1,16 +1,19 @@
 //! What `times` answers.
 
-ghost use Rattle.std.specs.Prelude.{◌≡◌, Some, length, IfOk, IfErr, string_bytes};
+ghost use Rattle.std.specs.Prelude.{◌≡◌, Some, IfOk, IfErr, string_bytes};
 ghost use Rattle.dag_main_files.specs.Beside.{IsRefusalOf, IsRefusalHeld};
-ghost use Rattle.run_times.specs.Answered.{log_name_of, IsShown, IsTimesOf, IsTimesFrom, IsTimesFault, IsTimesFaultHeld};
+ghost use Rattle.run_times.specs.Critical.{IsCriticalPath};
+ghost use Rattle.run_times.specs.Answered.{log_name_of, IsShownWith, IsTimesOf, IsTimesFrom, IsTimesFault, IsTimesFaultHeld};
 
-use crate::critical::critical_marks;
+use crate::critical::{critical_path, marks_of};
 use crate::form::Form;
 use crate::picture::picture_text;
 use crate::reader::runs_in;
 use crate::runs::PhaseRun;
+use crate::summary::summary_text;
 use crate::table::table_text;
 use crate::times_data::times_json;
+use dag_graph::Graph;
 use dag_main_check::{Answer, RunFault, warning_text};
 use dag_main_files::{Folder, bare_plan_here};
 use dag_reader::Text;
@@ -18,7 +21,7 @@ use std::alloc::{AllocError, Global};
 
 /// When each phase of the last round of the DAG file of this path began, of the files in this folder, and how long
 /// it took, by the log that stands beside it: a table with a row for each phase, in the order in which they
-/// began, a picture, or JSON.
+/// began, a picture, JSON, or a summary of where the time went.
 ///
 /// # Errors
 /// Those of `bare_plan_here`; then a log that is missing, that the system refuses to read or that may be another user's (`FileRefused` with
@@ -42,28 +45,32 @@ pub fn times_here<F: Folder>(
     let graph = plan.graph();
     let log = log_of(alloc, folder, top)?;
     let runs = runs_in(alloc, log.as_slice())?;
-    let marks = critical_marks(alloc, graph, &runs)?;
+    let path = critical_path(alloc, graph, &runs)?;
     Ok(Answer {
-        text: text_of(alloc, &runs, &marks, form)?,
+        text: text_of(alloc, graph, &runs, &path, form)?,
         warnings: warning_text(alloc, graph.flat().warnings())?,
         status: 0,
     })
 }
 
-/// What is printed of these phases, in this form.
+/// What is printed of these phases of a graph, with their critical path, in this form.
 fn text_of(
     alloc: Global,
+    graph: &Graph,
     runs: &[PhaseRun<'_>],
-    marks: &[bool],
+    path: &[usize],
     form: Form,
 ) -> Result<String, AllocError>
-    requires { length marks.now ≡ length runs.now }
-    ensures { IfOk result (λ text. IsShown form runs.now marks.now (string_bytes text)) }
+    requires { IsCriticalPath graph.now runs.now path.now }
+    ensures { IfOk result (λ text. IsShownWith graph.now runs.now path.now form (string_bytes text)) }
 {
+    let each = marks_of(alloc, path, runs.len())?;
+    let marks = each.as_slice();
     match form {
         Form::Table => table_text(alloc, runs, marks),
         Form::Picture => picture_text(alloc, runs, marks),
         Form::Json => times_json(alloc, runs, marks),
+        Form::Summary => summary_text(alloc, graph, runs, path),
     }
 }
 

@@ -5,6 +5,7 @@ ghost use Rattle.std.specs.List.Sorted.{IsNonDecreasingBy};
 ghost use Rattle.run_times.specs.Slots.{run_end};
 ghost use Rattle.run_times.specs.Load.{AreInOrder, count_until, AreLevels};
 ghost use Rattle.run_times.specs.Picture.{peak_of};
+ghost use Rattle.run_times.specs.Summary.{most_running};
 
 use crate::runs::PhaseRun;
 use std::alloc::{AllocError, Global};
@@ -96,4 +97,20 @@ pub(crate) fn peak_of(levels: &[Level]) -> usize
         peak = peak.max(level.running);
     }
     peak
+}
+
+/// How many phases ran at once, at most, when one of them began.
+///
+/// # Errors
+/// Want of memory.
+pub(crate) fn most_running(alloc: Global, runs: &[PhaseRun<'_>]) -> Result<usize, AllocError>
+    ensures { IfOk result (λ most. most ≡ most_running runs.now (length runs.now)) }
+{
+    let begins = begins_of(alloc, runs)?;
+    let ends = ends_of(alloc, runs)?;
+    let mut most: usize = 0;
+    for run in runs {
+        most = most.max(running_at(&begins, &ends, run.begun));
+    }
+    Ok(most)
 }

@@ -3,7 +3,7 @@
 ghost use Rattle.std.specs.Prelude.{None, false};
 
 use crate::same::same;
-use dag_main_check::{Answer, RunFault};
+use dag_main_check::{Answer, CheckForm, RunFault};
 use dag_main_files::{Folder, round_of};
 use dag_main_inspect::{Question, answer_here, report_here};
 use event_journal_log::Peek;
@@ -124,7 +124,7 @@ fn checked(rt: HostRuntime) -> Result<(), Fail> {
     comes_to(
         &rt,
         alloc,
-        check_here(alloc, &whole(alloc)?, "x.dag"),
+        check_here(alloc, &whole(alloc)?, "x.dag", CheckForm::Line),
         CHECKED,
     );
     for (texts, line) in [
@@ -135,7 +135,7 @@ fn checked(rt: HostRuntime) -> Result<(), Fail> {
         comes_to(
             &rt,
             alloc,
-            check_here(alloc, &folder(alloc, &texts)?, "x.dag"),
+            check_here(alloc, &folder(alloc, &texts)?, "x.dag", CheckForm::Line),
             line,
         );
     }
@@ -220,7 +220,8 @@ static LISTS: [ListRow; 6] = [
 fn listed(rt: HostRuntime) -> Result<(), Fail> {
     let alloc = rt.alloc();
     for row in &LISTS {
-        match check_all_here(alloc, &folder(alloc, row.files)?, "x.dag") {
+        let files = folder(alloc, row.files)?;
+        match check_all_here(alloc, &files, "x.dag", CheckForm::Line) {
             Ok(answer) => {
                 same(&rt, answer.warnings.as_str(), row.listed);
                 same(&rt, answer.text.as_str(), "");
@@ -236,9 +237,9 @@ fn listed(rt: HostRuntime) -> Result<(), Fail> {
 #[test]
 fn listed_at_most(rt: HostRuntime) -> Result<(), Fail> {
     let alloc = rt.alloc();
-    let answer = check_all_here(alloc, &whole(alloc)?, "x.dag");
+    let answer = check_all_here(alloc, &whole(alloc)?, "x.dag", CheckForm::Line);
     comes_to(&rt, alloc, answer, CHECKED);
-    let answer = check_all_here(alloc, &folder(alloc, &[SPLICE])?, "x.dag");
+    let answer = check_all_here(alloc, &folder(alloc, &[SPLICE])?, "x.dag", CheckForm::Line);
     comes_to(&rt, alloc, answer, "S1 MissingFile x.dag");
     let mut text = String::new(alloc);
     for _ in 0..101 {
@@ -246,7 +247,7 @@ fn listed_at_most(rt: HostRuntime) -> Result<(), Fail> {
     }
     let mut files = FileSet::new(alloc);
     files.add(alloc, "x.dag", text.as_bytes())?;
-    match check_all_here(alloc, &files, "x.dag") {
+    match check_all_here(alloc, &files, "x.dag", CheckForm::Line) {
         Ok(answer) => {
             same(&rt, answer.warnings.as_str().lines().count(), 100);
             same(
@@ -288,9 +289,11 @@ fn coming(alloc: Global, first: &[(&str, &str)], after: usize) -> Result<Changin
 fn came_meanwhile(rt: HostRuntime) -> Result<(), Fail> {
     let alloc = rt.alloc();
     let changing = coming(alloc, &[DAG, SPLICE, SUBMITS[0]], 4)?;
-    comes_to(&rt, alloc, check_here(alloc, &changing, "x.dag"), CHECKED);
+    let answer = check_here(alloc, &changing, "x.dag", CheckForm::Line);
+    comes_to(&rt, alloc, answer, CHECKED);
     let changing = coming(alloc, &[DAG], 3)?;
-    comes_to(&rt, alloc, check_here(alloc, &changing, "x.dag"), CHECKED);
+    let answer = check_here(alloc, &changing, "x.dag", CheckForm::Line);
+    comes_to(&rt, alloc, answer, CHECKED);
     let changing = coming(alloc, &[], 1)?;
     let answer = rehearse_here(alloc, &changing, "x.dag", None, NO_LIMITS, false);
     comes_to(&rt, alloc, answer, REHEARSED);
@@ -305,7 +308,7 @@ fn came_meanwhile(rt: HostRuntime) -> Result<(), Fail> {
 fn came_while_all_were_checked(rt: HostRuntime) -> Result<(), Fail> {
     let alloc = rt.alloc();
     let changing = coming(alloc, &[DAG, SPLICE, SUBMITS[0]], 7)?;
-    let answer = check_all_here(alloc, &changing, "x.dag");
+    let answer = check_all_here(alloc, &changing, "x.dag", CheckForm::Line);
     comes_to(&rt, alloc, answer, "X2 FileRefused b.sub");
     Ok(())
 }

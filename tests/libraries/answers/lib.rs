@@ -2,10 +2,20 @@
 #![tactic(auto)]
 
 #[cfg(test)]
+mod audits;
+#[cfg(test)]
+mod checks;
+#[cfg(test)]
 mod consoles;
 #[cfg(test)]
 mod folders;
 #[cfg(test)]
+mod folds;
+#[cfg(test)]
 mod same;
 #[cfg(test)]
 mod statuses;
+#[cfg(test)]
+mod times;
+#[cfg(test)]
+mod whys;

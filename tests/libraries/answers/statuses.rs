@@ -13,7 +13,7 @@ use std::process::Abort;
 use std::test::Fail;
 use throttles::Limits;
 
-static NO_LIMITS: Limits = Limits {
+pub static NO_LIMITS: Limits = Limits {
     jobs: 0,
     pre: 0,
     post: 0,
@@ -24,11 +24,11 @@ static NO_LIMITS: Limits = Limits {
 static SUBMIT: &str = "executable = /bin/true\nqueue\n";
 
 /// The name of a node has a quote and a backslash; C waits for it. A line is overridden, of which a warning says so.
-static DAG: &str = "JOB A a.sub\nJOB B\"\\q a.sub\nJOB C a.sub\nFINAL F a.sub\n\
+pub static DAG: &str = "JOB A a.sub\nJOB B\"\\q a.sub\nJOB C a.sub\nFINAL F a.sub\n\
                     PARENT B\"\\q CHILD C\nRETRY B\"\\q 7\nRETRY B\"\\q 1\n";
 
 /// A phase that ended in the round: the node's number, the attempt and the outcome.
-static ENDED: [(u32, u32, Outcome); 4] = [
+pub static ENDED: [(u32, u32, Outcome); 4] = [
     (0, 0, Outcome::Exit(0)),
     (1, 0, Outcome::Exit(3)),
     (1, 1, Outcome::NoStart),
@@ -44,10 +44,10 @@ static JSON: &str = "{\"dag\":\"x.dag\",\"nodes\":[\
     {\"attempts\":0,\"name\":\"C\",\"state\":\"NOT_READY\",\"value\":null},\
     {\"attempts\":1,\"name\":\"F\",\"state\":\"DONE\",\"value\":0}]}\n";
 
-static WARNING: &str = "warning: x.dag:6 overridden\n";
+pub static WARNING: &str = "warning: x.dag:6 overridden\n";
 
 /// The files of a DAG without a journal.
-fn files_of(alloc: Global, path: &str, dag: &str) -> Result<FileSet, Fail> {
+pub fn files_of(alloc: Global, path: &str, dag: &str) -> Result<FileSet, Fail> {
     let mut files = FileSet::new(alloc);
     files.add(alloc, path, dag.as_bytes())?;
     files.add(alloc, "a.sub", SUBMIT.as_bytes())?;
@@ -55,7 +55,7 @@ fn files_of(alloc: Global, path: &str, dag: &str) -> Result<FileSet, Fail> {
 }
 
 /// Launches a job and records its end.
-fn ends(
+pub fn ends(
     rt: &impl Abort,
     manager: &mut Manager<'_, MemDisk>,
     node: u32,
@@ -85,7 +85,7 @@ fn journal_of(rt: &impl Abort, alloc: Global, plan: &Plan, most: usize) -> Resul
 }
 
 /// The files of the DAG, and the journal of a round in which the first `most` ended.
-fn round_of(rt: &impl Abort, alloc: Global, most: usize) -> Result<FileSet, Fail> {
+pub fn round_of(rt: &impl Abort, alloc: Global, most: usize) -> Result<FileSet, Fail> {
     let mut files = files_of(alloc, "x.dag", DAG)?;
     let plan = plan_of_round(alloc, &files, "x.dag", None, None)?;
     let journal = journal_of(rt, alloc, &plan, most);

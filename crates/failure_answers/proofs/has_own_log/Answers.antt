@@ -1,6 +1,5 @@
 use Rattle.std.proofs.Common.{◌++◌, ◌∙◌, ℕ, List, codes, subst}
 use Rattle.dag_main_files.specs.Beside.{IsFileFault, reading_had_no_memory, IsRefusalOf, refusing_had_no_memory}
-use Rattle.dag_main_check.specs.declared.fault.RunFault.{RunFault}
 use Rattle.dag_main_check.specs.declared.fault.RunFault.TheVariants.{Memory}
 use Rattle.dag_main_check.proofs.Refusals.{weaker}
 use Rattle.dag_main_files.proofs.RunFaults.{by-fault}

@@ -1,10 +1,9 @@
 use Rattle.std.proofs.Common.{sym, subst}
-use Rattle.dag_main_files.specs.Beside.{folder_not_read}
-use Rattle.dag_main_inspect.specs.Asked.{IsAnswerFault, no_last_round, not_told, held_no_last_round}
+use Rattle.dag_main_inspect.specs.Asked.{no_last_round, not_told, held_no_last_round}
 use Rattle.dag_main_inspect.specs.declared.by_journal.Question.TheVariants.{Status}
 use Rattle.dag_main_files.proofs.RunFaults.{by-fault}
 use Rattle.dag_main_inspect.proofs.Rounds.{same-round, not-answered}
-use Rattle.failure_answers.specs.Answered.{IsWhyFaultHeld, held_no_status, held_log_refused}
+use Rattle.failure_answers.specs.Answered.{IsWhyFault, some_no_status, some_log_refused, IsWhyFaultHeld, held_no_status, held_log_refused}
 use Rattle.failure_answers.proofs.why_here.Goals as goal
 
 pub returns-in-Ok-clause-answered : goal.returns-in-Ok-clause-answered
@@ -12,19 +11,19 @@ returns-in-Ok-clause-answered g c = record { rescue = _; journal = _; answered =
 
 pub returns-in_err-round-clause-refused : goal.returns-in_err-round-clause-refused
 returns-in_err-round-clause-refused g c =
-    by-fault (IsAnswerFault Status c.args.place.now.top.now) c.in_err-round.field-0.0 (no_last_round _ c.in_err-round.ensures.refused)
+    by-fault (IsWhyFault c.args.place.now.top.now) c.in_err-round.field-0.0 (some_no_status _ (no_last_round _ c.in_err-round.ensures.refused))
     c.from_residual.result c.from_residual.ensures.1
 
 pub returns-in_err-has_own_log-clause-refused : goal.returns-in_err-has_own_log-clause-refused
 returns-in_err-has_own_log-clause-refused g c =
-    by-fault (IsAnswerFault Status c.args.place.now.top.now) c.in_err-has_own_log.field-0.0
-    (no_last_round _ (folder_not_read _ tt c.in_err-has_own_log.ensures.refused))
+    by-fault (IsWhyFault c.args.place.now.top.now) c.in_err-has_own_log.field-0.0
+    (some_log_refused _ c.in_err-has_own_log.ensures.named)
     c.from_residual-in_err-has_own_log.result c.from_residual-in_err-has_own_log.ensures.1
 
 pub returns-in-Err-clause-refused : goal.returns-in-Err-clause-refused
 returns-in-Err-clause-refused g c =
-    subst (IsAnswerFault Status c.args.place.now.top.now) (sym c.named.ensures)
-    (not_told _ _ _ c.in-Err.fault c.in-Err.ensures.refused)
+    subst (IsWhyFault c.args.place.now.top.now) (sym c.named.ensures)
+    (some_no_status _ (not_told _ _ _ c.in-Err.fault c.in-Err.ensures.refused))
 
 pub returns-in-Ok-clause-held : goal.returns-in-Ok-clause-held
 returns-in-Ok-clause-held g c = λ honest. record {

@@ -53,7 +53,7 @@ returns-clause-answered g c =
       why-from c.in_ok-plan.ensures.plan.0 c.args.place.now.top.now (option_map (λ b. b.now) c.args.rescue) (option_map (λ b. b.now) c.args.journal) c.in_ok-plan.plan c.in_ok-plan.ensures.plan.1
           c.bytes_in-bytes.result.now c.bytes_in-bytes.ensures c.in_ok-core.core.plan c.in_ok-core.ensures.plan c.in_ok-core.core.past
           (c.in_ok-records.ensures.ok ∙ ap (λ (rs : List Record). Some rs) (sym c.deref.ensures.value ∙ c.in_ok-core.ensures.records)) c.keeps_the_law.ensures
-          c.args.grouping (map (λ n. n.now) c.args.names.now) (string_bytes answer.text) (string_bytes answer.warnings) answer.status is,
+          c.args.form (map (λ n. n.now) c.args.names.now) (string_bytes answer.text) (string_bytes answer.warnings) answer.status is,
     )) c.answer_of.ensures.answered
 
 pub returns-clause-held : goal.returns-clause-held
@@ -61,4 +61,4 @@ returns-clause-held g c = λ honest.
     IfOk-weaker c.answer_of.result _ _ (λ answer is. why-from (g.F.Folder.holds c.args.folder.now) c.args.place.now.top.now (option_map (λ b. b.now) c.args.rescue) (option_map (λ b. b.now) c.args.journal) c.in_ok-plan.plan (c.in_ok-plan.ensures.held honest)
     c.bytes_in-bytes.result.now c.bytes_in-bytes.ensures c.in_ok-core.core.plan c.in_ok-core.ensures.plan c.in_ok-core.core.past
     (c.in_ok-records.ensures.ok ∙ ap (λ (rs : List Record). Some rs) (sym c.deref.ensures.value ∙ c.in_ok-core.ensures.records)) c.keeps_the_law.ensures
-    c.args.grouping (map (λ n. n.now) c.args.names.now) (string_bytes answer.text) (string_bytes answer.warnings) answer.status is) c.answer_of.ensures.answered
+    c.args.form (map (λ n. n.now) c.args.names.now) (string_bytes answer.text) (string_bytes answer.warnings) answer.status is) c.answer_of.ensures.answered

@@ -1,5 +1,4 @@
 use Rattle.std.proofs.Common.{◌≡◌, None}
-use Rattle.splices_flat.specs.FileSet.{bytes_of}
 use Rattle.dag_main_files.proofs.OpenedFiles.{own-files}
 use Rattle.dag_main_files.proofs.RunFaults.{by-fault}
 use Rattle.fault_list.specs.FaultPlaces.{fault_place}
@@ -25,7 +24,7 @@ returns-in-Ok-clause-checked g c = (c.in_ok-files.files, c.in-Ok.ensures.checked
 
 pub returns-in-Ok-clause-held : goal.returns-in-Ok-clause-held
 returns-in-Ok-clause-held g c = λ honest.
-    all-held (g.F.Folder.holds c.args.folder.now) c.args.top.now c.in_ok-files.files _ _ _ (c.in_ok-files.ensures.read honest) c.in-Ok.ensures.checked
+    all-held c.args.form (g.F.Folder.holds c.args.folder.now) c.args.top.now c.in_ok-files.files _ _ _ (c.in_ok-files.ensures.read honest) c.in-Ok.ensures.checked
 
 pub returns-in-Err-clause-refused : goal.returns-in-Err-clause-refused
 returns-in-Err-clause-refused g c =

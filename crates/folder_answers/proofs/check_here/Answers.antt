@@ -20,7 +20,7 @@ pub returns-in-Ok-clause-checked : goal.returns-in-Ok-clause-checked
 returns-in-Ok-clause-checked g c = (c.loop.files, c.in-Ok.ensures.checked)
 
 pub returns-in-Ok-clause-held : goal.returns-in-Ok-clause-held
-returns-in-Ok-clause-held g c = λ honest. checked (bytes_of c.loop.files) (g.F.Folder.holds c.args.folder.now) (c.loop.invariant honest).held c.args.top.now _ _ _ c.in-Ok.ensures.checked
+returns-in-Ok-clause-held g c = λ honest. checked (bytes_of c.loop.files) (g.F.Folder.holds c.args.folder.now) (c.loop.invariant honest).held c.args.form c.args.top.now _ _ _ c.in-Ok.ensures.checked
 
 pub returns-in_err-read_missing-in-Err-clause-refused : goal.returns-in_err-read_missing-in-Err-clause-refused
 returns-in_err-read_missing-in-Err-clause-refused g c =

@@ -9,11 +9,11 @@ use Rattle.dag_main_files.proofs.rounds.next_round.Goals as goal
 
 pub returns-in_err-journal-clause-refused : goal.returns-in_err-journal-clause-refused
 returns-in_err-journal-clause-refused g c =
-    by-fault (IsRoundFault None) c.in_err-journal.field-0.0 (journal_not_read _ tt c.in_err-journal.ensures.refused) c.from_residual.result c.from_residual.ensures.1
+    by-fault (IsRoundFault c.args.top.now None) c.in_err-journal.field-0.0 (journal_not_read _ tt c.in_err-journal.ensures.refused) c.from_residual.result c.from_residual.ensures.1
 
 pub returns-in_err-highest-clause-refused : goal.returns-in_err-highest-clause-refused
 returns-in_err-highest-clause-refused g c =
-    by-fault (IsRoundFault None) c.in_err-highest.field-0.0 (folder_not_read _ tt c.in_err-highest.ensures.refused)
+    by-fault (IsRoundFault c.args.top.now None) c.in_err-highest.field-0.0 (folder_not_read _ tt c.in_err-highest.ensures.refused)
     c.from_residual-in_err-highest.result c.from_residual-in_err-highest.ensures.1
 
 pub returns-clause-by : goal.returns-clause-by

@@ -1,7 +1,7 @@
 use Rattle.std.proofs.Common.{rules, ◌≡◌, ◌∙◌, ℕ, List, None, refl, sym, ap, subst, arith}
 use Rattle.std.specs.Option.{option_map}
 use Rattle.rescue_file.specs.Numbered.{rescue_name_of}
-use Rattle.dag_main_files.specs.Beside.{IsFileFault, reading_had_no_memory, IsRefusalOf, refusing_had_no_memory, IsRescueReadFault, missing, rescue_not_read}
+use Rattle.dag_main_files.specs.Beside.{IsRefusalOf, refusing_had_no_memory, IsRescueReadFault, missing, rescue_not_read}
 use Rattle.dag_main_files.specs.Folder.{IsRescueReadFaultHeld, held_missing, held_rescue_not_read}
 use Rattle.dag_main_files.proofs.RunFaults.{by-fault}
 use Rattle.dag_main_files.proofs.Held.{rescue-held}
@@ -9,17 +9,20 @@ use Rattle.dag_main_files.proofs.rounds.rescue_of.Goals as goal
 
 pub returns-in_err-path-clause-refused : goal.returns-in_err-path-clause-refused
 returns-in_err-path-clause-refused g c =
-    by-fault (IsRescueReadFault c.args.round.now) c.in_err-path.field-0.0 (rescue_not_read _ (subst IsFileFault (sym c.in_err-path.ensures.err) reading_had_no_memory))
+    by-fault (IsRescueReadFault c.args.place.now.top.now c.args.round.now) c.in_err-path.field-0.0
+    (rescue_not_read _ (subst (IsRefusalOf (rescue_name_of c.args.place.now.top.now c.args.round.now.used)) (sym c.in_err-path.ensures.err) refusing_had_no_memory))
     c.from_residual.result c.from_residual.ensures.1
 
 pub returns-in_err-trusts-clause-refused : goal.returns-in_err-trusts-clause-refused
 returns-in_err-trusts-clause-refused g c =
-    by-fault (IsRescueReadFault c.args.round.now) c.in_err-trusts.field-0.0 (rescue_not_read _ c.in_err-trusts.ensures.refused)
+    by-fault (IsRescueReadFault c.args.place.now.top.now c.args.round.now) c.in_err-trusts.field-0.0
+    (rescue_not_read _ (subst (λ (name : List ℕ). IsRefusalOf name c.in_err-trusts.field-0.0) (c.as_str.ensures ∙ c.in_ok-path.ensures.name) c.in_err-trusts.ensures.named))
     c.from_residual-in_err-trusts.result c.from_residual-in_err-trusts.ensures.1
 
 pub returns-in_err-bytes-clause-refused : goal.returns-in_err-bytes-clause-refused
 returns-in_err-bytes-clause-refused g c =
-    by-fault (IsRescueReadFault c.args.round.now) c.in_err-bytes.field-0.0 (rescue_not_read _ c.in_err-bytes.ensures.refused)
+    by-fault (IsRescueReadFault c.args.place.now.top.now c.args.round.now) c.in_err-bytes.field-0.0
+    (rescue_not_read _ (subst (λ (name : List ℕ). IsRefusalOf name c.in_err-bytes.field-0.0) (c.as_str-2.ensures ∙ c.in_ok-path.ensures.name) c.in_err-bytes.ensures.named))
     c.from_residual-in_err-bytes.result c.from_residual-in_err-bytes.ensures.1
 
 pub returns-then-round-eq0-clause-read : goal.returns-then-round-eq0-clause-read

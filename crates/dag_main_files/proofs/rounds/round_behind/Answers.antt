@@ -1,5 +1,5 @@
 use Rattle.std.proofs.Common.{◌∙◌, Some, refl, ap, sym, subst}
-use Rattle.dag_main_files.specs.Beside.{IsFileFault, reading_had_no_memory, IsRoundFault, not_there, journal_not_read, not_ended, folder_not_read, goes_back}
+use Rattle.dag_main_files.specs.Beside.{folder_name_of, IsRefusalOf, refusing_had_no_memory, IsRoundFault, not_there, journal_not_read, not_ended, folder_not_read, goes_back}
 use Rattle.event_journal_log.specs.Peeks.{ReadsPeek}
 use Rattle.dag_main_files.specs.Folder.{journal_in, IsRoundFaultHeld, held_not_there, held_journal_not_read, held_folder_not_read}
 use Rattle.dag_main_files.proofs.RunFaults.{by-fault}
@@ -9,8 +9,8 @@ use Rattle.dag_main_files.proofs.rounds.round_behind.Goals as goal
 
 pub returns-in_err-path-clause-refused : goal.returns-in_err-path-clause-refused
 returns-in_err-path-clause-refused g c =
-    by-fault (IsRoundFault (Some c.args.number)) c.in_err-path.field-0.0
-    (folder_not_read _ c.requires (subst IsFileFault (sym c.in_err-path.ensures.err) reading_had_no_memory))
+    by-fault (IsRoundFault c.args.top.now (Some c.args.number)) c.in_err-path.field-0.0
+    (folder_not_read _ c.requires (subst (IsRefusalOf (folder_name_of c.args.top.now)) (sym c.in_err-path.ensures.err) refusing_had_no_memory))
     c.from_residual.result c.from_residual.ensures.1
 
 pub returns-then-not-branch-clause-refused : goal.returns-then-not-branch-clause-refused
@@ -18,13 +18,13 @@ returns-then-not-branch-clause-refused g c = not_there _ refl
 
 pub returns-in_err-is_there-clause-refused : goal.returns-in_err-is_there-clause-refused
 returns-in_err-is_there-clause-refused g c =
-    by-fault (IsRoundFault (Some c.args.number)) c.in_err-is_there.field-0.0
-    (folder_not_read _ c.requires (subst IsFileFault (sym c.in_err-is_there.ensures.refused) reading_had_no_memory))
+    by-fault (IsRoundFault c.args.top.now (Some c.args.number)) c.in_err-is_there.field-0.0
+    (folder_not_read _ c.requires (subst (IsRefusalOf (folder_name_of c.args.top.now)) (sym c.in_err-is_there.ensures.refused) refusing_had_no_memory))
     c.from_residual-in_err-is_there.result c.from_residual-in_err-is_there.ensures.1
 
 pub returns-in_err-journal-clause-refused : goal.returns-in_err-journal-clause-refused
 returns-in_err-journal-clause-refused g c =
-    by-fault (IsRoundFault (Some c.args.number)) c.in_err-journal.field-0.0
+    by-fault (IsRoundFault c.args.top.now (Some c.args.number)) c.in_err-journal.field-0.0
     (journal_not_read _ c.requires c.in_err-journal.ensures.refused)
     c.from_residual-in_err-journal.result c.from_residual-in_err-journal.ensures.1
 
@@ -33,7 +33,7 @@ returns-in-Some-2-clause-refused g c = not_ended _ refl c.requires
 
 pub returns-in_err-highest-clause-refused : goal.returns-in_err-highest-clause-refused
 returns-in_err-highest-clause-refused g c =
-    by-fault (IsRoundFault (Some c.args.number)) c.in_err-highest.field-0.0
+    by-fault (IsRoundFault c.args.top.now (Some c.args.number)) c.in_err-highest.field-0.0
     (folder_not_read _ c.requires c.in_err-highest.ensures.refused)
     c.from_residual-in_err-highest.result c.from_residual-in_err-highest.ensures.1
 
@@ -62,12 +62,12 @@ returns-clause-held g c = λ autorescue honest. record {
 pub returns-in_err-path-clause-refused_held : goal.returns-in_err-path-clause-refused_held
 returns-in_err-path-clause-refused_held g c = λ honest.
     by-fault (IsRoundFaultHeld (g.F.Folder.holds c.args.folder.now) (g.F.Folder.has c.args.folder.now) c.args.top.now (Some c.args.number)) c.in_err-path.field-0.0
-    (held_folder_not_read _ c.requires (subst IsFileFault (sym c.in_err-path.ensures.err) reading_had_no_memory)) c.from_residual.result c.from_residual.ensures.1
+    (held_folder_not_read _ c.requires (subst (IsRefusalOf (folder_name_of c.args.top.now)) (sym c.in_err-path.ensures.err) refusing_had_no_memory)) c.from_residual.result c.from_residual.ensures.1
 
 pub returns-in_err-is_there-clause-refused_held : goal.returns-in_err-is_there-clause-refused_held
 returns-in_err-is_there-clause-refused_held g c = λ honest.
     by-fault (IsRoundFaultHeld (g.F.Folder.holds c.args.folder.now) (g.F.Folder.has c.args.folder.now) c.args.top.now (Some c.args.number)) c.in_err-is_there.field-0.0
-    (held_folder_not_read _ c.requires (subst IsFileFault (sym c.in_err-is_there.ensures.refused) reading_had_no_memory))
+    (held_folder_not_read _ c.requires (subst (IsRefusalOf (folder_name_of c.args.top.now)) (sym c.in_err-is_there.ensures.refused) refusing_had_no_memory))
     c.from_residual-in_err-is_there.result c.from_residual-in_err-is_there.ensures.1
 
 pub returns-then-not-branch-clause-refused_held : goal.returns-then-not-branch-clause-refused_held

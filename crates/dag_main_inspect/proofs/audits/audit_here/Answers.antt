@@ -1,6 +1,6 @@
 use Rattle.std.specs.Option.{option_map}
 use Rattle.std.proofs.lemmas.Result.{IfOk-weaker}
-use Rattle.dag_main_inspect.specs.Audited.{IsAuditFault}
+use Rattle.dag_main_inspect.specs.Audited.{audit_form_text, IsAuditFault}
 use Rattle.dag_main_check.proofs.Refusals.{weaker}
 use Rattle.dag_main_files.specs.Opened.{IsRefusedFor, IsRefusedForSome}
 use Rattle.dag_main_files.proofs.RunFaults.{by-fault}
@@ -21,11 +21,11 @@ pub returns-clause-audited : goal.returns-clause-audited
 returns-clause-audited g c =
     let holds = c.in_ok-plan.ensures.plan.0 in
     IfOk-weaker c.audit_plan.result _ _ (λ answer is. (holds, is))
-    (audit holds c.args.top.now (option_map (λ b. b.now) c.args.rescue) (option_map (λ b. b.now) c.args.journal) c.in_ok-plan.plan c.in_ok-plan.ensures.plan.1 c.bytes_in.result.now c.bytes_in.ensures c.audit_plan.result c.audit_plan.ensures.says c.audit_plan.ensures.warnings)
+    (audit holds c.args.top.now (option_map (λ b. b.now) c.args.rescue) (option_map (λ b. b.now) c.args.journal) c.in_ok-plan.plan c.in_ok-plan.ensures.plan.1 (audit_form_text c.args.form c.args.top.now) c.bytes_in.result.now c.bytes_in.ensures c.audit_plan.result c.audit_plan.ensures.says c.audit_plan.ensures.warnings)
 
 pub returns-clause-held : goal.returns-clause-held
 returns-clause-held g c = λ honest.
-    audit (g.F.Folder.holds c.args.folder.now) c.args.top.now (option_map (λ b. b.now) c.args.rescue) (option_map (λ b. b.now) c.args.journal) c.in_ok-plan.plan (c.in_ok-plan.ensures.held honest) c.bytes_in.result.now c.bytes_in.ensures c.audit_plan.result c.audit_plan.ensures.says c.audit_plan.ensures.warnings
+    audit (g.F.Folder.holds c.args.folder.now) c.args.top.now (option_map (λ b. b.now) c.args.rescue) (option_map (λ b. b.now) c.args.journal) c.in_ok-plan.plan (c.in_ok-plan.ensures.held honest) (audit_form_text c.args.form c.args.top.now) c.bytes_in.result.now c.bytes_in.ensures c.audit_plan.result c.audit_plan.ensures.says c.audit_plan.ensures.warnings
 
 pub returns-clause-refused : goal.returns-clause-refused
 returns-clause-refused g c =

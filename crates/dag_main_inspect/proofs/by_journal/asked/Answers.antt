@@ -42,6 +42,18 @@ returns-in-Audit-clause-refused g c = subst (λ (q : Question). IfErr c.audit_he
 pub returns-in-Audit-clause-refused_held : goal.returns-in-Audit-clause-refused_held
 returns-in-Audit-clause-refused_held g c = λ honest. subst (λ (q : Question). IfErr c.audit_here.result (IsRefusedFor (g.F.Folder.holds c.args.folder.now) c.args.top.now (IsNotAnsweredBy q c.args.top.now (option_map (λ b. b.now) c.args.rescue) (option_map (λ b. b.now) c.args.journal)))) (sym c.in-Audit.is) (c.audit_here.ensures.refused_held honest)
 
+pub returns-in-AuditJson-clause-answered : goal.returns-in-AuditJson-clause-answered
+returns-in-AuditJson-clause-answered g c = subst (λ (q : Question). IfOk c.audit_here-in-AuditJson.result (λ (a : Answer). IsOfSome c.args.top.now (AnswersBy q c.args.top.now (option_map (λ b. b.now) c.args.rescue) (option_map (λ b. b.now) c.args.journal) (string_bytes a.text) (string_bytes a.warnings) a.status))) (sym c.in-AuditJson.is) c.audit_here-in-AuditJson.ensures.audited
+
+pub returns-in-AuditJson-clause-held : goal.returns-in-AuditJson-clause-held
+returns-in-AuditJson-clause-held g c = λ honest. subst (λ (q : Question). IfOk c.audit_here-in-AuditJson.result (λ (a : Answer). IsOfFiles (g.F.Folder.holds c.args.folder.now) c.args.top.now (AnswersBy q c.args.top.now (option_map (λ b. b.now) c.args.rescue) (option_map (λ b. b.now) c.args.journal) (string_bytes a.text) (string_bytes a.warnings) a.status))) (sym c.in-AuditJson.is) (c.audit_here-in-AuditJson.ensures.held honest)
+
+pub returns-in-AuditJson-clause-refused : goal.returns-in-AuditJson-clause-refused
+returns-in-AuditJson-clause-refused g c = subst (λ (q : Question). IfErr c.audit_here-in-AuditJson.result (IsRefusedForSome c.args.top.now (IsNotAnsweredBy q c.args.top.now (option_map (λ b. b.now) c.args.rescue) (option_map (λ b. b.now) c.args.journal)))) (sym c.in-AuditJson.is) c.audit_here-in-AuditJson.ensures.refused
+
+pub returns-in-AuditJson-clause-refused_held : goal.returns-in-AuditJson-clause-refused_held
+returns-in-AuditJson-clause-refused_held g c = λ honest. subst (λ (q : Question). IfErr c.audit_here-in-AuditJson.result (IsRefusedFor (g.F.Folder.holds c.args.folder.now) c.args.top.now (IsNotAnsweredBy q c.args.top.now (option_map (λ b. b.now) c.args.rescue) (option_map (λ b. b.now) c.args.journal)))) (sym c.in-AuditJson.is) (c.audit_here-in-AuditJson.ensures.refused_held honest)
+
 pub returns-in-Graph-clause-answered : goal.returns-in-Graph-clause-answered
 returns-in-Graph-clause-answered g c = subst (λ (q : Question). IfOk c.graph_here.result (λ (a : Answer). IsOfSome c.args.top.now (AnswersBy q c.args.top.now (option_map (λ b. b.now) c.args.rescue) (option_map (λ b. b.now) c.args.journal) (string_bytes a.text) (string_bytes a.warnings) a.status))) (sym c.in-Graph.is) c.graph_here.ensures.drawn
 
@@ -53,3 +65,15 @@ returns-in-Graph-clause-refused g c = subst (λ (q : Question). IfErr c.graph_he
 
 pub returns-in-Graph-clause-refused_held : goal.returns-in-Graph-clause-refused_held
 returns-in-Graph-clause-refused_held g c = λ honest. subst (λ (q : Question). IfErr c.graph_here.result (IsRefusedFor (g.F.Folder.holds c.args.folder.now) c.args.top.now (IsNotAnsweredBy q c.args.top.now (option_map (λ b. b.now) c.args.rescue) (option_map (λ b. b.now) c.args.journal)))) (sym c.in-Graph.is) (c.graph_here.ensures.refused_held honest)
+
+pub returns-in-FoldedGraph-clause-answered : goal.returns-in-FoldedGraph-clause-answered
+returns-in-FoldedGraph-clause-answered g c = subst (λ (q : Question). IfOk c.graph_here-in-FoldedGraph.result (λ (a : Answer). IsOfSome c.args.top.now (AnswersBy q c.args.top.now (option_map (λ b. b.now) c.args.rescue) (option_map (λ b. b.now) c.args.journal) (string_bytes a.text) (string_bytes a.warnings) a.status))) (sym c.in-FoldedGraph.is) c.graph_here-in-FoldedGraph.ensures.drawn
+
+pub returns-in-FoldedGraph-clause-held : goal.returns-in-FoldedGraph-clause-held
+returns-in-FoldedGraph-clause-held g c = λ honest. subst (λ (q : Question). IfOk c.graph_here-in-FoldedGraph.result (λ (a : Answer). IsOfFiles (g.F.Folder.holds c.args.folder.now) c.args.top.now (AnswersBy q c.args.top.now (option_map (λ b. b.now) c.args.rescue) (option_map (λ b. b.now) c.args.journal) (string_bytes a.text) (string_bytes a.warnings) a.status))) (sym c.in-FoldedGraph.is) (c.graph_here-in-FoldedGraph.ensures.held honest)
+
+pub returns-in-FoldedGraph-clause-refused : goal.returns-in-FoldedGraph-clause-refused
+returns-in-FoldedGraph-clause-refused g c = subst (λ (q : Question). IfErr c.graph_here-in-FoldedGraph.result (IsRefusedForSome c.args.top.now (IsNotAnsweredBy q c.args.top.now (option_map (λ b. b.now) c.args.rescue) (option_map (λ b. b.now) c.args.journal)))) (sym c.in-FoldedGraph.is) c.graph_here-in-FoldedGraph.ensures.refused
+
+pub returns-in-FoldedGraph-clause-refused_held : goal.returns-in-FoldedGraph-clause-refused_held
+returns-in-FoldedGraph-clause-refused_held g c = λ honest. subst (λ (q : Question). IfErr c.graph_here-in-FoldedGraph.result (IsRefusedFor (g.F.Folder.holds c.args.folder.now) c.args.top.now (IsNotAnsweredBy q c.args.top.now (option_map (λ b. b.now) c.args.rescue) (option_map (λ b. b.now) c.args.journal)))) (sym c.in-FoldedGraph.is) (c.graph_here-in-FoldedGraph.ensures.refused_held honest)

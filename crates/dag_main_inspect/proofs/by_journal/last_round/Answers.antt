@@ -1,22 +1,38 @@
-use Rattle.std.proofs.Common.{Some, None, ◌∙◌, ap, sym, subst}
-use Rattle.dag_main_inspect.specs.LastRound.{used_by, used_name, IsNoLastRound, journal_refused, rescue_refused, looking_had_no_memory}
+use Rattle.std.proofs.Common.{◌≡◌, ℕ, zero, suc, List, Option, Some, None, ◌∙◌, ap, sym, subst}
+use Rattle.std.specs.Prelude.{IfSome}
+use Rattle.std.proofs.lemmas.Option.{none-some}
+use Rattle.rescue_file.specs.Numbered.{IsFileNumber, rescue_name_of}
+use Rattle.dag_main_check.specs.declared.fault.RunFault.{RunFault}
+use Rattle.dag_main_inspect.specs.LastRound.{used_by, used_name, IsNoLastRound, journal_refused, rescue_refused, looking_had_no_memory, IsNoLastRoundOfSome, some_journal_refused, some_rescue_refused}
 use Rattle.dag_main_inspect.proofs.Rounds.{bad-number}
-use Rattle.dag_main_files.specs.Beside.{IsFileFault, reading_had_no_memory, IsRoundFault, folder_not_read}
+use Rattle.dag_main_files.specs.Beside.{journal_name_of, IsRefusalOf, refusing_had_no_memory}
 use Rattle.dag_main_files.proofs.RunFaults.{by-fault}
 use Rattle.dag_main_inspect.proofs.by_journal.last_round.Goals as goal
 
+-- the rescue file of a number, which has a name
+some_rescue : (path : List ℕ) (used : ℕ) (name : Option (List ℕ)) (text : List ℕ) (fault : RunFault) → name ≡ used_name path used
+    → IfSome name (λ name. IsFileNumber used) → name ≡ Some text → IsRefusalOf text fault → IsNoLastRoundOfSome path fault
+some_rescue path used None text fault is within some refused = absurd (none-some text some)
+some_rescue path zero (Some other) text fault is within some refused = absurd (none-some other (sym is))
+some_rescue path (suc n) (Some other) text fault is within some refused =
+    let same : text ≡ rescue_name_of path (suc n) = cc in
+    some_rescue_refused (suc n) fault within (subst (λ (name : List ℕ). IsRefusalOf name fault) same refused)
+
 pub returns-in_err-journal-clause-refused : goal.returns-in_err-journal-clause-refused
 returns-in_err-journal-clause-refused g c =
-    by-fault (IsRoundFault None) c.in_err-journal.field-0.0 c.in_err-journal.ensures.refused c.from_residual.result c.from_residual.ensures.1
+    by-fault (IsNoLastRoundOfSome c.args.top.now) c.in_err-journal.field-0.0 (some_journal_refused _ c.in_err-journal.ensures.refused) c.from_residual.result c.from_residual.ensures.1
 
 pub returns-in_err-used-clause-refused : goal.returns-in_err-used-clause-refused
 returns-in_err-used-clause-refused g c =
-    by-fault (IsRoundFault None) c.in_err-used.field-0.0 (folder_not_read _ tt (subst IsFileFault (sym c.in_err-used.ensures.err) reading_had_no_memory))
+    by-fault (IsNoLastRoundOfSome c.args.top.now) c.in_err-used.field-0.0
+    (some_journal_refused _ (subst (IsRefusalOf (journal_name_of c.args.top.now)) (sym c.in_err-used.ensures.err) refusing_had_no_memory))
     c.from_residual-in_err-used.result c.from_residual-in_err-used.ensures.1
 
 pub returns-in_err-rescue-in-Some-clause-refused : goal.returns-in_err-rescue-in-Some-clause-refused
 returns-in_err-rescue-in-Some-clause-refused g c =
-    by-fault (IsRoundFault None) c.in_err-rescue-in-Some.field-0.0 (folder_not_read _ tt c.in_err-rescue-in-Some.ensures.refused)
+    by-fault (IsNoLastRoundOfSome c.args.top.now) c.in_err-rescue-in-Some.field-0.0
+    (some_rescue c.args.top.now c.in_ok-used.used _ _ _ c.in_ok-name.ensures.name c.in_ok-name.ensures.within c.in-Some.is
+    (subst (λ (name : List ℕ). IsRefusalOf name c.in_err-rescue-in-Some.field-0.0) c.as_str.ensures c.in_err-rescue-in-Some.ensures.named))
     c.from_residual-in_err-rescue-in-Some.result c.from_residual-in_err-rescue-in-Some.ensures.1
 
 pub returns-in_err-journal-clause-refused_held : goal.returns-in_err-journal-clause-refused_held

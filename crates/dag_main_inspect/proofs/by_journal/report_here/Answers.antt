@@ -1,8 +1,8 @@
 use Rattle.std.proofs.Common.{refl, sym, ap, ◌∙◌, subst}
 use Rattle.std.specs.Option.{option_map}
-use Rattle.dag_main_files.specs.Beside.{IsFileFault, reading_had_no_memory, folder_not_read}
+use Rattle.dag_main_files.specs.Beside.{journal_name_of, IsRefusalOf, refusing_had_no_memory}
 use Rattle.dag_main_inspect.specs.Asked.{IsAnswerFault, no_last_round, not_told, IsAnswerFaultHeld, held_no_last_round}
-use Rattle.dag_main_inspect.specs.LastRound.{IsNoLastRound, looking_had_no_memory}
+use Rattle.dag_main_inspect.specs.LastRound.{IsNoLastRound, looking_had_no_memory, some_journal_refused}
 use Rattle.dag_main_inspect.specs.Reported.{no_journal, no_end, unended}
 use Rattle.dag_main_inspect.specs.declared.by_journal.Question.TheVariants.{Status}
 use Rattle.dag_main_files.proofs.RunFaults.{by-fault}
@@ -17,7 +17,7 @@ returns-in_err-round-clause-refused g c =
 pub returns-in_err-has_ended-clause-refused : goal.returns-in_err-has_ended-clause-refused
 returns-in_err-has_ended-clause-refused g c =
     by-fault (IsAnswerFault Status c.args.top.now) c.in_err-has_ended.field-0.0
-    (no_last_round _ (folder_not_read _ tt (subst IsFileFault (sym c.in_err-has_ended.ensures.err) reading_had_no_memory)))
+    (no_last_round _ (some_journal_refused _ (subst (IsRefusalOf (journal_name_of c.args.top.now)) (sym c.in_err-has_ended.ensures.err) refusing_had_no_memory)))
     c.from_residual-in_err-has_ended.result c.from_residual-in_err-has_ended.ensures.1
 
 pub returns-in-Err-clause-refused : goal.returns-in-Err-clause-refused

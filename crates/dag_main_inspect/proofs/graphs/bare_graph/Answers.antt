@@ -17,11 +17,11 @@ pub returns-clause-drawn : goal.returns-clause-drawn
 returns-clause-drawn g c =
     let holds = c.in_ok-plan.ensures.plan.0 in
     IfOk-weaker c.answer_for.result _ _ (λ answer is. (holds, is))
-    (bare-picture holds c.args.top.now c.in_ok-plan.plan c.in_ok-plan.ensures.plan.1 c.answer_for.result c.answer_for.ensures.text c.answer_for.ensures.warnings c.answer_for.ensures.status)
+    (bare-picture holds c.args.top.now c.in_ok-plan.plan c.in_ok-plan.ensures.plan.1 c.args.shape c.answer_for.result c.answer_for.ensures.text c.answer_for.ensures.warnings c.answer_for.ensures.status)
 
 pub returns-clause-held : goal.returns-clause-held
 returns-clause-held g c = λ honest.
-    bare-picture (g.F.Folder.holds c.args.folder.now) c.args.top.now c.in_ok-plan.plan (c.in_ok-plan.ensures.held honest) c.answer_for.result c.answer_for.ensures.text c.answer_for.ensures.warnings c.answer_for.ensures.status
+    bare-picture (g.F.Folder.holds c.args.folder.now) c.args.top.now c.in_ok-plan.plan (c.in_ok-plan.ensures.held honest) c.args.shape c.answer_for.result c.answer_for.ensures.text c.answer_for.ensures.warnings c.answer_for.ensures.status
 
 pub returns-clause-refused : goal.returns-clause-refused
 returns-clause-refused g c =

@@ -22,11 +22,11 @@ pub returns-clause-drawn : goal.returns-clause-drawn
 returns-clause-drawn g c =
     let holds = c.in_ok-plan.ensures.plan.0 in
     IfOk-weaker c.graph_plan.result _ _ (λ answer is. (holds, is))
-    (picture holds c.args.top.now (option_map (λ b. b.now) c.args.rescue) c.args.bytes.now c.in_ok-plan.plan c.in_ok-plan.ensures.plan.1 c.graph_plan.result c.graph_plan.ensures.drawn c.graph_plan.ensures.warnings c.graph_plan.ensures.status)
+    (picture holds c.args.top.now (option_map (λ b. b.now) c.args.rescue) c.args.bytes.now c.in_ok-plan.plan c.in_ok-plan.ensures.plan.1 c.args.shape c.graph_plan.result c.graph_plan.ensures.drawn c.graph_plan.ensures.warnings c.graph_plan.ensures.status)
 
 pub returns-clause-held : goal.returns-clause-held
 returns-clause-held g c = λ honest.
-    picture (g.F.Folder.holds c.args.folder.now) c.args.top.now (option_map (λ b. b.now) c.args.rescue) c.args.bytes.now c.in_ok-plan.plan (c.in_ok-plan.ensures.held honest) c.graph_plan.result c.graph_plan.ensures.drawn c.graph_plan.ensures.warnings c.graph_plan.ensures.status
+    picture (g.F.Folder.holds c.args.folder.now) c.args.top.now (option_map (λ b. b.now) c.args.rescue) c.args.bytes.now c.in_ok-plan.plan (c.in_ok-plan.ensures.held honest) c.args.shape c.graph_plan.result c.graph_plan.ensures.drawn c.graph_plan.ensures.warnings c.graph_plan.ensures.status
 
 pub returns-clause-refused : goal.returns-clause-refused
 returns-clause-refused g c =

@@ -8,10 +8,10 @@ use Rattle.dag_main_inspect.proofs.OfPlans.{no-graph-no-picture}
 use Rattle.dag_main_inspect.proofs.graphs.graph_here.Goals as goal
 
 pub returns-in-None-clause-drawn : goal.returns-in-None-clause-drawn
-returns-in-None-clause-drawn g c = subst (λ (j : Option (Bor (List ℕ))). IfOk c.bare_graph.result (λ (a : Answer). IsOfSome c.args.top.now (λ files entries. IsDrawnOf files entries c.args.top.now (option_map (λ b. b.now) c.args.rescue) (option_map (λ b. b.now) j) (string_bytes a.text) (string_bytes a.warnings) a.status))) (sym c.in-None.is) c.bare_graph.ensures.drawn
+returns-in-None-clause-drawn g c = subst (λ (j : Option (Bor (List ℕ))). IfOk c.bare_graph.result (λ (a : Answer). IsOfSome c.args.top.now (λ files entries. IsDrawnOf c.args.shape files entries c.args.top.now (option_map (λ b. b.now) c.args.rescue) (option_map (λ b. b.now) j) (string_bytes a.text) (string_bytes a.warnings) a.status))) (sym c.in-None.is) c.bare_graph.ensures.drawn
 
 pub returns-in-None-clause-held : goal.returns-in-None-clause-held
-returns-in-None-clause-held g c = λ honest. subst (λ (j : Option (Bor (List ℕ))). IfOk c.bare_graph.result (λ (a : Answer). IsOfFiles (g.F.Folder.holds c.args.folder.now) c.args.top.now (λ files entries. IsDrawnOf files entries c.args.top.now (option_map (λ b. b.now) c.args.rescue) (option_map (λ b. b.now) j) (string_bytes a.text) (string_bytes a.warnings) a.status))) (sym c.in-None.is) (c.bare_graph.ensures.held honest)
+returns-in-None-clause-held g c = λ honest. subst (λ (j : Option (Bor (List ℕ))). IfOk c.bare_graph.result (λ (a : Answer). IsOfFiles (g.F.Folder.holds c.args.folder.now) c.args.top.now (λ files entries. IsDrawnOf c.args.shape files entries c.args.top.now (option_map (λ b. b.now) c.args.rescue) (option_map (λ b. b.now) j) (string_bytes a.text) (string_bytes a.warnings) a.status))) (sym c.in-None.is) (c.bare_graph.ensures.held honest)
 
 pub returns-in-None-clause-refused : goal.returns-in-None-clause-refused
 returns-in-None-clause-refused g c = subst (λ (j : Option (Bor (List ℕ))). IfErr c.bare_graph.result (IsRefusedForSome c.args.top.now (λ files entries. IsDrawnFault files entries c.args.top.now (option_map (λ b. b.now) c.args.rescue) (option_map (λ b. b.now) j)))) (sym c.in-None.is)
@@ -24,10 +24,10 @@ returns-in-None-clause-refused_held g c = λ honest. subst (λ (j : Option (Bor 
     (λ fault why. no-graph-no-picture (g.F.Folder.holds c.args.folder.now) c.args.top.now (option_map (λ b. b.now) c.args.rescue) fault why))
 
 pub returns-in-Some-clause-drawn : goal.returns-in-Some-clause-drawn
-returns-in-Some-clause-drawn g c = subst (λ (j : Option (Bor (List ℕ))). IfOk c.graph_by.result (λ (a : Answer). IsOfSome c.args.top.now (λ files entries. IsDrawnOf files entries c.args.top.now (option_map (λ b. b.now) c.args.rescue) (option_map (λ b. b.now) j) (string_bytes a.text) (string_bytes a.warnings) a.status))) (sym c.in-Some.is) c.graph_by.ensures.drawn
+returns-in-Some-clause-drawn g c = subst (λ (j : Option (Bor (List ℕ))). IfOk c.graph_by.result (λ (a : Answer). IsOfSome c.args.top.now (λ files entries. IsDrawnOf c.args.shape files entries c.args.top.now (option_map (λ b. b.now) c.args.rescue) (option_map (λ b. b.now) j) (string_bytes a.text) (string_bytes a.warnings) a.status))) (sym c.in-Some.is) c.graph_by.ensures.drawn
 
 pub returns-in-Some-clause-held : goal.returns-in-Some-clause-held
-returns-in-Some-clause-held g c = λ honest. subst (λ (j : Option (Bor (List ℕ))). IfOk c.graph_by.result (λ (a : Answer). IsOfFiles (g.F.Folder.holds c.args.folder.now) c.args.top.now (λ files entries. IsDrawnOf files entries c.args.top.now (option_map (λ b. b.now) c.args.rescue) (option_map (λ b. b.now) j) (string_bytes a.text) (string_bytes a.warnings) a.status))) (sym c.in-Some.is) (c.graph_by.ensures.held honest)
+returns-in-Some-clause-held g c = λ honest. subst (λ (j : Option (Bor (List ℕ))). IfOk c.graph_by.result (λ (a : Answer). IsOfFiles (g.F.Folder.holds c.args.folder.now) c.args.top.now (λ files entries. IsDrawnOf c.args.shape files entries c.args.top.now (option_map (λ b. b.now) c.args.rescue) (option_map (λ b. b.now) j) (string_bytes a.text) (string_bytes a.warnings) a.status))) (sym c.in-Some.is) (c.graph_by.ensures.held honest)
 
 pub returns-in-Some-clause-refused : goal.returns-in-Some-clause-refused
 returns-in-Some-clause-refused g c = subst (λ (j : Option (Bor (List ℕ))). IfErr c.graph_by.result (IsRefusedForSome c.args.top.now (λ files entries. IsDrawnFault files entries c.args.top.now (option_map (λ b. b.now) c.args.rescue) (option_map (λ b. b.now) j)))) (sym c.in-Some.is) c.graph_by.ensures.refused

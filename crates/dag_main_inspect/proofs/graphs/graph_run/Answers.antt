@@ -6,7 +6,7 @@ use Rattle.dag_main_inspect.proofs.graphs.graph_run.Goals as goal
 
 pub returns-clause-drawn : goal.returns-clause-drawn
 returns-clause-drawn c =
-    run-picture c.args.plan.now c.args.bytes.now c.args.records.now c.in_ok-core.core c.requires c.in_ok-core.ensures.plan c.in_ok-core.ensures.records
+    run-picture c.args.plan.now c.args.bytes.now c.args.shape c.args.records.now c.in_ok-core.core c.requires c.in_ok-core.ensures.plan c.in_ok-core.ensures.records
     c.keeps_the_law.ensures c.answer_for.result c.answer_for.ensures.text
 
 pub returns-clause-warnings : goal.returns-clause-warnings

@@ -6,7 +6,7 @@ use Rattle.dag_main_inspect.proofs.graphs.graph_unless.Goals as goal
 
 pub returns-then-tells_of_others-clause-drawn : goal.returns-then-tells_of_others-clause-drawn
 returns-then-tells_of_others-clause-drawn c =
-    other-picture c.args.plan.now c.args.bytes.now (others c.args.plan.now c.args.bytes.now _ c.requires (sym c.tells_of_others.ensures ∙ c.if-tells_of_others.true))
+    other-picture c.args.plan.now c.args.bytes.now c.args.shape (others c.args.plan.now c.args.bytes.now _ c.requires (sym c.tells_of_others.ensures ∙ c.if-tells_of_others.true))
     c.answer_for.result c.answer_for.ensures.text
 
 pub returns-then-tells_of_others-clause-refused : goal.returns-then-tells_of_others-clause-refused

@@ -1,7 +1,7 @@
 use Rattle.std.proofs.Common.{◌≡◌, ◌∙◌, ap, arith}
 use Rattle.status_report.specs.Text.{reported}
 use Rattle.serde_json.specs.View.{items_view}
-use Rattle.dag_main_inspect.specs.StatusData.{nodes_data}
+use Rattle.dag_main_inspect.specs.StatusData.{node_data, nodes_data}
 use Rattle.dag_main_inspect.proofs.StatusTexts.{next-node}
 use Rattle.dag_main_inspect.proofs.status_data.nodes_of.Goals as goal
 
@@ -10,7 +10,7 @@ loop-node-init c = ap items_view c.new-nodes.ensures.items
 
 pub loop-node-preserved : goal.loop-node-preserved
 loop-node-preserved c =
-    next-node c.args.core.now.plan c.args.core.now.past c.loop-node.node c.loop-node.nodes.items _ c.in_ok-node_of.field-0 c.loop-node.invariant c.in_ok-node_of.ensures
+    next-node (node_data c.args.core.now.plan c.args.core.now.past) c.loop-node.node c.loop-node.nodes.items _ c.in_ok-node_of.field-0 c.loop-node.invariant c.in_ok-node_of.ensures
     c.in_ok-push.ensures.items
 
 pub returns : goal.returns

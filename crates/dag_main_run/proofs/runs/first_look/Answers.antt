@@ -6,7 +6,7 @@ use Rattle.dag_main_run.proofs.runs.first_look.Goals as goal
 
 pub returns-in_err-has_own_files-clause-refused : goal.returns-in_err-has_own_files-clause-refused
 returns-in_err-has_own_files-clause-refused g c =
-    by-fault (IsFirstRunFault c.args.place.now.top.now (IsFindingFault c.args.options.now)) c.in_err-has_own_files.field-0.0
+    by-fault (IsFirstRunFault c.args.place.now.top.now (IsFindingFault c.args.place.now.top.now c.args.options.now)) c.in_err-has_own_files.field-0.0
     (not_ours _ c.in_err-has_own_files.ensures) c.from_residual.result c.from_residual.ensures.1
 
 pub returns-in_err-has_own_files-clause-refused_held : goal.returns-in_err-has_own_files-clause-refused_held
@@ -16,9 +16,9 @@ returns-in_err-has_own_files-clause-refused_held g c = λ honest.
 
 pub returns-in-Err-InManager-clause-refused : goal.returns-in-Err-InManager-clause-refused
 returns-in-Err-InManager-clause-refused g c =
-    weaker (IsFirstRunFault c.args.place.now.top.now (IsFindingFault c.args.options.now)) c.look_locked.result c.look_locked.ensures.refused
+    weaker (IsFirstRunFault c.args.place.now.top.now (IsFindingFault c.args.place.now.top.now c.args.options.now)) c.look_locked.result c.look_locked.ensures.refused
     (λ fault is. looked_again c.in-Err-InManager._journal fault
-    (subst (IsFindingFault c.args.options.now) c.in-Err-InManager.field-0-is c.in-Err-InManager.ensures.refused) is)
+    (subst (IsFindingFault c.args.place.now.top.now c.args.options.now) c.in-Err-InManager.field-0-is c.in-Err-InManager.ensures.refused) is)
 
 pub returns-in-Err-InManager-clause-refused_held : goal.returns-in-Err-InManager-clause-refused_held
 returns-in-Err-InManager-clause-refused_held g c = λ honest.

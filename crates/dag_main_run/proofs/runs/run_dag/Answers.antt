@@ -15,7 +15,7 @@ returns-in_err-files-clause-refused_held g c = λ unstreamed honest.
     (subst (IsRunFaultFrom (g.H.Folder.holds c.args.site.now) (g.H.Folder.has c.args.site.now) _ c.args.place.now.top.now c.args.options.now) (sym (c.in_err-files.ensures.unstreamed unstreamed)) no_memory) c.from_residual.result c.from_residual.ensures.1
 
 pub returns-in-Ok-clause-run : goal.returns-in-Ok-clause-run
-returns-in-Ok-clause-run g c = run-of-some c.loop.files (any_round c.args.options.now) _ c.args.place.now.top.now c.args.options.now _ _ _ c.in-Ok.ensures.run
+returns-in-Ok-clause-run g c = run-of-some c.loop.files (any_round c.args.place.now.top.now c.args.options.now) _ c.args.place.now.top.now c.args.options.now _ _ _ c.in-Ok.ensures.run
 
 pub returns-in-Ok-clause-held : goal.returns-in-Ok-clause-held
 returns-in-Ok-clause-held g c = λ honest.
@@ -24,7 +24,7 @@ returns-in-Ok-clause-held g c = λ honest.
 pub returns-in_err-read_missing-in-Err-clause-refused : goal.returns-in_err-read_missing-in-Err-clause-refused
 returns-in_err-read_missing-in-Err-clause-refused g c = λ unstreamed.
     by-fault (IsRunFault _ c.args.place.now.top.now c.args.options.now) c.in_err-read_missing-in-Err.field-0.0
-    (told-of-some c.loop.files (any_round c.args.options.now) _ c.args.place.now.top.now c.args.options.now c.in-Err.fault _ c.in-Err.ensures.refused c.in_err-read_missing-in-Err.ensures.refused)
+    (told-of-some c.loop.files (any_round c.args.place.now.top.now c.args.options.now) _ c.args.place.now.top.now c.args.options.now c.in-Err.fault _ c.in-Err.ensures.refused c.in_err-read_missing-in-Err.ensures.refused)
     c.from_residual-in_err-read_missing-in-Err.result c.from_residual-in_err-read_missing-in-Err.ensures.1
 
 pub returns-in_err-read_missing-in-Err-clause-refused_held : goal.returns-in_err-read_missing-in-Err-clause-refused_held

@@ -9,27 +9,27 @@ use Rattle.dag_main_run.proofs.runs.run_files.Goals as goal
 
 pub returns-in_err-graph-clause-refused : goal.returns-in_err-graph-clause-refused
 returns-in_err-graph-clause-refused g c =
-    by-fault (IsRunFaultWhere bytes_of (λ set. set ≡ c.args.files.now) (any_round c.args.options.now) _ c.args.place.now.top.now c.args.options.now) c.in_err-graph.field-0.0 (no_graph c.args.files.now c.in_err-graph.field-0.0 refl c.in_err-graph.ensures.refused) c.from_residual.result c.from_residual.ensures.1
+    by-fault (IsRunFaultWhere bytes_of (λ set. set ≡ c.args.files.now) (any_round c.args.place.now.top.now c.args.options.now) _ c.args.place.now.top.now c.args.options.now) c.in_err-graph.field-0.0 (no_graph c.args.files.now c.in_err-graph.field-0.0 refl c.in_err-graph.ensures.refused) c.from_residual.result c.from_residual.ensures.1
 
 pub returns-in_err-found-clause-refused : goal.returns-in_err-found-clause-refused
 returns-in_err-found-clause-refused g c =
-    by-fault (IsRunFaultWhere bytes_of (λ set. set ≡ c.args.files.now) (any_round c.args.options.now) _ c.args.place.now.top.now c.args.options.now) c.in_err-found.field-0.0 (not_found c.args.files.now c.in_ok-graph.graph c.in_err-found.field-0.0 refl c.in_ok-graph.ensures.graph c.in_err-found.ensures.refused) c.from_residual-in_err-found.result c.from_residual-in_err-found.ensures.1
+    by-fault (IsRunFaultWhere bytes_of (λ set. set ≡ c.args.files.now) (any_round c.args.place.now.top.now c.args.options.now) _ c.args.place.now.top.now c.args.options.now) c.in_err-found.field-0.0 (not_found c.args.files.now c.in_ok-graph.graph c.in_err-found.field-0.0 refl c.in_ok-graph.ensures.graph c.in_err-found.ensures.refused) c.from_residual-in_err-found.result c.from_residual-in_err-found.ensures.1
 
 pub returns-in_err-plan-clause-refused : goal.returns-in_err-plan-clause-refused
 returns-in_err-plan-clause-refused g c =
-    by-fault (IsRunFaultWhere bytes_of (λ set. set ≡ c.args.files.now) (any_round c.args.options.now) _ c.args.place.now.top.now c.args.options.now) c.in_err-plan.field-0.0 (no_plan c.args.files.now c.in_ok-graph.graph c.in_ok-found.found.0 _ c.in_err-plan.field-0.0 refl c.in_ok-graph.ensures.graph c.in_ok-found.ensures.by (subst (IsRescueOf c.in_ok-found.found.0) (sym c.as_deref.ensures.value) c.in_ok-found.ensures.rescue) c.in_err-plan.ensures.refused) c.from_residual-in_err-plan.result c.from_residual-in_err-plan.ensures.1
+    by-fault (IsRunFaultWhere bytes_of (λ set. set ≡ c.args.files.now) (any_round c.args.place.now.top.now c.args.options.now) _ c.args.place.now.top.now c.args.options.now) c.in_err-plan.field-0.0 (no_plan c.args.files.now c.in_ok-graph.graph c.in_ok-found.found.0 _ c.in_err-plan.field-0.0 refl c.in_ok-graph.ensures.graph c.in_ok-found.ensures.by (subst (IsRescueOf c.in_ok-found.found.0) (sym c.as_deref.ensures.value) c.in_ok-found.ensures.rescue) c.in_err-plan.ensures.refused) c.from_residual-in_err-plan.result c.from_residual-in_err-plan.ensures.1
 
 pub returns-in_err-launcher-clause-refused : goal.returns-in_err-launcher-clause-refused
 returns-in_err-launcher-clause-refused g c =
-    by-fault (IsRunFaultWhere bytes_of (λ set. set ≡ c.args.files.now) (any_round c.args.options.now) _ c.args.place.now.top.now c.args.options.now) c.in_err-launcher.field-0.0 (no_launcher c.in_err-launcher.field-0.0 (planned-for c.args.files.now (any_round c.args.options.now).is_round c.args.place.now.top.now c.in_ok-graph.graph c.in_ok-found.found.0 c.in_ok-plan.plan c.in_ok-graph.ensures.graph c.in_ok-found.ensures.by c.in_ok-plan.ensures.plan) c.in_err-launcher.ensures.refused) c.from_residual-in_err-launcher.result c.from_residual-in_err-launcher.ensures.1
+    by-fault (IsRunFaultWhere bytes_of (λ set. set ≡ c.args.files.now) (any_round c.args.place.now.top.now c.args.options.now) _ c.args.place.now.top.now c.args.options.now) c.in_err-launcher.field-0.0 (no_launcher c.in_err-launcher.field-0.0 (planned-for c.args.files.now (any_round c.args.place.now.top.now c.args.options.now).is_round c.args.place.now.top.now c.in_ok-graph.graph c.in_ok-found.found.0 c.in_ok-plan.plan c.in_ok-graph.ensures.graph c.in_ok-found.ensures.by c.in_ok-plan.ensures.plan) c.in_err-launcher.ensures.refused) c.from_residual-in_err-launcher.result c.from_residual-in_err-launcher.ensures.1
 
 pub returns-in_err-has_room_for_names-clause-refused : goal.returns-in_err-has_room_for_names-clause-refused
 returns-in_err-has_room_for_names-clause-refused g c =
-    by-fault (IsRunFaultWhere bytes_of (λ set. set ≡ c.args.files.now) (any_round c.args.options.now) _ c.args.place.now.top.now c.args.options.now) c.in_err-has_room_for_names.field-0.0 (no_room c.in_err-has_room_for_names.field-0.0 (planned-for c.args.files.now (any_round c.args.options.now).is_round c.args.place.now.top.now c.in_ok-graph.graph c.in_ok-found.found.0 c.in_ok-plan.plan c.in_ok-graph.ensures.graph c.in_ok-found.ensures.by c.in_ok-plan.ensures.plan) c.in_err-has_room_for_names.ensures.refused) c.from_residual-in_err-has_room_for_names.result c.from_residual-in_err-has_room_for_names.ensures.1
+    by-fault (IsRunFaultWhere bytes_of (λ set. set ≡ c.args.files.now) (any_round c.args.place.now.top.now c.args.options.now) _ c.args.place.now.top.now c.args.options.now) c.in_err-has_room_for_names.field-0.0 (no_room c.in_err-has_room_for_names.field-0.0 (planned-for c.args.files.now (any_round c.args.place.now.top.now c.args.options.now).is_round c.args.place.now.top.now c.in_ok-graph.graph c.in_ok-found.found.0 c.in_ok-plan.plan c.in_ok-graph.ensures.graph c.in_ok-found.ensures.by c.in_ok-plan.ensures.plan) c.in_err-has_room_for_names.ensures.refused) c.from_residual-in_err-has_room_for_names.result c.from_residual-in_err-has_room_for_names.ensures.1
 
 pub returns-in_err-lock-clause-refused : goal.returns-in_err-lock-clause-refused
 returns-in_err-lock-clause-refused g c =
-    by-fault (IsRunFaultWhere bytes_of (λ set. set ≡ c.args.files.now) (any_round c.args.options.now) _ c.args.place.now.top.now c.args.options.now) c.in_err-lock.field-0.0 (not_alone c.in_err-lock.field-0.0 (planned-for c.args.files.now (any_round c.args.options.now).is_round c.args.place.now.top.now c.in_ok-graph.graph c.in_ok-found.found.0 c.in_ok-plan.plan c.in_ok-graph.ensures.graph c.in_ok-found.ensures.by c.in_ok-plan.ensures.plan) c.in_err-lock.ensures) c.from_residual-in_err-lock.result c.from_residual-in_err-lock.ensures.1
+    by-fault (IsRunFaultWhere bytes_of (λ set. set ≡ c.args.files.now) (any_round c.args.place.now.top.now c.args.options.now) _ c.args.place.now.top.now c.args.options.now) c.in_err-lock.field-0.0 (not_alone c.in_err-lock.field-0.0 (planned-for c.args.files.now (any_round c.args.place.now.top.now c.args.options.now).is_round c.args.place.now.top.now c.in_ok-graph.graph c.in_ok-found.found.0 c.in_ok-plan.plan c.in_ok-graph.ensures.graph c.in_ok-found.ensures.by c.in_ok-plan.ensures.plan) c.in_err-lock.ensures) c.from_residual-in_err-lock.result c.from_residual-in_err-lock.ensures.1
 
 pub returns-in_err-graph-clause-refused_held : goal.returns-in_err-graph-clause-refused_held
 returns-in_err-graph-clause-refused_held g c = λ honest.
@@ -58,7 +58,7 @@ returns-in_err-lock-clause-refused_held g c = λ honest.
 pub returns-clause-run : goal.returns-clause-run
 returns-clause-run g c =
     let planned = c.in_ok-plan.ensures.plan in
-    answer-where c.args.files.now (any_round c.args.options.now) _ c.args.place.now.top.now c.args.options.now c.in_ok-graph.graph c.in_ok-found.found.0 c.in_ok-plan.plan planned.0 c.in_ok-graph.ensures.graph c.in_ok-found.ensures.by planned.1
+    answer-where c.args.files.now (any_round c.args.place.now.top.now c.args.options.now) _ c.args.place.now.top.now c.args.options.now c.in_ok-graph.graph c.in_ok-found.found.0 c.in_ok-plan.plan planned.0 c.in_ok-graph.ensures.graph c.in_ok-found.ensures.by planned.1
     planned.2 c.run_locked-answer.result c.run_locked-answer.ensures.led c.run_locked-answer.ensures.warnings
 
 pub returns-clause-held : goal.returns-clause-held
@@ -70,7 +70,7 @@ returns-clause-held g c = λ honest.
 
 pub returns-clause-refused : goal.returns-clause-refused
 returns-clause-refused g c =
-    weaker (IsRunFaultWhere bytes_of (λ set. set ≡ c.args.files.now) (any_round c.args.options.now) _ c.args.place.now.top.now c.args.options.now) c.run_locked-answer.result c.run_locked-answer.ensures.refused (λ fault is. not_held (planned-for c.args.files.now (any_round c.args.options.now).is_round c.args.place.now.top.now c.in_ok-graph.graph c.in_ok-found.found.0 c.in_ok-plan.plan c.in_ok-graph.ensures.graph c.in_ok-found.ensures.by c.in_ok-plan.ensures.plan) fault is)
+    weaker (IsRunFaultWhere bytes_of (λ set. set ≡ c.args.files.now) (any_round c.args.place.now.top.now c.args.options.now) _ c.args.place.now.top.now c.args.options.now) c.run_locked-answer.result c.run_locked-answer.ensures.refused (λ fault is. not_held (planned-for c.args.files.now (any_round c.args.place.now.top.now c.args.options.now).is_round c.args.place.now.top.now c.in_ok-graph.graph c.in_ok-found.found.0 c.in_ok-plan.plan c.in_ok-graph.ensures.graph c.in_ok-found.ensures.by c.in_ok-plan.ensures.plan) fault is)
 
 pub returns-clause-refused_held : goal.returns-clause-refused_held
 returns-clause-refused_held g c = λ honest.

@@ -17,7 +17,7 @@ run_planned-requires-clause-by_journal g c = λ honest.
 
 pub returns-in_err-again-clause-refused : goal.returns-in_err-again-clause-refused
 returns-in_err-again-clause-refused g c =
-    by-fault (IsHeldFault c.args.place.now.top.now (IsFindingFault c.args.options.now) _ _) c.in_err-again.field-0.0 (not_found_again _ c.in_err-again.ensures.refused)
+    by-fault (IsHeldFault c.args.place.now.top.now c.args.options.now c.args.found.now.0 (IsFindingFault c.args.place.now.top.now c.args.options.now) _ _) c.in_err-again.field-0.0 (not_found_again _ c.in_err-again.ensures.refused)
     c.from_residual.result c.from_residual.ensures.1
 
 pub returns-then-not-is_same-clause-refused : goal.returns-then-not-is_same-clause-refused
@@ -25,11 +25,11 @@ returns-then-not-is_same-clause-refused g c = another_was_at_work c.taken.result
 
 pub returns-in_err-warnings-clause-refused : goal.returns-in_err-warnings-clause-refused
 returns-in_err-warnings-clause-refused g c =
-    by-fault (IsHeldFault c.args.place.now.top.now (IsFindingFault c.args.options.now) _ _) Memory (not_led _ leading_had_no_memory) c.from_residual-in_err-warnings.result c.from_residual-in_err-warnings.ensures.1
+    by-fault (IsHeldFault c.args.place.now.top.now c.args.options.now c.args.found.now.0 (IsFindingFault c.args.place.now.top.now c.args.options.now) _ _) Memory (not_led _ leading_had_no_memory) c.from_residual-in_err-warnings.result c.from_residual-in_err-warnings.ensures.1
 
 pub returns-in_err-report-clause-refused : goal.returns-in_err-report-clause-refused
 returns-in_err-report-clause-refused g c =
-    by-fault (IsHeldFault c.args.place.now.top.now (IsFindingFault c.args.options.now) _ _) c.in_err-report.field-0.0 (not_led _ c.in_err-report.ensures.refused)
+    by-fault (IsHeldFault c.args.place.now.top.now c.args.options.now c.args.found.now.0 (IsFindingFault c.args.place.now.top.now c.args.options.now) _ _) c.in_err-report.field-0.0 (not_led _ c.in_err-report.ensures.refused)
     c.from_residual-in_err-report.result c.from_residual-in_err-report.ensures.1
 
 pub returns-clause-warnings : goal.returns-clause-warnings
@@ -38,7 +38,7 @@ returns-clause-warnings g c =
 
 pub returns-in_err-again-clause-refused_held : goal.returns-in_err-again-clause-refused_held
 returns-in_err-again-clause-refused_held g c = λ honest.
-    by-fault (IsHeldFault c.args.place.now.top.now (IsFindingFaultHeld (g.H.Folder.holds c.args.site.now) (g.H.Folder.has c.args.site.now) c.args.place.now.top.now c.args.options.now) _ _) c.in_err-again.field-0.0
+    by-fault (IsHeldFault c.args.place.now.top.now c.args.options.now c.args.found.now.0 (IsFindingFaultHeld (g.H.Folder.holds c.args.site.now) (g.H.Folder.has c.args.site.now) c.args.place.now.top.now c.args.options.now) _ _) c.in_err-again.field-0.0
     (not_found_again _ (c.in_err-again.ensures.refused_held honest)) c.from_residual.result c.from_residual.ensures.1
 
 pub returns-then-not-is_same-clause-refused_held : goal.returns-then-not-is_same-clause-refused_held
@@ -46,10 +46,10 @@ returns-then-not-is_same-clause-refused_held g c = λ honest. another_was_at_wor
 
 pub returns-in_err-warnings-clause-refused_held : goal.returns-in_err-warnings-clause-refused_held
 returns-in_err-warnings-clause-refused_held g c = λ honest.
-    by-fault (IsHeldFault c.args.place.now.top.now (IsFindingFaultHeld (g.H.Folder.holds c.args.site.now) (g.H.Folder.has c.args.site.now) c.args.place.now.top.now c.args.options.now) _ _) Memory (not_led _ leading_had_no_memory)
+    by-fault (IsHeldFault c.args.place.now.top.now c.args.options.now c.args.found.now.0 (IsFindingFaultHeld (g.H.Folder.holds c.args.site.now) (g.H.Folder.has c.args.site.now) c.args.place.now.top.now c.args.options.now) _ _) Memory (not_led _ leading_had_no_memory)
     c.from_residual-in_err-warnings.result c.from_residual-in_err-warnings.ensures.1
 
 pub returns-in_err-report-clause-refused_held : goal.returns-in_err-report-clause-refused_held
 returns-in_err-report-clause-refused_held g c = λ honest.
-    by-fault (IsHeldFault c.args.place.now.top.now (IsFindingFaultHeld (g.H.Folder.holds c.args.site.now) (g.H.Folder.has c.args.site.now) c.args.place.now.top.now c.args.options.now) _ _) c.in_err-report.field-0.0
+    by-fault (IsHeldFault c.args.place.now.top.now c.args.options.now c.args.found.now.0 (IsFindingFaultHeld (g.H.Folder.holds c.args.site.now) (g.H.Folder.has c.args.site.now) c.args.place.now.top.now c.args.options.now) _ _) c.in_err-report.field-0.0
     (not_led _ c.in_err-report.ensures.refused) c.from_residual-in_err-report.result c.from_residual-in_err-report.ensures.1

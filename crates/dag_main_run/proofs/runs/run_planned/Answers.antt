@@ -4,7 +4,7 @@ use Rattle.dag_main_files.proofs.RunFaults.{by-fault}
 use Rattle.dag_main_run.proofs.runs.run_planned.Goals as goal
 
 pub returns-in_err-rescue-clause-refused : goal.returns-in_err-rescue-clause-refused
-returns-in_err-rescue-clause-refused g c = by-fault (IsStopFault _ _) c.in_err-rescue.field-0.0 (subst (IsStopFault _ _) (sym c.in_err-rescue.ensures.refused) leading_had_no_memory) c.from_residual.result c.from_residual.ensures.1
+returns-in_err-rescue-clause-refused g c = by-fault (IsStopFault _ _ _ _ _) c.in_err-rescue.field-0.0 (subst (IsStopFault _ _ _ _ _) (sym c.in_err-rescue.ensures.refused) leading_had_no_memory) c.from_residual.result c.from_residual.ensures.1
 
 pub returns-in_err-journal-clause-refused : goal.returns-in_err-journal-clause-refused
-returns-in_err-journal-clause-refused g c = by-fault (IsStopFault _ _) c.in_err-journal.field-0.0 (subst (IsStopFault _ _) (sym c.in_err-journal.ensures.refused) leading_had_no_memory) c.from_residual-in_err-journal.result c.from_residual-in_err-journal.ensures.1
+returns-in_err-journal-clause-refused g c = by-fault (IsStopFault _ _ _ _ _) c.in_err-journal.field-0.0 (subst (IsStopFault _ _ _ _ _) (sym c.in_err-journal.ensures.refused) leading_had_no_memory) c.from_residual-in_err-journal.result c.from_residual-in_err-journal.ensures.1

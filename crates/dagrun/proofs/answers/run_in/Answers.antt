@@ -1,59 +1,37 @@
-use Rattle.std.proofs.Common.{◌≡◌, Bool, Option, Some, None, true, false, sym, ◌∙◌, subst}
-use Rattle.std.specs.Prelude.{IfSome, IfNone}
-use Rattle.std.proofs.lemmas.Bool.{false≢true}
-use Rattle.std.proofs.lemmas.Result.{IfOk-weaker, IfErr-weaker}
 use Rattle.dag_main_run.specs.Sites.{rounds_at}
-use Rattle.dag_main_args.specs.Requests.{runs}
-use Rattle.dagrun.specs.Answered.{command_of_some, command_from, not_run, not_reported, led, reported_again}
-use Rattle.dagrun.proofs.Worlds.{comes-to, refused-to}
+use Rattle.dagrun.specs.Answered.{as_text, as_json, run_refused, not_stated, printed_run, run_of_some, run_from}
+use Rattle.dagrun.proofs.Worlds.{refused-to}
 use Rattle.dagrun.proofs.answers.run_in.Goals as goal
 
-at-some : {A : Type 0} (P : A → Type 0) (o : Option A) (x : A) → o ≡ Some x → IfSome o P → P x
-at-some P o x is holds = subst (λ o. IfSome o P) is holds
+pub returns-in_err-answer-clause-some : goal.returns-in_err-answer-clause-some
+returns-in_err-answer-clause-some g c = λ unstreamed.
+    let run = run_of_some (rounds_at g.F.Journal.Disk g.F.Rescue.Disk (g.F.Site.own c.args.folder.now) (g.F.Folder.honest c.args.folder.now) (g.F.Folder.holds c.args.folder.now)) c.args.dag.now c.args.options.now in
+    refused-to (printed_run c.args.dag.now c.args.options.now run) c.in_err-answer.field-0.0 (run_refused _ (c.in_err-answer.ensures.some unstreamed)) c.from_residual.result
+    c.from_residual.ensures.1
 
-at-none : {A : Type 0} (P : Type 0) (o : Option A) → o ≡ None → IfNone o P → P
-at-none P o is holds = subst (λ o. IfNone o P) is holds
-
-not-both : (b : Bool) (P : Type 0) → b ≡ false → b ≡ true → P
-not-both b P isnt is = absurd (false≢true (sym isnt ∙ is))
-
-pub returns-then-not-options-clause-some : goal.returns-then-not-options-clause-some
-returns-then-not-options-clause-some g c = λ unstreamed.
-    comes-to (command_of_some (rounds_at g.F.Journal.Disk g.F.Rescue.Disk (g.F.Site.own c.args.folder.now) (g.F.Folder.honest c.args.folder.now) (g.F.Folder.holds c.args.folder.now)) (runs c.args.dag.now c.args.options.now)) c.run_dag.result
-    (IfOk-weaker c.run_dag.result _ _ (λ answer is. led (λ asked. tt) is) c.run_dag.ensures.run)
-    (IfErr-weaker c.run_dag.result _ _ (λ fault why. not_run fault (λ asked. tt) why) (c.run_dag.ensures.refused unstreamed))
+pub returns-in_err-answer-clause-held : goal.returns-in_err-answer-clause-held
+returns-in_err-answer-clause-held g c = λ honest unstreamed.
+    let run = run_from (g.F.Folder.holds c.args.folder.now) (g.F.Folder.has c.args.folder.now) (rounds_at g.F.Journal.Disk g.F.Rescue.Disk (g.F.Site.own c.args.folder.now) (g.F.Folder.honest c.args.folder.now) (g.F.Folder.holds c.args.folder.now)) c.args.dag.now c.args.options.now in
+    refused-to (printed_run c.args.dag.now c.args.options.now run) c.in_err-answer.field-0.0 (run_refused _ (c.in_err-answer.ensures.held honest unstreamed)) c.from_residual.result
+    c.from_residual.ensures.1
 
 pub returns-then-not-options-clause-held : goal.returns-then-not-options-clause-held
-returns-then-not-options-clause-held g c = λ honest unstreamed.
-    comes-to (command_from (g.F.Folder.holds c.args.folder.now) (g.F.Folder.has c.args.folder.now) (rounds_at g.F.Journal.Disk g.F.Rescue.Disk (g.F.Site.own c.args.folder.now) (g.F.Folder.honest c.args.folder.now) (g.F.Folder.holds c.args.folder.now)) (runs c.args.dag.now c.args.options.now)) c.run_dag.result
-    (IfOk-weaker c.run_dag.result _ _ (λ answer is. led (not-both _ _ c.if-not-options.true) is) (c.run_dag.ensures.held honest))
-    (IfErr-weaker c.run_dag.result _ _ (λ fault why. not_run fault (not-both _ _ c.if-not-options.true) why) (c.run_dag.ensures.refused_held unstreamed honest))
+returns-then-not-options-clause-held g c = λ honest unstreamed. as_text c.if-not-options.true (c.in_ok-answer.ensures.held honest unstreamed)
 
-pub returns-in_err-told-clause-some : goal.returns-in_err-told-clause-some
-returns-in_err-told-clause-some g c = λ unstreamed.
-    refused-to (command_of_some (rounds_at g.F.Journal.Disk g.F.Rescue.Disk (g.F.Site.own c.args.folder.now) (g.F.Folder.honest c.args.folder.now) (g.F.Folder.holds c.args.folder.now)) (runs c.args.dag.now c.args.options.now))
-    c.in_err-told.field-0.0 (not_reported _ c.if-not-options.false c.in_err-told.ensures.refused) c.from_residual.result c.from_residual.ensures.1
+pub returns-in_err-states-clause-some : goal.returns-in_err-states-clause-some
+returns-in_err-states-clause-some g c = λ unstreamed.
+    let run = run_of_some (rounds_at g.F.Journal.Disk g.F.Rescue.Disk (g.F.Site.own c.args.folder.now) (g.F.Folder.honest c.args.folder.now) (g.F.Folder.holds c.args.folder.now)) c.args.dag.now c.args.options.now in
+    refused-to (printed_run c.args.dag.now c.args.options.now run) c.in_err-states.field-0.0 (not_stated _ c.if-not-options.false c.in_err-states.ensures.refused)
+    c.from_residual-in_err-states.result c.from_residual-in_err-states.ensures.1
 
-pub returns-in_err-told-clause-held : goal.returns-in_err-told-clause-held
-returns-in_err-told-clause-held g c = λ honest unstreamed.
-    refused-to (command_from (g.F.Folder.holds c.args.folder.now) (g.F.Folder.has c.args.folder.now) (rounds_at g.F.Journal.Disk g.F.Rescue.Disk (g.F.Site.own c.args.folder.now) (g.F.Folder.honest c.args.folder.now) (g.F.Folder.holds c.args.folder.now)) (runs c.args.dag.now c.args.options.now))
-    c.in_err-told.field-0.0 (not_reported _ c.if-not-options.false (c.in_err-told.ensures.refused_held honest)) c.from_residual.result c.from_residual.ensures.1
+pub returns-in_err-states-clause-held : goal.returns-in_err-states-clause-held
+returns-in_err-states-clause-held g c = λ honest unstreamed.
+    let run = run_from (g.F.Folder.holds c.args.folder.now) (g.F.Folder.has c.args.folder.now) (rounds_at g.F.Journal.Disk g.F.Rescue.Disk (g.F.Site.own c.args.folder.now) (g.F.Folder.honest c.args.folder.now) (g.F.Folder.holds c.args.folder.now)) c.args.dag.now c.args.options.now in
+    refused-to (printed_run c.args.dag.now c.args.options.now run) c.in_err-states.field-0.0 (not_stated _ c.if-not-options.false c.in_err-states.ensures.refused)
+    c.from_residual-in_err-states.result c.from_residual-in_err-states.ensures.1
 
-pub returns-in-Some-clause-some : goal.returns-in-Some-clause-some
-returns-in-Some-clause-some g c = λ unstreamed. reported_again c.if-not-options.false (at-some _ _ _ c.in-Some.is c.in_ok-told.ensures.report)
+pub returns-clause-some : goal.returns-clause-some
+returns-clause-some g c = λ unstreamed. as_json _ _ _ c.if-not-options.false (c.in_ok-answer.ensures.some unstreamed) c.in_ok-states.ensures.answered
 
-pub returns-in-Some-clause-held : goal.returns-in-Some-clause-held
-returns-in-Some-clause-held g c = λ honest unstreamed. reported_again c.if-not-options.false (at-some _ _ _ c.in-Some.is (c.in_ok-told.ensures.held honest))
-
-pub returns-in-None-clause-some : goal.returns-in-None-clause-some
-returns-in-None-clause-some g c = λ unstreamed.
-    comes-to (command_of_some (rounds_at g.F.Journal.Disk g.F.Rescue.Disk (g.F.Site.own c.args.folder.now) (g.F.Folder.honest c.args.folder.now) (g.F.Folder.holds c.args.folder.now)) (runs c.args.dag.now c.args.options.now)) c.run_dag-in-None.result
-    (IfOk-weaker c.run_dag-in-None.result _ _ (λ answer is. led (λ asked. tt) is) c.run_dag-in-None.ensures.run)
-    (IfErr-weaker c.run_dag-in-None.result _ _ (λ fault why. not_run fault (λ asked. tt) why) (c.run_dag-in-None.ensures.refused unstreamed))
-
-pub returns-in-None-clause-held : goal.returns-in-None-clause-held
-returns-in-None-clause-held g c = λ honest unstreamed.
-    comes-to (command_from (g.F.Folder.holds c.args.folder.now) (g.F.Folder.has c.args.folder.now) (rounds_at g.F.Journal.Disk g.F.Rescue.Disk (g.F.Site.own c.args.folder.now) (g.F.Folder.honest c.args.folder.now) (g.F.Folder.holds c.args.folder.now)) (runs c.args.dag.now c.args.options.now)) c.run_dag-in-None.result
-    (IfOk-weaker c.run_dag-in-None.result _ _ (λ answer is. led (λ asked. at-none _ _ c.in-None.is (c.in_ok-told.ensures.none honest)) is) (c.run_dag-in-None.ensures.held honest))
-    (IfErr-weaker c.run_dag-in-None.result _ _ (λ fault why. not_run fault (λ asked. at-none _ _ c.in-None.is (c.in_ok-told.ensures.none honest)) why)
-    (c.run_dag-in-None.ensures.refused_held unstreamed honest))
+pub returns-clause-held : goal.returns-clause-held
+returns-clause-held g c = λ honest unstreamed. as_json _ _ _ c.if-not-options.false (c.in_ok-answer.ensures.held honest unstreamed) c.in_ok-states.ensures.answered

@@ -17,11 +17,11 @@ returns-in-Ok-reply-clause-checked g c =
 pub returns-in-Ok-reply-clause-held : goal.returns-in-Ok-reply-clause-held
 returns-in-Ok-reply-clause-held g c = λ honest.
     hints_behind _ c.in-Ok-reply.answer c.with_hints.result _
-    (read_once c.args.all c.in_ok-files.files (g.F.Folder.holds c.args.folder.now) c.args.dag.now (c.in_ok-files.ensures.read honest) _ _ _ (c.in-Ok-reply.ensures.held tt))
+    (read_once c.args.all c.args.form c.in_ok-files.files (g.F.Folder.holds c.args.folder.now) c.args.dag.now (c.in_ok-files.ensures.read honest) _ _ _ (c.in-Ok-reply.ensures.held tt))
     c.with_hints.ensures.text c.with_hints.ensures.status c.with_hints.ensures.warnings
 
 pub returns-in_err-files-clause-hinted : goal.returns-in_err-files-clause-hinted
-returns-in_err-files-clause-hinted g c = λ honest. no-hints (checks c.args.dag.now c.args.all true) c.from_residual.result (g.C.Console.shown c.args.console.now)
+returns-in_err-files-clause-hinted g c = λ json honest. no-hints (checks c.args.dag.now c.args.all json true) c.from_residual.result (g.C.Console.shown c.args.console.now)
 
 pub returns-in_err-files-clause-refused_held : goal.returns-in_err-files-clause-refused_held
 returns-in_err-files-clause-refused_held g c = λ honest. by-fault (IsCheckRefusalHeld c.args.all true (g.F.Folder.holds c.args.folder.now) c.args.dag.now) c.in_err-files.field-0.0

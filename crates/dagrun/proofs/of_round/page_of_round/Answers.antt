@@ -1,7 +1,5 @@
 use Rattle.std.proofs.Common.{ap, sym, subst}
-use Rattle.dag_main_inspect.specs.Asked.{IsAnswerFault}
-use Rattle.dag_main_inspect.specs.declared.by_journal.Question.TheVariants.{Status}
-use Rattle.failure_answers.specs.Answered.{IsWhyFaultHeld}
+use Rattle.failure_answers.specs.Answered.{IsWhyFault, IsWhyFaultHeld}
 use Rattle.dag_main_args.specs.Matched.{version_text}
 use Rattle.report_answers.specs.Answered.{IsReportPageHeld}
 use Rattle.dagrun.specs.Answered.{round_asked}
@@ -10,7 +8,7 @@ use Rattle.dagrun.proofs.of_round.page_of_round.Goals as goal
 
 pub returns-in_err-seen-clause-refused : goal.returns-in_err-seen-clause-refused
 returns-in_err-seen-clause-refused g c =
-    some-unseen c.round_asked.result (round_asked c.args.as_begun) c.round_asked.ensures c.args.place.now.top.now (IsAnswerFault Status c.args.place.now.top.now) c.in_err-seen.field-0.0 c.in_err-seen.ensures.other c.in_err-seen.ensures.refused
+    some-unseen c.round_asked.result (round_asked c.args.as_begun) c.round_asked.ensures c.args.place.now.top.now (IsWhyFault c.args.place.now.top.now) c.in_err-seen.field-0.0 c.in_err-seen.ensures.other c.in_err-seen.ensures.refused
     c.from_residual.result c.from_residual.ensures.1
 
 pub returns-in_err-seen-clause-refused_held : goal.returns-in_err-seen-clause-refused_held
@@ -24,7 +22,7 @@ returns-clause-held g c = λ honest.
     (λ files. IsReportPageHeld files c.args.place.now.top.now version_text c.args.reloads) c.page_here.result (c.page_here.ensures.held (subst g.F.Folder.honest (sym c.in_ok-seen.ensures.folder) honest))
 
 pub returns-clause-refused : goal.returns-clause-refused
-returns-clause-refused g c = some-refusal c.round_asked.result (round_asked c.args.as_begun) c.round_asked.ensures c.args.place.now.top.now (IsAnswerFault Status c.args.place.now.top.now) c.page_here.result c.page_here.ensures.refused
+returns-clause-refused g c = some-refusal c.round_asked.result (round_asked c.args.as_begun) c.round_asked.ensures c.args.place.now.top.now (IsWhyFault c.args.place.now.top.now) c.page_here.result c.page_here.ensures.refused
 
 pub returns-clause-refused_held : goal.returns-clause-refused_held
 returns-clause-refused_held g c = λ honest.

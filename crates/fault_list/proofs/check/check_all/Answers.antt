@@ -13,5 +13,5 @@ returns-in_err-fault_lines-clause-refused c =
 
 pub returns-clause-checked : goal.returns-clause-checked
 returns-clause-checked c =
-    wrong-lines c.args.files c.args.path.now _ _ c.in_ok-faults.faults.items c.in_ok-faults.ensures.some c.in_ok-faults.ensures.faults
+    wrong-lines c.args.form c.args.files c.args.path.now _ _ c.in_ok-faults.faults.items c.in_ok-faults.ensures.some c.in_ok-faults.ensures.faults
     c.new.ensures.bytes (c.in_ok-fault_lines.ensures ∙ ap fault_lines c.as_slice.ensures.value)

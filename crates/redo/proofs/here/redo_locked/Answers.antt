@@ -1,7 +1,6 @@
 use Rattle.std.proofs.Common.{ℕ, List, map, sym, subst, string_bytes}
 use Rattle.std.specs.Option.{option_map}
 use Rattle.std.proofs.lemmas.Result.{IfOk-weaker}
-use Rattle.dag_main_files.specs.Beside.{folder_not_read}
 use Rattle.dag_main_files.proofs.RunFaults.{by-fault}
 use Rattle.dag_main_inspect.specs.Asked.{no_last_round, not_told, held_no_last_round}
 use Rattle.dag_main_inspect.specs.declared.by_journal.Question.TheVariants.{Status}

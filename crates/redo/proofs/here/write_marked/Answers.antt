@@ -1,6 +1,6 @@
 use Rattle.std.proofs.Common.{refl, sym, subst}
 use Rattle.dag_main_files.specs.Beside.{IsFileFault, reading_had_no_memory}
-use Rattle.dag_main_files.proofs.RunFaults.{by-fault}
+use Rattle.dag_main_files.proofs.RunFaults.{by-fault, refusal-is-file}
 use Rattle.redo.specs.Answered.{IsNotWritten, unnumbered, refused_file}
 use Rattle.redo.proofs.here.write_marked.Goals as goal
 
@@ -21,7 +21,7 @@ returns-in_err-write_rescue-clause-refused g c =
 
 pub returns-in_err-put_journal_away-clause-refused : goal.returns-in_err-put_journal_away-clause-refused
 returns-in_err-put_journal_away-clause-refused g c =
-    by-fault (IsNotWritten c.args.journal.now) c.in_err-put_journal_away.field-0.0 (refused_file _ c.in_err-put_journal_away.ensures)
+    by-fault (IsNotWritten c.args.journal.now) c.in_err-put_journal_away.field-0.0 (refused_file _ (refusal-is-file _ _ c.in_err-put_journal_away.ensures))
     c.from_residual-in_err-put_journal_away.result c.from_residual-in_err-put_journal_away.ensures.1
 
 pub returns-clause-held : goal.returns-clause-held

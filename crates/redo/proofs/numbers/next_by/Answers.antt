@@ -1,4 +1,4 @@
-use Rattle.std.proofs.Common.{ℕ, List, ◌≤◌}
+use Rattle.std.proofs.Common.{◌≤◌}
 use Rattle.std.proofs.lemmas.Result.{IfOk-weaker}
 use Rattle.dag_main_check.proofs.Refusals.{weaker}
 use Rattle.dag_main_files.specs.Folder.{IsHighestThere}

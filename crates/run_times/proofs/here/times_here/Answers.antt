@@ -1,4 +1,4 @@
-use Rattle.std.proofs.Common.{◌≡◌, ◌∙◌, ℕ, Bool, false, List, length, ap, subst, refl, arith}
+use Rattle.std.proofs.Common.{◌≡◌, ◌∙◌, ℕ, false, List, ap, subst, refl}
 use Rattle.splices_flat.specs.Dag.{Dag}
 use Rattle.splices_flat.specs.Opening.{Files}
 use Rattle.dag_graph.specs.Graph.{Network}
@@ -12,22 +12,24 @@ use Rattle.dag_main_files.proofs.RunFaults.{by-fault}
 use Rattle.run_times.specs.declared.form.Form.{Form}
 use Rattle.run_times.specs.declared.runs.PhaseRun.{PhaseRun}
 use Rattle.run_times.specs.Reading.{IsRunsOf}
-use Rattle.run_times.specs.Answered.{IsShown, IsShownOf, IsTimesBy, IsTimesFault, no_graph, no_log, IsTimesFaultHeld, held_no_graph, held_no_log}
+use Rattle.run_times.specs.Critical.{IsCriticalPath}
+use Rattle.run_times.specs.Answered.{IsShownWith, IsShownOf, IsTimesBy, IsTimesFault, no_graph, no_log, IsTimesFaultHeld, held_no_graph, held_no_log}
 use Rattle.run_times.proofs.here.times_here.Goals as goal
 
 -- what is shown of a log, by what was read and handed on
-shown-of : (log bytes : List ℕ) (form : Form) (text : List ℕ) (runs timed drawn : List PhaseRun) (marks given : List Bool) → bytes ≡ log → IsRunsOf bytes runs → timed ≡ runs → drawn ≡ runs
-    → given ≡ marks → length marks ≡ length timed → IsShown form drawn given text → IsShownOf log form text
-shown-of log bytes form text runs timed drawn marks given log_is runs_are timed_is drawn_is given_is each shown = record {
+shown-of : (log bytes : List ℕ) (graph seen : Network) (form : Form) (text : List ℕ) (runs timed drawn : List PhaseRun) (path given : List ℕ) → bytes ≡ log → IsRunsOf bytes runs → seen ≡ graph
+    → timed ≡ runs → drawn ≡ runs → given ≡ path → IsCriticalPath seen timed path → IsShownWith seen drawn given form text → IsShownOf log graph form text
+shown-of log bytes graph seen form text runs timed drawn path given log_is runs_are graph_is timed_is drawn_is given_is is_path shown = record {
   runs = runs;
   runs_are = subst (λ (b : List ℕ). IsRunsOf b runs) log_is runs_are;
-  marks = marks;
-  each = each ∙ ap length timed_is;
-  shown = subst (λ (r : List PhaseRun). IsShown form r marks text) drawn_is (subst (λ (m : List Bool). IsShown form drawn m text) given_is shown);
+  path = path;
+  is_path = subst (λ (r : List PhaseRun). IsCriticalPath graph r path) timed_is (subst (λ (n : Network). IsCriticalPath n timed path) graph_is is_path);
+  shown = subst (λ (r : List PhaseRun). IsShownWith graph r path form text) drawn_is
+      (subst (λ (p : List ℕ). IsShownWith graph drawn p form text) given_is (subst (λ (n : Network). IsShownWith n drawn given form text) graph_is shown));
 }
 
 -- what is printed of the files of a plan
-timed-by : (log path : List ℕ) (form : Form) (text warnings : List ℕ) (plan : Plan) → IsShownOf log form text → warnings ≡ warning_lines plan.graph.dag.warnings → (files : Files)
+timed-by : (log path : List ℕ) (form : Form) (text warnings : List ℕ) (plan : Plan) → IsShownOf log plan.graph form text → warnings ≡ warning_lines plan.graph.dag.warnings → (files : Files)
     (entries : List (List ℕ × List ℕ)) → HasBarePlan false path plan files entries → IsTimesBy log path form text warnings 0 files entries
 timed-by log path form text warnings plan shown warned files entries planned = record {
   graph = plan.graph;
@@ -51,9 +53,9 @@ pub returns-in_err-runs-clause-refused : goal.returns-in_err-runs-clause-refused
 returns-in_err-runs-clause-refused g c =
     by-fault (IsTimesFault c.args.top.now) Memory (no_log _ refusing_had_no_memory) c.from_residual-in_err-runs.result c.from_residual-in_err-runs.ensures.1
 
-pub returns-in_err-marks-clause-refused : goal.returns-in_err-marks-clause-refused
-returns-in_err-marks-clause-refused g c =
-    by-fault (IsTimesFault c.args.top.now) Memory (no_log _ refusing_had_no_memory) c.from_residual-in_err-marks.result c.from_residual-in_err-marks.ensures.1
+pub returns-in_err-path-clause-refused : goal.returns-in_err-path-clause-refused
+returns-in_err-path-clause-refused g c =
+    by-fault (IsTimesFault c.args.top.now) Memory (no_log _ refusing_had_no_memory) c.from_residual-in_err-path.result c.from_residual-in_err-path.ensures.1
 
 pub returns-in_err-text_of-clause-refused : goal.returns-in_err-text_of-clause-refused
 returns-in_err-text_of-clause-refused g c =
@@ -65,8 +67,8 @@ returns-in_err-warning_text-clause-refused g c =
 
 pub returns-clause-told : goal.returns-clause-told
 returns-clause-told g c =
-    let shown = shown-of c.in_ok-log.log.items _ c.args.form _ c.in_ok-runs.runs.items _ _ c.in_ok-marks.marks.items _ c.as_slice.ensures.value c.in_ok-runs.ensures c.deref.ensures.value
-    c.deref-2.ensures.value c.deref-3.ensures.value (omega (arith, c.in_ok-marks.ensures, c.in_ok-marks.marks.ok)) c.in_ok-text_of.ensures in
+    let shown = shown-of c.in_ok-log.log.items _ c.in_ok-plan.plan.graph _ c.args.form _ c.in_ok-runs.runs.items _ _ c.in_ok-path.path.items _ c.as_slice.ensures.value c.in_ok-runs.ensures
+    c.graph-graph.ensures.is c.deref.ensures.value c.deref-2.ensures.value c.deref-3.ensures.value c.in_ok-path.ensures c.in_ok-text_of.ensures in
     let warned = c.in_ok-warning_text.ensures ∙ ap warning_lines (c.warnings.ensures ∙ ap (λ (d : Dag). d.warnings) (c.flat.ensures ∙ ap (λ (n : Network). n.dag) c.graph-graph.ensures.is)) in
     record {
       log = c.in_ok-log.log.items;
@@ -78,8 +80,8 @@ returns-clause-told g c =
 
 pub returns-clause-held : goal.returns-clause-held
 returns-clause-held g c = λ honest.
-    let shown = shown-of c.in_ok-log.log.items _ c.args.form _ c.in_ok-runs.runs.items _ _ c.in_ok-marks.marks.items _ c.as_slice.ensures.value c.in_ok-runs.ensures c.deref.ensures.value
-    c.deref-2.ensures.value c.deref-3.ensures.value (omega (arith, c.in_ok-marks.ensures, c.in_ok-marks.marks.ok)) c.in_ok-text_of.ensures in
+    let shown = shown-of c.in_ok-log.log.items _ c.in_ok-plan.plan.graph _ c.args.form _ c.in_ok-runs.runs.items _ _ c.in_ok-path.path.items _ c.as_slice.ensures.value c.in_ok-runs.ensures
+    c.graph-graph.ensures.is c.deref.ensures.value c.deref-2.ensures.value c.deref-3.ensures.value c.in_ok-path.ensures c.in_ok-text_of.ensures in
     let warned = c.in_ok-warning_text.ensures ∙ ap warning_lines (c.warnings.ensures ∙ ap (λ (d : Dag). d.warnings) (c.flat.ensures ∙ ap (λ (n : Network). n.dag) c.graph-graph.ensures.is)) in
     record {
       log = c.in_ok-log.log.items;
@@ -103,9 +105,9 @@ pub returns-in_err-runs-clause-refused_held : goal.returns-in_err-runs-clause-re
 returns-in_err-runs-clause-refused_held g c = λ honest.
     by-fault (IsTimesFaultHeld (g.F.Folder.holds c.args.folder.now) c.args.top.now) Memory (held_no_log _ refusing_unheld_had_no_memory) c.from_residual-in_err-runs.result c.from_residual-in_err-runs.ensures.1
 
-pub returns-in_err-marks-clause-refused_held : goal.returns-in_err-marks-clause-refused_held
-returns-in_err-marks-clause-refused_held g c = λ honest.
-    by-fault (IsTimesFaultHeld (g.F.Folder.holds c.args.folder.now) c.args.top.now) Memory (held_no_log _ refusing_unheld_had_no_memory) c.from_residual-in_err-marks.result c.from_residual-in_err-marks.ensures.1
+pub returns-in_err-path-clause-refused_held : goal.returns-in_err-path-clause-refused_held
+returns-in_err-path-clause-refused_held g c = λ honest.
+    by-fault (IsTimesFaultHeld (g.F.Folder.holds c.args.folder.now) c.args.top.now) Memory (held_no_log _ refusing_unheld_had_no_memory) c.from_residual-in_err-path.result c.from_residual-in_err-path.ensures.1
 
 pub returns-in_err-text_of-clause-refused_held : goal.returns-in_err-text_of-clause-refused_held
 returns-in_err-text_of-clause-refused_held g c = λ honest.

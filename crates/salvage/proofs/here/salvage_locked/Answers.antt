@@ -1,3 +1,4 @@
+use Rattle.dag_main_files.proofs.RunFaults.{refusal-is-file}
 use Rattle.std.proofs.Common.{◌∙◌, ◌++◌, ℕ, List, refl, ap, sym, subst, string_bytes}
 use Rattle.dag_main_files.specs.Beside.{IsFileFault, reading_had_no_memory}
 use Rattle.rescue_file.specs.Numbered.{rescue_name_of}
@@ -67,5 +68,5 @@ returns-in_err-write_rescue-clause-refused g c =
 
 pub returns-in_err-put_journal_away-clause-refused : goal.returns-in_err-put_journal_away-clause-refused
 returns-in_err-put_journal_away-clause-refused g c =
-    told-as (IsSalvageFault c.args.too (held_files_if (g.F.Folder.honest c.args.folder.now) (g.F.Folder.holds c.args.folder.now) (g.F.Folder.has c.args.folder.now) c.args.place.now.top.now) c.args.place.now.top.now) (Refused c.in_err-put_journal_away.field-0.0) (system_refuses _ c.in_err-put_journal_away.ensures)
+    told-as (IsSalvageFault c.args.too (held_files_if (g.F.Folder.honest c.args.folder.now) (g.F.Folder.holds c.args.folder.now) (g.F.Folder.has c.args.folder.now) c.args.place.now.top.now) c.args.place.now.top.now) (Refused c.in_err-put_journal_away.field-0.0) (system_refuses _ (refusal-is-file _ _ c.in_err-put_journal_away.ensures))
     c.from_residual-in_err-put_journal_away.result c.from_residual-in_err-put_journal_away.ensures.1

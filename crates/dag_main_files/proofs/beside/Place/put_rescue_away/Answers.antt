@@ -1,13 +1,14 @@
 use Rattle.std.proofs.Common.{sym, subst}
-use Rattle.dag_main_files.specs.Beside.{IsFileFault, reading_had_no_memory}
+use Rattle.rescue_file.specs.Numbered.{rescue_name_of}
+use Rattle.dag_main_files.specs.Beside.{IsRefusalOf, refusing_had_no_memory}
 use Rattle.dag_main_check.specs.declared.fault.RunFault.TheVariants.{Memory}
 use Rattle.dag_main_files.proofs.RunFaults.{by-fault}
 use Rattle.dag_main_files.proofs.beside.Place.put_rescue_away.Goals as goal
 
 pub returns-in_err-path : goal.returns-in_err-path
 returns-in_err-path g c =
-    by-fault IsFileFault c.in_err-path.field-0.0 (subst IsFileFault (sym c.in_err-path.ensures.err) reading_had_no_memory)
+    by-fault (IsRefusalOf (rescue_name_of c.args.self.now.top.now c.args.number)) c.in_err-path.field-0.0 (subst (IsRefusalOf (rescue_name_of c.args.self.now.top.now c.args.number)) (sym c.in_err-path.ensures.err) refusing_had_no_memory)
     c.from_residual.result c.from_residual.ensures.1
 
 pub returns-in_err-old : goal.returns-in_err-old
-returns-in_err-old g c = by-fault IsFileFault Memory reading_had_no_memory c.from_residual-in_err-old.result c.from_residual-in_err-old.ensures.1
+returns-in_err-old g c = by-fault (IsRefusalOf (rescue_name_of c.args.self.now.top.now c.args.number)) Memory refusing_had_no_memory c.from_residual-in_err-old.result c.from_residual-in_err-old.ensures.1

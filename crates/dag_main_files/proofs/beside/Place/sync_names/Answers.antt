@@ -1,7 +1,7 @@
-use Rattle.dag_main_files.specs.Beside.{IsFileFault, reading_had_no_memory}
+use Rattle.dag_main_files.specs.Beside.{IsRefusalOf, refusing_had_no_memory}
 use Rattle.dag_main_check.specs.declared.fault.RunFault.TheVariants.{Memory}
 use Rattle.dag_main_files.proofs.RunFaults.{by-fault}
 use Rattle.dag_main_files.proofs.beside.Place.sync_names.Goals as goal
 
 pub returns-in_err-folder : goal.returns-in_err-folder
-returns-in_err-folder g c = by-fault IsFileFault Memory reading_had_no_memory c.from_residual.result c.from_residual.ensures.1
+returns-in_err-folder g c = by-fault (IsRefusalOf c.args.path.now) Memory refusing_had_no_memory c.from_residual.result c.from_residual.ensures.1

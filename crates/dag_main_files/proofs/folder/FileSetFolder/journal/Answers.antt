@@ -8,7 +8,7 @@ use Rattle.dag_main_files.proofs.RunFaults.{by-fault}
 use Rattle.dag_main_files.proofs.folder.FileSetFolder.journal.Goals as goal
 
 pub returns-in_err-path-clause-refused : goal.returns-in_err-path-clause-refused
-returns-in_err-path-clause-refused c = by-fault IsJournalFault Memory peeking_had_no_memory c.from_residual.result c.from_residual.ensures.1
+returns-in_err-path-clause-refused c = by-fault (IsJournalFault c.args.top.now) Memory peeking_had_no_memory c.from_residual.result c.from_residual.ensures.1
 
 pub returns-in_err-path-clause-refused_held : goal.returns-in_err-path-clause-refused_held
 returns-in_err-path-clause-refused_held c = λ honest.

@@ -1,0 +1,55 @@
+use Rattle.std.proofs.Common.{◌≡◌, ℕ, ◌==◌, Bool, false, cond, List, [], ◌++◌, length, codes, string_bytes, refl, sym, ap, ◌∙◌}
+use Rattle.std.specs.Prelude.{max}
+use Rattle.run_times.specs.declared.runs.PhaseRun.{PhaseRun}
+use Rattle.run_times.specs.declared.kinds.Kind.{Kind}
+use Rattle.run_times.specs.declared.summary.Figures.{Figures}
+use Rattle.run_times.specs.Canvas.{within, latest_end}
+use Rattle.run_times.specs.Parts.{lasted_in}
+use Rattle.run_times.specs.Summary.{most_running, busy_in, figures_of, summary_opening, lists_text, summary_text_of}
+use Rattle.run_times.proofs.Whole.{parts-are-whole}
+use Rattle.run_times.proofs.summary.summary_text.Goals as goal
+
+-- the text, by what was read and written
+text-is : (runs : List PhaseRun) (path : List ℕ) (kinds seen : List Kind) (figures : Figures) (raw : ℕ) (old opened new : List ℕ) → figures.took ≡ latest_end runs (length runs)
+    → figures.lasted ≡ within (lasted_in runs path) → figures.busy ≡ busy_in runs → figures.count ≡ length runs → raw ≡ most_running runs (length runs) → figures.most ≡ max raw 1
+    → old ≡ [] → opened ≡ old ++ summary_opening figures → seen ≡ kinds → new ≡ opened ++ lists_text runs path seen → (length runs == 0) ≡ false → new ≡ summary_text_of runs path kinds figures.soonest
+text-is runs path kinds seen figures raw old opened new took lasted busy count raw_is most old_is opened_is seen_is new_is some =
+    let are : figures ≡ figures_of runs path figures.soonest
+    = λ j. record { took = took j; lasted = lasted j; busy = busy j; count = count j; most = (most ∙ ap (λ (n : ℕ). max n 1) raw_is) j; soonest = figures.soonest } in
+    let text : new ≡ summary_opening (figures_of runs path figures.soonest) ++ lists_text runs path kinds
+    = new_is ∙ (λ j. (opened_is ∙ (λ i. old_is i ++ summary_opening (are i))) j ++ lists_text runs path (seen_is j)) in
+    text ∙ sym (ap (λ (b : Bool). cond b (codes "no phase was run\n") (summary_opening (figures_of runs path figures.soonest) ++ lists_text runs path kinds)) some)
+
+pub returns : goal.returns
+returns c = record {
+  whole = parts-are-whole c.args.runs.now c.args.graph.now c.args.path.now c.requires c.lasted_in.ensures.whole;
+  kinds = c.in_ok-kinds.kinds.items;
+  longest = c.in_ok-kinds.ensures;
+  soonest = c.in_ok-time_without_limits.field-0;
+  is_soonest = c.in_ok-time_without_limits.ensures;
+  text_is =
+      text-is c.args.runs.now c.args.path.now c.in_ok-kinds.kinds.items c.deref.result.now
+      (record {
+        took = c.latest_end.result;
+        lasted = c.lasted_in.result;
+        busy = c.busy_in.result;
+        count = length c.args.runs.now;
+        most = c.max.result;
+        soonest = c.in_ok-time_without_limits.field-0;
+      })
+      c.in_ok-most_running.field-0 (string_bytes c.new-text.result) (string_bytes c.push_opening.new.text) (string_bytes c.push_lists.new.text) c.latest_end.ensures c.lasted_in.ensures.is
+      c.busy_in.ensures refl c.in_ok-most_running.ensures c.max.ensures c.new-text.ensures.bytes c.in_ok-push_opening.ensures c.deref.ensures.value c.in_ok-push_lists.ensures
+      (sym c.is_empty.ensures ∙ c.if-is_empty.false);
+}
+
+pub returns-then-is_empty : goal.returns-then-is_empty
+returns-then-is_empty c = record {
+  whole = parts-are-whole c.args.runs.now c.args.graph.now c.args.path.now c.requires c.lasted_in.ensures.whole;
+  kinds = c.in_ok-kinds.kinds.items;
+  longest = c.in_ok-kinds.ensures;
+  soonest = c.in_ok-time_without_limits.field-0;
+  is_soonest = c.in_ok-time_without_limits.ensures;
+  text_is =
+      c.in_ok-push_str.ensures.bytes ∙ ap (λ (text : List ℕ). text ++ codes "no phase was run\n") c.new-text.ensures.bytes
+      ∙ sym (ap (λ (b : Bool). cond b (codes "no phase was run\n") (summary_opening (figures_of c.args.runs.now c.args.path.now c.in_ok-time_without_limits.field-0) ++ lists_text c.args.runs.now c.args.path.now c.in_ok-kinds.kinds.items)) (sym c.is_empty.ensures ∙ c.if-is_empty.true));
+}

@@ -1,0 +1,115 @@
+-- What `times` prints as a summary.
+use Rattle.std.specs.Prelude.{◌≡◌, ℕ, zero, suc, ◌-◌, ◌==◌, max, Bool, nat_le, List, [], ◌∷◌, ◌++◌, length, replicate, sum_by, flat_map, Option, Some, None, slice_get, codes, if◌then◌else◌}
+use Rattle.std.specs.Fmt.{decimal}
+use Rattle.log_lines.specs.Phases.{phase_word}
+use Rattle.dag_graph.specs.Graph.{Network}
+use Rattle.run_times.specs.declared.runs.PhaseRun.{PhaseRun}
+use Rattle.run_times.specs.declared.kinds.Kind.{Kind}
+use Rattle.run_times.specs.declared.summary.Figures.{Figures}
+use Rattle.run_times.specs.declared.summary.TheConstants.{WIDTH}
+use Rattle.run_times.specs.Canvas.{within, latest_end}
+use Rattle.run_times.specs.Table.{seconds_text}
+use Rattle.run_times.specs.Load.{running_at}
+use Rattle.run_times.specs.Critical.{run_end_at}
+use Rattle.run_times.specs.Parts.{begun_at, end_of_rest, lasted_in, PartsAreWhole, waited_for_turn}
+use Rattle.run_times.specs.Kinds.{AreLongest}
+use Rattle.run_times.specs.Soonest.{IsSoonest}
+
+-- how many phases ran at once, at most, when the first phases began, as many
+abbrev pub most_running : List PhaseRun → ℕ → ℕ
+most_running runs zero = 0
+most_running runs (suc n) = max (most_running runs n) (running_at runs (begun_at runs n))
+
+-- a number of phases
+abbrev pub phases_text : ℕ → List ℕ
+phases_text count = if count == 1 then codes "1 phase" else decimal count ++ codes " phases"
+
+-- how long the run took, and the phases of the critical path
+abbrev pub summary_took_text : ℕ → ℕ → List ℕ
+summary_took_text took lasted = codes "took " ++ (seconds_text took ++ (codes " s, " ++ (seconds_text lasted ++ codes " s of it in the phases of the critical path\n")))
+
+-- how long all phases took, how many there were, and how many at once
+abbrev pub busy_text : ℕ → ℕ → ℕ → List ℕ
+busy_text took count most = codes "busy " ++ (seconds_text took ++ (codes " s in " ++ (phases_text count ++ (codes ", at most " ++ (decimal most ++ codes " at once\n")))))
+
+-- how long it would have taken without limits
+abbrev pub limits_text : ℕ → List ℕ
+limits_text soonest = codes "without limits it would have taken at least " ++ (seconds_text soonest ++ codes " s\n")
+
+-- a number in a column: it ends where the column does
+abbrev pub column_text : List ℕ → List ℕ
+column_text number = replicate (WIDTH - length number) 32 ++ number
+
+-- how long a phase waited that could begin at one moment and began at another; with a minus, if it began first
+abbrev pub wait_text : ℕ → ℕ → List ℕ
+wait_text from until = if nat_le from until then seconds_text (until - from) else codes "-" ++ seconds_text (from - until)
+
+-- whether it waited for its turn
+abbrev pub turn_text : Bool → List ℕ
+turn_text turn = if turn then codes "  for its turn\n" else codes "\n"
+
+-- what was run
+abbrev pub path_phase_text : Option PhaseRun → List ℕ
+path_phase_text (Some run) = run.node.now ++ (codes " " ++ (phase_word run.phase ++ (codes " " ++ decimal run.attempt)))
+path_phase_text None = []
+
+-- the row of a phase of the critical path, by when that ended for which it waited
+abbrev pub path_row_text : List PhaseRun → ℕ → ℕ → List ℕ
+path_row_text runs place from =
+    column_text (wait_text from (begun_at runs place))
+    ++ (column_text (seconds_text (run_end_at runs place - begun_at runs place)) ++ (codes "  " ++ (path_phase_text (slice_get runs place) ++ turn_text (waited_for_turn runs from (begun_at runs place)))))
+
+-- the rows of a path, which has the last phase first
+abbrev pub parts_text : List PhaseRun → List ℕ → List ℕ
+parts_text runs [] = []
+parts_text runs (place ∷ rest) = parts_text runs rest ++ path_row_text runs place (end_of_rest runs rest)
+
+-- the row of a kind
+abbrev pub kind_text : Kind → List ℕ
+kind_text kind = column_text (seconds_text kind.total.took) ++ (codes " s  " ++ (decimal kind.total.count ++ (codes " of " ++ (kind.name.now ++ codes "\n"))))
+
+abbrev pub kinds_text : List Kind → List ℕ
+kinds_text kinds = flat_map kind_text kinds
+
+-- the heads of the two lists
+abbrev pub path_head : List ℕ
+path_head = codes "\ncritical path\n    waited   seconds\n"
+
+abbrev pub kinds_head : List ℕ
+kinds_head = codes "\nlongest kinds\n"
+
+-- how long all phases took
+abbrev pub busy_in : List PhaseRun → ℕ
+busy_in runs = within (sum_by (λ run. run.took) runs)
+
+-- the numbers of phases with a critical path, by how long it would have taken without limits; at least one phase ran at once, even if none took any time
+abbrev pub figures_of : List PhaseRun → List ℕ → ℕ → Figures
+figures_of runs path soonest = record {
+  took = latest_end runs (length runs);
+  lasted = within (lasted_in runs path);
+  busy = busy_in runs;
+  count = length runs;
+  most = max (most_running runs (length runs)) 1;
+  soonest = soonest;
+}
+
+-- the first lines
+abbrev pub summary_opening : Figures → List ℕ
+summary_opening figures = summary_took_text figures.took figures.lasted ++ (busy_text figures.busy figures.count figures.most ++ limits_text figures.soonest)
+
+-- the two lists
+abbrev pub lists_text : List PhaseRun → List ℕ → List Kind → List ℕ
+lists_text runs path kinds = path_head ++ (parts_text runs path ++ (kinds_head ++ kinds_text kinds))
+
+-- the summary of phases with a critical path, the longest kinds, and how long it would have taken without limits
+abbrev pub summary_text_of : List PhaseRun → List ℕ → List Kind → ℕ → List ℕ
+summary_text_of runs path kinds soonest = if length runs == 0 then codes "no phase was run\n" else summary_opening (figures_of runs path soonest) ++ lists_text runs path kinds
+
+-- A text is the summary of the phases of a graph with this critical path, whose parts sum to the time that the run took.
+pub record IsSummary (graph : Network) (runs : List PhaseRun) (path text : List ℕ) : Type 0 where
+  pub whole : PartsAreWhole runs path
+  pub kinds : List Kind
+  pub longest : AreLongest graph runs kinds
+  pub soonest : ℕ
+  pub is_soonest : IsSoonest graph runs soonest
+  pub text_is : text ≡ summary_text_of runs path kinds soonest

@@ -1,0 +1,276 @@
+//! A summary for a person: where the time went, and what would make it shorter.
+
+ghost use Rattle.std.specs.Prelude.{◌≡◌, ◌++◌, replicate, slice_get, OnOk, IfOk, string_bytes};
+ghost use Rattle.run_times.specs.Table.{seconds_text};
+ghost use Rattle.run_times.specs.Critical.{IsCriticalPath};
+ghost use Rattle.run_times.specs.Summary.{phases_text, summary_took_text, busy_text, limits_text, column_text, wait_text, turn_text, path_phase_text, path_row_text, parts_text, kind_text, kinds_text, busy_in, summary_opening, lists_text, summary_text_of, IsSummary};
+
+use crate::canvas::latest_end;
+use crate::critical::run_end_at;
+use crate::kinds::{Kind, longest_kinds};
+use crate::load::most_running;
+use crate::parts::{begun_at, end_of_rest, lasted_at, lasted_in, waited_for_turn};
+use crate::runs::PhaseRun;
+use crate::soonest::time_without_limits;
+use crate::table::push_seconds;
+use dag_graph::Graph;
+use log_lines::phase_word;
+use std::alloc::{AllocError, Global};
+
+/// How many letters a column of numbers has.
+const WIDTH: usize = 10;
+
+/// The numbers of a summary; times are in milliseconds.
+#[derive(Clone, Copy)]
+struct Figures {
+    /// how long the run took
+    took: u64,
+    /// how long the phases of the critical path took
+    lasted: u64,
+    /// how long all phases took
+    busy: u64,
+    /// how many phases there were
+    count: usize,
+    /// how many ran at once, at most
+    most: usize,
+    /// how long the run would have taken without limits
+    soonest: u64,
+}
+
+/// How long all phases took.
+fn busy_in(runs: &[PhaseRun<'_>]) -> u64
+    ensures { result ≡ busy_in runs.now }
+{
+    let mut total: u64 = 0;
+    for run in runs {
+        total = total.saturating_add(run.took);
+    }
+    total
+}
+
+/// Adds a number of phases.
+fn push_phases(text: &mut String, count: usize) -> Result<(), AllocError>
+    ensures { OnOk result (string_bytes text.new ≡ string_bytes text.old ++ phases_text count) }
+{
+    if count == 1 {
+        text.push_str("1 phase")
+    } else {
+        write!(text, "{count} phases")
+    }
+}
+
+/// Adds how long the run took, and the phases of the critical path.
+fn push_took(text: &mut String, took: u64, lasted: u64) -> Result<(), AllocError>
+    ensures { OnOk result (string_bytes text.new ≡ string_bytes text.old ++ summary_took_text took lasted) }
+{
+    text.push_str("took ")?;
+    push_seconds(text, took)?;
+    text.push_str(" s, ")?;
+    push_seconds(text, lasted)?;
+    text.push_str(" s of it in the phases of the critical path\n")?;
+    Ok(())
+}
+
+/// Adds how long all phases took, how many there were, and how many at once.
+fn push_busy(text: &mut String, took: u64, count: usize, most: usize) -> Result<(), AllocError>
+    ensures { OnOk result (string_bytes text.new ≡ string_bytes text.old ++ busy_text took count most) }
+{
+    text.push_str("busy ")?;
+    push_seconds(text, took)?;
+    text.push_str(" s in ")?;
+    push_phases(text, count)?;
+    write!(text, ", at most {most} at once\n")
+}
+
+/// Adds how long it would have taken without limits.
+fn push_limits(text: &mut String, soonest: u64) -> Result<(), AllocError>
+    ensures { OnOk result (string_bytes text.new ≡ string_bytes text.old ++ limits_text soonest) }
+{
+    text.push_str("without limits it would have taken at least ")?;
+    push_seconds(text, soonest)?;
+    text.push_str(" s\n")?;
+    Ok(())
+}
+
+/// Adds a number that ends where its column does.
+fn push_column(text: &mut String, number: &str) -> Result<(), AllocError>
+    ensures { OnOk result (string_bytes text.new ≡ string_bytes text.old ++ column_text number.now) }
+{
+    push_spaces(text, WIDTH.saturating_sub(number.len()))?;
+    text.push_str(number)
+}
+
+/// Adds so many spaces.
+fn push_spaces(text: &mut String, count: usize) -> Result<(), AllocError>
+    ensures { OnOk result (string_bytes text.new ≡ string_bytes text.old ++ replicate count 32) }
+{
+    for _column in 0..count {
+        text.push(' ')?;
+    }
+    Ok(())
+}
+
+/// Adds milliseconds as seconds in a column.
+fn push_time(alloc: Global, text: &mut String, milliseconds: u64) -> Result<(), AllocError>
+    ensures { OnOk result (string_bytes text.new ≡ string_bytes text.old ++ column_text (seconds_text milliseconds)) }
+{
+    let mut number = String::new(alloc);
+    push_seconds(&mut number, milliseconds)?;
+    push_column(text, number.as_str())
+}
+
+/// How long a phase waited that could begin at one moment and began at another; with a minus, if it began first.
+fn wait_text(alloc: Global, from: u64, until: u64) -> Result<String, AllocError>
+    ensures { IfOk result (λ text. string_bytes text ≡ wait_text from until) }
+{
+    let mut text = String::new(alloc);
+    if from <= until {
+        push_seconds(&mut text, until - from)?;
+    } else {
+        text.push('-')?;
+        push_seconds(&mut text, from - until)?;
+    }
+    Ok(text)
+}
+
+/// Adds whether a phase waited for its turn, and the end of its row.
+fn push_turn(text: &mut String, turn: bool) -> Result<(), AllocError>
+    ensures { OnOk result (string_bytes text.new ≡ string_bytes text.old ++ turn_text turn) }
+{
+    if turn {
+        text.push_str("  for its turn\n")
+    } else {
+        text.push('\n')
+    }
+}
+
+/// Adds what was run at a place, if there is such a phase.
+fn push_run(text: &mut String, runs: &[PhaseRun<'_>], place: usize) -> Result<(), AllocError>
+    ensures { OnOk result (string_bytes text.new ≡ string_bytes text.old ++ path_phase_text (slice_get runs.now place)) }
+{
+    match runs.get(place) {
+        Some(run) => {
+            let (node, phase) = (run.node, phase_word(run.phase));
+            write!(text, "{node} {phase} {}", run.attempt)
+        }
+        None => Ok(()),
+    }
+}
+
+/// Adds the row of a phase of the critical path, by when that ended for which it waited.
+fn push_part(
+    alloc: Global,
+    text: &mut String,
+    runs: &[PhaseRun<'_>],
+    place: usize,
+    from: u64,
+) -> Result<(), AllocError>
+    ensures { OnOk result (string_bytes text.new ≡ string_bytes text.old ++ path_row_text runs.now place from) }
+{
+    let begun = begun_at(runs, place);
+    let waited = wait_text(alloc, from, begun)?;
+    push_column(text, waited.as_str())?;
+    push_time(alloc, text, lasted_at(runs, place))?;
+    text.push_str("  ")?;
+    push_run(text, runs, place)?;
+    push_turn(text, waited_for_turn(runs, from, begun))?;
+    Ok(())
+}
+
+/// Adds the rows of a path, which has the last phase first.
+fn push_parts(
+    alloc: Global,
+    text: &mut String,
+    runs: &[PhaseRun<'_>],
+    path: &[usize],
+) -> Result<(), AllocError>
+    ensures { OnOk result (string_bytes text.new ≡ string_bytes text.old ++ parts_text runs.now path.now) }
+{
+    let mut place = path.len();
+    while place > 0 {
+        place -= 1;
+        let from = end_of_rest(runs, &path[place + 1..]);
+        push_part(alloc, text, runs, path[place], from)?;
+    }
+    Ok(())
+}
+
+/// Adds the row of a kind.
+fn push_kind(alloc: Global, text: &mut String, kind: &Kind<'_>) -> Result<(), AllocError>
+    ensures { OnOk result (string_bytes text.new ≡ string_bytes text.old ++ kind_text kind.now) }
+{
+    push_time(alloc, text, kind.total.took)?;
+    let (name, count) = (kind.name, kind.total.count);
+    write!(text, " s  {count} of {name}\n")
+}
+
+/// Adds the rows of kinds.
+fn push_kinds(alloc: Global, text: &mut String, kinds: &[Kind<'_>]) -> Result<(), AllocError>
+    ensures { OnOk result (string_bytes text.new ≡ string_bytes text.old ++ kinds_text kinds.now) }
+{
+    for kind in kinds {
+        push_kind(alloc, text, kind)?;
+    }
+    Ok(())
+}
+
+/// Adds the first lines.
+fn push_opening(text: &mut String, figures: &Figures) -> Result<(), AllocError>
+    ensures { OnOk result (string_bytes text.new ≡ string_bytes text.old ++ summary_opening figures.now) }
+{
+    push_took(text, figures.took, figures.lasted)?;
+    push_busy(text, figures.busy, figures.count, figures.most)?;
+    push_limits(text, figures.soonest)?;
+    Ok(())
+}
+
+/// Adds the two lists.
+fn push_lists(
+    alloc: Global,
+    text: &mut String,
+    runs: &[PhaseRun<'_>],
+    path: &[usize],
+    kinds: &[Kind<'_>],
+) -> Result<(), AllocError>
+    ensures { OnOk result (string_bytes text.new ≡ string_bytes text.old ++ lists_text runs.now path.now kinds.now) }
+{
+    text.push_str("\ncritical path\n    waited   seconds\n")?;
+    push_parts(alloc, text, runs, path)?;
+    text.push_str("\nlongest kinds\n")?;
+    push_kinds(alloc, text, kinds)?;
+    Ok(())
+}
+
+/// A summary of these phases of a graph, with their critical path: how long the run took, how much of that the phases of
+/// the path; how long all phases took; how long it would have taken without limits; how long each phase of the path waited
+/// and took; and the kinds of phases that took longest. Times are in seconds.
+///
+/// # Errors
+/// Want of memory.
+pub(crate) fn summary_text(
+    alloc: Global,
+    graph: &Graph,
+    runs: &[PhaseRun<'_>],
+    path: &[usize],
+) -> Result<String, AllocError>
+    requires { IsCriticalPath graph.now runs.now path.now }
+    ensures { IfOk result (λ text. IsSummary graph.now runs.now path.now (string_bytes text)) }
+{
+    let kinds = longest_kinds(alloc, graph, runs)?;
+    let figures = Figures {
+        took: latest_end(runs),
+        lasted: lasted_in(runs, path),
+        busy: busy_in(runs),
+        count: runs.len(),
+        most: most_running(alloc, runs)?.max(1),
+        soonest: time_without_limits(alloc, graph, runs)?,
+    };
+    let mut text = String::new(alloc);
+    if runs.is_empty() {
+        text.push_str("no phase was run\n")?;
+        return Ok(text);
+    }
+    push_opening(&mut text, &figures)?;
+    push_lists(alloc, &mut text, runs, path, &kinds)?;
+    Ok(text)
+}

@@ -1,0 +1,211 @@
+//! What `times` answers of a log that is given: expected texts were worked out by hand.
+
+ghost use Rattle.std.specs.Prelude.{None, false};
+
+use crate::same::same;
+use dag_main_check::RunFault;
+use run_times::{Form, times_here};
+use splices_flat::FileSet;
+use std::alloc::Global;
+use std::process::Abort;
+use std::test::Fail;
+
+static DAG: &str = "JOB Fetch fetch.sub
+JOB Fit1 fit.sub
+JOB Fit2 fit.sub
+JOB Sum sum.sub
+SCRIPT POST Fit2 check
+FINAL Last last.sub
+PARENT Fetch CHILD Fit1 Fit2
+PARENT Fit1 Fit2 CHILD Sum
+";
+
+static LOG: &str = "2026-11-25T23:40:00.000Z\tlife\t-\t-\t-\t9\tstart=begin
+2026-11-25T23:40:00.002Z\tstart\tFetch\tJOB\t0\t10\tcommand=/bin/true
+2026-11-25T23:40:01.002Z\tend\tFetch\tJOB\t0\t10\texit=0\tseconds=1.000
+2026-11-25T23:40:01.004Z\tstart\tFit1\tJOB\t0\t11\tcommand=/bin/true
+2026-11-25T23:40:05.104Z\tend\tFit1\tJOB\t0\t11\texit=0\tseconds=4.100
+2026-11-25T23:40:05.106Z\tstart\tFit2\tJOB\t0\t12\tcommand=/bin/true
+2026-11-25T23:40:07.106Z\tend\tFit2\tJOB\t0\t12\texit=3\tseconds=2.000
+2026-11-25T23:40:07.108Z\tstart\tFit2\tPOST\t0\t13\tcommand=check
+2026-11-25T23:40:07.608Z\tend\tFit2\tPOST\t0\t13\texit=0\tseconds=0.500
+2026-11-25T23:40:07.610Z\tstart\tSum\tJOB\t0\t14\tcommand=/bin/true
+2026-11-25T23:40:08.610Z\tend\tSum\tJOB\t0\t14\texit=0\tseconds=1.000
+2026-11-25T23:40:08.612Z\tstart\tLast\tJOB\t0\t15\tcommand=/bin/true
+2026-11-25T23:40:08.712Z\tend\tLast\tJOB\t0\t15\texit=0\tseconds=0.100
+";
+
+static SUMMARY: &str = "took 8.712 s, 4.600 s of it in the phases of the critical path
+busy 8.700 s in 6 phases, at most 1 at once
+without limits it would have taken at least 6.200 s
+
+critical path
+    waited   seconds
+     0.002     1.000  Fetch JOB 0
+     4.104     2.000  Fit2 JOB 0  for its turn
+     0.002     0.500  Fit2 POST 0
+     0.002     1.000  Sum JOB 0
+     0.002     0.100  Last JOB 0
+
+longest kinds
+     6.100 s  2 of fit.sub
+     1.000 s  1 of fetch.sub
+     1.000 s  1 of sum.sub
+";
+
+static TABLE: &str = "node\tphase\tattempt\tbegin\tseconds\tended\tpath
+Fetch\tJOB\t0\t0.002\t1.000\texit 0\t*
+Fit1\tJOB\t0\t1.004\t4.100\texit 0\t-
+Fit2\tJOB\t0\t5.106\t2.000\texit 3\t*
+Fit2\tPOST\t0\t7.108\t0.500\texit 0\t*
+Sum\tJOB\t0\t7.610\t1.000\texit 0\t*
+Last\tJOB\t0\t8.612\t0.100\texit 0\t*
+";
+
+/// Compares what is shown of a DAG file and a log in a form with a text.
+fn shows(
+    rt: &impl Abort,
+    alloc: Global,
+    dag: &str,
+    log: &str,
+    form: Form,
+    wanted: &str,
+) -> Result<(), Fail> {
+    let mut files = FileSet::new(alloc);
+    files.add(alloc, "x.dag", dag.as_bytes())?;
+    files.add(alloc, "x.dag.log", log.as_bytes())?;
+    match times_here(alloc, &files, "x.dag", form) {
+        Ok(answer) => same(rt, answer.text.as_str(), wanted),
+        Err(RunFault::Memory) => same(rt, "no memory", wanted),
+        Err(_) => same(rt, "another fault", wanted),
+    }
+    Ok(())
+}
+
+/// A limit made a node wait, and its POST script is on the path.
+#[test]
+fn summary_of_a_round(rt: HostRuntime) -> Result<(), Fail> {
+    let alloc = rt.alloc();
+    shows(&rt, alloc, DAG, LOG, Form::Summary, SUMMARY)?;
+    shows(&rt, alloc, DAG, LOG, Form::Table, TABLE)
+}
+
+/// Two phases at once, an attempt that failed and one that runs; two ends in one moment; more than three kinds.
+#[test]
+fn summary_while_it_runs(rt: HostRuntime) -> Result<(), Fail> {
+    let dag =
+        "JOB A a.sub\nJOB B b.sub\nJOB C c.sub\nSCRIPT PRE C prepare\nRETRY C 2\nPARENT A B CHILD C\n";
+    let log = "2026-11-25T23:40:00.000Z\tlife\t-\t-\t-\t9\tstart=begin
+2026-11-25T23:40:00.000Z\tstart\tA\tJOB\t0\t10\tcommand=/bin/true
+2026-11-25T23:40:00.010Z\tstart\tB\tJOB\t0\t11\tcommand=/bin/true
+2026-11-25T23:40:02.000Z\tend\tA\tJOB\t0\t10\texit=0\tseconds=2.000
+2026-11-25T23:40:02.000Z\tend\tB\tJOB\t0\t11\texit=0\tseconds=1.990
+2026-11-25T23:40:02.001Z\tstart\tC\tPRE\t0\t12\tcommand=prepare
+2026-11-25T23:40:02.301Z\tend\tC\tPRE\t0\t12\texit=0\tseconds=0.300
+2026-11-25T23:40:02.302Z\tstart\tC\tJOB\t0\t13\tcommand=/bin/true
+2026-11-25T23:40:03.302Z\tend\tC\tJOB\t0\t13\texit=1\tseconds=1.000
+2026-11-25T23:40:03.303Z\tstart\tC\tPRE\t1\t14\tcommand=prepare
+2026-11-25T23:40:03.403Z\tend\tC\tPRE\t1\t14\texit=0\tseconds=0.100
+2026-11-25T23:40:03.500Z\tstart\tC\tJOB\t1\t15\tcommand=/bin/true
+2026-11-25T23:40:04.000Z\thold\t-\t-\t-\t-\treason=process
+";
+    let wanted = "took 4.000 s, 3.890 s of it in the phases of the critical path
+busy 5.890 s in 6 phases, at most 2 at once
+without limits it would have taken at least 3.900 s
+
+critical path
+    waited   seconds
+     0.010     1.990  B JOB 0
+     0.001     0.300  C PRE 0
+     0.001     1.000  C JOB 0
+     0.001     0.100  C PRE 1
+     0.097     0.500  C JOB 1
+
+longest kinds
+     2.000 s  1 of a.sub
+     1.990 s  1 of b.sub
+     1.500 s  2 of c.sub
+";
+    shows(&rt, rt.alloc(), dag, log, Form::Summary, wanted)
+}
+
+/// A manager was killed: what it ran is lost since the last line before, and nothing made way for what waited for the next one.
+#[test]
+fn summary_of_two_lives(rt: HostRuntime) -> Result<(), Fail> {
+    let dag = "JOB A a.sub\nJOB B a.sub\nJOB C a.sub\nPARENT A CHILD C\n";
+    let log = "2026-11-25T23:40:00.000Z\tlife\t-\t-\t-\t9\tstart=begin
+2026-11-25T23:40:00.100Z\tstart\tA\tJOB\t0\t10\tcommand=/bin/true
+2026-11-25T23:40:00.100Z\tstart\tB\tJOB\t0\t11\tcommand=/bin/true
+2026-11-25T23:40:01.000Z\tend\tA\tJOB\t0\t10\texit=0\tseconds=0.900
+2026-11-25T23:40:10.000Z\tlife\t-\t-\t-\t19\tstart=resume
+2026-11-25T23:40:10.005Z\tstart\tC\tJOB\t0\t20\tcommand=/bin/true
+2026-11-25T23:40:11.005Z\tend\tC\tJOB\t0\t20\texit=0\tseconds=1.000
+";
+    let wanted = "took 11.005 s, 1.900 s of it in the phases of the critical path
+busy 2.800 s in 3 phases, at most 2 at once
+without limits it would have taken at least 1.900 s
+
+critical path
+    waited   seconds
+     0.100     0.900  A JOB 0
+     9.005     1.000  C JOB 0
+
+longest kinds
+     2.800 s  3 of a.sub
+";
+    shows(&rt, rt.alloc(), dag, log, Form::Summary, wanted)
+}
+
+/// The files were changed after the round: a node began before its parent ended, and another one is unknown.
+#[test]
+fn summary_of_changed_files(rt: HostRuntime) -> Result<(), Fail> {
+    let dag = "JOB A a.sub\nJOB B b.sub\nPARENT A CHILD B\n";
+    let log = "2026-11-25T23:40:00.000Z\tlife\t-\t-\t-\t9\tstart=begin
+2026-11-25T23:40:00.000Z\tstart\tA\tJOB\t0\t10\tcommand=/bin/true
+2026-11-25T23:40:00.500Z\tstart\tOld\tJOB\t0\t11\tcommand=/bin/true
+2026-11-25T23:40:00.750Z\tend\tOld\tJOB\t0\t11\texit=0\tseconds=0.250
+2026-11-25T23:40:01.000Z\tstart\tB\tJOB\t0\t12\tcommand=/bin/true
+2026-11-25T23:40:02.000Z\tend\tA\tJOB\t0\t10\texit=0\tseconds=2.000
+2026-11-25T23:40:03.000Z\tend\tB\tJOB\t0\t12\texit=0\tseconds=2.000
+";
+    let wanted = "took 3.000 s, 4.000 s of it in the phases of the critical path
+busy 4.250 s in 3 phases, at most 2 at once
+without limits it would have taken at least 4.250 s
+
+critical path
+    waited   seconds
+     0.000     2.000  A JOB 0
+    -1.000     2.000  B JOB 0
+
+longest kinds
+     2.000 s  1 of a.sub
+     2.000 s  1 of b.sub
+     0.250 s  1 of unknown nodes
+";
+    shows(&rt, rt.alloc(), dag, log, Form::Summary, wanted)
+}
+
+/// One phase that took no time, and none.
+#[test]
+fn summary_of_little(rt: HostRuntime) -> Result<(), Fail> {
+    let dag = "JOB A a.sub\n";
+    let life = "2026-11-25T23:40:00.000Z\tlife\t-\t-\t-\t9\tstart=begin\n";
+    let one = "2026-11-25T23:40:00.000Z\tlife\t-\t-\t-\t9\tstart=begin
+2026-11-25T23:40:00.004Z\tnotstarted\tA\tJOB\t0\t-\twhat=program
+";
+    let wanted = "took 0.004 s, 0.000 s of it in the phases of the critical path
+busy 0.000 s in 1 phase, at most 1 at once
+without limits it would have taken at least 0.000 s
+
+critical path
+    waited   seconds
+     0.004     0.000  A JOB 0
+
+longest kinds
+     0.000 s  1 of a.sub
+";
+    let alloc = rt.alloc();
+    shows(&rt, alloc, dag, one, Form::Summary, wanted)?;
+    shows(&rt, alloc, dag, life, Form::Summary, "no phase was run\n")?;
+    shows(&rt, alloc, dag, "", Form::Summary, "no phase was run\n")
+}
