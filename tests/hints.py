@@ -129,6 +129,70 @@ ROWS = [
         "ok nodes=5 edges=0 final=no",
     ),
     Row(
+        "paths in commands, as a shell reads them",
+        {
+            "x.dag": "JOB A a.sub\nJOB B b.sub\nJOB C c.sub\nJOB D d.sub\nJOB E e.sub\nJOB F f.sub\n",
+            "a.sub": "executable = run it.sh\nqueue\n",
+            "b.sub": "executable = return it's.sh\nqueue\n",
+            "c.sub": sub("output = my out/a.txt"),
+            "d.sub": sub('output = S"p+a/b.txt'),
+            "e.sub": sub("output = -out/c.txt"),
+            "f.sub": "executable = -run.sh\nqueue\n",
+            "run it.sh": "#!/bin/sh\n",
+            "return it's.sh*": "#!/bin/sh\r\necho\r\n",
+            "-run.sh": "#!/bin/sh\n",
+        },
+        [
+            "hint: a.sub:1 run it.sh may not be executed: chmod +x 'run it.sh'",
+            "hint: b.sub:1 the first line of return it's.sh ends with a carriage return: sed -i 's/\\r$//' 'return it'\\''s.sh'",
+            "hint: c.sub:2 the folder my out is not there: mkdir -p 'my out'",
+            "hint: d.sub:2 the folder S\"p+a is not there: mkdir -p 'S\"p+a'",
+            "hint: e.sub:2 the folder -out is not there: mkdir -p ./-out",
+            "hint: f.sub:1 -run.sh may not be executed: chmod +x ./-run.sh",
+        ],
+        "ok nodes=6 edges=0 final=no",
+    ),
+    Row(
+        "programs that are no regular files, and are not opened",
+        {
+            "x.dag": "JOB A a.sub\nJOB B b.sub\nSCRIPT PRE A pipe\nSCRIPT POST B open\n",
+            "a.sub": "executable = open\nqueue\n",
+            "b.sub": "executable = /dev/null\nqueue\n",
+            "pipe|": None,
+            "open|*": None,
+        },
+        [
+            "hint: x.dag:3 pipe is a pipe, a device or a socket: name a program",
+            "hint: x.dag:4 open is a pipe, a device or a socket: name a program",
+            "hint: a.sub:1 open is a pipe, a device or a socket: name a program",
+            "hint: b.sub:1 /dev/null is a pipe, a device or a socket: name a program",
+        ],
+        "ok nodes=2 edges=0 final=no",
+    ),
+    Row(
+        "scripts whose first line names no program",
+        {
+            "x.dag": "JOB A a.sub\nJOB B b.sub\nJOB C c.sub\nJOB D d.sub\nSCRIPT PRE D none.sh\n",
+            "a.sub": "executable = none.sh\nqueue\n",
+            "b.sub": "executable = folder.sh\nqueue\n",
+            "c.sub": "executable = relative.sh\nqueue\n",
+            "d.sub": "executable = plain.sh\nqueue\n",
+            "none.sh*": "#!/no/such/reader -x\n",
+            "folder.sh*": "#! /\n",
+            # It is seen from the folder of the job.
+            "relative.sh*": "#!bin/sh\n",
+            # What is to be done first.
+            "plain.sh": "#!/no/such/reader\n",
+        },
+        [
+            "hint: x.dag:5 the first line of none.sh names /no/such/reader, where no program is: name the one that reads it",
+            "hint: a.sub:1 the first line of none.sh names /no/such/reader, where no program is: name the one that reads it",
+            "hint: b.sub:1 the first line of folder.sh names /, where no program is: name the one that reads it",
+            "hint: d.sub:1 plain.sh may not be executed: chmod +x plain.sh",
+        ],
+        "ok nodes=4 edges=0 final=no",
+    ),
+    Row(
         "scripts, also of splices in folders",
         {
             "x.dag": "SCRIPT PRE A before.sh\nJOB A a.sub DIR d\nSCRIPT POST ALL_NODES after.sh $RETURN\nSPLICE S inner.dag DIR s\n",
@@ -277,15 +341,18 @@ ROWS = [
 
 
 def laid_out(files):
-    """Writes files: a folder's name ends with a slash, that of an executable file with a star."""
+    """Writes files: a folder's name ends with a slash, that of an executable file with a star, and before it a pipe's with a bar."""
     for name, text in files.items():
-        path = name.rstrip("/*")
+        path = name.rstrip("/|*")
         if name.endswith("/"):
             os.makedirs(path)
             continue
         os.makedirs(os.path.dirname(path) or ".", exist_ok=True)
-        with open(path, "w", newline="") as file:
-            file.write(text)
+        if "|" in name:
+            os.mkfifo(path)
+        else:
+            with open(path, "w", newline="") as file:
+                file.write(text)
         if name.endswith("*"):
             os.chmod(path, 0o755)
 

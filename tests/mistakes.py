@@ -427,6 +427,34 @@ ROWS = [
         needs=("disk",),
     ),
     Row(
+        "disk full at a rescue file",
+        {"x.dag": DAG, "a.sub": sub("executable = /bin/sh", "arguments = a.sh"), "a.sh": "[ -e short ] || exec sleep 1000\n"},
+        [
+            ("{timeout} 1 dagrun run x.dag", 124, []),
+            ("head -c 1000000 /dev/zero >big", 1, []),
+            (
+                "dagrun salvage x.dag",
+                125,
+                ["dagrun: X2 FileRefused x.dag.rescue001 dagrun can't make x.dag.rescue001: No space left on device (os error 28)", more("X2")],
+            ),
+        ],
+        "rm big; dagrun salvage x.dag; touch short",
+        needs=("disk", "timeout"),
+    ),
+    Row(
+        "a file system that is read-only",
+        {"x.dag": DAG, "a.sub": GOOD},
+        [
+            (
+                "mount -o remount,ro {here}; dagrun run x.dag",
+                125,
+                ["dagrun: X2 FileRefused x.dag.lock dagrun can't make x.dag.lock: Read-only file system (os error 30)", more("X2")],
+            ),
+        ],
+        "mount -o remount,rw {here}",
+        needs=("disk",),
+    ),
+    Row(
         "another user's journal",
         {"x.dag": DAG, "a.sub": GOOD, "x.dag.journal@": "", "./": 0o777},
         [("dagrun run x.dag", 125, ["dagrun: X2 FileRefused x.dag.journal x.dag.journal belongs to user {other}: remove it, or see --trust-owner"])],

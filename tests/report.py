@@ -238,6 +238,35 @@ def cut_short(program):
                 os.kill(int(line.split("\t")[0]), 9)
 
 
+# Says that it is there, and waits until so many are.
+MEET = "#!/bin/sh\n: > here.$1.$$\nuntil [ $(ls here.$1.* | wc -l) -ge $2 ]; do sleep 0.05; done\n"
+
+
+def limits(program):
+    """Three jobs run at once, two of them of a category, and one PRE script; nothing more may, or could."""
+    files = {
+        "x.dag": "JOB A a.sub\nJOB B a.sub\nJOB C a.sub\nJOB D b.sub\nJOB E b.sub\nPARENT A B C CHILD D E\nSCRIPT PRE A true\n"
+        "CATEGORY D <wide>\nCATEGORY E <wide>\nMAXJOBS <wide> 2\nCATEGORY A rare\nMAXJOBS rare 7\nMAXJOBS none 1\n",
+        "a.sub": "executable = /bin/sh\narguments = meet.sh a 3\nqueue\n",
+        "b.sub": "executable = /bin/sh\narguments = meet.sh b 2\nqueue\n",
+        "meet.sh": MEET,
+    }
+    folder = Folder(program, files)
+    same("status of the run", folder.call("run", "--maxjobs", "3", "--maxpre", "4", "x.dag")[0], 0)
+    status, text, _ = folder.call("report", "x.dag")
+    same("status", status, 0)
+    same("faults", Page(text).faults, [])
+    found = re.findall(r'<li class="(\w+)"><b>(\d+ of \d+)</b> (.*) at once</li>', text)
+    same("limits", found, [
+        ("ready", "2 of 2", "jobs of &lt;wide&gt;"), ("plain", "1 of 7", "jobs of rare"), ("plain", "0 of 1", "jobs of none"), ("ready", "3 of 3", "jobs"),
+        ("plain", "1 of 4", "PRE scripts"),
+    ])
+    same("its head", "<h2>Limits</h2>" in text, True)
+    os.remove(os.path.join(folder.place.name, "x.dag.log"))
+    found = re.findall(r'<b>(\d+ of \d+)</b> (.*) at once</li>', folder.call("report", "x.dag")[1])
+    same("limits without a log", found, [("0 of 2", "jobs of &lt;wide&gt;"), ("0 of 7", "jobs of rare"), ("0 of 1", "jobs of none")])
+
+
 def refused(program):
     folder = Folder(program, {"x.dag": "JOB A\n"})
     for words in (["report"], ["status"]):
@@ -263,7 +292,7 @@ def many(program):
     print(f"     {nodes} nodes: {len(text)} bytes in {took:.1f} s")
 
 
-ROWS = [("a round that ended", ended), ("an aborted round", aborted), ("no round", not_begun), ("a round that runs", runs), ("a round that was cut short", cut_short), ("a refusal", refused), ("5,000 nodes", many)]
+ROWS = [("a round that ended", ended), ("an aborted round", aborted), ("no round", not_begun), ("a round that runs", runs), ("a round that was cut short", cut_short), ("limits", limits), ("a refusal", refused), ("5,000 nodes", many)]
 
 
 def main():

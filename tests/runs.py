@@ -989,6 +989,9 @@ def limits_of_the_environment(folder):
     same(limits({"DAGRUN_MAXJOBS": ""}, "run", "x.dag"), "0 0 0")
     same(limits({"DAGRUN_MAXJOBS": "many"}, "run", "x.dag"), None)
     same(limits({"DAGRUN_MAXJOBS": "65536"}, "run", "x.dag"), None)
+    # It is said that the environment is wrong, not a word.
+    done = subprocess.run([folder.program, "run", "x.dag"], cwd=folder.path, capture_output=True, timeout=PATIENCE, env={**os.environ, "DAGRUN_MAXPRE": "many"})
+    same((done.stdout, done.stderr, done.returncode), (b"", b"error: DAGRUN_MAXPRE=many in the environment: no number from 0 to 65535\n", 125))
     # Other commands pass them over.
     done = subprocess.run([folder.program, "check", "x.dag"], cwd=folder.path, capture_output=True, timeout=PATIENCE, env={**os.environ, "DAGRUN_MAXJOBS": "many"})
     same((done.stdout, done.returncode), (b"ok nodes=2 edges=0 final=no\n", 0))
@@ -1626,6 +1629,21 @@ def a_carriage_return(folder):
         folder, "executable = a.sh", r"    repair   its first line ends with a carriage return (CR): sed -i 's/\r$//' HERE/a.sh",
         script="#!/bin/sh\r\nexit 0\r\n", first=lambda folder: os.chmod(folder.at("a.sh"), 0o755),
     )
+
+
+def a_pipe_for_a_program(folder):
+    """Nobody writes into it: `why` says what it is and doesn't wait, also without the log."""
+    def pipe(folder):
+        os.mkfifo(folder.at("a.sh"))
+        os.chmod(folder.at("a.sh"), 0o755)
+
+    def program(folder):
+        os.remove(folder.at("x.dag.log"))
+        same(lines_of(why(folder), "repair"), [f"this is a pipe, a device or a socket, no program: {os.path.realpath(folder.at('a.sh'))}"])
+        os.remove(folder.at("a.sh"))
+        os.symlink("/bin/true", folder.at("a.sh"))
+
+    mended(folder, "executable = a.sh", "    repair   this is a pipe, a device or a socket, no program: HERE/a.sh", first=pipe, repair=program)
 
 
 def no_such_program(folder):
@@ -3921,6 +3939,81 @@ def halted_behind_a_link_that_is_switched(folder):
     same((folder.read("a.began"), folder.read("b.began")), (b"x\n", b"x\n"))
 
 
+def gated_by_turns(folder, lines):
+    """A waits each time that it is begun for a file of its own, and B comes after it, if the DAG has a B."""
+    folder.write("x.dag", lines)
+    folder.shell("a", "echo x >>a.began\nturn=$(wc -l <a.began)\nuntil [ -e go$((turn)) ]; do sleep 0.01; done\n")
+    folder.shell("b", "echo x >>b.began\n")
+
+
+# The files of a manager that works, without which another one knows nothing of it.
+OF_A_MANAGER = ("lock", "journal", "round", "children")
+
+
+def files_by_it(folder):
+    """By what a manager that works is known."""
+    return [folder.read(f"x.dag.{name}") for name in ("lock", "round", "children")]
+
+
+def begun_beside(folder):
+    """A manager whose files are removed while A runs, and another one that begins beside it, whose A is noted."""
+    first = folder.start("run", "x.dag")
+    folder.wait_for("a.began")
+    wait_until(lambda: folder.read("x.dag.children").count(b"\n") == 2, "A is not noted")
+    for name in OF_A_MANAGER:
+        os.remove(folder.at(f"x.dag.{name}"))
+    second = folder.start("run", "x.dag")
+    wait_until(lambda: folder.read("a.began") == b"x\nx\n", "A is not begun again")
+    wait_until(lambda: folder.read("x.dag.children").count(b"\n") == 2, "the second A is not noted")
+    return first, second
+
+
+def halted_without_its_journal(folder):
+    """A manager whose journal was removed starts nothing more, and leaves what another one keeps that has begun beside it."""
+    gated_by_turns(folder, "JOB A a.sub\nJOB B b.sub\nPARENT A CHILD B\n")
+    first, second = begun_beside(folder)
+    kept = files_by_it(folder)
+    folder.write("go1", "")
+    halted(folder, first, "x.dag.journal")
+    same((files_by_it(folder), folder.there("b.began")), (kept, False))
+    folder.write("go2", "")
+    same((second.communicate(timeout=PATIENCE), second.returncode), (((done_lines("A", "B") + "result 0\n").encode(), b""), 0))
+    same((folder.read("a.began"), folder.read("b.began")), (b"x\nx\n", b"x\n"))
+    same([folder.there(f"x.dag.{name}") for name in OF_A_MANAGER], [False, True, False, False])
+
+
+def halted_behind_another_journal(folder):
+    """The same where another file has the journal's name by then, though it is a copy; the next run goes on by that."""
+    gated_by_turns(folder, "JOB A a.sub\nJOB B b.sub\nPARENT A CHILD B\n")
+    run = folder.start("run", "x.dag")
+    folder.wait_for("a.began")
+    folder.wait_for_launch(2)
+    shutil.copy(folder.at("x.dag.journal"), folder.at("copy"))
+    os.rename(folder.at("copy"), folder.at("x.dag.journal"))
+    folder.write("go1", "")
+    halted(folder, run, "x.dag.journal")
+    same(folder.there("b.began"), False)
+    folder.write("go2", "")
+    same(folder.call("run", "x.dag"), (done_lines("A", "B") + "result 0\n", "", 0))
+    same((folder.read("a.began"), folder.read("b.began")), (b"x\nx\n", b"x\n"))
+
+
+def what_another_manager_keeps(folder):
+    """A manager that ends with nothing left to launch is not halted, and removes nothing of another one that has begun beside it."""
+    gated_by_turns(folder, "JOB A a.sub\n")
+    first, second = begun_beside(folder)
+    kept = files_by_it(folder)
+    folder.write("go1", "")
+    same((first.communicate(timeout=PATIENCE), first.returncode), (((done_lines("A") + "result 0\n").encode(), b""), 0))
+    same(files_by_it(folder), kept)
+    # So what the other one leaves, if it is killed, is found.
+    second.kill()
+    second.communicate(timeout=PATIENCE)
+    folder.write("go3", "")
+    same(folder.call("run", "x.dag"), (done_lines("A") + "result 0\n", "", 0))
+    same(("killed" in orphans_in(folder), folder.read("a.began")), (True, b"x\nx\nx\n"))
+
+
 def a_rescue_file_of_a_folder_that_is_renamed(folder):
     """A rescue file is never written into another folder that has the name of the round's by then; the next run in its own writes it."""
     work, moved = folder.at("work"), folder.at("moved")
@@ -4409,6 +4502,87 @@ def a_status_file(folder):
     same([state for _, state, _ in states()], ["DONE", "ERROR"])
 
 
+def what_a_status_file_may_not_be(folder):
+    """Neither a file of dagrun's own, nor what another command prints, nor a file that was there under the other name: nothing is lost, and nothing
+    is started."""
+    folder.write("x.dag", "JOB A a.sub\nJOB B b.sub\n")
+    folder.shell("a", "echo x >>ran\n")
+    folder.shell("b", "exit 3\n")
+    os.mkdir(folder.at("d"))
+    os.symlink(".", folder.at("here"))
+    endings = ["", ".journal", ".journal.old", ".lock", ".round", ".round.new", ".children", ".inputs", ".inputs.new", ".begun", ".begun.new", ".log", ".log.old"]
+    endings += [".halt", ".scripts", ".rescue001", ".rescue999.new", ".rescue002.old"]
+    names = [f"x.dag{ending}" for ending in endings]
+    names += ["./x.dag.journal", "d/../x.dag.lock", "here/x.dag.children", folder.at("x.dag.round")]
+
+    def refuses(dag, *names):
+        kept = {name: folder.read(name) for name in os.listdir(folder.path) if os.path.isfile(folder.at(name))}
+        for name in names:
+            same(folder.call("run", "--status-file", name, dag), ("", f"dagrun: X2 FileRefused {name}\n", 125))
+        same({name: folder.read(name) for name in os.listdir(folder.path) if os.path.isfile(folder.at(name))}, kept)
+
+    # Before the first round, where most of them are not there, and after it.
+    refuses("x.dag", *names)
+    same((folder.there("ran"), folder.call("run", "x.dag")[2]), (False, 1))
+    refuses("x.dag", *names)
+    # The name under which it is written first is the DAG file's, or another file is there.
+    shutil.copy(folder.at("x.dag"), folder.at("w.new"))
+    refuses("w.new", "w")
+    for name, text in (("t.new", "precious\n"), ("u.new", '{"dag":"x.dag","edges":0'), ("v.new", '{"dag":"x.dag","nodes":[],"ok":true}\n')):
+        folder.write(name, text)
+    refuses("x.dag", "t", "u", "v")
+    # What other commands print as JSON; and what is no status though it looks like one.
+    folder.write("y.dag", "JOB A a.sub\n")
+    same(folder.call("run", "y.dag")[2], 0)
+    for name, words in (("c", ("check", "--json", "y.dag")), ("o", ("audit", "--json", "y.dag")), ("t", ("times", "--json", "y.dag")),
+                        ("y", ("why", "--json", "x.dag")), ("v", ("version", "--json"))):
+        folder.write(f"{name}.json", folder.call(*words)[0])
+    folder.write("1.json", '{"dag":"x.dag","nodes":[{"name":"A"}]}\n')
+    folder.write("2.json", '{"dag":"x.dag\\","nodes":[]}\n')
+    folder.write("3.json", '{"dag":"x\n","nodes":[]}\n')
+    folder.write("4.json", '{"dag":"x.dag","nodes":[{"attempts":1')
+    folder.write("5.json", "{")
+    refuses("x.dag", *(f"{name}.json" for name in "cotyv12345"))
+
+
+def what_a_status_file_may_be(folder):
+    """A status of another DAG, whatever its path, part of one that a killed manager left under the other name, and names that are nearly dagrun's own."""
+    folder.write("x.dag", "JOB A a.sub\n")
+    folder.echo("a")
+    answer = (done_lines("A") + "result 0\n", "", 0)
+    for name in ('quo"te.dag', "back\\slash.dag", 'both\\".dag', "tab\t.dag", "\u96ea.dag"):
+        folder.write(name, "")
+        same(folder.call("run", "--status-file", "s.json", name)[1:], ("", 0))
+        same(json.loads(folder.read("s.json")), {"dag": name, "nodes": []})
+        same(folder.call("run", "--status-file", "s.json", "x.dag"), answer)
+        same(json.loads(folder.read("s.json"))["dag"], "x.dag")
+    whole = folder.read("s.json")
+    for size in (0, 1, 6, 9, 13, 15, 20, 30, 40, len(whole) - 2, len(whole) - 1, len(whole)):
+        folder.write("s.json.new", whole[:size])
+        same(folder.call("run", "--status-file", "s.json", "x.dag"), answer)
+        same((folder.read("s.json"), folder.there("s.json.new")), (whole, False))
+    for name in ("x.dag.json", "x.dag.rescue01", "x.dag.rescue0001", "x.dag.rescue001.json", "x.dag.logs", "x.da"):
+        same(folder.call("run", "--status-file", name, "x.dag"), answer)
+        same(folder.read(name), whole)
+    # Beside another DAG file of that name it is none of this one's.
+    os.mkdir(folder.at("d"))
+    same(folder.call("run", "--status-file", "d/x.dag.log", "x.dag"), answer)
+    same(folder.read("d/x.dag.log"), whole)
+
+
+def an_output_in_place_of_a_status(folder):
+    """What a job makes under the name of the file while the run goes on is left, and so is what it makes under the other name."""
+    for name, made in (("s", "s"), ("t", "t.new")):
+        folder.write(f"{name}.dag", f"JOB A {name}.sub\nJOB B b.sub\nPARENT A CHILD B\n")
+        # It is written once before A ends, and, but for the output, as the run ends.
+        folder.shell(name, f"until [ -s {name} ]; do sleep 0.01; done\necho result >made\nmv made {made}\n")
+        folder.echo("b")
+        same(folder.call("run", "--status-file", name, "--status-every", "3600", f"{name}.dag"), (done_lines("A", "B") + "result 0\n", "", 0))
+        same(folder.read(made), b"result\n")
+    same([node["state"] for node in json.loads(folder.read("t"))["nodes"]], ["SUBMITTED", "NOT_READY"])
+    same(folder.there("s.new"), False)
+
+
 def json_is_the_text(folder):
     """What `status` and `times` print as JSON is what they print as text, of generated rounds."""
     rolls = random.Random(62)
@@ -4743,6 +4917,9 @@ ROWS = [
     a_report_again,
     when_the_steps_ran,
     a_status_file,
+    what_a_status_file_may_not_be,
+    what_a_status_file_may_be,
+    an_output_in_place_of_a_status,
     json_is_the_text,
     times_of_changed_files,
     times_without_a_log,
@@ -4790,6 +4967,7 @@ ROWS = [
     no_first_line,
     a_carriage_return,
     no_such_program,
+    a_pipe_for_a_program,
     no_reader,
     no_output_folder,
     no_script,
@@ -4843,6 +5021,9 @@ ROWS = [
     halted_in_a_folder_that_is_renamed,
     halted_behind_a_link_that_is_switched,
     a_rescue_file_of_a_folder_that_is_renamed,
+    halted_without_its_journal,
+    halted_behind_another_journal,
+    what_another_manager_keeps,
     halted_at_a_script,
     stopped_at_the_first_error,
     not_stopped_by_what_is_tried_again,

@@ -747,6 +747,28 @@ def what_will_fail(folder):
     same([line.split(":")[0] for line in told.kept() if "will fail" in line], ["2 nodes will fail", "D will fail"])
 
 
+def what_will_fail_by_odd_paths(folder):
+    """Commands that are proposed are such as a shell reads. A pipe in the place of a program is not opened, which would wait for ever."""
+    folder.write("a.sub", "executable = /bin/true\noutput = my out/$(JOB).out\nqueue\n")
+    folder.write("b.sub", "executable = run it.sh\nqueue\n")
+    folder.write("run it.sh", "#!/bin/sh\n")
+    folder.write("c.sub", "executable = pipe\nqueue\n")
+    os.mkfifo(folder.at("pipe"), 0o755)
+    folder.write("d.sub", "executable = read.sh\nqueue\n")
+    folder.write("read.sh", "#!/no/such/reader\n")
+    os.chmod(folder.at("read.sh"), 0o755)
+    folder.write("x.dag", "JOB A a.sub\nJOB B b.sub\nJOB C c.sub\nJOB D d.sub\n")
+    here = os.path.realpath(folder.path)
+    told = folder.on_terminal("run", "x.dag", columns=200)
+    same(told.kept()[:4], [
+        f"A will fail: the folder {here}/my out is not there: mkdir -p '{here}/my out'",
+        f"B will fail: {here}/run it.sh may not be executed: chmod +x '{here}/run it.sh'",
+        f"C will fail: {here}/pipe is a pipe, a device or a socket: name a program",
+        f"D will fail: the first line of {here}/read.sh names /no/such/reader, where no program is: name the one that reads it",
+    ])
+    same((told.status, told.text.splitlines()[-1]), (1, "result 1"))
+
+
 def what_is_odd(folder):
     """Behind the answer of a check stands what is odd in the files, without being asked for; where it is no terminal there is nothing."""
     folder.write("a.sub", "executable = no/such\nqueue\n")
@@ -806,7 +828,7 @@ def what_is_changed(folder):
     same(folder.call("run", "my flow.dag")[2], 1)
     folder.write("B.sub", "executable = /bin/true\nqueue\n")
     told = folder.on_terminal("status", "my flow.dag", columns=220)
-    same(told.screen.told()[1], "    changed since the round began: B.sub; dagrun run 'my flow.dag' begins a new round, dagrun salvage --ended 'my flow.dag' keeps what is done for it, and --as-begun shows the last one")
+    same(told.screen.told()[1], "    changed since the round began: B.sub; dagrun run 'my flow.dag' begins the next round by my flow.dag.rescue002, with what is done, and --as-begun shows the last one")
     same(folder.on_terminal("why", "my flow.dag", columns=160).screen.told(), ["no manager works on my flow.dag", changed])
     # Nothing is said where nothing is changed.
     folder.shell("B", "exit 1\n", error=False)
@@ -818,6 +840,96 @@ def what_is_changed(folder):
     told = folder.on_terminal("why", "my flow.dag", columns=160)
     same((told.status, told.text.splitlines()[0].startswith("B ERROR: its job ended with exit 1")), (0, True))
     same(told.screen.told(), ["no manager works on my flow.dag", "changed since the round began: B.sub, my flow.dag"])
+
+
+def how_the_next_round_begins(folder):
+    """After J5 of a round that has ended it is said how what is done is kept: by the rescue file that it has left, or by `salvage --ended` where it
+    has left none. What is proposed does so."""
+    folder.shell("A", "echo x >>a\n", error=False)
+    folder.shell("B", "[ -e mended ]\n", error=False)
+    folder.write("x.dag", "JOB A A.sub\nJOB B B.sub\n")
+    same(folder.call("run", "x.dag")[2], 1)
+    folder.write("B.sub", "executable = /bin/true\nqueue\n")
+    shown = "and --as-begun shows the last one"
+    front = "    changed since the round began: B.sub; dagrun run x.dag begins"
+    told = folder.on_terminal("status", "x.dag", columns=200)
+    same(told.screen.told()[:2], ["dagrun: J5 OtherInputs", f"{front} the next round by x.dag.rescue001, with what is done, {shown}"])
+    same(folder.call("run", "x.dag")[2], 0)
+    # All is done, and no rescue file is left by this round.
+    folder.write("B.sub", "executable = /bin/true\n# once more\nqueue\n")
+    told = folder.on_terminal("status", "x.dag", columns=200)
+    same(told.screen.told()[:2], ["dagrun: J5 OtherInputs", f"{front} a new round, dagrun salvage --ended x.dag keeps what is done for it, {shown}"])
+    text, _, status = folder.call("salvage", "--ended", "x.dag")
+    same((text, status), ("2 of 2 nodes are done: x.dag.rescue002\n", 0))
+    same(folder.call("run", "x.dag"), ("A DONE attempts=0 value=-\nB DONE attempts=0 value=-\nresult 0\n", "", 0))
+    same(folder.read("a"), b"x\n")
+
+
+def a_salvage_that_is_refused(folder):
+    """After the line of a refusal that no other command has it is said where more is, as after all others; where it is no terminal nothing is."""
+    folder.write("a.sub", "executable = /bin/true\nqueue\n")
+    folder.write("x.dag", "JOB A a.sub\n")
+
+    def is_refused(line, code, *words):
+        told = folder.on_terminal("salvage", *words, "x.dag", columns=120)
+        same((told.text, told.status), ("", 125))
+        same(told.screen.told(), [f"dagrun: {line}", f"    dagrun explain {code} says more"])
+        same(folder.call("salvage", *words, "x.dag"), ("", f"dagrun: {line}\n", 125))
+
+    is_refused("R1 NoJournal x.dag.journal", "R1")
+    same(folder.call("run", "x.dag")[2], 0)
+    is_refused("R2 Ended x.dag.journal", "R2")
+    folder.cut("x.dag.journal")
+    os.rename(folder.at("x.dag.inputs"), folder.at("inputs"))
+    is_refused("R3 NoInputs x.dag.inputs", "R3")
+    # A name that is none of a node is no fault.
+    os.rename(folder.at("inputs"), folder.at("x.dag.inputs"))
+    told = folder.on_terminal("redo", "x.dag", "B", columns=120)
+    lines = told.screen.told()
+    same((len(lines), lines[0].startswith("dagrun: x.dag has no node B"), told.status), (1, True, 125))
+
+
+def a_changed_copy(folder):
+    """After X2 with the file that keeps what a round began with it is said what to do where it was changed."""
+    folder.write("a.sub", "executable = /bin/true\nqueue\n")
+    folder.write("x.dag", "JOB A a.sub\n")
+    same(folder.call("run", "x.dag")[2], 0)
+    folder.write("x.dag.begun", folder.read("x.dag.begun").replace(b"JOB A", b"JOB  A"))
+    reason = "it is not as it was written: remove it; without --as-begun the round is then shown by the files as they are"
+    for words in (("why",), ("status", "--as-begun")):
+        told = folder.on_terminal(*words, "x.dag", columns=200)
+        same((told.text, told.status), ("", 125))
+        same(told.screen.told(), ["dagrun: X2 FileRefused x.dag.begun", f"    {reason}", "    dagrun explain X2 says more"])
+    holds(".begun is not as it was written: remove it" in " ".join(folder.call("explain", "X2")[0].split()), "explain X2 says nothing of x.dag.begun")
+    os.remove(folder.at("x.dag.begun"))
+    same(folder.on_terminal("why", "x.dag").status, 0)
+
+
+def a_folder_that_is_renamed(folder):
+    """After H1 with the DAG file it is said how its round goes on, and so it does: by the same call in the folder as it is."""
+    work = Folder(folder.program, folder.at("work"))
+    os.mkdir(work.path)
+    work.shell("A", "mv ../work ../moved\nmkdir ../work\n", error=False)
+    work.shell("B", "exit 0\n", error=False)
+    work.write("x.dag", "JOB A A.sub\nJOB B B.sub\nPARENT A CHILD B\n")
+    told = work.on_terminal("run", "x.dag", columns=100)
+    same((told.text, told.status), ("", 125))
+    kept = told.kept()
+    holds("dagrun: H1 Halted x.dag" in kept, f"{kept}")
+    said = " ".join(" ".join(kept).split())
+    holds("give the folder its name again, and make the same call." in said, said)
+    holds("Where that call named the DAG file without a folder, it can be made in the folder as it is, too." in said, said)
+    same(os.listdir(work.path), [])
+    moved = Folder(folder.program, folder.at("moved"))
+    same(moved.call("run", "x.dag"), ("A DONE attempts=1 value=0\nB DONE attempts=1 value=0\nresult 0\n", "", 0))
+
+
+def a_word_that_is_no_text(folder):
+    """A word of the call that is not UTF-8 is refused with a line that says so."""
+    line = "dagrun: a word of the call is not UTF-8"
+    told = folder.on_terminal("check", b"\xff.dag")
+    same((told.text, told.screen.told(), told.status), ("", [line], 125))
+    same(folder.call("check", b"\xff.dag"), ("", line + "\n", 125))
 
 
 def a_refusal_in_the_middle(folder):
@@ -868,6 +980,8 @@ def hints(folder):
     folder.write("u.dag", "JOB A u.sub\n")
     mark = "    a byte order mark is before it: sed -i '1s/^\\xEF\\xBB\\xBF//' "
     same([line for line in folder.on_terminal("check", "u.dag", columns=200).screen.told() if "mark" in line], [mark + "u.sub"])
+    folder.write("my u.dag", "\ufeffJOB A a.sub\n")
+    same([line for line in folder.on_terminal("check", "my u.dag", columns=200).screen.told() if "mark" in line], [mark + "'my u.dag'"])
     folder.write("x.dag.rescue001", "\ufeffDONE Fetch\n")
     folder.write("x.dag", "JOB Fetch a.sub\n")
     same([line for line in folder.on_terminal("run", "x.dag", columns=200).screen.told() if "mark" in line], [mark + "x.dag.rescue001"])
@@ -1198,9 +1312,15 @@ ROWS = [
     how_it_ended,
     what_is_kept,
     what_will_fail,
+    what_will_fail_by_odd_paths,
     what_is_odd,
     what_can_not_be_noted,
     what_is_changed,
+    how_the_next_round_begins,
+    a_salvage_that_is_refused,
+    a_changed_copy,
+    a_folder_that_is_renamed,
+    a_word_that_is_no_text,
     without_words,
     a_folder_that_is_closed,
     a_program_elsewhere,

@@ -7,10 +7,12 @@ use Rattle.throttles.specs.declared.Limits.{Limits}
 use Rattle.clap.proofs.OnLiterals.{clap_on_literals}
 use Rattle.dag_main_args.specs.declared.request.RunOptions.{RunOptions}
 use Rattle.dag_main_args.specs.declared.request.Request.{Request}
-use Rattle.dag_main_args.specs.declared.request.Request.TheVariants.{Check, Run, Status, Audit, Rehearse, Graph, Why, Times, Report, Salvage, Redo, Page}
+use Rattle.dag_main_args.specs.declared.request.Request.TheVariants.{Check, Run, Show, Rehearse, Salvage, Redo, Page}
+use Rattle.dag_main_args.specs.declared.request.View.{View}
+use Rattle.dag_main_args.specs.declared.request.View.TheVariants.{Status, Audit, Graph, Why, Times, Report}
 use Rattle.dag_main_args.specs.Launchers.{IsLauncherOf, given, not_given}
-use Rattle.dag_main_args.specs.Requests.{Asked, asked_by, asks_why, no_limits, rehearses, runs, shows}
-use Rattle.dag_main_args.specs.Matched.{AreOptionsOf, AsksFor, IsRequestOf, dag_path, is_on, is_set, limits_asked, nodes_asked, number_asked, orphan_rule_of, progress_of, trusts_owner, version_asked, version_text}
+use Rattle.dag_main_args.specs.Requests.{Asked, asked_by, no_limits, rehearses, runs, shown_by, shows, the_reasons, views}
+use Rattle.dag_main_args.specs.Matched.{AreOptionsOf, AsksFor, IsRequestOf, IsViewOf, dag_path, is_on, is_set, is_text_among, limits_asked, nodes_asked, number_asked, orphan_rule_of, progress_of, trusts_owner, version_asked, version_text}
 use Rattle.dag_main_args.specs.Table.{dagrun_app}
 use Rattle.dag_main_args.specs.Answered.{clashes}
 use Rattle.dag_main_args.specs.Examples.{AskForAlone, AskInVain, plain_options}
@@ -68,17 +70,40 @@ same_options rows options plain a b = λ i. record {
   trust_owner = (a.trust_owner ∙ b.trust_owner) i;
 }
 
+-- the commands that show something of a round
+abbrev shown_names : List Text
+shown_names = codes "status" ∷ codes "audit" ∷ codes "graph" ∷ codes "why" ∷ codes "times" ∷ codes "report" ∷ []
+
+none_of_them : (command name : Text) → is_text_among shown_names command ≡ false → is_text_among shown_names name ≡ true → command ≡ name → ⊥
+none_of_them command name other known same =
+    let none = subst (λ (c : Text). is_text_among shown_names c ≡ false) same other in
+    cc
+
+-- another command has no view
+unshown : {P : Type 0} (command : Text) (rows : List Row) (view : View) → is_text_among shown_names command ≡ false → IsViewOf command rows view → P
+unshown command rows (Status json) other h = absurd (none_of_them _ _ other refl h.0)
+unshown command rows (Audit json) other h = absurd (none_of_them _ _ other refl h.0)
+unshown command rows (Graph fold as_is) other h = absurd (none_of_them _ _ other refl h.0)
+unshown command rows (Why nodes all json) other h = absurd (none_of_them _ _ other refl h.0)
+unshown command rows (Times svg json summary) other h = absurd (none_of_them _ _ other refl h.0)
+unshown command rows (Report reload) other h = absurd (none_of_them _ _ other refl h.0)
+
+-- what `why` shows
+why_shown : (rows : List Row) (nodes : List Text) (view : View) → IsViewOf (codes "why") rows view → nodes_asked rows ≡ nodes
+    → is_set (codes "all") rows ≡ false → is_set (codes "json") rows ≡ false → shown_by view ≡ the_reasons nodes false false
+why_shown rows nodes (Why names all json) h asks grouped plain = λ i. the_reasons ((h.1 ∙ asks) i) ((h.2 ∙ grouped) i) ((h.3 ∙ plain) i)
+why_shown rows nodes (Status json) h asks grouped plain = absurd (differ _ _ refl h.0)
+why_shown rows nodes (Audit json) h asks grouped plain = absurd (differ _ _ refl h.0)
+why_shown rows nodes (Graph fold as_is) h asks grouped plain = absurd (differ _ _ refl h.0)
+why_shown rows nodes (Times svg json summary) h asks grouped plain = absurd (differ _ _ refl h.0)
+why_shown rows nodes (Report reload) h asks grouped plain = absurd (differ _ _ refl h.0)
+
 run_alone : (rows : List Row) (dag : Text) (plain : RunOptions) (request : Request) → IsRequestOf (codes "run") rows request → dag_path rows ≡ dag
     → AsksRun rows plain → asked_by request ≡ runs dag plain
 run_alone rows dag plain (Run path options) h is asks = ap₂ runs (h.1 ∙ is) (same_options rows options plain h.2 asks)
 run_alone rows dag plain (Check path all json hints condor) h is asks = absurd (differ _ _ refl h.0)
-run_alone rows dag plain (Status path json begun owned) h is asks = absurd (differ _ _ refl h.0)
-run_alone rows dag plain (Audit path json begun owned) h is asks = absurd (differ _ _ refl h.0)
+run_alone rows dag plain (Show round view) h is asks = unshown (codes "run") rows view refl h.0
 run_alone rows dag plain (Rehearse path outcomes limits always_post) h is asks = absurd (differ _ _ refl h.0)
-run_alone rows dag plain (Graph path fold as_is begun owned) h is asks = absurd (differ _ _ refl h.0)
-run_alone rows dag plain (Why path nodes all json begun owned) h is asks = absurd (differ _ _ refl h.0)
-run_alone rows dag plain (Times path svg json summary begun owned) h is asks = absurd (differ _ _ refl h.0)
-run_alone rows dag plain (Report path reload begun owned) h is asks = absurd (differ _ _ refl h.0)
 run_alone rows dag plain (Salvage path ended owned) h is asks = absurd (differ _ _ refl h.0)
 run_alone rows dag plain (Redo path names only owned) h is asks = absurd (differ _ _ refl h.0)
 run_alone rows dag plain (Page text) (inl h) is asks = absurd (differ _ _ refl h.0)
@@ -87,16 +112,12 @@ run_alone rows dag plain (Page text) (inr (inr h)) is asks = absurd (differ _ _ 
 
 why_alone : (rows : List Row) (dag : Text) (nodes : List Text) (request : Request) → IsRequestOf (codes "why") rows request → dag_path rows ≡ dag
     → nodes_asked rows ≡ nodes → is_set (codes "all") rows ≡ false → is_set (codes "json") rows ≡ false → is_set (codes "as-begun") rows ≡ false
-    → trusts_owner rows ≡ false → asked_by request ≡ asks_why dag nodes false false false false
-why_alone rows dag nodes (Why path names all json begun owned) h is asks grouped plain now distrusts = λ i. asks_why ((h.4.0 ∙ is) i) ((h.1 ∙ asks) i) ((h.2 ∙ grouped) i) ((h.3 ∙ plain) i) ((h.4.1 ∙ now) i) ((h.4.2 ∙ distrusts) i)
+    → trusts_owner rows ≡ false → asked_by request ≡ views dag (the_reasons nodes false false) false false
+why_alone rows dag nodes (Show round view) h is asks grouped plain now distrusts = λ i.
+    views ((h.1.path ∙ is) i) (why_shown rows nodes view h.0 asks grouped plain i) ((h.1.as_begun ∙ now) i) ((h.1.trust_owner ∙ distrusts) i)
 why_alone rows dag nodes (Run path options) h is asks grouped plain now distrusts = absurd (differ _ _ refl h.0)
 why_alone rows dag nodes (Check path all json hints condor) h is asks grouped plain now distrusts = absurd (differ _ _ refl h.0)
-why_alone rows dag nodes (Status path json begun owned) h is asks grouped plain now distrusts = absurd (differ _ _ refl h.0)
-why_alone rows dag nodes (Audit path json begun owned) h is asks grouped plain now distrusts = absurd (differ _ _ refl h.0)
 why_alone rows dag nodes (Rehearse path outcomes limits always_post) h is asks grouped plain now distrusts = absurd (differ _ _ refl h.0)
-why_alone rows dag nodes (Graph path fold as_is begun owned) h is asks grouped plain now distrusts = absurd (differ _ _ refl h.0)
-why_alone rows dag nodes (Times path svg json summary begun owned) h is asks grouped plain now distrusts = absurd (differ _ _ refl h.0)
-why_alone rows dag nodes (Report path reload begun owned) h is asks grouped plain now distrusts = absurd (differ _ _ refl h.0)
 why_alone rows dag nodes (Salvage path ended owned) h is asks grouped plain now distrusts = absurd (differ _ _ refl h.0)
 why_alone rows dag nodes (Redo path names only owned) h is asks grouped plain now distrusts = absurd (differ _ _ refl h.0)
 why_alone rows dag nodes (Page text) (inl h) is asks grouped plain now distrusts = absurd (differ _ _ refl h.0)
@@ -110,12 +131,7 @@ rehearsal_alone rows dag outcomes plain post (Rehearse path table limits always_
     rehearses ((h.1 ∙ is) i) ((h.2 ∙ asks) i) ((h.3 ∙ most) i) ((h.4 ∙ posts) i)
 rehearsal_alone rows dag outcomes plain post (Run path options) h is asks most posts = absurd (differ _ _ refl h.0)
 rehearsal_alone rows dag outcomes plain post (Check path all json hints condor) h is asks most posts = absurd (differ _ _ refl h.0)
-rehearsal_alone rows dag outcomes plain post (Status path json begun owned) h is asks most posts = absurd (differ _ _ refl h.0)
-rehearsal_alone rows dag outcomes plain post (Audit path json begun owned) h is asks most posts = absurd (differ _ _ refl h.0)
-rehearsal_alone rows dag outcomes plain post (Graph path fold as_is begun owned) h is asks most posts = absurd (differ _ _ refl h.0)
-rehearsal_alone rows dag outcomes plain post (Why path names all json begun owned) h is asks most posts = absurd (differ _ _ refl h.0)
-rehearsal_alone rows dag outcomes plain post (Times path svg json summary begun owned) h is asks most posts = absurd (differ _ _ refl h.0)
-rehearsal_alone rows dag outcomes plain post (Report path reload begun owned) h is asks most posts = absurd (differ _ _ refl h.0)
+rehearsal_alone rows dag outcomes plain post (Show round view) h is asks most posts = unshown (codes "rehearse") rows view refl h.0
 rehearsal_alone rows dag outcomes plain post (Salvage path ended owned) h is asks most posts = absurd (differ _ _ refl h.0)
 rehearsal_alone rows dag outcomes plain post (Redo path names only owned) h is asks most posts = absurd (differ _ _ refl h.0)
 rehearsal_alone rows dag outcomes plain post (Page text) (inl h) is asks most posts = absurd (differ _ _ refl h.0)
@@ -126,13 +142,8 @@ version_alone : (rows : List Row) (request : Request) → IsRequestOf (codes "ve
     → asked_by request ≡ shows version_text
 version_alone rows (Run path options) h plain = absurd (differ _ _ refl h.0)
 version_alone rows (Check path all json hints condor) h plain = absurd (differ _ _ refl h.0)
-version_alone rows (Status path json begun owned) h plain = absurd (differ _ _ refl h.0)
-version_alone rows (Audit path json begun owned) h plain = absurd (differ _ _ refl h.0)
+version_alone rows (Show round view) h plain = unshown (codes "version") rows view refl h.0
 version_alone rows (Rehearse path outcomes limits always_post) h plain = absurd (differ _ _ refl h.0)
-version_alone rows (Graph path fold as_is begun owned) h plain = absurd (differ _ _ refl h.0)
-version_alone rows (Why path names all json begun owned) h plain = absurd (differ _ _ refl h.0)
-version_alone rows (Times path svg json summary begun owned) h plain = absurd (differ _ _ refl h.0)
-version_alone rows (Report path reload begun owned) h plain = absurd (differ _ _ refl h.0)
 version_alone rows (Salvage path ended owned) h plain = absurd (differ _ _ refl h.0)
 version_alone rows (Redo path names only owned) h plain = absurd (differ _ _ refl h.0)
 version_alone rows (Page text) (inl h) plain = absurd (differ _ _ refl h.0)
@@ -267,17 +278,17 @@ unfolding clap_on_literals why_matched
 why_distrusts orphans progress = refl
 
 why_asks : (orphans progress : Bor (List (Bor Text))) (request : Request) → AsksFor (why_matched orphans progress) request
-    → asked_by request ≡ asks_why (codes "x.dag") (codes "B" ∷ codes "A" ∷ []) false false false false
+    → asked_by request ≡ views (codes "x.dag") (the_reasons (codes "B" ∷ codes "A" ∷ []) false false) false false
 why_asks orphans progress request h = why_alone (why_rows orphans progress) (codes "x.dag") _ request
     (subst (λ (o : Option (Text × List Row)). AsksFor o request) (why_found orphans progress) h)
     (why_dag orphans progress) (why_nodes orphans progress) (why_grouped orphans progress) (why_plain orphans progress) (why_now orphans progress) (why_distrusts orphans progress)
 
 why_only : (orphans progress : Bor (List (Bor Text))) (request : Request) → AsksFor (subcommand_of (dagrun_app false orphans progress) why_words) request
-    → asked_by request ≡ asks_why (codes "x.dag") (codes "B" ∷ codes "A" ∷ []) false false false false
+    → asked_by request ≡ views (codes "x.dag") (the_reasons (codes "B" ∷ codes "A" ∷ []) false false) false false
 unfolding why_matched
 why_only orphans progress request h = why_asks orphans progress request h
 
-pub nodes_in_order : AskForAlone why_words (asks_why (codes "x.dag") (codes "B" ∷ codes "A" ∷ []) false false false false)
+pub nodes_in_order : AskForAlone why_words (views (codes "x.dag") (the_reasons (codes "B" ∷ codes "A" ∷ []) false false) false false)
 nodes_in_order = by_table why_words _ why_taken why_only
 
 abbrev clash_words : List Text

@@ -13,7 +13,10 @@ use Rattle.dag_main_args.specs.declared.request.OrphanRule.TheVariants.{Kill, Wa
 use Rattle.dag_main_args.specs.declared.request.ProgressRule.{ProgressRule}
 use Rattle.dag_main_args.specs.declared.request.ProgressRule.TheVariants.{Auto, Always, Never}
 use Rattle.dag_main_args.specs.declared.request.Request.{Request}
-use Rattle.dag_main_args.specs.declared.request.Request.TheVariants.{Check, Run, Status, Audit, Rehearse, Graph, Why, Times, Report, Salvage, Redo, Page}
+use Rattle.dag_main_args.specs.declared.request.Request.TheVariants.{Check, Run, Show, Rehearse, Salvage, Redo, Page}
+use Rattle.dag_main_args.specs.declared.request.ShownRound.{ShownRound}
+use Rattle.dag_main_args.specs.declared.request.View.{View}
+use Rattle.dag_main_args.specs.declared.request.View.TheVariants.{Status, Audit, Graph, Why, Times, Report}
 use Rattle.dag_main_args.specs.Launchers.{IsLauncherOf}
 use Rattle.dag_main_args.specs.Pages.{IsExplained}
 use Rattle.dag_main_args.specs.Requests.{asked_by, no_limits, rehearses}
@@ -139,29 +142,32 @@ abbrev pub IsPageOf : Text → List Row → Text → Type 0
 IsPageOf command rows page = ((command ≡ codes "explain") × IsExplained (first_of (codes "CODE") rows) page)
     ⊎ ((command ≡ codes "help") ⊎ ((command ≡ codes "version") × (page ≡ version_asked (is_set (codes "json") rows))))
 
--- the path of a DAG file of whose round something is told, whether by the files with which that began, and whether their owner is trusted
-abbrev pub TellsOfRound : List Row → (path : Text) → (as_begun trust_owner : Bool) → Type 0
-TellsOfRound rows path as_begun trust_owner =
-    (path ≡ dag_path rows) × (as_begun ≡ is_set (codes "as-begun") rows) × (trust_owner ≡ trusts_owner rows)
+-- the round of which something is shown, whether by the files with which it began, and whether their owner is trusted
+pub record IsShownRoundOf (rows : List Row) (round : ShownRound) : Type 0 where
+  pub path : round.dag.now ≡ dag_path rows
+  pub as_begun : round.as_begun ≡ is_set (codes "as-begun") rows
+  pub trust_owner : round.trust_owner ≡ trusts_owner rows
+
+-- what a command shows of a round: each view by one command alone
+abbrev pub IsViewOf : Text → List Row → View → Type 0
+IsViewOf command rows (Status json) = (command ≡ codes "status") × (json ≡ is_set (codes "json") rows)
+IsViewOf command rows (Audit json) = (command ≡ codes "audit") × (json ≡ is_set (codes "json") rows)
+IsViewOf command rows (Graph fold as_is) = (command ≡ codes "graph") × (fold ≡ is_set (codes "fold") rows) × (as_is ≡ is_set (codes "as-is") rows)
+IsViewOf command rows (Why nodes all json) = (command ≡ codes "why") × (map (λ n. n.now) nodes.items ≡ nodes_asked rows)
+    × (all ≡ is_set (codes "all") rows) × (json ≡ is_set (codes "json") rows)
+IsViewOf command rows (Times svg json summary) = (command ≡ codes "times") × (svg ≡ is_set (codes "svg") rows)
+    × (json ≡ is_set (codes "json") rows) × (summary ≡ is_set (codes "summary") rows)
+IsViewOf command rows (Report reload) = (command ≡ codes "report") × (reload ≡ is_set (codes "reload") rows)
 
 -- the request that a command asks for by what was matched to it: each kind of request by one command alone
 abbrev pub IsRequestOf : Text → List Row → Request → Type 0
 IsRequestOf command rows (Check dag all json hints condor) = (command ≡ codes "check") × (dag.now ≡ dag_path rows) × (all ≡ is_set (codes "all") rows)
     × (json ≡ is_set (codes "json") rows) × (hints ≡ is_set (codes "hints") rows) × (condor ≡ is_set (codes "condor") rows)
 IsRequestOf command rows (Run dag options) = (command ≡ codes "run") × (dag.now ≡ dag_path rows) × AreOptionsOf rows options
-IsRequestOf command rows (Status dag json as_begun trust_owner) = (command ≡ codes "status") × (json ≡ is_set (codes "json") rows)
-    × TellsOfRound rows dag.now as_begun trust_owner
-IsRequestOf command rows (Audit dag json as_begun trust_owner) = (command ≡ codes "audit") × (json ≡ is_set (codes "json") rows) × TellsOfRound rows dag.now as_begun trust_owner
+IsRequestOf command rows (Show round view) = IsViewOf command rows view × IsShownRoundOf rows round
 IsRequestOf command rows (Rehearse dag outcomes limits always_post) = (command ≡ codes "rehearse") × (dag.now ≡ dag_path rows)
     × (option_map (λ t. t.now) outcomes ≡ first_of (codes "OUTCOMES") rows) × (limits ≡ limits_asked rows)
     × (always_post ≡ is_set (codes "always-run-post") rows)
-IsRequestOf command rows (Graph dag fold as_is as_begun trust_owner) = (command ≡ codes "graph") × (fold ≡ is_set (codes "fold") rows) × (as_is ≡ is_set (codes "as-is") rows) × TellsOfRound rows dag.now as_begun trust_owner
-IsRequestOf command rows (Why dag nodes all json as_begun trust_owner) = (command ≡ codes "why") × (map (λ n. n.now) nodes.items ≡ nodes_asked rows)
-    × (all ≡ is_set (codes "all") rows) × (json ≡ is_set (codes "json") rows) × TellsOfRound rows dag.now as_begun trust_owner
-IsRequestOf command rows (Times dag svg json summary as_begun trust_owner) = (command ≡ codes "times") × (svg ≡ is_set (codes "svg") rows)
-    × (json ≡ is_set (codes "json") rows) × (summary ≡ is_set (codes "summary") rows) × TellsOfRound rows dag.now as_begun trust_owner
-IsRequestOf command rows (Report dag reload as_begun trust_owner) = (command ≡ codes "report") × (reload ≡ is_set (codes "reload") rows)
-    × TellsOfRound rows dag.now as_begun trust_owner
 IsRequestOf command rows (Salvage dag ended trust_owner) = (command ≡ codes "salvage") × (dag.now ≡ dag_path rows) × (ended ≡ is_set (codes "ended") rows)
     × (trust_owner ≡ trusts_owner rows)
 IsRequestOf command rows (Redo dag nodes only trust_owner) = (command ≡ codes "redo") × (dag.now ≡ dag_path rows)

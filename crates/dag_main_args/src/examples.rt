@@ -1,7 +1,7 @@
 //! Words whose requests are worked out from the contract of `read_words`. No program calls these functions.
 
 ghost use Rattle.std.specs.Prelude.{◌∷◌, [], Some, false, codes};
-ghost use Rattle.dag_main_args.specs.Requests.{asks_why, no_limits, rehearses, runs, shows};
+ghost use Rattle.dag_main_args.specs.Requests.{no_limits, rehearses, runs, shows, the_reasons, views};
 ghost use Rattle.dag_main_args.specs.Matched.{version_text};
 ghost use Rattle.dag_main_args.specs.Examples.{AskForAlone, AskInVain, plain_options};
 
@@ -20,7 +20,7 @@ pub fn no_rescue_file()
 /// `dagrun why x.dag B A`: the nodes in the order of the words.
 pub fn nodes_in_order()
     ensures { AskForAlone (codes "dagrun" ∷ codes "why" ∷ codes "x.dag" ∷ codes "B" ∷ codes "A" ∷ [])
-        (asks_why (codes "x.dag") (codes "B" ∷ codes "A" ∷ []) false false false false) }
+        (views (codes "x.dag") (the_reasons (codes "B" ∷ codes "A" ∷ []) false false) false false) }
 {}
 
 /// `dagrun rehearse --maxpre 2 --maxpost=3 x.dag table`: each limit by its own option.

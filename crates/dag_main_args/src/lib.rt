@@ -7,4 +7,7 @@ mod launchers;
 mod pages;
 mod request;
 
-pub use request::{OrphanRule, ProgressRule, Request, RunOptions, VERSION, WordsFault, read_words};
+pub use request::{
+    OrphanRule, ProgressRule, Request, RunOptions, ShownRound, VERSION, View, WordsFault,
+    read_words,
+};

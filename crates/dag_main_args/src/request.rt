@@ -125,6 +125,58 @@ impl Drop for RunOptions {
     }
 }
 
+/// The round of which something is shown: the last one of a DAG file.
+#[derive(Clone, Copy, Debug)]
+pub struct ShownRound<'a> {
+    /// The path of the DAG file.
+    pub dag: &'a str,
+    /// Whether it is shown by the files with which it began.
+    pub as_begun: bool,
+    /// Whether the owner of the files beside the DAG file is trusted, as `RunOptions` says it.
+    pub trust_owner: bool,
+}
+
+/// What of a round is shown; as JSON, it is for other programs.
+#[derive(Debug, Drop)]
+pub enum View<'a> {
+    /// `status`: where each node is, as lines or as JSON.
+    Status {
+        json: bool,
+    },
+
+    /// `audit`: what the nodes came to, as lines or as JSON.
+    Audit {
+        json: bool,
+    },
+
+    /// `graph`: a picture of the graph; whether nodes that are alike have one box, and whether its files are drawn as they are, also where
+    /// they were changed since the round began.
+    Graph {
+        fold: bool,
+        as_is: bool,
+    },
+
+    /// `why`: why nodes are in error; the names of nodes, none for all that are in error, and then whether each is shown by itself; as
+    /// text or as JSON.
+    Why {
+        nodes: Vec<&'a str>,
+        all: bool,
+        json: bool,
+    },
+
+    /// `times`: when the phases ran; whether a picture, JSON or a summary is asked for, never two of them.
+    Times {
+        svg: bool,
+        json: bool,
+        summary: bool,
+    },
+
+    /// `report`: a page; whether it loads itself again while the round runs.
+    Report {
+        reload: bool,
+    },
+}
+
 /// What the words of a command line ask for.
 #[derive(Debug, Drop)]
 pub enum Request<'a> {
@@ -145,22 +197,10 @@ pub enum Request<'a> {
         options: RunOptions,
     },
 
-    /// `status DAG`: the path of the DAG file; and, as in those below that tell of a round, whether it is by the files with
-    /// which the round began, and whether the owner of the files beside the DAG file is trusted, as `RunOptions` says it. Here
-    /// also whether it is for other programs (JSON).
-    Status {
-        dag: &'a str,
-        json: bool,
-        as_begun: bool,
-        trust_owner: bool,
-    },
-
-    /// `audit DAG`: the path of the DAG file, and whether the answer is for other programs (JSON).
-    Audit {
-        dag: &'a str,
-        json: bool,
-        as_begun: bool,
-        trust_owner: bool,
+    /// `status DAG`, `audit DAG`, `graph DAG`, `why DAG [NODE ..]`, `times DAG` and `report DAG`: the round, and what of it is shown.
+    Show {
+        round: ShownRound<'a>,
+        view: View<'a>,
     },
 
     /// `rehearse DAG [OUTCOMES]`, and no words at all, which is `rehearse -`: the path of the DAG
@@ -171,45 +211,6 @@ pub enum Request<'a> {
         outcomes: Option<&'a str>,
         limits: Limits,
         always_post: bool,
-    },
-
-    /// `graph DAG`: the path of the DAG file, whether nodes that are alike have one box, and whether its files are drawn as they are,
-    /// also where they were changed since the round began.
-    Graph {
-        dag: &'a str,
-        fold: bool,
-        as_is: bool,
-        as_begun: bool,
-        trust_owner: bool,
-    },
-
-    /// `why DAG [NODE ..]`: the path of the DAG file, and the names of nodes; none for all that are in
-    /// error, and then whether each is shown by itself; and whether the answer is for other programs (JSON).
-    Why {
-        dag: &'a str,
-        nodes: Vec<&'a str>,
-        all: bool,
-        json: bool,
-        as_begun: bool,
-        trust_owner: bool,
-    },
-
-    /// `times DAG`: the path of the DAG file, and whether a picture, JSON or a summary is asked for; never two of them.
-    Times {
-        dag: &'a str,
-        svg: bool,
-        json: bool,
-        summary: bool,
-        as_begun: bool,
-        trust_owner: bool,
-    },
-
-    /// `report DAG`: the path of the DAG file, and whether the page loads itself again while the round runs.
-    Report {
-        dag: &'a str,
-        reload: bool,
-        as_begun: bool,
-        trust_owner: bool,
     },
 
     /// `salvage DAG`: the path of the DAG file, and whether a round that has ended is made into a rescue file, too.
@@ -293,13 +294,6 @@ fn is_set(found: &ArgMatches<'_>, name: &str) -> bool
     ensures { result ≡ matched.is_set name.now (rows_of (found_of found.now)) }
 {
     found.get_one::<bool>(name).unwrap_or(false)
-}
-
-/// Whether a round is told of by the files with which it began.
-fn goes_by_begun(found: &ArgMatches<'_>) -> bool
-    ensures { result ≡ matched.is_set (codes "as-begun") (rows_of (found_of found.now)) }
-{
-    is_set(found, "as-begun")
 }
 
 /// Whether the owner of the files beside the DAG file is trusted.
@@ -531,6 +525,17 @@ fn made_of_round<'a>(
     }
 }
 
+/// The round of which something is to be shown.
+fn round_of<'a>(found: &ArgMatches<'a>) -> ShownRound<'a>
+    ensures { matched.IsShownRoundOf (rows_of (found_of found.now)) result }
+{
+    ShownRound {
+        dag: dag_of(found),
+        as_begun: is_set(found, "as-begun"),
+        trust_owner: trusts_owner(found),
+    }
+}
+
 /// The request for a drawing of a round, or for its page; for another command the one for what is made of it.
 fn drawn_of_round<'a>(
     alloc: Global,
@@ -542,33 +547,23 @@ fn drawn_of_round<'a>(
         → matched.IsRequestOf command.now (rows_of (found_of found.now)) request) }
     ensures refused { IfErr result (λ fault. (fault ≡ WordsFault.Memory) ⊎ AsksForNone command.now (rows_of (found_of found.now))) }
 {
-    let dag = dag_of(found);
-    let as_begun = goes_by_begun(found);
-    let trust_owner = trusts_owner(found);
-    match command {
-        "graph" => Ok(Request::Graph {
-            dag,
+    let round = round_of(found);
+    let view = match command {
+        "graph" => View::Graph {
             fold: is_set(found, "fold"),
             as_is: is_set(found, "as-is"),
-            as_begun,
-            trust_owner,
-        }),
-        "times" => Ok(Request::Times {
-            dag,
+        },
+        "times" => View::Times {
             svg: is_set(found, "svg"),
             json: is_set(found, "json"),
             summary: is_set(found, "summary"),
-            as_begun,
-            trust_owner,
-        }),
-        "report" => Ok(Request::Report {
-            dag,
+        },
+        "report" => View::Report {
             reload: is_set(found, "reload"),
-            as_begun,
-            trust_owner,
-        }),
-        _ => made_of_round(alloc, command, found),
-    }
+        },
+        _ => return made_of_round(alloc, command, found),
+    };
+    Ok(Request::Show { round, view })
 }
 
 /// The request for what is told of a round, by the files that stand beside the DAG file; for another command the one
@@ -583,34 +578,20 @@ fn told_of_round<'a>(
         → matched.IsRequestOf command.now (rows_of (found_of found.now)) request) }
     ensures refused { IfErr result (λ fault. (fault ≡ WordsFault.Memory) ⊎ AsksForNone command.now (rows_of (found_of found.now))) }
 {
-    let dag = dag_of(found);
+    let round = round_of(found);
     let all = is_set(found, "all");
     let json = is_set(found, "json");
-    let as_begun = goes_by_begun(found);
-    let trust_owner = trusts_owner(found);
-    match command {
-        "status" => Ok(Request::Status {
-            dag,
-            json,
-            as_begun,
-            trust_owner,
-        }),
-        "audit" => Ok(Request::Audit {
-            dag,
-            json,
-            as_begun,
-            trust_owner,
-        }),
-        "why" => Ok(Request::Why {
-            dag,
+    let view = match command {
+        "status" => View::Status { json },
+        "audit" => View::Audit { json },
+        "why" => View::Why {
             nodes: nodes_of(alloc, found)?,
             all,
             json,
-            as_begun,
-            trust_owner,
-        }),
-        _ => drawn_of_round(alloc, command, found),
-    }
+        },
+        _ => return drawn_of_round(alloc, command, found),
+    };
+    Ok(Request::Show { round, view })
 }
 
 /// The request that a command asks for by what was matched to it.

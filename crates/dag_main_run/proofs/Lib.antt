@@ -1,3 +1,5 @@
 mod RunPlans
 pub mod Sites
 mod OwnFiles
+mod Halts
+mod Strings

@@ -24,6 +24,8 @@ use Rattle.dag_main_files.specs.declared.rounds.Round.{Round}
 use Rattle.dag_main_files.specs.Beside.{journal_name_of}
 use Rattle.dag_main_check.specs.declared.fault.RunFault.{RunFault}
 use Rattle.dag_main_check.specs.declared.fault.RunFault.TheVariants.{InManager, StartMemory, WaitFault, Halted, Memory}
+use Rattle.dag_main_run.specs.declared.halting.HaltCause.{HaltCause}
+use Rattle.dag_main_run.specs.declared.halting.HaltCause.TheVariants as causes
 
 -- how the manager of a round begins, by its journal and by the numbers of its rescue files
 abbrev pub start_with : Journaled → ℕ → ℕ → Start
@@ -105,9 +107,23 @@ pub record IsRoundLedAt {D R : Type 0} (disks : Ghosts D) (rescues : Ghosts R) (
   pub at_site : IsAtSite disks rescues own Honest holds top round journal rescue calls before now
   pub led : IsRoundRun disks rescues plan (start_by round) limits any_ending [] calls journal left rescue text status rest
 
--- What asks for a halt: the file of the DAG file's name and `.halt`; the option; or the DAG file's path, which leads into another folder by now.
+-- What asks for a halt: the file of the DAG file's name and `.halt`; the option; the DAG file's path, which leads into another folder by now; or the journal,
+-- whose path is gone or names another file by now.
 abbrev pub AsksToHalt : (top asked : List ℕ) → Type 0
-AsksToHalt top asked = (asked ≡ top ++ codes ".halt") ⊎ ((asked ≡ codes "--stop-at-first-error") ⊎ (asked ≡ top))
+AsksToHalt top asked =
+    (asked ≡ top ++ codes ".halt") ⊎ ((asked ≡ codes "--stop-at-first-error") ⊎ ((asked ≡ top) ⊎ (asked ≡ journal_name_of top)))
+
+-- which of these it is, by the cause
+abbrev pub halt_name : (top : List ℕ) → HaltCause → List ℕ
+halt_name top causes.File = top ++ codes ".halt"
+halt_name top causes.Error = codes "--stop-at-first-error"
+halt_name top causes.Moved = top
+halt_name top causes.JournalGone = journal_name_of top
+
+-- a run is refused as one that was halted by what has this name, or memory ran out
+pub data IsHaltBy (asked : List ℕ) : RunFault → Type 0 where
+  halted_by : IsHaltBy asked (Halted asked)
+  naming_halt_had_no_memory : IsHaltBy asked Memory
 
 -- what is returned for the fault of a manager
 abbrev pub manager_refusal : ManagerFault → RunFault

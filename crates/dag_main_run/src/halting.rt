@@ -1,14 +1,14 @@
 //! Whether a run is to be halted: nothing more is launched, and what runs is waited for.
 
-ghost use Rattle.std.specs.Prelude.{IfOk};
-ghost use Rattle.dag_main_run.specs.Sites.{AsksToHalt, IsReturned};
+ghost use Rattle.std.specs.Prelude.{◌≡◌, IfOk};
+ghost use Rattle.dag_main_run.specs.Sites.{halt_name, IsHaltBy, IsReturned};
 ghost use Rattle.job_starter_drive.specs.declared.driving.DriveFault.TheVariants.{Halted};
 
 use crate::progress::records_before;
-use crate::rounds::seat_at;
+use crate::rounds::{has_moved, is_journal_gone, journal_seat_at, seat_at};
 use dag_main_args::{OrphanRule, RunOptions};
 use dag_main_check::RunFault;
-use dag_main_files::{Place, Round};
+use dag_main_files::{Place, Round, journal_path};
 use dag_reader::Text;
 use node_machine::{Key, Outcome};
 use run_log::Seat;
@@ -33,22 +33,26 @@ pub(crate) enum HaltCause {
     Error,
     /// The folder of the DAG file has another name by now.
     Moved,
+    /// The journal was removed, or another file has its name by now.
+    JournalGone,
 }
 
-/// What asked for a halt: the file, the option, or the path of the DAG file.
+/// What asked for a halt: the file, the option, the path of the DAG file, or that of the journal.
 fn asked_by(alloc: Global, top: &str, cause: HaltCause) -> Result<Text, AllocError>
-    ensures { IfOk result (AsksToHalt top.now) }
+    ensures { IfOk result (λ asked. asked ≡ halt_name top.now cause) }
 {
     match cause {
         HaltCause::File => Text::joined(alloc, top, HALT),
         HaltCause::Error => Text::new(alloc, FIRST_ERROR),
         HaltCause::Moved => Text::new(alloc, top),
+        HaltCause::JournalGone => journal_path(alloc, top),
     }
 }
 
 /// What is returned where a run was halted, by what asked for it.
 pub(crate) fn halted(alloc: Global, top: &str, cause: HaltCause) -> RunFault
-    ensures { IsReturned top.now Halted result }
+    ensures returned { IsReturned top.now Halted result }
+    ensures named { IsHaltBy (halt_name top.now cause) result }
 {
     match asked_by(alloc, top, cause) {
         Ok(asked) => RunFault::Halted(asked),
@@ -66,6 +70,8 @@ pub(crate) struct HaltWatcher<'a, R: Drop> {
     errors: Option<ErrorWatcher<'a>>,
     /// where the folder of the DAG file is, as far as the system said it
     seat: Option<Seat>,
+    /// where the journal is, as far as the system said it
+    journal: Option<Seat>,
     /// whether processes of an earlier manager were left for the file's sake
     leaves_orphans: bool,
     /// what asked for the halt
@@ -73,7 +79,7 @@ pub(crate) struct HaltWatcher<'a, R: Drop> {
 }
 
 impl<'a, R: Files + AllocGlobal + Drop> HaltWatcher<'a, R> {
-    /// For a round of a plan, as the options ask for it.
+    /// For a round of a plan whose journal is readied, as the options ask for it.
     ///
     /// # Errors
     /// Want of memory.
@@ -94,6 +100,7 @@ impl<'a, R: Files + AllocGlobal + Drop> HaltWatcher<'a, R> {
             None
         };
         let seat = seat_at(&rt, place);
+        let journal = journal_seat_at(&rt, place);
         Ok(HaltWatcher {
             rt,
             place: *place,
@@ -101,6 +108,7 @@ impl<'a, R: Files + AllocGlobal + Drop> HaltWatcher<'a, R> {
             trusts_owner: options.trust_owner,
             errors,
             seat,
+            journal,
             leaves_orphans: false,
             cause: HaltCause::File,
         })
@@ -119,7 +127,20 @@ impl<'a, R: Files + AllocGlobal + Drop> HaltWatcher<'a, R> {
     /// Whether the folder of the DAG file has another name by now, or another folder has its name: what is started there is not of this
     /// round.
     fn has_moved(&self) -> bool {
-        self.seat.is_some() && seat_at(&self.rt, &self.place) != self.seat
+        self.seat
+            .map_or(false, |seat| has_moved(&self.rt, &self.place, seat))
+    }
+
+    /// Whether the journal was removed, or another file has its name by now: another manager may have begun beside this one. Where the
+    /// system did not say before where the journal is, it is asked now, as the journal has its first records.
+    fn is_journal_gone(&mut self) -> bool {
+        match self.journal {
+            Some(seat) => is_journal_gone(&self.rt, &self.place, seat),
+            None => {
+                self.journal = journal_seat_at(&self.rt, &self.place);
+                false
+            }
+        }
     }
 
     /// Whether the file is there that asks for a halt, and was put there by nobody else.
@@ -166,6 +187,8 @@ impl<'a, R: Files + AllocGlobal + Drop> HaltWatcher<'a, R> {
             HaltCause::Error
         } else if self.has_moved() {
             HaltCause::Moved
+        } else if self.is_journal_gone() {
+            HaltCause::JournalGone
         } else if self.leaves_orphans || self.is_asked() {
             HaltCause::File
         } else {

@@ -4,7 +4,9 @@ ghost use Rattle.std.specs.Prelude.{◌≡◌, ℕ, List, IfOk, IfErr};
 ghost use Rattle.dag_main_files.specs.Beside.{IsRefusalOf};
 ghost use Rattle.dag_main_run.specs.InTheWay.{IsOrphanFault};
 
-use crate::beginning::{children_name, children_path, log_of, round_name, round_path};
+use crate::beginning::{
+    children_name, children_path, forget_processes, forget_round, log_of, round_name, round_path,
+};
 use dag_main_args::{OrphanRule, RunOptions};
 use dag_main_check::RunFault;
 use dag_main_files::{Journaled, Place, Round, journal_path};
@@ -12,13 +14,14 @@ use dag_reader::Text;
 use event_journal_log::{JournalFault, read_journal};
 use round_identity::RoundIdentity;
 use run_log::{
-    OrphanFault, Orphans, RunWatcher, Seat, keep_rounds, kept_rounds, new_round, orphans_of,
-    seat_of,
+    OrphanFault, Orphans, RunWatcher, Seat, keep_rounds, keeps_round, kept_rounds, new_round,
+    orphans_of, seat_of,
 };
 use run_plan::Plan;
 use run_progress::{Screen, way_of};
 use std::alloc::{AllocError, Global};
 use std::fs::File;
+use std::io::ErrorKind;
 use std::process::Processes;
 use std::rt::Files;
 use std::time::Clock;
@@ -42,6 +45,8 @@ pub(crate) struct Known {
     pub(crate) notes: String,
     /// where the folder of the DAG file was as the round began, as far as the system said it
     seat: Option<Seat>,
+    /// whether the identifiers are kept in their file
+    is_kept: bool,
 }
 
 /// The folder in which the DAG file is.
@@ -283,6 +288,31 @@ impl Known {
     pub(crate) fn is_in_place<R: Files + AllocGlobal>(&self, rt: &R, place: &Place<'_>) -> bool {
         self.seat.is_some() && seat_at(rt, place) == self.seat
     }
+
+    /// Whether the file beside the journal still keeps the identifier of this round: another manager may have begun another one.
+    fn keeps_identifier<R: Files + AllocGlobal>(&self, rt: &R, place: &Place<'_>) -> bool {
+        match round_path(rt.alloc(), place) {
+            Ok(path) => keeps_round(rt, path.as_str(), self.identity().round),
+            Err(_) => false,
+        }
+    }
+
+    /// Forgets the processes of this manager, none of which runs any more; of a round that has ended its identifier, too. What another
+    /// manager keeps by now is left.
+    pub(crate) fn forget<R: Files + AllocGlobal>(
+        &self,
+        rt: &R,
+        place: &Place<'_>,
+        has_ended: bool,
+    ) {
+        let is_own = self.keeps_identifier(rt, place);
+        if is_own || !self.is_kept {
+            forget_processes(rt, place);
+        }
+        if is_own && has_ended {
+            forget_round(rt, place);
+        }
+    }
 }
 
 /// Where the folder of the DAG file is now, as far as the system says it.
@@ -291,8 +321,49 @@ pub(crate) fn seat_at<R: Files + AllocGlobal>(rt: &R, place: &Place<'_>) -> Opti
     seat_of(rt, folder.as_str()).ok()
 }
 
-/// The identifiers of a round: those that are kept, where it goes on, or else a new one. They are kept with this manager. Where the
-/// system refuses that, the log says so, and the round goes on. What a launcher starts elsewhere outlives this machine.
+/// Whether what had this path is now another folder or file, or none: not where the system refuses to say it.
+fn is_another<R: Files>(rt: &R, path: &str, seat: Seat) -> bool {
+    match seat_of(rt, path) {
+        Ok(now) => now != seat,
+        Err(error) => { matches!(error.kind(), ErrorKind::NotFound | ErrorKind::NotADirectory) }
+    }
+}
+
+/// Whether the folder of the DAG file was there and is now another one, or none: not where the system refuses to say it, or memory is
+/// out.
+pub(crate) fn has_moved<R: Files + AllocGlobal>(rt: &R, place: &Place<'_>, seat: Seat) -> bool {
+    match folder_path(rt.alloc(), place) {
+        Ok(folder) => is_another(rt, folder.as_str(), seat),
+        Err(_) => false,
+    }
+}
+
+/// Where the journal is, seen from the folder of the process.
+fn journal_place(alloc: Global, place: &Place<'_>) -> Result<Text, AllocError> {
+    place.at(alloc, journal_path(alloc, place.top)?.as_str())
+}
+
+/// Where the journal is now, as far as the system says it.
+pub(crate) fn journal_seat_at<R: Files + AllocGlobal>(rt: &R, place: &Place<'_>) -> Option<Seat> {
+    let path = journal_place(rt.alloc(), place).ok()?;
+    seat_of(rt, path.as_str()).ok()
+}
+
+/// Whether the journal was there and is now another file, or none: not where the system refuses to say it, or memory is out.
+pub(crate) fn is_journal_gone<R: Files + AllocGlobal>(
+    rt: &R,
+    place: &Place<'_>,
+    seat: Seat,
+) -> bool {
+    match journal_place(rt.alloc(), place) {
+        Ok(path) => is_another(rt, path.as_str(), seat),
+        Err(_) => false,
+    }
+}
+
+/// The identifiers of a round: those that are kept, where it goes on, or else a new one. They are kept with this manager, and it is
+/// answered whether they are. Where the system refuses that, the log says so, and the round goes on. What a launcher starts elsewhere
+/// outlives this machine.
 fn renewed_where_new<R: Files<File = File> + Clock + AllocGlobal + Copy + Drop>(
     rt: R,
     place: &Place<'_>,
@@ -300,16 +371,19 @@ fn renewed_where_new<R: Files<File = File> + Clock + AllocGlobal + Copy + Drop>(
     kept: Kept,
     is_launched: bool,
     log: &mut RunWatcher<'_, R>,
-) -> Result<Kept, AllocError> {
+) -> Result<(Kept, bool), AllocError> {
     let alloc = rt.alloc();
     let goes_on = round.journal == Journaled::Unfinished && !kept.rounds.is_empty();
     let kept = if goes_on { kept } else { kept.renewed(&rt)? };
     let (path, folder) = (round_path(alloc, place)?, folder_path(alloc, place)?);
     let (path, folder) = (path.as_str(), folder.as_str());
-    if let Err(error) = keep_rounds(&rt, path, folder, &kept.rounds, is_launched) {
-        log.cannot_keep(&error);
+    match keep_rounds(&rt, path, folder, &kept.rounds, is_launched) {
+        Ok(()) => Ok((kept, true)),
+        Err(error) => {
+            log.cannot_keep(&error);
+            Ok((kept, false))
+        }
     }
-    Ok(kept)
 }
 
 /// Sees to it that the round has an identifier before anything is started, and answers by what its processes are known.
@@ -325,16 +399,18 @@ pub(crate) fn identified<R: Files<File = File> + Clock + AllocGlobal + Copy + Dr
     log: &mut RunWatcher<'_, R>,
 ) -> Result<Known, AllocError> {
     let dag = place.at(rt.alloc(), place.top)?;
+    let (kept, is_kept) = renewed_where_new(rt, place, round, kept, is_launched, log)?;
     let Kept {
         rounds,
         some_left,
         notes,
-    } = renewed_where_new(rt, place, round, kept, is_launched, log)?;
+    } = kept;
     Ok(Known {
         rounds,
         dag,
         some_left,
         notes,
         seat: seat_at(&rt, place),
+        is_kept,
     })
 }

@@ -10,7 +10,7 @@ ghost use Rattle.dag_main_check.specs.Warnings.{warning_lines};
 ghost use Rattle.dag_main_run.specs.Sites.{start_by, journal_found, rounds_at, manager_refusal, IsReturned, IsRoundLedAt, IsRoundStoppedAt};
 ghost use Rattle.dag_main_run.specs.Runs.{IsPlannedRun, any_round, held_round, IsRunWhere, IsRunOf, IsRunFrom, IsFindingFault, IsFindingFaultHeld, IsLockedFault, IsFirstRunFault, IsRoundPlanFault, IsStopFault, IsHeldFault, IsRunFaultWhere, IsRunFault, IsRunFaultFrom};
 
-use crate::beginning::{Inputs, forget_processes, has_own_files, keep_inputs, life_of, watcher_of};
+use crate::beginning::{Inputs, has_own_files, keep_inputs, life_of, watcher_of};
 use crate::halting::{HaltCause, HaltWatcher, halted};
 use crate::launching::launcher_of;
 use crate::progress::{RoundWatcher, progress_of};
@@ -184,7 +184,7 @@ fn log_stop<R: Processes + Files<File = File> + Clock + Screen + AllocGlobal + C
     }
 }
 
-/// Forgets the processes of a manager, unless some are left, or the folder is another one by now.
+/// Forgets the processes of a manager, unless some are left, or the folder is another one by now; and nothing of another manager's.
 fn forget_children<R: Files<File = File> + Clock + AllocGlobal + Copy + Drop>(
     rt: R,
     place: &Place<'_>,
@@ -193,7 +193,7 @@ fn forget_children<R: Files<File = File> + Clock + AllocGlobal + Copy + Drop>(
     has_ended: bool,
 ) {
     if !known.some_left && !log.has_let_go() && known.is_in_place(&rt, place) {
-        forget_processes(&rt, place, has_ended);
+        known.forget(&rt, place, has_ended);
     }
 }
 

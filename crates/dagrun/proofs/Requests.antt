@@ -5,7 +5,7 @@ use Rattle.std.proofs.lemmas.List.{length-map}
 use Rattle.dag_main_args.specs.declared.request.Request.{Request}
 use Rattle.dag_main_args.specs.declared.request.WordsFault.{WordsFault}
 use Rattle.dag_main_args.specs.declared.request.WordsFault.TheVariants.{Refused, Memory}
-use Rattle.dag_main_args.specs.Requests.{Asked, asked_by, checks, runs, tells_status, audits, rehearses, draws, asks_why, times, reports, salvages, redoes, shows, no_limits, limits_in, AreLimits}
+use Rattle.dag_main_args.specs.Requests.{Asked, asked_by, checks, runs, views, rehearses, salvages, redoes, shows, no_limits, limits_in, AreLimits}
 use Rattle.dag_main_args.specs.Answered.{IsAskedFor, IsRefused}
 use Rattle.dag_main_check.specs.declared.fault.RunFault.{RunFault}
 use Rattle.dag_main_check.specs.declared.fault.RunFault.TheVariants.{Memory as NoMemory}
@@ -46,13 +46,8 @@ no-hints (checks path all json true) (Err fault) streams = no-warning streams
 no-hints (checks path all json true) (Ok answer) streams = refl
 no-hints (checks path all json false) reply streams = refl
 no-hints (runs path options) reply streams = refl
-no-hints (tells_status path json begun owned) reply streams = refl
-no-hints (audits path json begun owned) reply streams = refl
+no-hints (views path shown begun owned) reply streams = refl
 no-hints (rehearses path outcomes limits always_post) reply streams = refl
-no-hints (draws path fold as_is begun owned) reply streams = refl
-no-hints (asks_why path nodes all json begun owned) reply streams = refl
-no-hints (times path svg json summary begun owned) reply streams = refl
-no-hints (reports path reload begun owned) reply streams = refl
 no-hints (salvages path ended owned) reply streams = refl
 no-hints (redoes path nodes only owned) reply streams = refl
 no-hints (shows page) reply streams = refl

@@ -10,7 +10,7 @@ use Rattle.run_plan.specs.Plan.{Plan}
 use Rattle.job_starter_drive.specs.declared.Call.{Call}
 use Rattle.dag_main_args.specs.declared.request.RunOptions.{RunOptions}
 use Rattle.dag_main_args.specs.declared.request.Request.{Request}
-use Rattle.dag_main_args.specs.Requests.{Asked, asked_by, checks, runs, tells_status, audits, rehearses, draws, asks_why, times, reports, salvages, redoes, shows}
+use Rattle.dag_main_args.specs.Requests.{Asked, asked_by, checks, runs, views, rehearses, salvages, redoes, shows}
 use Rattle.dag_main_files.specs.declared.rounds.Round.{Round}
 use Rattle.dag_main_files.specs.Beside.{IsRefusalOf, path_refused, refusing_had_no_memory}
 use Rattle.dag_main_check.specs.declared.fault.RunFault.{RunFault}
@@ -115,13 +115,8 @@ module _ (rounds known : Rounds) (told : AreToldAs rounds known) where
   told-some (runs path options) (Ok answer) (as_json report others other asked is states) = as_json report others other asked (run-with _ _ _ _ _ path options _ _ _ is) states
   told-some (runs path options) (Err _) (run_refused fault why) = run_refused fault (run-refusal _ _ _ _ _ path options fault why)
   told-some (runs path options) (Err _) (not_stated fault asked why) = not_stated fault asked why
-  told-some (tells_status path json begun owned) r is = is
-  told-some (audits path json begun owned) r is = is
+  told-some (views path shown begun owned) r is = is
   told-some (rehearses path outcomes limits always_post) r is = is
-  told-some (draws path fold as_is begun owned) r is = is
-  told-some (asks_why path nodes all json begun owned) r is = is
-  told-some (times path svg json summary begun owned) r is = is
-  told-some (reports path reload begun owned) r is = is
   told-some (salvages path ended owned) r is = is
   told-some (redoes path nodes only owned) r is = is
   told-some (shows page) r is = is
@@ -133,13 +128,8 @@ module _ (rounds known : Rounds) (told : AreToldAs rounds known) where
   told-from holds has (runs path options) (Ok answer) (as_json report others other asked is states) = as_json report others other asked (run-with _ _ _ _ _ path options _ _ _ is) states
   told-from holds has (runs path options) (Err _) (run_refused fault why) = run_refused fault (run-refusal _ _ _ _ _ path options fault why)
   told-from holds has (runs path options) (Err _) (not_stated fault asked why) = not_stated fault asked why
-  told-from holds has (tells_status path json begun owned) r is = is
-  told-from holds has (audits path json begun owned) r is = is
+  told-from holds has (views path shown begun owned) r is = is
   told-from holds has (rehearses path outcomes limits always_post) r is = is
-  told-from holds has (draws path fold as_is begun owned) r is = is
-  told-from holds has (asks_why path nodes all json begun owned) r is = is
-  told-from holds has (times path svg json summary begun owned) r is = is
-  told-from holds has (reports path reload begun owned) r is = is
   told-from holds has (salvages path ended owned) r is = is
   told-from holds has (redoes path nodes only owned) r is = is
   told-from holds has (shows page) r is = is
@@ -159,13 +149,8 @@ pub unbeside-some : (rounds known : Rounds) (asked : Asked) → is_beside asked 
     → ComesTo (command_of_some known asked) r
 unbeside-some rounds known (checks path all json hinted) isnt r is = is
 unbeside-some rounds known (runs path options) isnt r is = absurd (false≢true (sym isnt))
-unbeside-some rounds known (tells_status path json begun owned) isnt r is = is
-unbeside-some rounds known (audits path json begun owned) isnt r is = is
+unbeside-some rounds known (views path shown begun owned) isnt r is = is
 unbeside-some rounds known (rehearses path outcomes limits always_post) isnt r is = is
-unbeside-some rounds known (draws path fold as_is begun owned) isnt r is = is
-unbeside-some rounds known (asks_why path nodes all json begun owned) isnt r is = is
-unbeside-some rounds known (times path svg json summary begun owned) isnt r is = is
-unbeside-some rounds known (reports path reload begun owned) isnt r is = is
 unbeside-some rounds known (salvages path ended owned) isnt r is = is
 unbeside-some rounds known (redoes path nodes only owned) isnt r is = is
 unbeside-some rounds known (shows page) isnt r is = is
@@ -174,13 +159,8 @@ pub unbeside-from : (holds : Files) (has there : List ℕ → Bool) (rounds know
     → ComesTo (command_from holds has rounds asked) r → ComesTo (command_from holds there known asked) r
 unbeside-from holds has there rounds known (checks path all json hinted) isnt r is = is
 unbeside-from holds has there rounds known (runs path options) isnt r is = absurd (false≢true (sym isnt))
-unbeside-from holds has there rounds known (tells_status path json begun owned) isnt r is = is
-unbeside-from holds has there rounds known (audits path json begun owned) isnt r is = is
+unbeside-from holds has there rounds known (views path shown begun owned) isnt r is = is
 unbeside-from holds has there rounds known (rehearses path outcomes limits always_post) isnt r is = is
-unbeside-from holds has there rounds known (draws path fold as_is begun owned) isnt r is = is
-unbeside-from holds has there rounds known (asks_why path nodes all json begun owned) isnt r is = is
-unbeside-from holds has there rounds known (times path svg json summary begun owned) isnt r is = is
-unbeside-from holds has there rounds known (reports path reload begun owned) isnt r is = is
 unbeside-from holds has there rounds known (salvages path ended owned) isnt r is = absurd (false≢true (sym isnt))
 unbeside-from holds has there rounds known (redoes path nodes only owned) isnt r is = absurd (false≢true (sym isnt))
 unbeside-from holds has there rounds known (shows page) isnt r is = is
@@ -199,13 +179,8 @@ input-reply Honest IsLost world rounds known holds has asked isnt reply same som
 pub unasked : {P : Type 0} (asked : Asked) → is_beside asked ≡ false → is_run asked ≡ true → P
 unasked (checks path all json hinted) isnt run = absurd (false≢true run)
 unasked (runs path options) isnt run = absurd (false≢true (sym isnt))
-unasked (tells_status path json begun owned) isnt run = absurd (false≢true run)
-unasked (audits path json begun owned) isnt run = absurd (false≢true run)
+unasked (views path shown begun owned) isnt run = absurd (false≢true run)
 unasked (rehearses path outcomes limits always_post) isnt run = absurd (false≢true run)
-unasked (draws path fold as_is begun owned) isnt run = absurd (false≢true run)
-unasked (asks_why path nodes all json begun owned) isnt run = absurd (false≢true run)
-unasked (times path svg json summary begun owned) isnt run = absurd (false≢true run)
-unasked (reports path reload begun owned) isnt run = absurd (false≢true run)
 unasked (salvages path ended owned) isnt run = absurd (false≢true run)
 unasked (redoes path nodes only owned) isnt run = absurd (false≢true run)
 unasked (shows page) isnt run = absurd (false≢true run)

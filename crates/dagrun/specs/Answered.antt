@@ -6,7 +6,7 @@ use Rattle.splices_flat.specs.FileSet.{bytes_of}
 use Rattle.splices_flat.specs.declared.file_set.FileSet.{FileSet}
 use Rattle.dag_main_args.specs.declared.request.Request.{Request}
 use Rattle.dag_main_args.specs.Answered.{IsAskedFor, IsRefused}
-use Rattle.dag_main_args.specs.Requests.{Asked, asked_by, checks, runs, tells_status, audits, rehearses, draws, asks_why, times, reports, salvages, redoes, shows, no_limits, limits_in, AreLimits}
+use Rattle.dag_main_args.specs.Requests.{Asked, asked_by, checks, runs, views, rehearses, salvages, redoes, shows, Shown, the_status, the_audit, the_graph, the_reasons, the_times, the_page, no_limits, limits_in, AreLimits}
 use Rattle.dag_main_args.specs.declared.request.RunOptions.{RunOptions}
 use Rattle.dag_main_files.specs.Beside.{IsRefusalOf}
 use Rattle.dag_main_files.specs.Folder.{IsReadFrom}
@@ -134,12 +134,7 @@ is_beside _ = true
 -- whether the owner of the files beside the DAG file is trusted
 abbrev pub is_owner_trusted : Asked → Bool
 is_owner_trusted (runs path options) = options.trust_owner
-is_owner_trusted (tells_status path json begun trust_owner) = trust_owner
-is_owner_trusted (audits path json begun trust_owner) = trust_owner
-is_owner_trusted (draws path fold as_is begun trust_owner) = trust_owner
-is_owner_trusted (asks_why path nodes all json begun trust_owner) = trust_owner
-is_owner_trusted (times path svg json summary begun trust_owner) = trust_owner
-is_owner_trusted (reports path reload begun trust_owner) = trust_owner
+is_owner_trusted (views path shown begun trust_owner) = trust_owner
 is_owner_trusted (salvages path ended trust_owner) = trust_owner
 is_owner_trusted (redoes path nodes only trust_owner) = trust_owner
 is_owner_trusted _ = false
@@ -266,29 +261,75 @@ printed_run path options run = record {
   refused = IsPrintFault options.json run.refused (IsAnswerFault StatusJson path);
 }
 
+-- a question about the last round of a path, by its journal, which is shown by these files; of some files, and where these are held
+abbrev pub question_of_some : Question → (path : List ℕ) → ByFiles → CommandContract
+question_of_some question path by = record {
+  answers = IsAnswerOfRun question path;
+  refused = IsRefusedBySome by path (IsAnswerFault question path);
+}
+
+abbrev pub question_from : Question → Files → (path : List ℕ) → ByFiles → CommandContract
+question_from question holds path by = record {
+  answers = SaidByFiles by holds path (λ files. IsAnswerHeld files question path);
+  refused = IsRefusedByFiles by holds path (λ files. IsAnswerFaultHeld files question path);
+}
+
+-- why nodes of that round are in error
+abbrev pub why_of_some : WhyForm → (path : List ℕ) → (nodes : List (List ℕ)) → ByFiles → CommandContract
+why_of_some form path nodes by = record { answers = IsWhyOf form path nodes; refused = IsRefusedBySome by path (IsWhyFault path) }
+
+abbrev pub why_from : WhyForm → Files → (path : List ℕ) → (nodes : List (List ℕ)) → ByFiles → CommandContract
+why_from form holds path nodes by = record {
+  answers = SaidByFiles by holds path (λ files. IsWhyHeld form files path nodes);
+  refused = IsRefusedByFiles by holds path (λ files. IsWhyFaultHeld files path);
+}
+
+-- when its phases ran
+abbrev pub times_of_some : Form → (path : List ℕ) → ByFiles → CommandContract
+times_of_some form path by = record { answers = IsTimesOf path form; refused = IsRefusedBySome by path (IsTimesFault path) }
+
+abbrev pub times_from : Form → Files → (path : List ℕ) → ByFiles → CommandContract
+times_from form holds path by = record {
+  answers = SaidByFiles by holds path (λ files. IsTimesFrom files path form);
+  refused = IsRefusedByFiles by holds path (λ files. IsTimesFaultHeld files path);
+}
+
+-- a page of it
+abbrev pub page_of_some : (reload : Bool) → (path : List ℕ) → ByFiles → CommandContract
+page_of_some reload path by = record { answers = IsReportPageOf path version_text reload; refused = IsRefusedBySome by path (IsWhyFault path) }
+
+abbrev pub page_from : (reload : Bool) → Files → (path : List ℕ) → ByFiles → CommandContract
+page_from reload holds path by = record {
+  answers = SaidByFiles by holds path (λ files. IsReportPageHeld files path version_text reload);
+  refused = IsRefusedByFiles by holds path (λ files. IsWhyFaultHeld files path);
+}
+
+-- What is shown of a round, of some files of its path; and where these files are held.
+abbrev pub view_of_some : (path : List ℕ) → (begun : Bool) → Shown → CommandContract
+view_of_some path begun (the_status json) = question_of_some (status_question json) path (files_asked begun)
+view_of_some path begun (the_audit json) = question_of_some (audit_question json) path (files_asked begun)
+view_of_some path begun (the_graph fold as_is) = question_of_some (graph_question fold) path (graph_asked as_is begun)
+view_of_some path begun (the_reasons nodes all json) = why_of_some (why_form all json) path nodes (round_asked begun)
+view_of_some path begun (the_times svg json summary) = times_of_some (times_form svg json summary) path (round_asked begun)
+view_of_some path begun (the_page reload) = page_of_some reload path (round_asked begun)
+
+abbrev pub view_from : Files → (path : List ℕ) → (begun : Bool) → Shown → CommandContract
+view_from holds path begun (the_status json) = question_from (status_question json) holds path (files_asked begun)
+view_from holds path begun (the_audit json) = question_from (audit_question json) holds path (files_asked begun)
+view_from holds path begun (the_graph fold as_is) = question_from (graph_question fold) holds path (graph_asked as_is begun)
+view_from holds path begun (the_reasons nodes all json) = why_from (why_form all json) holds path nodes (round_asked begun)
+view_from holds path begun (the_times svg json summary) = times_from (times_form svg json summary) holds path (round_asked begun)
+view_from holds path begun (the_page reload) = page_from reload holds path (round_asked begun)
+
 -- The command that a request is for, of some files of its path, where this is said of the rounds of a run.
 abbrev pub command_of_some : Rounds → Asked → CommandContract
 command_of_some rounds (checks path all json hinted) = record { answers = IsCheckWith (checks_some all (check_form json) path) hinted; refused = check_refused_some all path }
 command_of_some rounds (runs path options) = printed_run path options (run_of_some rounds path options)
-command_of_some rounds (tells_status path json begun trust_owner) = record {
-  answers = IsAnswerOfRun (status_question json) path;
-  refused = IsRefusedBySome (files_asked begun) path (IsAnswerFault (status_question json) path);
-}
-command_of_some rounds (audits path json begun trust_owner) = record {
-  answers = IsAnswerOfRun (audit_question json) path;
-  refused = IsRefusedBySome (files_asked begun) path (IsAnswerFault (audit_question json) path);
-}
+command_of_some rounds (views path shown begun trust_owner) = view_of_some path begun shown
 command_of_some rounds (rehearses path outcomes limits always_post) = record {
   answers = IsRehearsalWith (λ table. IsRehearsalOfSome always_post path table limits) outcomes;
   refused = IsRehearsalRefusalWith (λ table. IsRehearsalRefusal always_post path table limits) outcomes;
 }
-command_of_some rounds (draws path fold as_is begun trust_owner) = record {
-  answers = IsAnswerOfRun (graph_question fold) path;
-  refused = IsRefusedBySome (graph_asked as_is begun) path (IsAnswerFault (graph_question fold) path);
-}
-command_of_some rounds (asks_why path nodes all json begun trust_owner) = record { answers = IsWhyOf (why_form all json) path nodes; refused = IsRefusedBySome (round_asked begun) path (IsWhyFault path) }
-command_of_some rounds (times path svg json summary begun trust_owner) = record { answers = IsTimesOf path (times_form svg json summary); refused = IsRefusedBySome (round_asked begun) path (IsTimesFault path) }
-command_of_some rounds (reports path reload begun trust_owner) = record { answers = IsReportPageOf path version_text reload; refused = IsRefusedBySome (round_asked begun) path (IsWhyFault path) }
 command_of_some rounds (salvages path ended trust_owner) = record {
   answers = IsSalvageWith (IsSalvageOf ended path) (IsSalvageFault ended any_files path);
   refused = λ fault. IsSalvageFault ended any_files path (Refused fault);
@@ -296,35 +337,14 @@ command_of_some rounds (salvages path ended trust_owner) = record {
 command_of_some rounds (redoes path nodes only trust_owner) = record { answers = IsRedoOf path nodes only; refused = IsRedoFault path }
 command_of_some rounds (shows page) = record { answers = IsPage page; refused = λ fault. ⊥ }
 
--- a question about the last round of a path, by its journal
-abbrev pub question_from : Question → Files → (path : List ℕ) → ByFiles → CommandContract
-question_from question holds path by = record {
-  answers = SaidByFiles by holds path (λ files. IsAnswerHeld files question path);
-  refused = IsRefusedByFiles by holds path (λ files. IsAnswerFaultHeld files question path);
-}
-
 -- The same where these files are held and these paths are there: of the files that are held.
 abbrev pub command_from : Files → (List ℕ → Bool) → Rounds → Asked → CommandContract
 command_from holds has rounds (checks path all json hinted) = record { answers = IsCheckWith (checks_from all (check_form json) holds path) hinted; refused = IsCheckRefusalHeld all hinted holds path }
 command_from holds has rounds (runs path options) = printed_run path options (run_from holds has rounds path options)
-command_from holds has rounds (tells_status path json begun trust_owner) = question_from (status_question json) holds path (files_asked begun)
-command_from holds has rounds (audits path json begun trust_owner) = question_from (audit_question json) holds path (files_asked begun)
+command_from holds has rounds (views path shown begun trust_owner) = view_from holds path begun shown
 command_from holds has rounds (rehearses path outcomes limits always_post) = record {
   answers = IsRehearsalWith (λ table. IsRehearsalOf always_post holds path table limits) outcomes;
   refused = IsRehearsalRefusalWith (λ table. IsRehearsalRefusalFrom always_post holds path table limits) outcomes;
-}
-command_from holds has rounds (draws path fold as_is begun trust_owner) = question_from (graph_question fold) holds path (graph_asked as_is begun)
-command_from holds has rounds (asks_why path nodes all json begun trust_owner) = record {
-  answers = SaidByFiles (round_asked begun) holds path (λ files. IsWhyHeld (why_form all json) files path nodes);
-  refused = IsRefusedByFiles (round_asked begun) holds path (λ files. IsWhyFaultHeld files path);
-}
-command_from holds has rounds (times path svg json summary begun trust_owner) = record {
-  answers = SaidByFiles (round_asked begun) holds path (λ files. IsTimesFrom files path (times_form svg json summary));
-  refused = IsRefusedByFiles (round_asked begun) holds path (λ files. IsTimesFaultHeld files path);
-}
-command_from holds has rounds (reports path reload begun trust_owner) = record {
-  answers = SaidByFiles (round_asked begun) holds path (λ files. IsReportPageHeld files path version_text reload);
-  refused = IsRefusedByFiles (round_asked begun) holds path (λ files. IsWhyFaultHeld files path);
 }
 command_from holds has rounds (salvages path ended trust_owner) = record {
   answers = IsSalvageWith (IsSalvageFrom ended holds path) (IsSalvageFault ended (held_files holds has path) path);

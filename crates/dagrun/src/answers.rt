@@ -1,6 +1,6 @@
 //! What is answered to a request by the files of a folder.
 
-ghost use Rattle.std.specs.Prelude.{◌≡◌, ℕ, List, true, [], ◌++◌, Some, IfOk, IfErr, IfSome, is_some, string_bytes, codes};
+ghost use Rattle.std.specs.Prelude.{◌≡◌, ℕ, List, true, [], ◌++◌, Some, IfOk, IfErr, IfSome, is_some, map, string_bytes, codes};
 ghost use Rattle.std.specs.Option.{option_map};
 ghost use Rattle.dag_main_args.specs.Requests.{asked_by, runs};
 ghost use Rattle.dag_main_files.specs.Beside.{IsRefusalOf};
@@ -12,14 +12,12 @@ ghost use Rattle.salvage.specs.Answered.{IsSalvageOf, IsSalvageFrom};
 ghost use Rattle.salvage.specs.Refused.{IsSalvageFault};
 ghost use Rattle.salvage.specs.Sight.{any_files, held_files};
 ghost use Rattle.salvage.specs.declared.fault.SalvageFault.TheVariants.{Refused};
+ghost use Rattle.redo.specs.Answered.{IsRedoOf, IsRedoHeld, IsRedoFault, IsRedoFaultHeld};
 ghost use Rattle.dag_main_run.specs.Sites.{rounds_at};
 ghost use Rattle.dagrun.specs.Answered.{is_run, run_of_some, run_from, command_of_some, command_from, ComesTo, IsPage, IsRehearsalWith, IsRehearsalRefusalWith, IsSalvageWith, AreHints};
 
 use crate::checking::{check, check_form};
-use crate::of_round::{
-    answer_of_round, audit_question, graph_of_round, graph_question, page_of_round,
-    status_question, times_form, times_of_round, why_form, why_of_round,
-};
+use crate::of_round::show;
 use answer_console::Console;
 use dag_main_args::{Request, RunOptions};
 use dag_main_check::{Answer, RunFault};
@@ -62,110 +60,31 @@ pub(crate) fn answer_in<
     ensures hinted { C.honest console.new → AreHints (asked_by request.entry) result (C.shown console.old) (C.shown console.new) }
     ensures back { C.honest console.new → C.honest console.old }
 {
-    let alloc = rt.alloc();
-    let seat = folder.seat();
     match request {
         Request::Run { dag, options } => run_in(rt, folder, dag, &options),
-        Request::Status {
-            dag,
-            json,
-            as_begun,
-            ..
-        } => answer_of_round(alloc, folder, dag, status_question(json), as_begun),
-        Request::Audit {
-            dag,
-            json,
-            as_begun,
-            ..
-        } => answer_of_round(alloc, folder, dag, audit_question(json), as_begun),
-        Request::Graph {
-            dag,
-            fold,
-            as_is,
-            as_begun,
-            ..
-        } => graph_of_round(alloc, folder, dag, graph_question(fold), as_is, as_begun),
-        Request::Why {
-            dag,
-            nodes,
-            all,
-            json,
-            as_begun,
-            trust_owner,
-        } => {
-            let place = Place {
-                folder: seat,
-                top: dag,
-            };
-            why_of_round(
-                rt,
-                folder,
-                &place,
-                &nodes,
-                why_form(all, json),
-                as_begun,
-                trust_owner,
-            )
-        }
-        Request::Times {
-            dag,
-            svg,
-            json,
-            summary,
-            as_begun,
-            ..
-        } => times_of_round(alloc, folder, dag, times_form(svg, json, summary), as_begun),
-        Request::Report {
-            dag,
-            reload,
-            as_begun,
-            trust_owner,
-        } => {
-            let place = Place {
-                folder: seat,
-                top: dag,
-            };
-            page_of_round(rt, folder, &place, reload, as_begun, trust_owner)
-        }
+        Request::Show { round, view } => show(rt, folder, &round, view),
         Request::Salvage {
             dag,
             ended,
             trust_owner,
-        } => {
-            let place = Place {
-                folder: seat,
-                top: dag,
-            };
-            salvage_in(rt, folder, &place, ended, trust_owner)
-        }
+        } => salvage_in(rt, folder, dag, ended, trust_owner),
         Request::Redo {
             dag,
             nodes,
             only,
             trust_owner,
-        } => {
-            let place = Place {
-                folder: seat,
-                top: dag,
-            };
-            redo_here(*rt, folder, &place, &nodes, only, trust_owner)
-        }
-        Request::Page { text } => Ok(page(alloc, text)),
+        } => redo_in(rt, folder, dag, &nodes, only, trust_owner),
+        Request::Page { text } => Ok(page(rt.alloc(), text)),
         Request::Check {
             dag,
             all,
             json,
             hints,
             condor,
-        } => check(
-            rt,
-            console,
-            folder,
-            dag,
-            all,
-            check_form(json),
-            Wanted { hints, condor },
-        ),
+        } => {
+            let wanted = Wanted { hints, condor };
+            check(rt, console, folder, dag, all, check_form(json), wanted)
+        }
         Request::Rehearse {
             dag,
             outcomes,
@@ -263,30 +182,56 @@ fn not_salvaged(alloc: Global, fault: &SalvageFault) -> Result<Answer, RunFault>
 }
 
 /// Makes a rescue file of a round that was cut short, or has ended where such a round is taken, too.
-fn salvage_in<R: Files<File = File> + Clock + AllocGlobal + Copy + Drop, F: Folder>(
+fn salvage_in<R: Files<File = File> + Clock + AllocGlobal + Copy + Drop, F: Site>(
     rt: &R,
     folder: &F,
-    place: &Place<'_>,
+    dag: &str,
     ended: bool,
     trust_owner: bool,
 ) -> Result<Answer, RunFault>
-    ensures answered { IfOk result (λ answer. IsSalvageWith (IsSalvageOf ended place.now.top.now)
-        (IsSalvageFault ended any_files place.now.top.now)
+    ensures answered { IfOk result (λ answer. IsSalvageWith (IsSalvageOf ended dag.now) (IsSalvageFault ended any_files dag.now)
         (string_bytes answer.text) (string_bytes answer.warnings) answer.status) }
-    ensures held { F.honest folder.now → IfOk result (λ answer. IsSalvageWith (IsSalvageFrom ended (F.holds folder.now) place.now.top.now)
-        (IsSalvageFault ended (held_files (F.holds folder.now) (F.has folder.now) place.now.top.now) place.now.top.now)
+    ensures held { F.honest folder.now → IfOk result (λ answer. IsSalvageWith (IsSalvageFrom ended (F.holds folder.now) dag.now)
+        (IsSalvageFault ended (held_files (F.holds folder.now) (F.has folder.now) dag.now) dag.now)
         (string_bytes answer.text) (string_bytes answer.warnings) answer.status) }
-    ensures refused { IfErr result (λ fault. IsSalvageFault ended any_files place.now.top.now (Refused fault)) }
-    ensures refused_held { F.honest folder.now → IfErr result (λ fault. IsSalvageFault ended (held_files (F.holds folder.now) (F.has folder.now) place.now.top.now)
-        place.now.top.now (Refused fault)) }
+    ensures refused { IfErr result (λ fault. IsSalvageFault ended any_files dag.now (Refused fault)) }
+    ensures refused_held { F.honest folder.now
+        → IfErr result (λ fault. IsSalvageFault ended (held_files (F.holds folder.now) (F.has folder.now) dag.now) dag.now (Refused fault)) }
 {
-    match salvage_here(*rt, folder, place, ended, trust_owner) {
+    let place = Place {
+        folder: folder.seat(),
+        top: dag,
+    };
+    match salvage_here(*rt, folder, &place, ended, trust_owner) {
         Ok(answer) => Ok(answer),
         Err(fault) => {
             let own = fault.own()?;
             not_salvaged(rt.alloc(), &own)
         }
     }
+}
+
+/// Makes a rescue file by which nodes of a round run again.
+fn redo_in<R: Files<File = File> + Clock + AllocGlobal + Copy + Drop, F: Site>(
+    rt: &R,
+    folder: &F,
+    dag: &str,
+    nodes: &[&str],
+    only: bool,
+    trust_owner: bool,
+) -> Result<Answer, RunFault>
+    ensures redone { IfOk result (λ answer. IsRedoOf dag.now (map (λ n. n.now) nodes.now) only
+        (string_bytes answer.text) (string_bytes answer.warnings) answer.status) }
+    ensures held { F.honest folder.now → IfOk result (λ answer. IsRedoHeld (F.holds folder.now) (F.has folder.now) dag.now (map (λ n. n.now) nodes.now) only
+        (string_bytes answer.text) (string_bytes answer.warnings) answer.status) }
+    ensures refused { IfErr result (IsRedoFault dag.now) }
+    ensures refused_held { F.honest folder.now → IfErr result (IsRedoFaultHeld (F.holds folder.now) dag.now) }
+{
+    let place = Place {
+        folder: folder.seat(),
+        top: dag,
+    };
+    redo_here(*rt, folder, &place, nodes, only, trust_owner)
 }
 
 /// What `rehearse` answers, by the table of outcomes where one is named.

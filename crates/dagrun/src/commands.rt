@@ -8,9 +8,9 @@ ghost use Rattle.dagrun.specs.Answered.{is_beside, is_owner_trusted, IsReply, Is
 
 use crate::answers::{REFUSED, answer_in};
 use crate::host::Host;
-use crate::terminal::{Postscript, display_hint, display_postscript};
+use crate::terminal::{Postscript, display_hint, display_hint_of_answer, display_postscript};
 use answer_console::{Console, display_reply};
-use dag_main_args::{ProgressRule, Request, WordsFault, read_words};
+use dag_main_args::{ProgressRule, Request, ShownRound, View, WordsFault, read_words};
 use dag_main_check::{Answer, RunFault};
 use dag_main_run::Screen;
 use std::fs::File;
@@ -104,14 +104,8 @@ fn is_owner_trusted(request: &Request<'_>) -> bool
 {
     match request {
         Request::Run { options, .. } => options.trust_owner,
-        Request::Status { trust_owner, .. }
-        | Request::Audit { trust_owner, .. }
-        | Request::Graph { trust_owner, .. }
-        | Request::Why { trust_owner, .. }
-        | Request::Times { trust_owner, .. }
-        | Request::Report { trust_owner, .. }
-        | Request::Salvage { trust_owner, .. }
-        | Request::Redo { trust_owner, .. } => *trust_owner,
+        Request::Show { round, .. } => round.trust_owner,
+        Request::Salvage { trust_owner, .. } | Request::Redo { trust_owner, .. } => *trust_owner,
         _ => false,
     }
 }
@@ -119,18 +113,26 @@ fn is_owner_trusted(request: &Request<'_>) -> bool
 /// The path of the DAG file that a request is for; none for a page.
 fn dag_in<'a>(request: &Request<'a>) -> Option<&'a str> {
     match request {
+        Request::Show { round, .. } => Some(round.dag),
         Request::Run { dag, .. }
-        | Request::Status { dag, .. }
-        | Request::Audit { dag, .. }
-        | Request::Graph { dag, .. }
-        | Request::Why { dag, .. }
-        | Request::Times { dag, .. }
-        | Request::Report { dag, .. }
         | Request::Salvage { dag, .. }
         | Request::Redo { dag, .. }
         | Request::Check { dag, .. }
         | Request::Rehearse { dag, .. } => Some(*dag),
         Request::Page { text: _ } => None,
+    }
+}
+
+/// What is displayed behind what is shown of a round.
+fn postscript_of(round: &ShownRound<'_>, view: &View<'_>) -> Postscript {
+    let trusts_owner = round.trust_owner;
+    match view {
+        View::Status { json: false } => Postscript::Totals { trusts_owner },
+        View::Why { json: false, .. } => Postscript::Worker { trusts_owner },
+        View::Status { .. } | View::Why { .. } => Postscript::Nothing,
+        View::Graph { as_is: true, .. } => Postscript::Nothing,
+        View::Graph { .. } if !round.as_begun => Postscript::ChangesDrawn,
+        _ => Postscript::Changes,
     }
 }
 
@@ -149,29 +151,7 @@ fn postscript_to<R: Clock>(rt: &R, request: &Request<'_>) -> Postscript {
             condor: false,
             ..
         } => Postscript::Hints,
-        Request::Status {
-            json: false,
-            trust_owner,
-            ..
-        } => Postscript::Totals {
-            trusts_owner: *trust_owner,
-        },
-        Request::Why {
-            json: false,
-            trust_owner,
-            ..
-        } => Postscript::Worker {
-            trusts_owner: *trust_owner,
-        },
-        Request::Graph { as_is: true, .. } => Postscript::Nothing,
-        Request::Graph {
-            as_begun: false,
-            ..
-        } => Postscript::ChangesDrawn,
-        Request::Audit { .. }
-        | Request::Graph { .. }
-        | Request::Times { .. }
-        | Request::Report { .. } => Postscript::Changes,
+        Request::Show { round, view } => postscript_of(round, view),
         _ => Postscript::Nothing,
     }
 }
@@ -193,6 +173,9 @@ fn finish<R: Files<File = File> + Clock + Env + Input + AllocGlobal + Copy + Dro
     match (reply, dag) {
         (Ok(answer), Some(dag)) if postscript.is_due(status) => {
             display_postscript(rt, console, dag, postscript, answer.text.as_str());
+        }
+        (Ok(answer), _) if status == REFUSED => {
+            display_hint_of_answer(rt, console, dag, answer.warnings.as_str());
         }
         (Ok(_), _) => {}
         (Err(fault), _) => {

@@ -11,6 +11,7 @@ mod shorthand;
 mod terminal;
 
 use answer_console::SystemConsole;
+use answers::REFUSED;
 use commands::run;
 use dag_main_run::Screen;
 use host::SystemHost;
@@ -59,8 +60,26 @@ const STANDING: [(&str, &str); 4] = [
     ("DAGRUN_MAXJOBS", "--maxjobs"),
     ("DAGRUN_MAXPRE", "--maxpre"),
     ("DAGRUN_MAXPOST", "--maxpost"),
-    ("DAGRUN_LAUNCHER", "--launcher"),
+    ("DAGRUN_LAUNCHER", LAUNCHER),
 ];
+
+/// The one of these options whose value is no number.
+const LAUNCHER: &str = "--launcher";
+
+/// An option for which a variable of the environment stands.
+#[derive(Drop)]
+struct Standing {
+    variable: &'static str,
+    option: &'static str,
+    value: String,
+}
+
+impl Standing {
+    /// Whether the value is one that the option takes: a number of 16 bits, but for the launcher.
+    fn is_taken(&self) -> bool {
+        self.option == LAUNCHER || self.value.as_str().parse::<u16>().is_ok()
+    }
+}
 
 /// Whether an option is among some words, with its value behind it or in the next word.
 fn is_given(words: &[String], option: &str) -> bool {
@@ -72,20 +91,33 @@ fn is_given(words: &[String], option: &str) -> bool {
 
 /// The options of these words that the environment has, where they call for a run and don't have them
 /// themselves.
-fn standing_options(rt: &HostRuntime, words: &[String]) -> io::Result<Vec<String>> {
-    let mut options = Vec::new(rt.alloc());
+fn standing_for(rt: &HostRuntime, words: &[String]) -> io::Result<Vec<Standing>> {
+    let mut standing = Vec::new(rt.alloc());
     if !matches!(words, [_, command, ..] if command.as_str() == "run") {
-        return Ok(options);
+        return Ok(standing);
     }
     for (variable, option) in &STANDING {
         match env::var(rt, variable) {
             Ok(value) if !value.is_empty() && !is_given(words, option) => {
-                options.push(format!(in rt.alloc(); "{option}={value}")?)?;
+                standing.push(Standing {
+                    variable,
+                    option,
+                    value,
+                })?;
             }
             _ => {}
         }
     }
-    Ok(options)
+    Ok(standing)
+}
+
+/// These options as words.
+fn standing_words(alloc: Global, standing: &[Standing]) -> io::Result<Vec<String>> {
+    let mut words = Vec::new(alloc);
+    for Standing { option, value, .. } in standing {
+        words.push(format!(in alloc; "{option}={value}")?)?;
+    }
+    Ok(words)
 }
 
 /// Says at a terminal that a DAG file is read from there, where the program is given no word.
@@ -97,15 +129,40 @@ fn show_bare(rt: &HostRuntime, words: &[String]) {
     }
 }
 
+/// What is said where the system refuses the words of the call, or one of them is no text.
+fn refused_words(error: io::Error) -> io::Error {
+    if error.kind() == ErrorKind::InvalidData {
+        return io::Error::new(ErrorKind::InvalidData, "a word of the call is not UTF-8");
+    }
+    error
+}
+
+/// The words that the program is given, of which the first is its own name.
+fn given_words(rt: &HostRuntime) -> io::Result<Vec<String>> {
+    let given = match env::args(rt) {
+        Ok(given) => given,
+        Err(error) => return Err(refused_words(error)),
+    };
+    let mut words = Vec::new(rt.alloc());
+    for word in given {
+        words.push(word)?;
+    }
+    Ok(words)
+}
+
 /// Runs the command of the words that the program is given, and answers the exit status.
 fn run_words(rt: &HostRuntime) -> io::Result<u8> {
-    let mut owned = Vec::new(rt.alloc());
-    for word in env::args(rt)? {
-        owned.push(word)?;
-    }
-    let owned = spelled_out(rt, owned)?;
+    let owned = spelled_out(rt, given_words(rt)?)?;
     show_bare(rt, &owned);
-    let standing = standing_options(rt, &owned)?;
+    let standing = standing_for(rt, &owned)?;
+    if let Some(wrong) = standing.iter().find(|option| !option.is_taken()) {
+        let (variable, value) = (wrong.variable, wrong.value.as_str());
+        let _ = eprintln!(rt;
+            "error: {variable}={value} in the environment: no number from 0 to 65535"
+        );
+        return Ok(REFUSED);
+    }
+    let standing = standing_words(rt.alloc(), &standing)?;
     let words: Vec<&str> = owned
         .iter()
         .take(2)

@@ -1,17 +1,14 @@
 //! What is answered of the last round of a DAG file: by the files as they are, or as they were when the round began.
 
-ghost use Rattle.std.specs.Prelude.{◌≡◌, map, IfOk, IfErr, string_bytes};
-ghost use Rattle.dag_main_inspect.specs.Asked.{IsAnswerOfRun, IsAnswerHeld, IsAnswerFault, IsAnswerFaultHeld};
-ghost use Rattle.failure_answers.specs.Answered.{IsWhyOf, IsWhyHeld, IsWhyFault, IsWhyFaultHeld};
-ghost use Rattle.dag_main_args.specs.Matched.{version_text};
-ghost use Rattle.report_answers.specs.Answered.{IsReportPageOf, IsReportPageHeld};
-ghost use Rattle.run_times.specs.Answered.{IsTimesOf, IsTimesFrom, IsTimesFault, IsTimesFaultHeld};
-ghost use Rattle.dagrun.specs.Answered.{why_form, status_question, audit_question, graph_question, times_form, files_asked, round_asked, graph_asked, SaidByFiles, IsRefusedByFiles, IsRefusedBySome};
+ghost use Rattle.std.specs.Prelude.{◌≡◌, map};
+ghost use Rattle.dag_main_args.specs.Requests.{shown_by};
+ghost use Rattle.dagrun.specs.Answered.{why_form, status_question, audit_question, graph_question, times_form, files_asked, round_asked, graph_asked, ComesTo, question_of_some, question_from, why_of_some, why_from, times_of_some, times_from, page_of_some, page_from, view_of_some, view_from};
 
-use dag_main_args::VERSION;
+use dag_main_args::{ShownRound, VERSION, View};
 use dag_main_check::{Answer, RunFault};
 use dag_main_files::{Folder, Place};
 use dag_main_inspect::{Question, answer_here};
+use dag_main_run::Site;
 use failure_answers::{WhyForm, why_here};
 use failure_report::Grouping;
 use report_answers::{Wanted, page_here};
@@ -22,7 +19,7 @@ use std::fs::File;
 use std::rt::Files;
 
 /// How `why` shows nodes in error: those with one cause once, or each by itself; or as JSON.
-pub(crate) fn why_form(all: bool, json: bool) -> WhyForm
+fn why_form(all: bool, json: bool) -> WhyForm
     ensures { result ≡ why_form all json }
 {
     match (all, json) {
@@ -33,7 +30,7 @@ pub(crate) fn why_form(all: bool, json: bool) -> WhyForm
 }
 
 /// The question of `status`: where each node is, as lines or as JSON.
-pub(crate) fn status_question(json: bool) -> Question
+fn status_question(json: bool) -> Question
     ensures { result ≡ status_question json }
 {
     if json {
@@ -44,7 +41,7 @@ pub(crate) fn status_question(json: bool) -> Question
 }
 
 /// The question of `audit`: what the nodes came to, as lines or as JSON.
-pub(crate) fn audit_question(json: bool) -> Question
+fn audit_question(json: bool) -> Question
     ensures { result ≡ audit_question json }
 {
     if json {
@@ -55,7 +52,7 @@ pub(crate) fn audit_question(json: bool) -> Question
 }
 
 /// The question of `graph`: a picture with a box for each node, or one for those that are alike.
-pub(crate) fn graph_question(fold: bool) -> Question
+fn graph_question(fold: bool) -> Question
     ensures { result ≡ graph_question fold }
 {
     if fold {
@@ -66,7 +63,7 @@ pub(crate) fn graph_question(fold: bool) -> Question
 }
 
 /// How `times` shows the phases; no two of a picture, JSON and a summary are ever asked for together.
-pub(crate) fn times_form(svg: bool, json: bool, summary: bool) -> Form
+fn times_form(svg: bool, json: bool, summary: bool) -> Form
     ensures { result ≡ times_form svg json summary }
 {
     match (svg, json, summary) {
@@ -111,128 +108,124 @@ fn graph_asked(as_is: bool, as_begun: bool) -> ByFiles
     }
 }
 
-/// The answer to a question for the DAG file of this path, by the journal of its last round.
+/// The answer to a question for the DAG file of this path, by the journal of its last round, which is shown by these files.
 ///
 /// # Errors
 /// Those of `seen_by`; then those of `answer_here`.
-pub(crate) fn answer_of_round<F: Folder>(
+fn answer_by<F: Folder>(
     alloc: Global,
     folder: &F,
     dag: &str,
     question: Question,
-    as_begun: bool,
+    by: ByFiles,
 ) -> Result<Answer, RunFault>
-    ensures answered { IfOk result (λ answer.
-        IsAnswerOfRun question dag.now (string_bytes answer.text) (string_bytes answer.warnings) answer.status) }
+    ensures some { ComesTo (question_of_some question dag.now by) result }
     // It is that of the files by which the round is to be shown.
-    ensures held { F.honest folder.now → IfOk result (λ answer. SaidByFiles (files_asked as_begun) (F.holds folder.now) dag.now
-        (λ files. IsAnswerHeld files question dag.now) (string_bytes answer.text) (string_bytes answer.warnings) answer.status) }
-    ensures refused { IfErr result (IsRefusedBySome (files_asked as_begun) dag.now (IsAnswerFault question dag.now)) }
-    ensures refused_held { F.honest folder.now → IfErr result (IsRefusedByFiles (files_asked as_begun) (F.holds folder.now) dag.now
-        (λ files. IsAnswerFaultHeld files question dag.now)) }
+    ensures held { F.honest folder.now → ComesTo (question_from question (F.holds folder.now) dag.now by) result }
 {
-    let seen = seen_by(alloc, folder, dag, files_asked(as_begun))?;
+    let seen = seen_by(alloc, folder, dag, by)?;
     answer_here(alloc, &seen, dag, question)
-}
-
-/// A picture of the graph of a DAG file, with where its nodes are in its last round; or of the files as they are.
-///
-/// # Errors
-/// As `answer_of_round`.
-pub(crate) fn graph_of_round<F: Folder>(
-    alloc: Global,
-    folder: &F,
-    dag: &str,
-    picture: Question,
-    as_is: bool,
-    as_begun: bool,
-) -> Result<Answer, RunFault>
-    ensures answered { IfOk result (λ answer.
-        IsAnswerOfRun picture dag.now (string_bytes answer.text) (string_bytes answer.warnings) answer.status) }
-    ensures held { F.honest folder.now → IfOk result (λ answer. SaidByFiles (graph_asked as_is as_begun) (F.holds folder.now) dag.now
-        (λ files. IsAnswerHeld files picture dag.now) (string_bytes answer.text) (string_bytes answer.warnings) answer.status) }
-    ensures refused { IfErr result (IsRefusedBySome (graph_asked as_is as_begun) dag.now (IsAnswerFault picture dag.now)) }
-    ensures refused_held { F.honest folder.now → IfErr result (IsRefusedByFiles (graph_asked as_is as_begun) (F.holds folder.now) dag.now
-        (λ files. IsAnswerFaultHeld files picture dag.now)) }
-{
-    let seen = seen_by(alloc, folder, dag, graph_asked(as_is, as_begun))?;
-    answer_here(alloc, &seen, dag, picture)
 }
 
 /// Why nodes of the last round of a DAG file are in error.
 ///
 /// # Errors
 /// Those of `seen_by`; then those of `why_here`.
-pub(crate) fn why_of_round<R: Files<File = File> + AllocGlobal, F: Folder>(
+fn why_of_round<R: Files<File = File> + AllocGlobal, F: Site>(
     rt: &R,
     folder: &F,
-    place: &Place<'_>,
+    round: &ShownRound<'_>,
     names: &[&str],
     form: WhyForm,
-    as_begun: bool,
-    trust_owner: bool,
 ) -> Result<Answer, RunFault>
-    ensures answered { IfOk result (λ answer. IsWhyOf form place.now.top.now (map (λ n. n.now) names.now)
-        (string_bytes answer.text) (string_bytes answer.warnings) answer.status) }
-    ensures held { F.honest folder.now → IfOk result (λ answer. SaidByFiles (round_asked as_begun) (F.holds folder.now) place.now.top.now
-        (λ files. IsWhyHeld form files place.now.top.now (map (λ n. n.now) names.now))
-        (string_bytes answer.text) (string_bytes answer.warnings) answer.status) }
-    ensures refused { IfErr result (IsRefusedBySome (round_asked as_begun) place.now.top.now (IsWhyFault place.now.top.now)) }
-    ensures refused_held { F.honest folder.now → IfErr result (IsRefusedByFiles (round_asked as_begun) (F.holds folder.now) place.now.top.now
-        (λ files. IsWhyFaultHeld files place.now.top.now)) }
+    ensures some { ComesTo (why_of_some form round.now.dag.now (map (λ n. n.now) names.now) (round_asked round.now.as_begun)) result }
+    ensures held { F.honest folder.now
+        → ComesTo (why_from form (F.holds folder.now) round.now.dag.now (map (λ n. n.now) names.now) (round_asked round.now.as_begun)) result }
 {
-    let seen = seen_by(rt.alloc(), folder, place.top, round_asked(as_begun))?;
-    why_here(rt, &seen, place, names, trust_owner, form)
+    let place = Place {
+        folder: folder.seat(),
+        top: round.dag,
+    };
+    let seen = seen_by(rt.alloc(), folder, round.dag, round_asked(round.as_begun))?;
+    why_here(rt, &seen, &place, names, round.trust_owner, form)
 }
 
 /// When the phases of the last round of a DAG file ran.
 ///
 /// # Errors
 /// Those of `seen_by`; then those of `times_here`.
-pub(crate) fn times_of_round<F: Folder>(
+fn times_of_round<F: Folder>(
     alloc: Global,
     folder: &F,
-    dag: &str,
+    round: &ShownRound<'_>,
     form: Form,
-    as_begun: bool,
 ) -> Result<Answer, RunFault>
-    ensures answered { IfOk result (λ answer.
-        IsTimesOf dag.now form (string_bytes answer.text) (string_bytes answer.warnings) answer.status) }
-    ensures held { F.honest folder.now → IfOk result (λ answer. SaidByFiles (round_asked as_begun) (F.holds folder.now) dag.now
-        (λ files. IsTimesFrom files dag.now form) (string_bytes answer.text) (string_bytes answer.warnings) answer.status) }
-    ensures refused { IfErr result (IsRefusedBySome (round_asked as_begun) dag.now (IsTimesFault dag.now)) }
-    ensures refused_held { F.honest folder.now → IfErr result (IsRefusedByFiles (round_asked as_begun) (F.holds folder.now) dag.now
-        (λ files. IsTimesFaultHeld files dag.now)) }
+    ensures some { ComesTo (times_of_some form round.now.dag.now (round_asked round.now.as_begun)) result }
+    ensures held { F.honest folder.now → ComesTo (times_from form (F.holds folder.now) round.now.dag.now (round_asked round.now.as_begun)) result }
 {
-    let seen = seen_by(alloc, folder, dag, round_asked(as_begun))?;
-    times_here(alloc, &seen, dag, form)
+    let seen = seen_by(alloc, folder, round.dag, round_asked(round.as_begun))?;
+    times_here(alloc, &seen, round.dag, form)
 }
 
 /// A page of the last round of a DAG file.
 ///
 /// # Errors
 /// Those of `seen_by`; then those of `page_here`.
-pub(crate) fn page_of_round<R: Files<File = File> + AllocGlobal, F: Folder>(
+fn page_of_round<R: Files<File = File> + AllocGlobal, F: Site>(
     rt: &R,
     folder: &F,
-    place: &Place<'_>,
+    round: &ShownRound<'_>,
     reloads: bool,
-    as_begun: bool,
-    trust_owner: bool,
 ) -> Result<Answer, RunFault>
-    ensures answered { IfOk result (λ answer. IsReportPageOf place.now.top.now version_text reloads
-        (string_bytes answer.text) (string_bytes answer.warnings) answer.status) }
-    ensures held { F.honest folder.now → IfOk result (λ answer. SaidByFiles (round_asked as_begun) (F.holds folder.now) place.now.top.now
-        (λ files. IsReportPageHeld files place.now.top.now version_text reloads)
-        (string_bytes answer.text) (string_bytes answer.warnings) answer.status) }
-    ensures refused { IfErr result (IsRefusedBySome (round_asked as_begun) place.now.top.now (IsWhyFault place.now.top.now)) }
-    ensures refused_held { F.honest folder.now → IfErr result (IsRefusedByFiles (round_asked as_begun) (F.holds folder.now) place.now.top.now
-        (λ files. IsWhyFaultHeld files place.now.top.now)) }
+    ensures some { ComesTo (page_of_some reloads round.now.dag.now (round_asked round.now.as_begun)) result }
+    ensures held { F.honest folder.now → ComesTo (page_from reloads (F.holds folder.now) round.now.dag.now (round_asked round.now.as_begun)) result }
 {
     let wanted = Wanted {
         version: VERSION,
         reloads,
     };
-    let seen = seen_by(rt.alloc(), folder, place.top, round_asked(as_begun))?;
-    page_here(rt, &seen, place, &wanted, trust_owner)
+    let place = Place {
+        folder: folder.seat(),
+        top: round.dag,
+    };
+    let seen = seen_by(rt.alloc(), folder, round.dag, round_asked(round.as_begun))?;
+    page_here(rt, &seen, &place, &wanted, round.trust_owner)
+}
+
+/// What is shown of the last round of a DAG file.
+///
+/// # Errors
+/// Those of `seen_by`; then those of the call that shows it.
+pub(crate) fn show<R: Files<File = File> + AllocGlobal, F: Site>(
+    rt: &R,
+    folder: &F,
+    round: &ShownRound<'_>,
+    view: View<'_>,
+) -> Result<Answer, RunFault>
+    ensures some { ComesTo (view_of_some round.now.dag.now round.now.as_begun (shown_by view.entry)) result }
+    ensures held { F.honest folder.now → ComesTo (view_from (F.holds folder.now) round.now.dag.now round.now.as_begun (shown_by view.entry)) result }
+{
+    let alloc = rt.alloc();
+    let (dag, as_begun) = (round.dag, round.as_begun);
+    match view {
+        View::Status { json } => {
+            let by = files_asked(as_begun);
+            answer_by(alloc, folder, dag, status_question(json), by)
+        }
+        View::Audit { json } => {
+            let by = files_asked(as_begun);
+            answer_by(alloc, folder, dag, audit_question(json), by)
+        }
+        View::Graph { fold, as_is } => {
+            let by = graph_asked(as_is, as_begun);
+            answer_by(alloc, folder, dag, graph_question(fold), by)
+        }
+        View::Why { nodes, all, json } => {
+            why_of_round(rt, folder, round, &nodes, why_form(all, json))
+        }
+        View::Times { svg, json, summary } => {
+            times_of_round(alloc, folder, round, times_form(svg, json, summary))
+        }
+        View::Report { reload } => page_of_round(rt, folder, round, reload),
+    }
 }

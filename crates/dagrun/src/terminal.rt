@@ -5,7 +5,10 @@ ghost use Rattle.answer_console.specs.Display.{OnlyWarnsAtTerminal};
 use crate::answers::REFUSED;
 use crate::declared::{Declared, declaration_of, declared_with};
 use answer_console::Console;
-use dag_main_files::{Folder, Place, Reading, SystemFolder, files_of, read_input};
+use dag_main_files::{
+    Folder, LAST_NUMBER, Place, Reading, SystemFolder, files_of, read_input, rescue_path,
+};
+use event_journal_log::Peek;
 use fault_guide::{Evidence, Refusal, hint_text};
 use file_hints::{Wanted, hints_of};
 use log_lines::{push_word, read_line, unquoted, whole_lines};
@@ -14,7 +17,7 @@ use std::alloc::{AllocError, Global};
 use std::env;
 use std::fs::{self, File, Metadata, OpenOptions, TryLockError};
 use std::io::{self, ErrorKind};
-use std::os::unix::fs::{FileTypeExt, MetadataExt};
+use std::os::unix::fs::{FileExt, FileTypeExt, MetadataExt};
 use std::rt::{Env, Files};
 use std::time::{Clock, Duration};
 
@@ -200,19 +203,27 @@ fn wrong_with_lock<R: Files<File = File> + AllocGlobal>(
     }
 }
 
+/// What is wrong with the list of the processes of a round, or with its identifier, by the bytes of that file.
+fn wrong_with_processes(bytes: &[u8]) -> &'static str {
+    if str::from_utf8(bytes).is_ok() {
+        "a process of the round still runs, which the log names with done=refused: end it, or see --orphans"
+    } else {
+        "it is no text"
+    }
+}
+
 /// What is wrong with a regular file of this user's that can be read, by its name.
 fn wrong_with<R: Files<File = File> + AllocGlobal>(
     rt: &R,
     path: &str,
     bytes: &[u8],
 ) -> Result<Option<String>, AllocError> {
-    if !path.ends_with(".children") && !path.ends_with(".round") {
-        return Ok(None);
-    }
-    let words = if str::from_utf8(bytes).is_ok() {
-        "a process of the round still runs, which the log names with done=refused: end it, or see --orphans"
+    let words = if path.ends_with(".begun") {
+        "it is not as it was written: remove it; without --as-begun the round is then shown by the files as they are"
+    } else if path.ends_with(".children") || path.ends_with(".round") {
+        wrong_with_processes(bytes)
     } else {
-        "it is no text"
+        return Ok(None);
     };
     Ok(Some(String::from_str(rt.alloc(), words)?))
 }
@@ -239,9 +250,49 @@ fn is_closed<R: Files>(rt: &R, folder: &str) -> bool {
     found.is_dir() && own.uid() != ROOT && found.mode() & bits == 0
 }
 
-/// What is said of a path at which nothing is: that its folder may not be written, where a file was to be made there, or from
-/// which folder the path is seen.
-fn missing_at<R: Files + Env + AllocGlobal>(
+/// Whether this is the path of a file that dagrun makes beside a DAG file before it goes on: a lock, or a rescue file.
+fn is_made_first(path: &str) -> bool {
+    let number = match path.rsplit_once(".rescue") {
+        Some((_, number)) => number,
+        None => "",
+    };
+    path.ends_with(".lock") || number.parse::<u16>().is_ok()
+}
+
+/// Makes a file of this path, which is not there, writes a byte into it, and removes it.
+///
+/// # Errors
+/// What the system says where it refuses to make or to write it.
+fn try_file<R: Files<File = File>>(rt: &R, path: &str) -> io::Result<()> {
+    let file = OpenOptions::new()
+        .write(true)
+        .create_new(true)
+        .open(rt, path)?;
+    let written = file.write_all_at(b"\n".as_slice(), 0);
+    let _ = fs::remove_file(rt, path);
+    written
+}
+
+/// Why the file of this path, at which nothing is, could not be made: what the system says of one with another name in its folder.
+fn not_made_text<R: Files<File = File> + AllocGlobal>(
+    rt: &R,
+    path: &str,
+) -> Result<String, AllocError> {
+    let alloc = rt.alloc();
+    let other = format!(in alloc; "{path}.try")?;
+    match try_file(rt, other.as_str()) {
+        Err(error) if error.kind() != ErrorKind::AlreadyExists => {
+            format!(in alloc; "dagrun can't make {path}: {error}")
+        }
+        _ => format!(in alloc;
+            "{path} could not be written, and can be by now: call dagrun again; the file system may have been full"
+        ),
+    }
+}
+
+/// What is said of a path at which nothing is: why no file could be made there, where one was to be made, or from which folder
+/// the path is seen.
+fn missing_at<R: Files<File = File> + Env + AllocGlobal>(
     rt: &R,
     path: &str,
     is_made: bool,
@@ -251,6 +302,9 @@ fn missing_at<R: Files + Env + AllocGlobal>(
     let folder = folder_of(path);
     if is_made && is_closed(rt, folder) {
         return format!(in alloc; "you may not write in the folder {folder}");
+    }
+    if is_made && is_made_first(path) {
+        return not_made_text(rt, path);
     }
     match env::current_dir(rt) {
         Ok(here) if !path.starts_with('/') => {
@@ -405,12 +459,12 @@ fn changed_files<R: Files + AllocGlobal>(rt: &R, dag: &str) -> Result<Option<Str
     Ok(Some(text))
 }
 
-/// Whether the last round of a DAG file has ended; none where there is none, or its journal can't be read.
-fn has_ended<R: Files<File = File> + Input + AllocGlobal + Copy + Drop>(
+/// What the journal of the last round of a DAG file says; none where there is none, or it can't be read.
+fn peek_of<R: Files<File = File> + Input + AllocGlobal + Copy + Drop>(
     rt: &R,
     dag: &str,
     trusts_owner: bool,
-) -> Option<bool> {
+) -> Option<Peek> {
     let alloc = rt.alloc();
     let here = SystemFolder {
         rt,
@@ -418,8 +472,55 @@ fn has_ended<R: Files<File = File> + Input + AllocGlobal + Copy + Drop>(
         has_input: false,
         trusts_owner,
     };
-    let peek = here.journal(alloc, dag).ok()??;
+    here.journal(alloc, dag).ok()?
+}
+
+/// Whether the last round of a DAG file has ended; none where there is none, or its journal can't be read.
+fn has_ended<R: Files<File = File> + Input + AllocGlobal + Copy + Drop>(
+    rt: &R,
+    dag: &str,
+    trusts_owner: bool,
+) -> Option<bool> {
+    let peek = peek_of(rt, dag, trusts_owner)?;
     Some(peek.finished)
+}
+
+/// The path of the rescue file by which the next round of a DAG file begins, where one is there of the number that the last round
+/// was to write, or of a higher one.
+fn rescue_left<R: Files<File = File> + Input + AllocGlobal + Copy + Drop>(
+    rt: &R,
+    dag: &str,
+    number: u16,
+) -> Option<String> {
+    let here = Place {
+        folder: "",
+        top: dag,
+    };
+    let highest = here.highest(rt).ok()?;
+    if highest < 1 || highest > LAST_NUMBER || highest < number {
+        return None;
+    }
+    let path = rescue_path(rt.alloc(), dag, highest).ok()?;
+    String::from_str(rt.alloc(), path.as_str()).ok()
+}
+
+/// How the next round of a DAG file begins, where the last one has ended and was to write the rescue file of this number. It is by a
+/// rescue file that is there, with what is done; or anew, unless what is done is kept first.
+fn next_round_text<R: Files<File = File> + Input + AllocGlobal + Copy + Drop>(
+    rt: &R,
+    dag: &str,
+    number: u16,
+) -> Result<String, AllocError> {
+    let alloc = rt.alloc();
+    let word = quoted(alloc, dag)?;
+    match rescue_left(rt, dag, number) {
+        Some(rescue) => format!(in alloc;
+            "dagrun run {word} begins the next round by {rescue}, with what is done, and --as-begun shows the last one"
+        ),
+        None => format!(in alloc;
+            "dagrun run {word} begins a new round, dagrun salvage --ended {word} keeps what is done for it, and --as-begun shows the last one"
+        ),
+    }
 }
 
 /// That the DAG file had another path as its last round began, where the file beside it lists none of this path.
@@ -436,7 +537,7 @@ fn other_path<R: Files + AllocGlobal>(rt: &R, dag: &str) -> Result<Option<String
     Ok(Some(text))
 }
 
-/// Which files are changed since the last round of a DAG file began, and what keeps what is done, or that the next round begins anew; or that the DAG file had
+/// Which files are changed since the last round of a DAG file began, and what keeps what is done, or how the next round begins; or that the DAG file had
 /// another path.
 fn changed_since<R: Files<File = File> + Input + AllocGlobal + Copy + Drop>(
     rt: &R,
@@ -446,15 +547,17 @@ fn changed_since<R: Files<File = File> + Input + AllocGlobal + Copy + Drop>(
         return other_path(rt, dag);
     };
     let alloc = rt.alloc();
-    let word = quoted(alloc, dag)?;
-    let text = if has_ended(rt, dag, false) == Some(true) {
-        format!(in alloc;
-            "{files}; dagrun run {word} begins a new round, dagrun salvage --ended {word} keeps what is done for it, and --as-begun shows the last one"
-        )?
-    } else {
-        format!(in alloc;
-            "{files}; dagrun salvage {word} keeps what is done, and --as-begun shows the round"
-        )?
+    let text = match peek_of(rt, dag, false) {
+        Some(peek) if peek.finished => {
+            let next = next_round_text(rt, dag, peek.next)?;
+            format!(in alloc; "{files}; {next}")?
+        }
+        _ => {
+            let word = quoted(alloc, dag)?;
+            format!(in alloc;
+                "{files}; dagrun salvage {word} keeps what is done, and --as-begun shows the round"
+            )?
+        }
     };
     Ok(Some(text))
 }
@@ -551,6 +654,31 @@ pub(crate) fn display_hint<
     }
     if let Ok(text) = hint_of(rt, dag, line) {
         console.warn(text.as_str());
+    }
+}
+
+/// The line of the refusal that the warnings of an answer are, without `dagrun: `: a code, a name with a capital letter, and perhaps
+/// a path. None where they are something else.
+fn refusal_in(warnings: &str) -> Option<&str> {
+    let line = warnings.strip_prefix("dagrun: ")?.strip_suffix('\n')?;
+    let name = line.split(' ').nth(1)?;
+    if name.chars().next()?.is_ascii_uppercase() {
+        Some(line)
+    } else {
+        None
+    }
+}
+
+/// Displays the same after an answer whose warnings are such a line: that nothing was salvaged, say.
+pub(crate) fn display_hint_of_answer<
+    R: Files<File = File> + Env + Input + AllocGlobal + Copy + Drop,
+    C: Console,
+>(rt: &R, console: &mut C, dag: Option<&str>, warnings: &str)
+    ensures warned { C.honest console.new → OnlyWarnsAtTerminal (C.shown console.old) (C.shown console.new) }
+    ensures back { C.honest console.new → C.honest console.old }
+{
+    if let Some(line) = refusal_in(warnings) {
+        display_hint(rt, console, dag, line);
     }
 }
 

@@ -254,6 +254,14 @@ fn program_repair<R: Files<File = File> + AllocGlobal>(
     let alloc = rt.alloc();
     match fs::metadata(rt, path) {
         Ok(found) if found.is_dir() => return about(alloc, "this is a folder, no program: ", path),
+        // It is not opened: a pipe would wait for somebody who writes.
+        Ok(found) if !found.is_file() => {
+            return about(
+                alloc,
+                "this is a pipe, a device or a socket, no program: ",
+                path,
+            );
+        }
         Ok(_) => {}
         Err(error) if error.kind() == ErrorKind::NotFound => return missing_repair(rt, path),
         Err(_) => return about(alloc, "a folder of its path may not be looked into: ", path),

@@ -9,6 +9,7 @@ use crate::left_out::instead_of;
 use crate::near::nearest;
 use crate::refusal::{Refusal, SourcePlace};
 use crate::{Fault, fault_of, faults};
+use log_lines::push_word;
 use std::alloc::{AllocError, Global};
 use std::str;
 
@@ -102,6 +103,17 @@ fn meant<'a>(
     }
 }
 
+/// Adds how a byte order mark is taken away from the file of this path.
+fn push_byte_order_mark(text: &mut String, path: &str) -> Result<(), AllocError> {
+    text.push_str("    a byte order mark is before it: sed -i '1s/^\\xEF\\xBB\\xBF//' ")?;
+    // So that it is no option.
+    if path.starts_with('-') {
+        text.push_str("./")?;
+    }
+    push_word(text, path)?;
+    text.push('\n')
+}
+
 /// Adds what may have been meant at a place.
 fn push_meant(
     alloc: Global,
@@ -114,11 +126,7 @@ fn push_meant(
         return Ok(());
     };
     if place.line == 1 && lines.starts_with(BYTE_ORDER_MARK) {
-        let path = place.path;
-        return writeln!(
-            text,
-            "    a byte order mark is before it: sed -i '1s/^\\xEF\\xBB\\xBF//' {path}"
-        );
+        return push_byte_order_mark(text, place.path);
     }
     let Some(word) = word_at(source, place) else {
         return Ok(());

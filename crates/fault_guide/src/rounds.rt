@@ -170,11 +170,12 @@ static ROUNDS: [Fault; 21] = [
     splices, the submit files and the rescue file that it read. Which of them was
     changed `sha256sum -c x.dag.inputs` says: put it back. Where it is to stay as
     it is now, call `dagrun salvage x.dag`, which makes a rescue file of what is
-    done, and then `dagrun run x.dag`, which starts the rest. A round that has ended
-    is no hindrance: `dagrun run` begins a new one, in which all nodes run, or none
-    that is done where `dagrun salvage --ended x.dag` is called first.
-    To give up one that was cut short, remove x.dag.journal: then nodes that were
-    done in it run again.
+    done, and then `dagrun run x.dag`, which starts the rest. A round that has
+    ended is no hindrance: `dagrun run` begins the next one, by the rescue file
+    that the round has left. It leaves none where all was done: then all nodes
+    run, or none that is done where `dagrun salvage --ended x.dag` is called
+    first. To give up a round that was cut short, remove x.dag.journal: then
+    nodes that were done in it run again.
 ",
     },
     Fault {

@@ -99,7 +99,11 @@ static RUNNING: [Fault; 9] = [
     --stop-at-first-error is named, a node failed for good: `dagrun why` says how,
     and `dagrun run` without the option runs what does not wait for it. Where the
     DAG file is named, its folder was renamed or replaced while the run went on:
-    call `dagrun run` where the folder is now.
+    give the folder its name again, and make the same call. Where that call
+    named the DAG file without a folder, it can be made in the folder as it is,
+    too. Where the journal is named, it was removed or replaced while the run went
+    on: nothing more was started. What ran has ended; its endings are not known to
+    the next run.
 ",
     },
     Fault {
@@ -125,8 +129,9 @@ static RUNNING: [Fault; 9] = [
         advice: "    See that the file or folder that is named is there and that you may read it,
     and write in its folder. Where it ends with .lock, another `dagrun run`
     works on this DAG: wait for it (`fuser x.dag.lock` names it). A launcher is a
-    path, or is looked for in the folders of PATH. A file beside the DAG file that
-    another user may have put there is refused, too: see --trust-owner.
+    path, or is looked for in the folders of PATH. A file beside the DAG file
+    that another user may have put there is refused, too: see --trust-owner. One
+    that ends with .begun is not as it was written: remove it.
 ",
     },
 ];

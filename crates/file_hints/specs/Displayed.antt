@@ -2,7 +2,7 @@
 use Rattle.std.specs.Prelude.{ℕ, List, ◌++◌, codes}
 use Rattle.std.specs.Fmt.{decimal}
 use Rattle.file_hints.specs.declared.hint.Hint.{Hint}
-use Rattle.file_hints.specs.declared.hint.Hint.TheVariants.{UnknownName, Misspelled, PassedOver, BelowQueue, Unassigned, MisspelledMacro, MissingProgram, Elsewhere, WordsInProgram, FolderAsProgram, NotExecutable, CarriageReturn, MissingFolder, SharedOutput, NoLog, NoEnvironment, OwnFolder, ContinuedComment, LaunchNumber, SkipValue, SignalValue, NoopScript}
+use Rattle.file_hints.specs.declared.hint.Hint.TheVariants.{UnknownName, Misspelled, PassedOver, BelowQueue, Unassigned, MisspelledMacro, MissingProgram, Elsewhere, WordsInProgram, FolderAsProgram, SpecialAsProgram, NotExecutable, CarriageReturn, MissingReader, MissingFolder, SharedOutput, NoLog, NoEnvironment, OwnFolder, ContinuedComment, LaunchNumber, SkipValue, SignalValue, NoopScript}
 use Rattle.file_hints.specs.declared.hint.Finding.{Finding}
 
 -- what stands behind the place
@@ -17,9 +17,11 @@ hint_text (MissingProgram path) = path ++ codes " is not there: put it there, or
 hint_text (Elsewhere path found) = path ++ (codes " is not there, and the folders of PATH are not searched: is " ++ (found ++ codes " meant?"))
 hint_text (WordsInProgram path program words) = path ++ (codes " is not there: write executable = " ++ (program ++ (codes " and arguments = " ++ words)))
 hint_text (FolderAsProgram path) = path ++ codes " is a folder: name a program"
-hint_text (NotExecutable path) = path ++ (codes " may not be executed: chmod +x " ++ path)
-hint_text (CarriageReturn path) = codes "the first line of " ++ (path ++ (codes " ends with a carriage return: sed -i 's/\\r$//' " ++ path))
-hint_text (MissingFolder path) = codes "the folder " ++ (path ++ (codes " is not there: mkdir -p " ++ path))
+hint_text (SpecialAsProgram path) = path ++ codes " is a pipe, a device or a socket: name a program"
+hint_text (NotExecutable path word) = path ++ (codes " may not be executed: chmod +x " ++ word)
+hint_text (CarriageReturn path word) = codes "the first line of " ++ (path ++ (codes " ends with a carriage return: sed -i 's/\\r$//' " ++ word))
+hint_text (MissingReader path reader) = codes "the first line of " ++ (path ++ (codes " names " ++ (reader ++ codes ", where no program is: name the one that reads it")))
+hint_text (MissingFolder path word) = codes "the folder " ++ (path ++ (codes " is not there: mkdir -p " ++ word))
 hint_text (SharedOutput path first second) = first ++ (codes " and " ++ (second ++ (codes " may run at once, and both write " ++ (path ++ codes ": put $(JOB) into its name"))))
 hint_text NoLog = codes "no log is named, and HTCondor keeps none for this job: write log = FILE"
 hint_text NoEnvironment = codes "the job has the environment of dagrun here, and none under HTCondor: write getenv = true"
@@ -42,9 +44,11 @@ topic_of (MissingProgram path) = codes "hint"
 topic_of (Elsewhere path found) = codes "hint"
 topic_of (WordsInProgram path program words) = codes "hint"
 topic_of (FolderAsProgram path) = codes "hint"
-topic_of (NotExecutable path) = codes "hint"
-topic_of (CarriageReturn path) = codes "hint"
-topic_of (MissingFolder path) = codes "hint"
+topic_of (SpecialAsProgram path) = codes "hint"
+topic_of (NotExecutable path word) = codes "hint"
+topic_of (CarriageReturn path word) = codes "hint"
+topic_of (MissingReader path reader) = codes "hint"
+topic_of (MissingFolder path word) = codes "hint"
 topic_of (SharedOutput path first second) = codes "hint"
 topic_of NoLog = codes "condor"
 topic_of NoEnvironment = codes "condor"

@@ -2,6 +2,7 @@ pub mod Displayed
 pub mod References
 pub mod Submitted
 pub mod Meant
+pub mod ShellPath
 pub mod Programs
 pub mod Notes
 pub mod Outputs

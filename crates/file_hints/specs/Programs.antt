@@ -1,8 +1,9 @@
 -- What is odd in a program or a folder.
 use Rattle.std.specs.Prelude.{ℕ, Bool, true, false, ◌&&◌, ◌==◌, List, [], ◌∷◌, drop, Option, Some, None, if◌then◌else◌}
 use Rattle.dag_reader.specs.Keywords.{begins_with}
+use Rattle.file_hints.specs.ShellPath.{shell_path}
 use Rattle.file_hints.specs.declared.hint.Hint.{Hint}
-use Rattle.file_hints.specs.declared.hint.Hint.TheVariants.{MissingProgram, FolderAsProgram, NotExecutable, CarriageReturn, MissingFolder}
+use Rattle.file_hints.specs.declared.hint.Hint.TheVariants.{MissingProgram, FolderAsProgram, SpecialAsProgram, NotExecutable, CarriageReturn, MissingFolder}
 use Rattle.file_hints.specs.declared.programs.ProgramState.{ProgramState}
 use Rattle.file_hints.specs.declared.programs.ProgramState.TheVariants as states
 
@@ -10,12 +11,13 @@ abbrev pub program_hint : List ℕ → ProgramState → Option Hint
 program_hint path states.Runs = None
 program_hint path states.Missing = Some (MissingProgram path)
 program_hint path states.Folder = Some (FolderAsProgram path)
-program_hint path states.NotExecutable = Some (NotExecutable path)
-program_hint path states.CarriageReturn = Some (CarriageReturn path)
+program_hint path states.Special = Some (SpecialAsProgram path)
+program_hint path states.NotExecutable = Some (NotExecutable path (shell_path path))
+program_hint path states.CarriageReturn = Some (CarriageReturn path (shell_path path))
 
 abbrev pub folder_hint : List ℕ → (is_there : Bool) → Option Hint
 folder_hint path true = None
-folder_hint path false = Some (MissingFolder path)
+folder_hint path false = Some (MissingFolder path (shell_path path))
 
 -- the first line ends (10) right behind its first carriage return (13)
 abbrev pub ends_with_return : List ℕ → Bool

@@ -46,12 +46,28 @@ pub enum Hint {
     },
     /// A folder in the place of a program.
     FolderAsProgram(Text),
-    /// The program of this path, which nobody may run.
-    NotExecutable(Text),
-    /// The program of this path, whose first line ends with a carriage return.
-    CarriageReturn(Text),
-    /// The folder of this path, which is not there.
-    MissingFolder(Text),
+    /// A pipe, a device or a socket in the place of a program.
+    SpecialAsProgram(Text),
+    /// The program of this path, which nobody may run, and the path as a shell reads it.
+    NotExecutable {
+        path: Text,
+        word: Text,
+    },
+    /// The program of this path, whose first line ends with a carriage return, and the path as a shell reads it.
+    CarriageReturn {
+        path: Text,
+        word: Text,
+    },
+    /// The program of this path, and the path of the program that is to read it by its first line, where none is.
+    MissingReader {
+        path: Text,
+        reader: Text,
+    },
+    /// The folder of this path, which is not there, and the path as a shell reads it.
+    MissingFolder {
+        path: Text,
+        word: Text,
+    },
     /// The path that two nodes write that may run at once.
     SharedOutput {
         path: Text,
@@ -121,13 +137,23 @@ impl fmt::Display for Hint {
                 "{path} is not there: write executable = {program} and arguments = {words}"
             ),
             Hint::FolderAsProgram(path) => write!(f, "{path} is a folder: name a program"),
-            Hint::NotExecutable(path) => write!(f, "{path} may not be executed: chmod +x {path}"),
-            Hint::CarriageReturn(path) => write!(
+            Hint::SpecialAsProgram(path) => write!(
                 f,
-                "the first line of {path} ends with a carriage return: sed -i 's/\\r$//' {path}"
+                "{path} is a pipe, a device or a socket: name a program"
             ),
-            Hint::MissingFolder(path) => {
-                write!(f, "the folder {path} is not there: mkdir -p {path}")
+            Hint::NotExecutable { path, word } => {
+                write!(f, "{path} may not be executed: chmod +x {word}")
+            }
+            Hint::CarriageReturn { path, word } => write!(
+                f,
+                "the first line of {path} ends with a carriage return: sed -i 's/\\r$//' {word}"
+            ),
+            Hint::MissingReader { path, reader } => write!(
+                f,
+                "the first line of {path} names {reader}, where no program is: name the one that reads it"
+            ),
+            Hint::MissingFolder { path, word } => {
+                write!(f, "the folder {path} is not there: mkdir -p {word}")
             }
             Hint::SharedOutput {
                 path,
@@ -217,9 +243,11 @@ fn topic_of(hint: &Hint) -> &'static str
         | Hint::Elsewhere { .. }
         | Hint::WordsInProgram { .. }
         | Hint::FolderAsProgram(_)
-        | Hint::NotExecutable(_)
-        | Hint::CarriageReturn(_)
-        | Hint::MissingFolder(_)
+        | Hint::SpecialAsProgram(_)
+        | Hint::NotExecutable { .. }
+        | Hint::CarriageReturn { .. }
+        | Hint::MissingReader { .. }
+        | Hint::MissingFolder { .. }
         | Hint::SharedOutput { .. } => "hint",
     }
 }

@@ -16,6 +16,7 @@ mod opened;
 mod outputs;
 mod programs;
 mod scripts;
+mod shell_path;
 mod submit;
 mod told;
 

@@ -4,16 +4,16 @@ use crate::{Hint, ProgramState, folder_hint, program_hint, state_by};
 use dag_reader::Text;
 use splices_flat::path_in;
 use std::alloc::AllocError;
-use std::env;
 use std::fs::{self, File, Metadata};
 use std::io::ErrorKind;
 use std::os::unix::fs::{FileExt, MetadataExt};
 use std::rt::{Env, Files};
+use std::{env, str};
 
 /// How many bytes of the beginning of a program are read.
 const HEAD: usize = 256;
 
-/// The first bytes of a file, as far as the system gives them.
+/// The first bytes of a regular file, as far as the system gives them.
 fn beginning_of<R: Files<File = File> + AllocGlobal>(rt: &R, path: &str) -> Option<Vec<u8>> {
     let file = File::open(rt, path).ok()?;
     let mut bytes = vec![in rt.alloc(); 0u8; HEAD].ok()?;
@@ -22,20 +22,75 @@ fn beginning_of<R: Files<File = File> + AllocGlobal>(rt: &R, path: &str) -> Opti
     Some(bytes)
 }
 
-/// The state of what is there.
-fn state_of<R: Files<File = File> + AllocGlobal>(
+/// The program that is to read a file with this beginning, as its first line says it by an absolute path.
+fn reader_in(beginning: &[u8]) -> Option<&str> {
+    let line = beginning.strip_prefix(b"#!".as_slice())?;
+    let end = line.iter().position(|byte| *byte == b'\n')?;
+    let reader = str::from_utf8(&line[..end])
+        .ok()?
+        .split_whitespace()
+        .next()?;
+    if reader.starts_with('/') {
+        Some(reader)
+    } else {
+        None
+    }
+}
+
+/// Whether a folder or nothing has this path.
+fn lacks_program<R: Files>(rt: &R, path: &str) -> bool {
+    match fs::metadata(rt, path) {
+        Ok(found) => found.is_dir(),
+        Err(error) => is_missing(error.kind()),
+    }
+}
+
+/// What is odd in the first line of a program that may be run and begins so: there is no program of the path that it names.
+fn reader_hint<R: Files + AllocGlobal>(
+    rt: &R,
+    path: &str,
+    beginning: &[u8],
+) -> Result<Option<Hint>, AllocError> {
+    match reader_in(beginning) {
+        Some(reader) if lacks_program(rt, reader) => Ok(Some(Hint::MissingReader {
+            path: Text::new(rt.alloc(), path)?,
+            reader: Text::new(rt.alloc(), reader)?,
+        })),
+        _ => Ok(None),
+    }
+}
+
+/// What is odd in the regular file of this path, which is opened.
+fn file_hint<R: Files<File = File> + AllocGlobal>(
+    rt: &R,
+    path: &str,
+    is_executable: bool,
+) -> Result<Option<Hint>, AllocError> {
+    let alloc = rt.alloc();
+    let Some(beginning) = beginning_of(rt, path) else {
+        return program_hint(alloc, path, state_by(is_executable, &[]));
+    };
+    match state_by(is_executable, &beginning) {
+        ProgramState::Runs => reader_hint(rt, path, &beginning),
+        state => program_hint(alloc, path, state),
+    }
+}
+
+/// What is odd in what is at the path of a program. Only a regular file is opened: a pipe would wait for what is written.
+fn found_hint<R: Files<File = File> + AllocGlobal>(
     rt: &R,
     path: &str,
     found: &Metadata,
-) -> ProgramState {
-    if found.is_dir() {
-        return ProgramState::Folder;
+) -> Result<Option<Hint>, AllocError> {
+    if found.is_file() {
+        return file_hint(rt, path, found.mode() & 0o111 != 0);
     }
-    let is_executable = found.mode() & 0o111 != 0;
-    match beginning_of(rt, path) {
-        Some(bytes) if found.is_file() => state_by(is_executable, &bytes),
-        _ => state_by(is_executable, &[]),
-    }
+    let state = if found.is_dir() {
+        ProgramState::Folder
+    } else {
+        ProgramState::Special
+    };
+    program_hint(rt.alloc(), path, state)
 }
 
 /// Whether the system says that nothing is there.
@@ -126,12 +181,11 @@ pub fn look_at_program<R: Files<File = File> + Env + AllocGlobal>(
     rt: &R,
     path: &str,
 ) -> Result<Option<Hint>, AllocError> {
-    let state = match fs::metadata(rt, path) {
-        Ok(found) => state_of(rt, path, &found),
-        Err(error) if is_missing(error.kind()) => return missing_program(rt, path),
-        Err(_) => ProgramState::Runs,
-    };
-    program_hint(rt.alloc(), path, state)
+    match fs::metadata(rt, path) {
+        Ok(found) => found_hint(rt, path, &found),
+        Err(error) if is_missing(error.kind()) => missing_program(rt, path),
+        Err(_) => Ok(None),
+    }
 }
 
 /// The folder of the file of this path, which is empty where that is the folder of the call.

@@ -4,6 +4,7 @@ ghost use Rattle.std.specs.Prelude.{◌≡◌, IfOk};
 ghost use Rattle.file_hints.specs.Programs.{program_hint, folder_hint, program_state_by, ends_with_return};
 
 use crate::hint::Hint;
+use crate::shell_path::shell_path;
 use dag_reader::Text;
 use std::alloc::{AllocError, Global};
 
@@ -16,6 +17,8 @@ pub enum ProgramState {
     Missing,
     /// A folder.
     Folder,
+    /// A pipe, a device or a socket.
+    Special,
     /// A file that nobody may run.
     NotExecutable,
     /// One whose first line says what reads it, and ends with a carriage return.
@@ -33,13 +36,15 @@ pub fn program_hint(
 ) -> Result<Option<Hint>, AllocError>
     ensures { IfOk result (λ hint. hint ≡ program_hint path.now state) }
 {
+    let word = shell_path(alloc, path)?;
     let path = Text::new(alloc, path)?;
     Ok(match state {
         ProgramState::Runs => None,
         ProgramState::Missing => Some(Hint::MissingProgram(path)),
         ProgramState::Folder => Some(Hint::FolderAsProgram(path)),
-        ProgramState::NotExecutable => Some(Hint::NotExecutable(path)),
-        ProgramState::CarriageReturn => Some(Hint::CarriageReturn(path)),
+        ProgramState::Special => Some(Hint::SpecialAsProgram(path)),
+        ProgramState::NotExecutable => Some(Hint::NotExecutable { path, word }),
+        ProgramState::CarriageReturn => Some(Hint::CarriageReturn { path, word }),
     })
 }
 
@@ -53,7 +58,9 @@ pub fn folder_hint(alloc: Global, path: &str, is_there: bool) -> Result<Option<H
     if is_there {
         return Ok(None);
     }
-    Ok(Some(Hint::MissingFolder(Text::new(alloc, path)?)))
+    let word = shell_path(alloc, path)?;
+    let path = Text::new(alloc, path)?;
+    Ok(Some(Hint::MissingFolder { path, word }))
 }
 
 /// The state of a file, by whether somebody may run it and by the bytes that it begins with.

@@ -11,9 +11,7 @@ use Rattle.salvage.specs.Salvaged.{report_line}
 use Rattle.redo.specs.declared.here.Marked.{Marked}
 use Rattle.redo.specs.declared.here.Found.{Found}
 use Rattle.redo.specs.declared.here.Found.TheVariants as found
-use Rattle.dag_main_check.specs.declared.fault.RunFault.{RunFault}
-use Rattle.dag_main_inspect.specs.LastRound.{IsLastRound}
-use Rattle.redo.specs.Answered.{IsFoundOfNames, IsFoundBy, IsRedoReport, IsRedoFrom, stays_done_so, unknown_name, IsNotWritten, unnumbered, refused_file, IsRedoFault, no_number, file_not_written, IsRedoFaultHeld, held_no_number, held_file_not_written}
+use Rattle.redo.specs.Answered.{IsFoundOfNames, IsFoundBy, IsRedoReport, IsRedoFrom, stays_done_so, unknown_name}
 
 module _ (IsNumber : (journal : List ℕ) → ℕ → Type 0) (path : List ℕ) (rescue journal : Option (List ℕ)) (names : List (List ℕ)) (only : Bool) where
   pub redone-so : (marked : Marked) (text warnings : List ℕ) (status : ℕ) → IsRedoReport (IsNumber (journal_bytes journal)) path marked.redone.done marked.total (string_bytes marked.warnings) text warnings status
@@ -44,16 +42,6 @@ module _ (IsNumber : (journal : List ℕ) → ℕ → Type 0) (path : List ℕ) 
     lawful = f.lawful;
     answer = unknown_name f.found_is none refl;
   }
-
--- why the rescue file is not written, as a cause of the whole
-pub not-written : (path journal : List ℕ) (fault : RunFault) → IsNotWritten journal fault → IsRedoFault path fault
-not-written path journal fault (unnumbered f why) = no_number journal f why
-not-written path journal fault (refused_file f why) = file_not_written f why
-
-pub not-written-held : (holds : Files) (path : List ℕ) (rescue journal : Option (List ℕ)) → IsLastRound holds path journal rescue → (fault : RunFault)
-    → IsNotWritten (journal_bytes journal) fault → IsRedoFaultHeld holds path fault
-not-written-held holds path rescue journal last fault (unnumbered f why) = held_no_number rescue journal f last why
-not-written-held holds path rescue journal last fault (refused_file f why) = held_file_not_written f why
 
 -- what is found by the records of a journal is found of the files of its plan
 pub found-from : (holds : Files) (path : List ℕ) (rescue journal : Option (List ℕ)) (plan : Plan) → IsOfFiles holds path (HasPlan (flag_by journal) path rescue plan)

@@ -22,7 +22,7 @@ pub in-folder : (Counts : ℕ → Type 0) (journal : List ℕ) (number : ℕ) �
 in-folder Counts journal number isnt (highest, counts, is) = after_highest highest counts isnt is
 
 -- the number in a header that no rescue file has
-pub none-in-header : (journal : List ℕ) (peek : Peek) (fault : RunFault) → ReadsPeek (Some peek) (replay_of journal) → peek.finished ≡ false
-    → (¬ (IsFileNumber peek.next)) × (fault ≡ NotThere peek.next) → IsNoNextNumber journal fault
-none-in-header journal peek fault (found, reads, used_is, next_is, flag_is, finished_is) unfinished (isnt, is) =
-    subst (IsNoNextNumber journal) (ap NotThere next_is ∙ sym is) (bad_number found reads (finished_is ∙ unfinished) (λ number. isnt (subst IsFileNumber next_is number)))
+pub none-in-header : (path journal : List ℕ) (peek : Peek) (fault : RunFault) → ReadsPeek (Some peek) (replay_of journal) → peek.finished ≡ false
+    → (¬ (IsFileNumber peek.next)) × (fault ≡ NotThere peek.next) → IsNoNextNumber path journal fault
+none-in-header path journal peek fault (found, reads, used_is, next_is, flag_is, finished_is) unfinished (isnt, is) =
+    subst (IsNoNextNumber path journal) (ap NotThere next_is ∙ sym is) (bad_number found reads (finished_is ∙ unfinished) (λ number. isnt (subst IsFileNumber next_is number)))

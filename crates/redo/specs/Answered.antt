@@ -9,13 +9,15 @@ use Rattle.log_lines.specs.Words.{word_text}
 use Rattle.dag_main_check.specs.Planned.{IsPlanWith}
 use Rattle.dag_main_check.specs.Warnings.{warning_lines}
 use Rattle.dag_main_check.specs.declared.fault.RunFault.{RunFault}
-use Rattle.dag_main_files.specs.Beside.{journal_name_of, IsFileFault}
+use Rattle.dag_main_check.specs.declared.fault.RunFault.TheVariants.{Memory}
+use Rattle.dag_main_files.specs.Beside.{journal_name_of, lock_name_of, IsRefusalOf}
 use Rattle.dag_main_files.specs.Opened.{IsOfFiles, IsOfSome}
 use Rattle.dag_main_inspect.specs.Asked.{IsAnswerFault, IsAnswerFaultHeld}
 use Rattle.dag_main_inspect.specs.LastRound.{IsLastRound}
 use Rattle.dag_main_inspect.specs.Statused.{journal_bytes, flag_by, records_in_bytes}
 use Rattle.dag_main_inspect.specs.declared.by_journal.Question.TheVariants.{Status}
 use Rattle.failure_report.specs.Named.{AreNumbers, IsUnknownName}
+use Rattle.salvage.specs.Refused.{IsNotOwn}
 use Rattle.salvage.specs.Salvaged.{report_line}
 use Rattle.redo.specs.Redone.{IsRedone}
 use Rattle.redo.specs.Numbers.{IsNextNumber, IsNextNumberIn, IsNoNextNumber}
@@ -87,22 +89,29 @@ pub data IsRedoHeld (holds : Files) (has : List ℕ → Bool) (path : List ℕ) 
   of_held : (rescue journal : Option (List ℕ)) → IsLastRound holds path journal rescue →
       IsOfFiles holds path (IsRedoFrom (IsNextNumberIn has path) path rescue journal names only text warnings status) → IsRedoHeld holds has path names only text warnings status
 
--- Why no rescue file is written behind a journal of these bytes: it has no number; or the system refuses a file, or memory ran out.
-pub data IsNotWritten (journal : List ℕ) : RunFault → Type 0 where
-  unnumbered : (fault : RunFault) → IsNoNextNumber journal fault → IsNotWritten journal fault
-  refused_file : (fault : RunFault) → IsFileFault fault → IsNotWritten journal fault
+-- Why no rescue file of the DAG file of this path is written after a journal of these bytes: it has no number; the system refuses the rescue file of its
+-- number, or to put the journal away; or memory ran out.
+pub data IsNotWritten (path journal : List ℕ) : RunFault → Type 0 where
+  unnumbered : (fault : RunFault) → IsNoNextNumber path journal fault → IsNotWritten path journal fault
+  numbered_refused : (number : ℕ) (fault : RunFault) → IsNextNumber journal number → IsRefusalOf (rescue_name_of path number) fault → IsNotWritten path journal fault
+  journal_stays : (fault : RunFault) → IsRefusalOf (journal_name_of path) fault → IsNotWritten path journal fault
+  writing_had_no_memory : IsNotWritten path journal Memory
 
--- Why nothing is answered: for a cause for which `status` is refused; or the rescue file has no number by some journal; or the system refuses a file, or
--- memory ran out.
+-- Why nothing may be written beside the DAG file of this path: a file is in the way, another manager has the lock, or the system refuses it; or memory ran out.
+pub data IsKeptOut (path : List ℕ) : RunFault → Type 0 where
+  by_other_files : (fault : RunFault) → IsNotOwn path fault → IsKeptOut path fault
+  by_another_manager : (fault : RunFault) → IsRefusalOf (lock_name_of path) fault → IsKeptOut path fault
+  looking_had_no_memory : IsKeptOut path Memory
+
+-- Why nothing is answered: nothing may be written there; or for a cause for which `status` is refused; or the rescue file is not written after some journal.
 pub data IsRedoFault (path : List ℕ) : RunFault → Type 0 where
+  kept_out : (fault : RunFault) → IsKeptOut path fault → IsRedoFault path fault
   not_answered : (fault : RunFault) → IsAnswerFault Status path fault → IsRedoFault path fault
-  no_number : (journal : List ℕ) (fault : RunFault) → IsNoNextNumber journal fault → IsRedoFault path fault
-  file_not_written : (fault : RunFault) → IsFileFault fault → IsRedoFault path fault
+  not_written : (journal : List ℕ) (fault : RunFault) → IsNotWritten path journal fault → IsRedoFault path fault
 
--- The same where these files are held: for a cause for which `status` is refused there; or the rescue file has no number by the journal that is held;
--- or the system refuses a file, or memory ran out.
+-- The same where these files are held: for a cause for which `status` is refused there; or the rescue file is not written after the journal that is held.
 pub data IsRedoFaultHeld (holds : Files) (path : List ℕ) : RunFault → Type 0 where
+  held_kept_out : (fault : RunFault) → IsKeptOut path fault → IsRedoFaultHeld holds path fault
   held_not_answered : (fault : RunFault) → IsAnswerFaultHeld holds Status path fault → IsRedoFaultHeld holds path fault
-  held_no_number : (rescue journal : Option (List ℕ)) (fault : RunFault) → IsLastRound holds path journal rescue → IsNoNextNumber (journal_bytes journal) fault →
+  held_not_written : (rescue journal : Option (List ℕ)) (fault : RunFault) → IsLastRound holds path journal rescue → IsNotWritten path (journal_bytes journal) fault →
       IsRedoFaultHeld holds path fault
-  held_file_not_written : (fault : RunFault) → IsFileFault fault → IsRedoFaultHeld holds path fault

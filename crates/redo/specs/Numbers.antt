@@ -6,7 +6,7 @@ use Rattle.event_journal_log.specs.Image.{Found, replay_of}
 use Rattle.event_journal_log.specs.Peeks.{ends_with_finish}
 use Rattle.dag_main_check.specs.declared.fault.RunFault.{RunFault}
 use Rattle.dag_main_check.specs.declared.fault.RunFault.TheVariants.{NotThere}
-use Rattle.dag_main_files.specs.Beside.{number_behind, IsFileFault}
+use Rattle.dag_main_files.specs.Beside.{number_behind, folder_name_of, IsRefusalOf}
 use Rattle.dag_main_files.specs.Folder.{IsHighestThere}
 use Rattle.dag_main_files.specs.Journals.{IsUnread}
 
@@ -30,9 +30,9 @@ IsNextNumber journal number = IsNumberWith (λ highest. highest ≤ 999) journal
 abbrev pub IsNextNumberIn : (has : List ℕ → Bool) → (path journal : List ℕ) → ℕ → Type 0
 IsNextNumberIn has path journal number = IsNumberWith (IsHighestThere has path) journal number
 
--- Why there is no such number where the journal of a round has these bytes: it can't be read; the round was cut short, and its header has a number that no
+-- Why there is no such number where the journal of a round of the DAG file of this path has these bytes: it can't be read; the round was cut short, and its header has a number that no
 -- rescue file has; or the system refuses the folder. Or memory ran out.
-pub data IsNoNextNumber (journal : List ℕ) : RunFault → Type 0 where
-  journal_unread : (fault : RunFault) → IsUnread journal fault → IsNoNextNumber journal fault
-  bad_number : (found : Found) → replay_of journal ≡ Ok (Some found) → ends_with_finish found.records ≡ false → ¬ (IsFileNumber found.header.next) → IsNoNextNumber journal (NotThere found.header.next)
-  folder_refused : (fault : RunFault) → IsFileFault fault → IsNoNextNumber journal fault
+pub data IsNoNextNumber (path journal : List ℕ) : RunFault → Type 0 where
+  journal_unread : (fault : RunFault) → IsUnread journal fault → IsNoNextNumber path journal fault
+  bad_number : (found : Found) → replay_of journal ≡ Ok (Some found) → ends_with_finish found.records ≡ false → ¬ (IsFileNumber found.header.next) → IsNoNextNumber path journal (NotThere found.header.next)
+  folder_not_seen : (fault : RunFault) → IsRefusalOf (folder_name_of path) fault → IsNoNextNumber path journal fault

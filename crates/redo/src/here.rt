@@ -151,7 +151,7 @@ fn write_marked<R: Files<File = File> + AllocGlobal + Copy + Drop, F: Folder>(
     ensures held { F.honest folder.now → IfOk result (λ answer.
         IsRedoReport (IsNextNumberIn (F.has folder.now) place.now.top.now journal.now) place.now.top.now marked.redone.done marked.total (string_bytes marked.warnings)
         (string_bytes answer.text) (string_bytes answer.warnings) answer.status) }
-    ensures refused { IfErr result (IsNotWritten journal.now) }
+    ensures refused { IfErr result (IsNotWritten place.now.top.now journal.now) }
 {
     let alloc = rt.alloc();
     let next = next_number(alloc, folder, place.top, journal)?;
@@ -277,7 +277,7 @@ pub fn redo_here<R: Files<File = File> + Clock + AllocGlobal + Copy + Drop, F: F
     if !is_there {
         return no_round(alloc, place.top);
     }
-    has_own_files(&rt, place, journal.as_str(), trust_owner)?;
+    has_own_files(&rt, place, trust_owner)?;
     let lock = place.lock(&rt)?;
     let answer = redo_locked(rt, folder, place, names, only);
     place.unlock(&rt, lock);

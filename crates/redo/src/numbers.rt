@@ -5,7 +5,7 @@ ghost use Rattle.event_journal_log.specs.Image.{replay_of};
 ghost use Rattle.event_journal_log.specs.Peeks.{ReadsPeek};
 ghost use Rattle.rescue_file.specs.Numbered.{IsFileNumber};
 ghost use Rattle.dag_main_check.specs.declared.fault.RunFault.TheVariants.{NotThere};
-ghost use Rattle.dag_main_files.specs.Beside.{IsFileFault, number_behind};
+ghost use Rattle.dag_main_files.specs.Beside.{folder_name_of, IsRefusalOf, number_behind};
 ghost use Rattle.dag_main_files.specs.Folder.{IsHighestThere};
 ghost use Rattle.redo.specs.Numbers.{IsNextNumber, IsNextNumberIn, IsNoNextNumber};
 
@@ -60,7 +60,7 @@ fn next_in_folder<F: Folder>(alloc: Global, folder: &F, top: &str) -> Result<Nex
     ensures number { IfOk result (λ found. IsFileNumber found.number) }
     ensures after { IfOk result (λ found. (highest : ℕ) × (highest ≤ 999) × (found.number ≡ number_behind highest)) }
     ensures held { F.honest folder.now → IfOk result (λ found. (highest : ℕ) × IsHighestThere (F.has folder.now) top.now highest × (found.number ≡ number_behind highest)) }
-    ensures refused { IfErr result IsFileFault }
+    ensures refused { IfErr result (IsRefusalOf (folder_name_of top.now)) }
 {
     let highest = folder.highest(alloc, top)?;
     Ok(Next {
@@ -78,7 +78,7 @@ fn next_by<F: Folder>(alloc: Global, folder: &F, top: &str, peek: &Peek) -> Resu
     ensures next { IfOk result (λ next. (journal : List ℕ) → ReadsPeek (Some peek.now) (replay_of journal) → IsNextNumber journal next.number) }
     ensures held { F.honest folder.now → IfOk result (λ next. (journal : List ℕ) → ReadsPeek (Some peek.now) (replay_of journal)
         → IsNextNumberIn (F.has folder.now) top.now journal next.number) }
-    ensures refused { IfErr result (λ fault. (journal : List ℕ) → ReadsPeek (Some peek.now) (replay_of journal) → IsNoNextNumber journal fault) }
+    ensures refused { IfErr result (λ fault. (journal : List ℕ) → ReadsPeek (Some peek.now) (replay_of journal) → IsNoNextNumber top.now journal fault) }
 {
     if peek.finished {
         return next_in_folder(alloc, folder, top);
@@ -101,7 +101,7 @@ pub(crate) fn next_number<F: Folder>(
     ensures number { IfOk result (λ next. IsFileNumber next.number) }
     ensures next { IfOk result (λ next. IsNextNumber journal.now next.number) }
     ensures held { F.honest folder.now → IfOk result (λ next. IsNextNumberIn (F.has folder.now) top.now journal.now next.number) }
-    ensures refused { IfErr result (IsNoNextNumber journal.now) }
+    ensures refused { IfErr result (IsNoNextNumber top.now journal.now) }
 {
     match peek_in(alloc, journal)? {
         Some(peek) => next_by(alloc, folder, top, &peek),

@@ -14,14 +14,16 @@ use Rattle.failure_report.specs.declared.why.Grouping.TheVariants.{ByCause}
 use Rattle.failure_report.specs.Grouped.{HasAllBy}
 use Rattle.report_page.specs.declared.values.Page.{Page}
 use Rattle.report_page.specs.Pages.{IsPageText}
+use Rattle.run_times.specs.declared.runs.PhaseRun.{PhaseRun}
 use Rattle.report_answers.specs.Rows.{AreRows, round_state_of}
+use Rattle.report_answers.specs.Limits.{AreLimitRows}
 
 -- `audit` confirms a round that has ended where it was not aborted: its journal is that of a finished run, and each node came to its fate.
 abbrev pub confirmed_by : Plan → List Record → Option Bool
 confirmed_by plan past = if is_over past then Some (not (is_aborted plan past)) else None
 
--- A page is that of a run of the DAG file of a path: it has the path, the version, how the round is, a row for each node, what `why` reports of all
--- nodes in error, the warnings of the files, their digest, and where it has ended whether `audit` confirms it. It loads itself anew where that is asked for and the
+-- A page is that of a run of the DAG file of a path: it has the path, the version, how the round is, a row for each node, how full limits were by some phases,
+-- what `why` reports of all nodes in error, the warnings of the files, their digest, and where it has ended whether `audit` confirms it. It loads itself anew where that is asked for and the
 -- round has not ended.
 pub record IsPageOfRun (plan : Plan) (past : List Record) (path version : List ℕ) (begun reloads : Bool) (page : Page) : Type 0 where
   pub path_is : page.path.now ≡ path
@@ -29,6 +31,8 @@ pub record IsPageOfRun (plan : Plan) (past : List Record) (path version : List �
   pub at_work : Bool
   pub round_is : page.round ≡ round_state_of plan past begun at_work
   pub rows : AreRows plan past page.rows.now
+  pub runs : List PhaseRun
+  pub limits : AreLimitRows plan.graph runs page.limits.now
   pub why : HasAllBy ByCause plan past page.why.now
   pub warnings_are : page.warnings.now ≡ warning_lines plan.graph.dag.warnings
   pub reloads_is : page.reloads ≡ (reloads && not (is_over past))

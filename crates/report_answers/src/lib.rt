@@ -4,6 +4,7 @@
 mod bars;
 mod here;
 mod jobs;
+mod limits;
 mod pages;
 mod rows;
 

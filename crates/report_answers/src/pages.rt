@@ -10,12 +10,13 @@ ghost use Rattle.report_answers.specs.Answered.{confirmed_by, IsPageAnswer};
 
 use crate::bars::{bars_of, length_of};
 use crate::jobs::{first_time, seen_in};
+use crate::limits::rows_of_limits;
 use crate::rows::{round_of, rows_of};
 use dag_main_check::{Answer, warning_text};
 use dag_main_files::Place;
 use failure_report::{Grouping, Surroundings, Why, why_text};
 use report_page::{Page, page_text};
-use run_times::runs_in;
+use run_times::{limits_in, runs_in};
 use sched_core::Core;
 use std::alloc::{AllocError, Global};
 use std::fs::File;
@@ -103,6 +104,8 @@ pub(crate) fn page_of<R: Files<File = File> + AllocGlobal>(
     let seen = seen_in(alloc, log, &runs)?;
     let rows = rows_of(alloc, core, &seen)?;
     let phases = bars_of(alloc, &runs)?;
+    let graph = core.plan().graph();
+    let limits = rows_of_limits(alloc, graph, &runs, &limits_in(alloc, graph, log)?)?;
     let why = failures_of(rt, core, place, log)?;
     let warnings = warnings_of(alloc, core)?;
     let digest = digest_of(alloc, core)?;
@@ -117,6 +120,7 @@ pub(crate) fn page_of<R: Files<File = File> + AllocGlobal>(
             warnings: warnings.as_str(),
             rows: rows.as_slice(),
             phases: phases.as_slice(),
+            limits: limits.as_slice(),
             why: why.as_str(),
             digest: digest.as_str(),
             confirmed: confirmed_by(core),

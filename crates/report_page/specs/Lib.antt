@@ -6,4 +6,5 @@ pub mod Drawings
 pub mod Heads
 pub mod Style
 pub mod Script
+pub mod Limits
 pub mod Pages

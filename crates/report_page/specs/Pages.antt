@@ -7,6 +7,7 @@ use Rattle.report_page.specs.Escaped.{escaped_text}
 use Rattle.report_page.specs.Rows.{table_text}
 use Rattle.report_page.specs.Drawings.{drawing_text}
 use Rattle.report_page.specs.Heads.{title_text, counts_text, warnings_text, why_text}
+use Rattle.report_page.specs.Limits.{limits_shown}
 use Rattle.report_page.specs.Style.{style_text}
 use Rattle.report_page.specs.Script.{script_text}
 
@@ -36,10 +37,11 @@ unfoldable pub timeline_text : List PhaseBar → Drawing → List ℕ
 timeline_text phases drawing =
     if length phases == 0 then codes "<p>No phase is known to have run.</p>\n" else drawing_text (codes "timeline") drawing
 
--- the graph, the timeline and the table of the nodes
+-- the graph, the timeline, how full the limits were, and the table of the nodes
 unfoldable pub nodes_text : Page → (graph timeline : Drawing) → List ℕ
 nodes_text page graph timeline =
-    codes "<h2>Graph</h2>\n" ++ (drawing_text (codes "graph") graph ++ (codes "<h2>Timeline</h2>\n" ++ (timeline_text page.phases.now timeline ++ (codes "<h2>Nodes</h2>\n" ++ table_text page.rows.now))))
+    codes "<h2>Graph</h2>\n" ++ (drawing_text (codes "graph") graph ++ (codes "<h2>Timeline</h2>\n" ++ (timeline_text page.phases.now timeline
+    ++ (limits_shown page.limits.now ++ (codes "<h2>Nodes</h2>\n" ++ table_text page.rows.now)))))
 
 -- what `audit` says of a round that has ended
 unfoldable pub confirmed_text : Option Bool → List ℕ
@@ -62,7 +64,7 @@ unfoldable pub closing_text : Page → List ℕ
 closing_text page = confirmed_text page.confirmed ++ (shown_digest page.digest.now ++ last_text page.version.now)
 
 -- The text of a page, with a drawing of its graph and one of its timeline: what the round is, how many nodes are in each state, the failures, the
--- warnings, the drawings, a row for each node, what `audit` says and the digest.
+-- warnings, the drawings, the limits, a row for each node, what `audit` says and the digest.
 unfoldable pub page_of : Page → (graph timeline : Drawing) → List ℕ
 page_of page graph timeline =
     page_head page ++ (title_text page ++ (counts_text page.rows.now ++ (why_text page.why.now ++ (warnings_text page.warnings.now ++ (nodes_text page graph timeline ++ closing_text page)))))

@@ -10,6 +10,7 @@ mod graph;
 mod groups;
 mod heads;
 mod levels;
+mod limits;
 mod placing;
 mod rows;
 mod script;
@@ -23,4 +24,4 @@ mod values;
 
 pub use shapes::{Align, Bend, Caption, Drawing, Label, Omission, Panel, Rule, Shape, Unit};
 pub use texts::page_text;
-pub use values::{Look, NodeState, Page, PhaseBar, PhaseEnd, RoundState, Row};
+pub use values::{LimitRow, Look, NodeState, Page, PhaseBar, PhaseEnd, RoundState, Row};

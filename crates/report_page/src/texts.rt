@@ -7,6 +7,7 @@ use crate::drawings::push_drawing;
 use crate::escaped::{push_escaped, push_own};
 use crate::graph::graph_drawing;
 use crate::heads::{push_counts, push_title, push_warnings, push_why};
+use crate::limits::push_limits;
 use crate::rows::push_table;
 use crate::script::push_script;
 use crate::shapes::Drawing;
@@ -86,7 +87,7 @@ fn push_timeline(
     }
 }
 
-/// Adds the graph, the timeline and the table of the nodes.
+/// Adds the graph, the timeline, how full the limits were, and the table of the nodes.
 #[tactic(auto, unfolding(crate::specs::Pages::nodes_text))]
 fn push_nodes(
     text: &mut String,
@@ -100,6 +101,7 @@ fn push_nodes(
     push_drawing(text, "graph", graph)?;
     push_own(text, "<h2>Timeline</h2>\n")?;
     push_timeline(text, page.phases, timeline)?;
+    push_limits(text, page.limits)?;
     push_own(text, "<h2>Nodes</h2>\n")?;
     push_table(text, page.rows)
 }
@@ -174,7 +176,8 @@ fn text_with(
 }
 
 /// The text of a page in HTML: a file of its own, which loads nothing. It has the path of the DAG file, how the round is,
-/// how many nodes are in each state, what failed, the graph, a timeline of the phases, and a row for each node in plan order.
+/// how many nodes are in each state, what failed, the graph, a timeline of the phases, how full the limits were, and
+/// a row for each node in plan order.
 ///
 /// # Errors
 /// Want of memory, and nothing else.

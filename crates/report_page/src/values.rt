@@ -192,6 +192,19 @@ pub struct PhaseBar<'a> {
     pub end: PhaseEnd,
 }
 
+/// A limit on what runs at once, and how full it was.
+#[derive(Clone, Copy)]
+pub struct LimitRow<'a> {
+    /// What it counts, such as jobs.
+    pub what: &'a str,
+    /// The category whose nodes' jobs it counts, where it counts no others.
+    pub category: Option<&'a str>,
+    /// How many of these it allows at once.
+    pub limit: u64,
+    /// How many of them ran at once, at most.
+    pub most: u64,
+}
+
 /// What a page shows.
 #[derive(Clone, Copy)]
 pub struct Page<'a> {
@@ -211,6 +224,8 @@ pub struct Page<'a> {
     pub rows: &'a [Row<'a>],
     /// The phases in the order in which they began.
     pub phases: &'a [PhaseBar<'a>],
+    /// The limits on what runs at once.
+    pub limits: &'a [LimitRow<'a>],
     /// What `why` prints.
     pub why: &'a str,
     /// The digest of the files by which the round is, in hexadecimal digits.

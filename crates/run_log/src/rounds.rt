@@ -11,8 +11,8 @@ use std::os::unix::fs::{MetadataExt, OpenOptionsExt};
 use std::rt::Files;
 use std::time::{Clock, Duration};
 
-/// Where a folder is: its device and its number there. A copy of it is somewhere else; the number of a device is another one once the
-/// system was started again, and on another machine.
+/// Where a folder or a file is: its device and its number there. A copy of it is somewhere else; the number of a device is another one
+/// once the system was started again, and on another machine.
 #[derive(Clone, Copy, Debug, PartialEq, Eq)]
 pub struct Seat {
     device: u64,
@@ -26,12 +26,12 @@ impl Seat {
     }
 }
 
-/// Where the folder of this path is.
+/// Where the folder or the file of this path is.
 ///
 /// # Errors
 /// What the system refuses.
-pub fn seat_of<R: Files>(rt: &R, folder: &str) -> io::Result<Seat> {
-    let found = fs::metadata(rt, folder)?;
+pub fn seat_of<R: Files>(rt: &R, path: &str) -> io::Result<Seat> {
+    let found = fs::metadata(rt, path)?;
     Ok(Seat {
         device: found.dev(),
         number: found.ino(),
@@ -100,6 +100,17 @@ pub fn kept_rounds<R: Files + AllocGlobal>(
         }
     }
     Ok(rounds)
+}
+
+/// Whether the file of this path keeps this identifier as that of its round. Where it is missing or can't be read, it does not.
+pub fn keeps_round<R: Files + AllocGlobal>(rt: &R, path: &str, round: &str) -> bool {
+    let Ok(Some(text)) = text_at(rt, path, OrphanFault::NotKnown) else {
+        return false;
+    };
+    match text.as_str().lines().next().and_then(round_in) {
+        Some((kept, _seat)) => kept == round,
+        None => false,
+    }
 }
 
 /// An identifier that no other round has: a random one of the system, or else one of the time and of this process.

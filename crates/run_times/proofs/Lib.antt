@@ -1,6 +1,7 @@
 mod Apart
 mod Chains
 mod Ends
+mod Finding
 mod Kept
 mod Levels
 mod LongestKinds

@@ -5,6 +5,8 @@ pub mod Parts
 pub mod Soonest
 pub mod Kinds
 pub mod Totals
+pub mod Load
+pub mod Limits
 pub mod Summary
 pub mod Reading
 pub mod Slots
@@ -12,7 +14,6 @@ pub mod Canvas
 pub mod Classes
 pub mod Names
 pub mod Bars
-pub mod Load
 pub mod Picture
 pub mod TimesData
 pub mod Answered

@@ -1,9 +1,10 @@
 -- How many phases ran at each moment.
-use Rattle.std.specs.Prelude.{◌≡◌, ◌-◌, ℕ, nat_le, List, map, count_by, Some, slice_get, IsPermutation}
+use Rattle.std.specs.Prelude.{◌≡◌, ◌-◌, ℕ, zero, suc, max, nat_le, List, map, count_by, Some, slice_get, IsPermutation}
 use Rattle.std.specs.List.Sorted.{IsNonDecreasingBy}
 use Rattle.run_times.specs.declared.runs.PhaseRun.{PhaseRun}
 use Rattle.run_times.specs.declared.load.Level.{Level}
 use Rattle.run_times.specs.Slots.{run_end}
+use Rattle.run_times.specs.Parts.{begun_at}
 
 -- how many of these times are no later than a time
 abbrev pub count_until : List ℕ → ℕ → ℕ
@@ -21,3 +22,8 @@ pub record AreInOrder (times sorted : List ℕ) : Type 0 where
 -- each level is how many phases ran at its moment
 abbrev pub AreLevels : List PhaseRun → List Level → Type 0
 AreLevels runs levels = (i : ℕ) (level : Level) → slice_get levels i ≡ Some level → level.running ≡ running_at runs level.moment
+
+-- how many phases ran at once, at most, when the first phases began, as many
+abbrev pub most_running : List PhaseRun → ℕ → ℕ
+most_running runs zero = 0
+most_running runs (suc n) = max (most_running runs n) (running_at runs (begun_at runs n))

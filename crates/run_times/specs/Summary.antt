@@ -9,16 +9,15 @@ use Rattle.run_times.specs.declared.summary.Figures.{Figures}
 use Rattle.run_times.specs.declared.summary.TheConstants.{WIDTH}
 use Rattle.run_times.specs.Canvas.{within, latest_end}
 use Rattle.run_times.specs.Table.{seconds_text}
-use Rattle.run_times.specs.Load.{running_at}
+use Rattle.run_times.specs.Load.{most_running}
+use Rattle.run_times.specs.declared.limits.Counted.{Counted}
+use Rattle.run_times.specs.declared.limits.Counted.TheVariants.{Jobs, PreScripts, PostScripts, JobsOf, Children}
+use Rattle.run_times.specs.declared.limits.Limit.{Limit}
+use Rattle.run_times.specs.Limits.{holder_of, AreRoundLimits}
 use Rattle.run_times.specs.Critical.{run_end_at}
 use Rattle.run_times.specs.Parts.{begun_at, end_of_rest, lasted_in, PartsAreWhole, waited_for_turn}
 use Rattle.run_times.specs.Kinds.{AreLongest}
 use Rattle.run_times.specs.Soonest.{IsSoonest}
-
--- how many phases ran at once, at most, when the first phases began, as many
-abbrev pub most_running : List PhaseRun → ℕ → ℕ
-most_running runs zero = 0
-most_running runs (suc n) = max (most_running runs n) (running_at runs (begun_at runs n))
 
 -- a number of phases
 abbrev pub phases_text : ℕ → List ℕ
@@ -44,9 +43,23 @@ column_text number = replicate (WIDTH - length number) 32 ++ number
 abbrev pub wait_text : ℕ → ℕ → List ℕ
 wait_text from until = if nat_le from until then seconds_text (until - from) else codes "-" ++ seconds_text (from - until)
 
--- whether it waited for its turn
-abbrev pub turn_text : Bool → List ℕ
-turn_text turn = if turn then codes "  for its turn\n" else codes "\n"
+-- what a limit counts
+abbrev pub counted_text : Counted → List ℕ
+counted_text Jobs = codes "jobs"
+counted_text PreScripts = codes "PRE scripts"
+counted_text PostScripts = codes "POST scripts"
+counted_text (JobsOf category) = codes "jobs of " ++ category.now
+counted_text Children = codes "phases"
+
+-- for which limit a phase waited for its turn, if it did
+abbrev pub turn_text : Option Limit → List ℕ
+turn_text (Some limit) = codes "  for its turn: limit " ++ (decimal limit.most ++ (codes " on " ++ (counted_text limit.counted ++ codes "\n")))
+turn_text None = codes "\n"
+
+-- the limit for which the phase at a place waited: it waited for its turn, and this is the first limit that held it back
+abbrev pub waited_for : Network → List Limit → List PhaseRun → ℕ → ℕ → Option Limit
+waited_for graph limits runs place from =
+    if waited_for_turn runs from (begun_at runs place) then holder_of graph runs limits (slice_get runs place) else None
 
 -- what was run
 abbrev pub path_phase_text : Option PhaseRun → List ℕ
@@ -54,15 +67,15 @@ path_phase_text (Some run) = run.node.now ++ (codes " " ++ (phase_word run.phase
 path_phase_text None = []
 
 -- the row of a phase of the critical path, by when that ended for which it waited
-abbrev pub path_row_text : List PhaseRun → ℕ → ℕ → List ℕ
-path_row_text runs place from =
+abbrev pub path_row_text : Network → List Limit → List PhaseRun → ℕ → ℕ → List ℕ
+path_row_text graph limits runs place from =
     column_text (wait_text from (begun_at runs place))
-    ++ (column_text (seconds_text (run_end_at runs place - begun_at runs place)) ++ (codes "  " ++ (path_phase_text (slice_get runs place) ++ turn_text (waited_for_turn runs from (begun_at runs place)))))
+    ++ (column_text (seconds_text (run_end_at runs place - begun_at runs place)) ++ (codes "  " ++ (path_phase_text (slice_get runs place) ++ turn_text (waited_for graph limits runs place from))))
 
 -- the rows of a path, which has the last phase first
-abbrev pub parts_text : List PhaseRun → List ℕ → List ℕ
-parts_text runs [] = []
-parts_text runs (place ∷ rest) = parts_text runs rest ++ path_row_text runs place (end_of_rest runs rest)
+abbrev pub parts_text : Network → List Limit → List PhaseRun → List ℕ → List ℕ
+parts_text graph limits runs [] = []
+parts_text graph limits runs (place ∷ rest) = parts_text graph limits runs rest ++ path_row_text graph limits runs place (end_of_rest runs rest)
 
 -- the row of a kind
 abbrev pub kind_text : Kind → List ℕ
@@ -98,18 +111,22 @@ abbrev pub summary_opening : Figures → List ℕ
 summary_opening figures = summary_took_text figures.took figures.lasted ++ (busy_text figures.busy figures.count figures.most ++ limits_text figures.soonest)
 
 -- the two lists
-abbrev pub lists_text : List PhaseRun → List ℕ → List Kind → List ℕ
-lists_text runs path kinds = path_head ++ (parts_text runs path ++ (kinds_head ++ kinds_text kinds))
+abbrev pub lists_text : Network → List Limit → List PhaseRun → List ℕ → List Kind → List ℕ
+lists_text graph limits runs path kinds = path_head ++ (parts_text graph limits runs path ++ (kinds_head ++ kinds_text kinds))
 
--- the summary of phases with a critical path, the longest kinds, and how long it would have taken without limits
-abbrev pub summary_text_of : List PhaseRun → List ℕ → List Kind → ℕ → List ℕ
-summary_text_of runs path kinds soonest = if length runs == 0 then codes "no phase was run\n" else summary_opening (figures_of runs path soonest) ++ lists_text runs path kinds
+-- the summary of phases with a critical path under some limits, the longest kinds, and how long it would have taken without limits
+abbrev pub summary_text_of : Network → List Limit → List PhaseRun → List ℕ → List Kind → ℕ → List ℕ
+summary_text_of graph limits runs path kinds soonest =
+    if length runs == 0 then codes "no phase was run\n" else summary_opening (figures_of runs path soonest) ++ lists_text graph limits runs path kinds
 
--- A text is the summary of the phases of a graph with this critical path, whose parts sum to the time that the run took.
+-- A text is the summary of the phases of a graph with this critical path, whose parts sum to the time that the run took, under some limits: those on
+-- categories are those of the files.
 pub record IsSummary (graph : Network) (runs : List PhaseRun) (path text : List ℕ) : Type 0 where
   pub whole : PartsAreWhole runs path
   pub kinds : List Kind
   pub longest : AreLongest graph runs kinds
   pub soonest : ℕ
   pub is_soonest : IsSoonest graph runs soonest
-  pub text_is : text ≡ summary_text_of runs path kinds soonest
+  pub limits : List Limit
+  pub are_limits : AreRoundLimits graph limits
+  pub text_is : text ≡ summary_text_of graph limits runs path kinds soonest

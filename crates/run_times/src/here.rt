@@ -3,10 +3,12 @@
 ghost use Rattle.std.specs.Prelude.{◌≡◌, Some, IfOk, IfErr, string_bytes};
 ghost use Rattle.dag_main_files.specs.Beside.{IsRefusalOf, IsRefusalHeld};
 ghost use Rattle.run_times.specs.Critical.{IsCriticalPath};
+ghost use Rattle.run_times.specs.Limits.{AreRoundLimits};
 ghost use Rattle.run_times.specs.Answered.{log_name_of, IsShownWith, IsTimesOf, IsTimesFrom, IsTimesFault, IsTimesFaultHeld};
 
 use crate::critical::{critical_path, marks_of};
 use crate::form::Form;
+use crate::limits::{Limit, limits_in};
 use crate::picture::picture_text;
 use crate::reader::runs_in;
 use crate::runs::PhaseRun;
@@ -46,22 +48,25 @@ pub fn times_here<F: Folder>(
     let log = log_of(alloc, folder, top)?;
     let runs = runs_in(alloc, log.as_slice())?;
     let path = critical_path(alloc, graph, &runs)?;
+    let limits = limits_in(alloc, graph, log.as_slice())?;
     Ok(Answer {
-        text: text_of(alloc, graph, &runs, &path, form)?,
+        text: text_of(alloc, graph, &limits, &runs, &path, form)?,
         warnings: warning_text(alloc, graph.flat().warnings())?,
         status: 0,
     })
 }
 
-/// What is printed of these phases of a graph, with their critical path, in this form.
+/// What is printed of these phases of a graph, with their critical path and the limits under which they ran, in this form.
 fn text_of(
     alloc: Global,
     graph: &Graph,
+    limits: &[Limit<'_>],
     runs: &[PhaseRun<'_>],
     path: &[usize],
     form: Form,
 ) -> Result<String, AllocError>
-    requires { IsCriticalPath graph.now runs.now path.now }
+    requires path { IsCriticalPath graph.now runs.now path.now }
+    requires limits { AreRoundLimits graph.now limits.now }
     ensures { IfOk result (λ text. IsShownWith graph.now runs.now path.now form (string_bytes text)) }
 {
     let each = marks_of(alloc, path, runs.len())?;
@@ -70,7 +75,7 @@ fn text_of(
         Form::Table => table_text(alloc, runs, marks),
         Form::Picture => picture_text(alloc, runs, marks),
         Form::Json => times_json(alloc, runs, marks),
-        Form::Summary => summary_text(alloc, graph, runs, path),
+        Form::Summary => summary_text(alloc, graph, limits, runs, path),
     }
 }
 

@@ -12,6 +12,7 @@ mod form;
 mod here;
 mod kinds;
 pub mod laws;
+mod limits;
 mod load;
 mod names;
 mod parts;
@@ -28,6 +29,7 @@ mod times_data;
 
 pub use form::Form;
 pub use here::times_here;
+pub use limits::{Counted, Limit, limits_in, most_counted};
 pub use reader::runs_in;
 pub use runs::{Ending, PhaseRun};
 pub use table::table_text;

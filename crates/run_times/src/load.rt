@@ -3,9 +3,8 @@
 ghost use Rattle.std.specs.Prelude.{◌≡◌, ◌-◌, map, length, IfOk};
 ghost use Rattle.std.specs.List.Sorted.{IsNonDecreasingBy};
 ghost use Rattle.run_times.specs.Slots.{run_end};
-ghost use Rattle.run_times.specs.Load.{AreInOrder, count_until, AreLevels};
+ghost use Rattle.run_times.specs.Load.{AreInOrder, count_until, AreLevels, most_running};
 ghost use Rattle.run_times.specs.Picture.{peak_of};
-ghost use Rattle.run_times.specs.Summary.{most_running};
 
 use crate::runs::PhaseRun;
 use std::alloc::{AllocError, Global};

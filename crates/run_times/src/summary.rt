@@ -3,11 +3,13 @@
 ghost use Rattle.std.specs.Prelude.{◌≡◌, ◌++◌, replicate, slice_get, OnOk, IfOk, string_bytes};
 ghost use Rattle.run_times.specs.Table.{seconds_text};
 ghost use Rattle.run_times.specs.Critical.{IsCriticalPath};
-ghost use Rattle.run_times.specs.Summary.{phases_text, summary_took_text, busy_text, limits_text, column_text, wait_text, turn_text, path_phase_text, path_row_text, parts_text, kind_text, kinds_text, busy_in, summary_opening, lists_text, summary_text_of, IsSummary};
+ghost use Rattle.run_times.specs.Limits.{AreRoundLimits};
+ghost use Rattle.run_times.specs.Summary.{phases_text, summary_took_text, busy_text, limits_text, column_text, wait_text, counted_text, turn_text, waited_for, path_phase_text, path_row_text, parts_text, kind_text, kinds_text, busy_in, summary_opening, lists_text, summary_text_of, IsSummary};
 
 use crate::canvas::latest_end;
 use crate::critical::run_end_at;
 use crate::kinds::{Kind, longest_kinds};
+use crate::limits::{Counted, Limit, holder_of};
 use crate::load::most_running;
 use crate::parts::{begun_at, end_of_rest, lasted_at, lasted_in, waited_for_turn};
 use crate::runs::PhaseRun;
@@ -133,14 +135,47 @@ fn wait_text(alloc: Global, from: u64, until: u64) -> Result<String, AllocError>
     Ok(text)
 }
 
-/// Adds whether a phase waited for its turn, and the end of its row.
-fn push_turn(text: &mut String, turn: bool) -> Result<(), AllocError>
-    ensures { OnOk result (string_bytes text.new ≡ string_bytes text.old ++ turn_text turn) }
+/// Adds what a limit counts.
+fn push_counted(text: &mut String, counted: Counted<'_>) -> Result<(), AllocError>
+    ensures { OnOk result (string_bytes text.new ≡ string_bytes text.old ++ counted_text counted.entry) }
 {
-    if turn {
-        text.push_str("  for its turn\n")
+    match counted {
+        Counted::Jobs => text.push_str("jobs"),
+        Counted::PreScripts => text.push_str("PRE scripts"),
+        Counted::PostScripts => text.push_str("POST scripts"),
+        Counted::JobsOf(category) => write!(text, "jobs of {category}"),
+        Counted::Children => text.push_str("phases"),
+    }
+}
+
+/// Adds for which limit a phase waited for its turn, if it did, and the end of its row.
+fn push_turn(text: &mut String, limit: Option<Limit<'_>>) -> Result<(), AllocError>
+    ensures { OnOk result (string_bytes text.new ≡ string_bytes text.old ++ turn_text limit.entry) }
+{
+    match limit {
+        Some(limit) => {
+            write!(text, "  for its turn: limit {} on ", limit.most)?;
+            push_counted(text, limit.counted)?;
+            text.push('\n')
+        }
+        None => text.push('\n'),
+    }
+}
+
+/// The limit for which the phase at a place waited that could begin at a moment, if it waited for its turn.
+fn waited_for<'a>(
+    graph: &Graph,
+    limits: &[Limit<'a>],
+    runs: &[PhaseRun<'_>],
+    place: usize,
+    from: u64,
+) -> Option<Limit<'a>>
+    ensures { result ≡ waited_for graph.now limits.now runs.now place from }
+{
+    if waited_for_turn(runs, from, begun_at(runs, place)) {
+        holder_of(graph, runs, limits, place)
     } else {
-        text.push('\n')
+        None
     }
 }
 
@@ -157,23 +192,36 @@ fn push_run(text: &mut String, runs: &[PhaseRun<'_>], place: usize) -> Result<()
     }
 }
 
+/// The phases whose critical path a summary shows, with the graph of their nodes and the limits under which they ran.
+#[derive(Clone, Copy)]
+struct Shown<'a> {
+    graph: &'a Graph,
+    limits: &'a [Limit<'a>],
+    runs: &'a [PhaseRun<'a>],
+}
+
 /// Adds the row of a phase of the critical path, by when that ended for which it waited.
 fn push_part(
     alloc: Global,
     text: &mut String,
-    runs: &[PhaseRun<'_>],
+    shown: &Shown<'_>,
     place: usize,
     from: u64,
 ) -> Result<(), AllocError>
-    ensures { OnOk result (string_bytes text.new ≡ string_bytes text.old ++ path_row_text runs.now place from) }
+    ensures { OnOk result (string_bytes text.new ≡ string_bytes text.old
+        ++ path_row_text shown.now.graph.now shown.now.limits.now shown.now.runs.now place from) }
 {
-    let begun = begun_at(runs, place);
-    let waited = wait_text(alloc, from, begun)?;
+    let Shown {
+        graph,
+        limits,
+        runs,
+    } = *shown;
+    let waited = wait_text(alloc, from, begun_at(runs, place))?;
     push_column(text, waited.as_str())?;
     push_time(alloc, text, lasted_at(runs, place))?;
     text.push_str("  ")?;
     push_run(text, runs, place)?;
-    push_turn(text, waited_for_turn(runs, from, begun))?;
+    push_turn(text, waited_for(graph, limits, runs, place, from))?;
     Ok(())
 }
 
@@ -181,16 +229,17 @@ fn push_part(
 fn push_parts(
     alloc: Global,
     text: &mut String,
-    runs: &[PhaseRun<'_>],
+    shown: &Shown<'_>,
     path: &[usize],
 ) -> Result<(), AllocError>
-    ensures { OnOk result (string_bytes text.new ≡ string_bytes text.old ++ parts_text runs.now path.now) }
+    ensures { OnOk result (string_bytes text.new ≡ string_bytes text.old
+        ++ parts_text shown.now.graph.now shown.now.limits.now shown.now.runs.now path.now) }
 {
     let mut place = path.len();
     while place > 0 {
         place -= 1;
-        let from = end_of_rest(runs, &path[place + 1..]);
-        push_part(alloc, text, runs, path[place], from)?;
+        let from = end_of_rest(shown.runs, &path[place + 1..]);
+        push_part(alloc, text, shown, path[place], from)?;
     }
     Ok(())
 }
@@ -228,32 +277,35 @@ fn push_opening(text: &mut String, figures: &Figures) -> Result<(), AllocError>
 fn push_lists(
     alloc: Global,
     text: &mut String,
-    runs: &[PhaseRun<'_>],
+    shown: &Shown<'_>,
     path: &[usize],
     kinds: &[Kind<'_>],
 ) -> Result<(), AllocError>
-    ensures { OnOk result (string_bytes text.new ≡ string_bytes text.old ++ lists_text runs.now path.now kinds.now) }
+    ensures { OnOk result (string_bytes text.new ≡ string_bytes text.old
+        ++ lists_text shown.now.graph.now shown.now.limits.now shown.now.runs.now path.now kinds.now) }
 {
     text.push_str("\ncritical path\n    waited   seconds\n")?;
-    push_parts(alloc, text, runs, path)?;
+    push_parts(alloc, text, shown, path)?;
     text.push_str("\nlongest kinds\n")?;
     push_kinds(alloc, text, kinds)?;
     Ok(())
 }
 
-/// A summary of these phases of a graph, with their critical path: how long the run took, how much of that the phases of
-/// the path; how long all phases took; how long it would have taken without limits; how long each phase of the path waited
-/// and took; and the kinds of phases that took longest. Times are in seconds.
+/// A summary of these phases of a graph, with their critical path and the limits under which they ran: how long the run took, how
+/// much of that the phases of the path; how long all phases took; how long it would have taken without limits; how long each phase of
+/// the path waited and took, and for which limit; and the kinds of phases that took longest. Times are in seconds.
 ///
 /// # Errors
 /// Want of memory.
 pub(crate) fn summary_text(
     alloc: Global,
     graph: &Graph,
+    limits: &[Limit<'_>],
     runs: &[PhaseRun<'_>],
     path: &[usize],
 ) -> Result<String, AllocError>
-    requires { IsCriticalPath graph.now runs.now path.now }
+    requires path { IsCriticalPath graph.now runs.now path.now }
+    requires limits { AreRoundLimits graph.now limits.now }
     ensures { IfOk result (λ text. IsSummary graph.now runs.now path.now (string_bytes text)) }
 {
     let kinds = longest_kinds(alloc, graph, runs)?;
@@ -270,7 +322,12 @@ pub(crate) fn summary_text(
         text.push_str("no phase was run\n")?;
         return Ok(text);
     }
+    let shown = Shown {
+        graph,
+        limits,
+        runs,
+    };
     push_opening(&mut text, &figures)?;
-    push_lists(alloc, &mut text, runs, path, &kinds)?;
+    push_lists(alloc, &mut text, &shown, path, &kinds)?;
     Ok(text)
 }

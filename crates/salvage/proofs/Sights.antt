@@ -6,7 +6,7 @@ use Rattle.dag_main_files.specs.Folder.{rescue_in}
 use Rattle.round_inputs.specs.declared.inputs.Listed.{Listed}
 use Rattle.salvage.specs.Sight.{Sight, any_files, held_files, held_files_if, IsRescueSeen, IsListSeen}
 use Rattle.salvage.specs.Others.{IsOtherRescue, rescue_missing, rescue_changed, rescue_refused, IsOther, other_file, other_marks}
-use Rattle.salvage.specs.Refused.{IsNoRound, has_no_journal, journal_refused, not_left, IsNoInputs, has_no_inputs, inputs_refused, not_spelled, of_another_round, IsCutShortFault, no_inputs, other_files, other_rescue, no_plan, not_of_plan, keeping_refused, no_new_graph, not_of_begun, IsSalvageFault, no_round, rescue_is_written, round_refused, another_is_at_work, system_refuses}
+use Rattle.salvage.specs.Refused.{IsNoRound, has_no_journal, journal_refused, not_left, IsNoInputs, has_no_inputs, inputs_refused, not_spelled, of_another_round, IsCutShortFault, no_inputs, other_files, other_rescue, no_plan, not_of_plan, keeping_refused, no_new_graph, not_of_begun, IsSalvageFault, no_round, rescue_is_written, round_refused, file_in_the_way, another_is_at_work, no_standard_input, rescue_not_written, journal_not_put_away, making_had_no_memory}
 use Rattle.salvage.specs.declared.fault.SalvageFault.{SalvageFault}
 
 module _ (from to : Sight) (top : List ℕ) (has : (path bytes : List ℕ) → from.has path bytes → to.has path bytes)
@@ -61,8 +61,13 @@ module _ (from to : Sight) (top : List ℕ) (has : (path bytes : List ℕ) → f
   fault-by too _ (rescue_is_written journal found bytes is reads ended written) = rescue_is_written journal found bytes (has _ journal is) reads ended (has _ bytes written)
   fault-by too _ (round_refused ended journal digest used next always_post fault is cut why) =
       round_refused ended journal digest used next always_post fault (has _ journal is) cut (cut-short-by journal digest used always_post fault why)
+  fault-by too _ (file_in_the_way fault why) = file_in_the_way fault why
   fault-by too _ (another_is_at_work fault why) = another_is_at_work fault why
-  fault-by too _ (system_refuses fault why) = system_refuses fault why
+  fault-by too _ (no_standard_input fault why) = no_standard_input fault why
+  fault-by too _ (rescue_not_written ended journal digest used next always_post fault is cut why) =
+      rescue_not_written ended journal digest used next always_post fault (has _ journal is) cut why
+  fault-by too _ (journal_not_put_away fault why) = journal_not_put_away fault why
+  fault-by too _ making_had_no_memory = making_had_no_memory
 
 -- by the files that are held where a premise holds: something is so of any files, and where the premise holds of those that are held
 module _ (Honest : Type 0) (holds : Files) (there : List ℕ → Bool) (top : List ℕ) where

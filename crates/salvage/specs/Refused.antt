@@ -1,5 +1,5 @@
 -- Why a round is not salvaged, by what is known of the files.
-use Rattle.std.specs.Prelude.{◌≡◌, ◌≢◌, ◌<◌, ◌≤◌, ℕ, Bool, true, false, List, [], Option, Some, None, Ok, Err, All}
+use Rattle.std.specs.Prelude.{◌≡◌, ◌≢◌, ◌<◌, ◌≤◌, ℕ, Bool, true, false, List, [], ◌++◌, Option, Some, None, Ok, Err, All, codes}
 use Rattle.splices_flat.specs.Opening.{Files}
 use Rattle.splices_flat.specs.FileSet.{bytes_of, entries_of}
 use Rattle.splices_flat.specs.declared.file_set.FileSet.{FileSet}
@@ -19,7 +19,7 @@ use Rattle.recovery_manager.specs.declared.fault.ManagerFault.TheVariants as man
 use Rattle.dag_main_check.specs.declared.fault.RunFault.{RunFault}
 use Rattle.dag_main_check.specs.declared.fault.RunFault.TheVariants.{InPlan, NotThere, InManager, Memory}
 use Rattle.dag_main_check.specs.Planned.{IsGraphOf, IsGraphFault, rescue_line, named_by}
-use Rattle.dag_main_files.specs.Beside.{journal_name_of, lock_name_of, IsFileFault, IsRefusalOf}
+use Rattle.dag_main_files.specs.Beside.{journal_name_of, lock_name_of, IsInputFault, IsRefusalOf}
 use Rattle.dag_main_files.specs.Journals.{IsUnread}
 use Rattle.round_inputs.specs.Begun.{begun_name_of}
 use Rattle.round_inputs.specs.Inputs.{inputs_name_of, inputs_text_of}
@@ -122,14 +122,31 @@ pub data IsCutShortFault (sight : Sight) (top journal digest : List ℕ) (used :
       IsListSeen sight top digest listed files → IsOther sight listed top used files other → sight.has (begun_name_of top) begun →
       IsBegunPlan always_post top digest begun old → IsUnsalvaged old journal fault → IsCutShortFault sight top journal digest used always_post (Refused fault)
 
--- Why no round of the DAG file of this path is salvaged: there is none that may be, by its journal; or it has ended, and has written its rescue file;
--- or there is one, and what is beside it says why; or another
--- manager has the lock, or the system refuses it; or the system refuses another file, or that one may be another user's; or memory ran out.
+-- the name under which a journal is put away
+abbrev pub old_journal_name_of : List ℕ → List ℕ
+old_journal_name_of top = top ++ codes ".journal.old"
+
+-- A file beside the DAG file of this path is in the way of a rescue file that is made of its last round: the journal or the lock may be another user's, or
+-- the name under which the journal is put away is a folder's. Or memory ran out.
+pub data IsNotOwn (top : List ℕ) : RunFault → Type 0 where
+  journal_not_own : (fault : RunFault) → IsRefusalOf (journal_name_of top) fault → IsNotOwn top fault
+  lock_not_own : (fault : RunFault) → IsRefusalOf (lock_name_of top) fault → IsNotOwn top fault
+  old_name_taken : (fault : RunFault) → IsRefusalOf (old_journal_name_of top) fault → IsNotOwn top fault
+
+-- Why no round of the DAG file of this path is salvaged: there is none that may be, by its journal; or it has ended, and has written its rescue file; or there
+-- is one, and what is beside it says why; or a file is in the way; or another manager has the lock, or the system refuses it; or the DAG file is standard
+-- input, which can't be read; or the system refuses the rescue file of the number that the journal's header has as the next, or to put the journal away; or
+-- memory ran out.
 pub data IsSalvageFault (too : Bool) (sight : Sight) (top : List ℕ) : SalvageFault → Type 0 where
   no_round : (fault : SalvageFault) → IsNoRound too sight top fault → IsSalvageFault too sight top fault
   rescue_is_written : (journal : List ℕ) (found : Found) (bytes : List ℕ) → sight.has (journal_name_of top) journal → replay_of journal ≡ Ok (Some found) →
       ends_with_finish found.records ≡ true → sight.has (rescue_name_of top found.header.next) bytes → IsSalvageFault too sight top (Ended (journal_name_of top))
   round_refused : (ended : Bool) (journal digest : List ℕ) (used next : ℕ) (always_post : Bool) (fault : SalvageFault) → sight.has (journal_name_of top) journal →
       IsRoundLeft too ended journal digest used next always_post → IsCutShortFault sight top journal digest used always_post fault → IsSalvageFault too sight top fault
+  file_in_the_way : (fault : RunFault) → IsNotOwn top fault → IsSalvageFault too sight top (Refused fault)
   another_is_at_work : (fault : RunFault) → IsRefusalOf (lock_name_of top) fault → IsSalvageFault too sight top (Refused fault)
-  system_refuses : (fault : RunFault) → IsFileFault fault → IsSalvageFault too sight top (Refused fault)
+  no_standard_input : (fault : RunFault) → IsInputFault top fault → IsSalvageFault too sight top (Refused fault)
+  rescue_not_written : (ended : Bool) (journal digest : List ℕ) (used next : ℕ) (always_post : Bool) (fault : RunFault) → sight.has (journal_name_of top) journal →
+      IsRoundLeft too ended journal digest used next always_post → IsRefusalOf (rescue_name_of top next) fault → IsSalvageFault too sight top (Refused fault)
+  journal_not_put_away : (fault : RunFault) → IsRefusalOf (journal_name_of top) fault → IsSalvageFault too sight top (Refused fault)
+  making_had_no_memory : IsSalvageFault too sight top (Refused Memory)

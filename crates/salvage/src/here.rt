@@ -6,13 +6,13 @@ ghost use Rattle.std.specs.Prelude.{◌≡◌, ◌++◌, ◌≤◌, Some, IfOk, 
 ghost use Rattle.splices_flat.specs.FileSet.{bytes_of};
 ghost use Rattle.rescue_file.specs.Numbered.{IsFileNumber, rescue_name_of};
 ghost use Rattle.dag_main_check.specs.declared.fault.RunFault.TheVariants.{Memory};
-ghost use Rattle.dag_main_files.specs.Beside.{journal_name_of, IsFileFault};
+ghost use Rattle.dag_main_files.specs.Beside.{journal_name_of, IsRefusalOf};
 ghost use Rattle.dag_main_files.specs.Folder.{IsReadFrom};
 ghost use Rattle.round_inputs.specs.Inputs.{inputs_name_of, inputs_text_of};
 ghost use Rattle.salvage.specs.Round.{IsRoundLeft};
 ghost use Rattle.salvage.specs.Salvaged.{IsBarePlan, change_line, IsChangeFrom, any_change, AreChanges, report_line};
 ghost use Rattle.salvage.specs.Answered.{IsMadeOfSame, IsMadeOf, HasWrittenNone, IsHeldMade, IsSalvageOf, IsSalvageFrom};
-ghost use Rattle.salvage.specs.Refused.{IsBarePlanFault, IsUnmade, IsSalvageFault};
+ghost use Rattle.salvage.specs.Refused.{IsBarePlanFault, IsUnmade, IsNotOwn, IsSalvageFault, old_journal_name_of};
 ghost use Rattle.salvage.specs.Sight.{held_files_if};
 
 use crate::changed::{Made, made_of_changed};
@@ -114,7 +114,7 @@ fn change_of<F: Folder>(
     file: &Listed,
 ) -> Result<Option<Change>, RunFault>
     ensures held { F.honest folder.now → IfOk result (IsChangeFrom (F.holds folder.now) file.now) }
-    ensures refused { IfErr result IsFileFault }
+    ensures refused { IfErr result (λ fault. fault ≡ Memory) }
 {
     let path = file.path.as_str();
     let Some(bytes) = folder.input(alloc, path)? else {
@@ -145,7 +145,7 @@ fn changes<F: Folder>(alloc: Global, folder: &F, inputs: &Inputs) -> Result<Stri
     ensures changes { IfOk result (λ text. AreChanges any_change inputs.now.files.items (string_bytes text)) }
     ensures held { F.honest folder.now → IfOk result (λ text.
         AreChanges (IsChangeFrom (F.holds folder.now)) inputs.now.files.items (string_bytes text)) }
-    ensures refused { IfErr result IsFileFault }
+    ensures refused { IfErr result (λ fault. fault ≡ Memory) }
 {
     let mut text = String::new(alloc);
     for file in inputs.files.iter() {
@@ -188,7 +188,7 @@ pub fn write_rescue<R: Files<File = File> + AllocGlobal + Copy + Drop>(
     text: &str,
 ) -> Result<(), RunFault>
     requires { IsFileNumber number }
-    ensures { IfErr result IsFileFault }
+    ensures { IfErr result (IsRefusalOf (rescue_name_of place.now.top.now number)) }
 {
     let alloc = rt.alloc();
     let mut disk = rescue_disk(rt, place, number)?;
@@ -286,6 +286,9 @@ fn read_round<F: Folder>(
         × (F.honest folder.now → IsHeldMade too (F.holds folder.now) top.now found.round.next found.inputs.files.items (string_bytes found.made.text)
         found.made.done found.made.total (string_bytes found.made.warnings) is)) }
     ensures next { IfOk result (λ found. IsFileNumber found.round.next) }
+    ensures left { IfOk result (λ found. IsRoundLeft too found.round.ended found.round.journal.items found.round.digest found.round.used found.round.next
+        found.round.always_post) }
+    ensures journal { F.honest folder.now → IfOk result (λ found. F.holds folder.now (journal_name_of top.now) ≡ Some found.round.journal.items) }
     ensures refused { IfErr result (IsSalvageFault too (held_files_if (F.honest folder.now) (F.holds folder.now) (F.has folder.now) top.now) top.now) }
 {
     let round = round_left(alloc, folder, top, too)?;
@@ -336,7 +339,7 @@ fn salvage_locked<R: Files<File = File> + AllocGlobal + Copy + Drop, F: Folder>(
 /// # Errors
 /// `FileRefused` with that name; `Memory`.
 fn has_no_folder<R: Files + AllocGlobal>(rt: &R, place: &Place<'_>) -> Result<(), RunFault>
-    ensures { IfErr result IsFileFault }
+    ensures { IfErr result (IsRefusalOf (old_journal_name_of place.now.top.now)) }
 {
     let alloc = rt.alloc();
     let old = Text::joined(alloc, place.top, ".journal.old")?;
@@ -357,12 +360,12 @@ fn has_no_folder<R: Files + AllocGlobal>(rt: &R, place: &Place<'_>) -> Result<()
 pub fn has_own_files<R: Files + AllocGlobal>(
     rt: &R,
     place: &Place<'_>,
-    journal: &str,
     trust_owner: bool,
 ) -> Result<(), RunFault>
-    ensures { IfErr result IsFileFault }
+    ensures { IfErr result (IsNotOwn place.now.top.now) }
 {
-    place.trusts(rt, journal, trust_owner)?;
+    let journal = journal_path(rt.alloc(), place.top)?;
+    place.trusts(rt, journal.as_str(), trust_owner)?;
     let lock = Text::joined(rt.alloc(), place.top, ".lock")?;
     place.trusts(rt, lock.as_str(), trust_owner)?;
     has_no_folder(rt, place)
@@ -409,7 +412,7 @@ pub fn salvage_here<R: Files<File = File> + Clock + AllocGlobal + Copy + Drop, F
     if !folder.is_there(alloc, journal.as_str())? {
         return Err(SalvageFault::NoJournal(journal));
     }
-    has_own_files(&rt, place, journal.as_str(), trust_owner)?;
+    has_own_files(&rt, place, trust_owner)?;
     let lock = place.lock(&rt)?;
     let answer = salvage_locked(rt, folder, place, too);
     place.unlock(&rt, lock);

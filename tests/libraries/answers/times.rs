@@ -20,7 +20,8 @@ PARENT Fetch CHILD Fit1 Fit2
 PARENT Fit1 Fit2 CHILD Sum
 ";
 
-static LOG: &str = "2026-11-25T23:40:00.000Z\tlife\t-\t-\t-\t9\tstart=begin
+static LOG: &str =
+    "2026-11-25T23:40:00.000Z\tlife\t-\t-\t-\t9\tstart=begin\tjobs=1\tpre=0\tpost=0\tchildren=1024
 2026-11-25T23:40:00.002Z\tstart\tFetch\tJOB\t0\t10\tcommand=/bin/true
 2026-11-25T23:40:01.002Z\tend\tFetch\tJOB\t0\t10\texit=0\tseconds=1.000
 2026-11-25T23:40:01.004Z\tstart\tFit1\tJOB\t0\t11\tcommand=/bin/true
@@ -42,7 +43,7 @@ without limits it would have taken at least 6.200 s
 critical path
     waited   seconds
      0.002     1.000  Fetch JOB 0
-     4.104     2.000  Fit2 JOB 0  for its turn
+     4.104     2.000  Fit2 JOB 0  for its turn: limit 1 on jobs
      0.002     0.500  Fit2 POST 0
      0.002     1.000  Sum JOB 0
      0.002     0.100  Last JOB 0
@@ -183,6 +184,47 @@ longest kinds
      0.250 s  1 of unknown nodes
 ";
     shows(&rt, rt.alloc(), dag, log, Form::Summary, wanted)
+}
+
+/// What is shown of two jobs of a category, of which one began as the other ended; the second begins its row so.
+fn shows_two(rt: &impl Abort, alloc: Global, dag: &str, row: &str) -> Result<(), Fail> {
+    let log =
+        "2026-11-25T23:40:00.000Z\tlife\t-\t-\t-\t9\tstart=begin\tjobs=0\tpre=0\tpost=0\tchildren=1024
+2026-11-25T23:40:00.000Z\tstart\tA\tJOB\t0\t10\tcommand=/bin/true
+2026-11-25T23:40:01.000Z\tend\tA\tJOB\t0\t10\texit=0\tseconds=1.000
+2026-11-25T23:40:01.001Z\tstart\tB\tJOB\t0\t11\tcommand=/bin/true
+2026-11-25T23:40:03.001Z\tend\tB\tJOB\t0\t11\texit=0\tseconds=2.000
+";
+    let wanted = format!(in alloc;
+        "took 3.001 s, 2.000 s of it in the phases of the critical path
+busy 3.000 s in 2 phases, at most 1 at once
+without limits it would have taken at least 2.000 s
+
+critical path
+    waited   seconds
+     1.001     2.000  {row}
+
+longest kinds
+     3.000 s  2 of a.sub
+"
+    )?;
+    shows(rt, alloc, dag, log, Form::Summary, wanted.as_str())
+}
+
+/// The limit of a category held a node back; and where there is none, nobody says so.
+#[test]
+fn summary_under_the_limit_of_a_category(rt: HostRuntime) -> Result<(), Fail> {
+    let alloc = rt.alloc();
+    let limited = "JOB A a.sub\nJOB B a.sub\nCATEGORY A heavy\nCATEGORY B heavy\nMAXJOBS heavy 1\n";
+    shows_two(
+        &rt,
+        alloc,
+        limited,
+        "B JOB 0  for its turn: limit 1 on jobs of heavy",
+    )?;
+    let wide = "JOB A a.sub\nJOB B a.sub\nCATEGORY A heavy\nCATEGORY B heavy\nMAXJOBS heavy 2\n";
+    shows_two(&rt, alloc, wide, "B JOB 0")?;
+    shows_two(&rt, alloc, "JOB A a.sub\nJOB B a.sub\n", "B JOB 0")
 }
 
 /// One phase that took no time, and none.

@@ -1,6 +1,6 @@
 //! What pages show: their rows, what is escaped, and what their drawings leave out.
 
-use report_page::{NodeState, Page, PhaseBar, PhaseEnd, RoundState, Row, page_text};
+use report_page::{LimitRow, NodeState, Page, PhaseBar, PhaseEnd, RoundState, Row, page_text};
 use std::alloc::{AllocError, Global};
 
 /// A node that is done, of which no log says anything.
@@ -32,6 +32,7 @@ fn page<'a>(rows: &'a [Row<'a>], phases: &'a [PhaseBar<'a>]) -> Page<'a> {
         warnings: "",
         rows,
         phases,
+        limits: &[],
         why: "",
         digest: "0f1e",
         confirmed: Some(true),
@@ -82,6 +83,39 @@ fn a_row_is_escaped(rt: HostRuntime) -> Result<(), AllocError> {
     assert!(rt;
         text.as_str().contains(
             "<li class=\"plain\"><b>1</b> nodes</li>\n<li class=\"error\"><b>1</b> ERROR</li>\n</ul>"
+        )
+    );
+    Ok(())
+}
+
+#[test]
+fn a_page_says_how_full_limits_were(rt: HostRuntime) -> Result<(), AllocError> {
+    let rows = alone(rt.alloc(), 1)?;
+    let none = page_text(rt.alloc(), &page(&rows, &[]))?;
+    assert!(rt; !none.as_str().contains("<h2>Limits</h2>"));
+    let limits = [
+        LimitRow {
+            what: "jobs",
+            category: None,
+            limit: 3,
+            most: 3,
+        },
+        LimitRow {
+            what: "jobs",
+            category: Some("<a>"),
+            limit: 2,
+            most: 1,
+        },
+    ];
+    let wanted = Page {
+        limits: &limits,
+        ..page(&rows, &[])
+    };
+    let text = page_text(rt.alloc(), &wanted)?;
+    assert!(rt;
+        text.as_str().contains(
+            "<h2>Limits</h2>\n<ul>\n<li class=\"ready\"><b>3 of 3</b> jobs at once</li>\n\
+<li class=\"plain\"><b>1 of 2</b> jobs of &lt;a&gt; at once</li>\n</ul>\n<h2>Nodes</h2>"
         )
     );
     Ok(())

@@ -8,3 +8,6 @@ returns-in_err-file g c = by-fault (IsRefusalOf c.args.name.now) Memory refusing
 
 pub returns-in_err-draft : goal.returns-in_err-draft
 returns-in_err-draft g c = by-fault (IsRefusalOf c.args.name.now) Memory refusing_had_no_memory c.from_residual-in_err-draft.result c.from_residual-in_err-draft.ensures.1
+
+pub returns-in_err-dag : goal.returns-in_err-dag
+returns-in_err-dag g c = by-fault (IsRefusalOf c.args.name.now) Memory refusing_had_no_memory c.from_residual-in_err-dag.result c.from_residual-in_err-dag.ensures.1

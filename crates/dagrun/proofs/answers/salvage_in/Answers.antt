@@ -1,12 +1,11 @@
 use Rattle.std.proofs.Common.{sym, subst}
 use Rattle.dag_main_check.specs.declared.fault.RunFault.{RunFault}
 use Rattle.dag_main_check.specs.declared.fault.RunFault.TheVariants.{Memory}
-use Rattle.dag_main_files.specs.Beside.{reading_had_no_memory}
 use Rattle.salvage.specs.declared.fault.SalvageFault.TheVariants.{Refused}
 use Rattle.salvage.specs.Sight.{any_files, held_files, held_files_if}
 use Rattle.dag_main_check.proofs.Refusals.{handed-on, weaker}
 use Rattle.dagrun.specs.Answered.{salvaged}
-use Rattle.salvage.specs.Refused.{IsSalvageFault, system_refuses}
+use Rattle.salvage.specs.Refused.{IsSalvageFault, making_had_no_memory}
 use Rattle.salvage.proofs.Sights.{fault-of-any, fault-of-held}
 use Rattle.dagrun.proofs.Salvages.{line-warned}
 use Rattle.dagrun.proofs.answers.salvage_in.Goals as goal
@@ -19,7 +18,7 @@ returns-in-Ok-clause-held g c = λ honest. salvaged _ _ _ (c.in-Ok.ensures.held 
 
 pub returns-in_err-own-in-Err-clause-refused : goal.returns-in_err-own-in-Err-clause-refused
 returns-in_err-own-in-Err-clause-refused g c =
-    let path = c.args.place.now.top.now in
+    let path = c.args.dag.now in
     let honest = g.F.Folder.honest c.args.folder.now in
     let holds = g.F.Folder.holds c.args.folder.now in
     let has = g.F.Folder.has c.args.folder.now in
@@ -29,7 +28,7 @@ returns-in_err-own-in-Err-clause-refused g c =
 
 pub returns-in_err-own-in-Err-clause-refused_held : goal.returns-in_err-own-in-Err-clause-refused_held
 returns-in_err-own-in-Err-clause-refused_held g c = λ premise.
-    let path = c.args.place.now.top.now in
+    let path = c.args.dag.now in
     let honest = g.F.Folder.honest c.args.folder.now in
     let holds = g.F.Folder.holds c.args.folder.now in
     let has = g.F.Folder.has c.args.folder.now in
@@ -39,7 +38,7 @@ returns-in_err-own-in-Err-clause-refused_held g c = λ premise.
 
 pub returns-in_ok-own-in-Err-clause-answered : goal.returns-in_ok-own-in-Err-clause-answered
 returns-in_ok-own-in-Err-clause-answered g c =
-    let path = c.args.place.now.top.now in
+    let path = c.args.dag.now in
     let honest = g.F.Folder.honest c.args.folder.now in
     let holds = g.F.Folder.holds c.args.folder.now in
     let has = g.F.Folder.has c.args.folder.now in
@@ -49,7 +48,7 @@ returns-in_ok-own-in-Err-clause-answered g c =
 
 pub returns-in_ok-own-in-Err-clause-held : goal.returns-in_ok-own-in-Err-clause-held
 returns-in_ok-own-in-Err-clause-held g c = λ premise.
-    let path = c.args.place.now.top.now in
+    let path = c.args.dag.now in
     let honest = g.F.Folder.honest c.args.folder.now in
     let holds = g.F.Folder.holds c.args.folder.now in
     let has = g.F.Folder.has c.args.folder.now in
@@ -59,12 +58,12 @@ returns-in_ok-own-in-Err-clause-held g c = λ premise.
 
 pub returns-in_ok-own-in-Err-clause-refused : goal.returns-in_ok-own-in-Err-clause-refused
 returns-in_ok-own-in-Err-clause-refused g c =
-    weaker (λ fault. IsSalvageFault c.args.ended any_files c.args.place.now.top.now (Refused fault)) c.not_salvaged.result c.not_salvaged.ensures.err
-    (λ fault is. subst (λ (f : RunFault). IsSalvageFault c.args.ended any_files c.args.place.now.top.now (Refused f)) (sym is) (system_refuses Memory reading_had_no_memory))
+    weaker (λ fault. IsSalvageFault c.args.ended any_files c.args.dag.now (Refused fault)) c.not_salvaged.result c.not_salvaged.ensures.err
+    (λ fault is. subst (λ (f : RunFault). IsSalvageFault c.args.ended any_files c.args.dag.now (Refused f)) (sym is) making_had_no_memory)
 
 pub returns-in_ok-own-in-Err-clause-refused_held : goal.returns-in_ok-own-in-Err-clause-refused_held
 returns-in_ok-own-in-Err-clause-refused_held g c = λ premise.
-    let path = c.args.place.now.top.now in
+    let path = c.args.dag.now in
     let sight = held_files (g.F.Folder.holds c.args.folder.now) (g.F.Folder.has c.args.folder.now) path in
     weaker (λ fault. IsSalvageFault c.args.ended sight path (Refused fault)) c.not_salvaged.result c.not_salvaged.ensures.err
-    (λ fault is. subst (λ (f : RunFault). IsSalvageFault c.args.ended sight path (Refused f)) (sym is) (system_refuses Memory reading_had_no_memory))
+    (λ fault is. subst (λ (f : RunFault). IsSalvageFault c.args.ended sight path (Refused f)) (sym is) making_had_no_memory)

@@ -6,10 +6,10 @@ use Rattle.dag_main_inspect.specs.Asked.{no_last_round, not_told, held_no_last_r
 use Rattle.dag_main_inspect.specs.declared.by_journal.Question.TheVariants.{Status}
 use Rattle.dag_main_inspect.proofs.Rounds.{same-round, not-answered}
 use Rattle.redo.specs.Numbers.{IsNextNumber, IsNextNumberIn}
-use Rattle.redo.specs.Answered.{IsFoundBy, IsRedoReport, IsNotWritten, IsRedoFault, not_answered, of_round, of_held, IsRedoFaultHeld, held_not_answered}
+use Rattle.redo.specs.Answered.{IsFoundBy, IsRedoReport, IsNotWritten, IsRedoFault, not_answered, not_written, of_round, of_held, IsRedoFaultHeld, held_not_answered, held_not_written}
 use Rattle.redo.specs.declared.here.Found.{Found}
 use Rattle.dag_main_check.proofs.Refusals.{weaker}
-use Rattle.redo.proofs.Answers.{redone-so, unknown-so, not-written, not-written-held}
+use Rattle.redo.proofs.Answers.{redone-so, unknown-so}
 use Rattle.dag_main_files.specs.Opened.{IsOfFiles, IsOfSome}
 use Rattle.dag_main_files.proofs.OpenedFiles.{said-more}
 use Rattle.redo.proofs.here.redo_locked.Goals as goal
@@ -45,14 +45,14 @@ returns-in-Ok-Marked-clause-held g c = λ honest.
 
 pub returns-in-Ok-Marked-clause-refused : goal.returns-in-Ok-Marked-clause-refused
 returns-in-Ok-Marked-clause-refused g c =
-    weaker (IsRedoFault c.args.place.now.top.now) c.write_marked.result c.write_marked.ensures.refused (λ fault why. not-written c.args.place.now.top.now c.bytes_in.result.now fault why)
+    weaker (IsRedoFault c.args.place.now.top.now) c.write_marked.result c.write_marked.ensures.refused (λ fault why. not_written c.bytes_in.result.now fault why)
 
 pub returns-in-Ok-Marked-clause-refused_held : goal.returns-in-Ok-Marked-clause-refused_held
 returns-in-Ok-Marked-clause-refused_held g c = λ honest.
     weaker (IsRedoFaultHeld (g.F.Folder.holds c.args.folder.now) c.args.place.now.top.now) c.write_marked.result c.write_marked.ensures.refused
-    (λ fault why. not-written-held (g.F.Folder.holds c.args.folder.now) c.args.place.now.top.now (option_map (λ b. b.now) c.as_deref-rescue.result) (option_map (λ b. b.now) c.as_deref-journal.result)
-    (same-round _ _ _ _ _ _ (c.in_ok-round.ensures.round honest) c.as_deref-journal.ensures.value c.as_deref-rescue.ensures.value) fault
-    (subst (λ (b : List ℕ). IsNotWritten b fault) c.bytes_in.ensures why))
+    (λ fault why. held_not_written (option_map (λ b. b.now) c.as_deref-rescue.result) (option_map (λ b. b.now) c.as_deref-journal.result) fault
+    (same-round _ _ _ _ _ _ (c.in_ok-round.ensures.round honest) c.as_deref-journal.ensures.value c.as_deref-rescue.ensures.value)
+    (subst (λ (b : List ℕ). IsNotWritten c.args.place.now.top.now b fault) c.bytes_in.ensures why))
 
 pub returns-in-Ok-Unknown-clause-redone : goal.returns-in-Ok-Unknown-clause-redone
 returns-in-Ok-Unknown-clause-redone g c =

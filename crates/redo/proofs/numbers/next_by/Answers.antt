@@ -2,7 +2,7 @@ use Rattle.std.proofs.Common.{◌≤◌}
 use Rattle.std.proofs.lemmas.Result.{IfOk-weaker}
 use Rattle.dag_main_check.proofs.Refusals.{weaker}
 use Rattle.dag_main_files.specs.Folder.{IsHighestThere}
-use Rattle.redo.specs.Numbers.{folder_refused}
+use Rattle.redo.specs.Numbers.{folder_not_seen}
 use Rattle.redo.proofs.Numbered.{in-header, over-is, in-folder, none-in-header}
 use Rattle.redo.proofs.numbers.next_by.Goals as goal
 
@@ -17,7 +17,7 @@ returns-then-peek-clause-held g c = λ honest.
     (c.next_in_folder.ensures.held honest)
 
 pub returns-then-peek-clause-refused : goal.returns-then-peek-clause-refused
-returns-then-peek-clause-refused g c = weaker _ c.next_in_folder.result c.next_in_folder.ensures.refused (λ fault why. λ journal reads. folder_refused fault why)
+returns-then-peek-clause-refused g c = weaker _ c.next_in_folder.result c.next_in_folder.ensures.refused (λ fault why. λ journal reads. folder_not_seen fault why)
 
 pub returns-clause-next : goal.returns-clause-next
 returns-clause-next g c =
@@ -30,4 +30,4 @@ returns-clause-held g c = λ honest.
 
 pub returns-clause-refused : goal.returns-clause-refused
 returns-clause-refused g c =
-    weaker _ c.next_in_header.result c.next_in_header.ensures.refused (λ fault why. λ journal reads. none-in-header journal c.args.peek.now fault reads c.if-peek.false why)
+    weaker _ c.next_in_header.result c.next_in_header.ensures.refused (λ fault why. λ journal reads. none-in-header c.args.top.now journal c.args.peek.now fault reads c.if-peek.false why)

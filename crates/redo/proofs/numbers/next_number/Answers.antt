@@ -6,13 +6,13 @@ use Rattle.event_journal_log.specs.Peeks.{ReadsPeek}
 use Rattle.dag_main_check.proofs.Refusals.{weaker}
 use Rattle.dag_main_files.specs.Folder.{IsHighestThere}
 use Rattle.dag_main_files.proofs.RunFaults.{by-fault}
-use Rattle.redo.specs.Numbers.{IsNoNextNumber, journal_unread, folder_refused}
+use Rattle.redo.specs.Numbers.{IsNoNextNumber, journal_unread, folder_not_seen}
 use Rattle.redo.proofs.Numbered.{none-is, in-folder}
 use Rattle.redo.proofs.numbers.next_number.Goals as goal
 
 pub returns-in_err-peek-clause-refused : goal.returns-in_err-peek-clause-refused
 returns-in_err-peek-clause-refused g c =
-    by-fault (IsNoNextNumber c.args.journal.now) c.in_err-peek.field-0.0 (journal_unread _ c.in_err-peek.ensures.refused) c.from_residual.result c.from_residual.ensures.1
+    by-fault (IsNoNextNumber c.args.top.now c.args.journal.now) c.in_err-peek.field-0.0 (journal_unread _ c.in_err-peek.ensures.refused) c.from_residual.result c.from_residual.ensures.1
 
 pub returns-in-Some-clause-next : goal.returns-in-Some-clause-next
 returns-in-Some-clause-next g c =
@@ -42,4 +42,4 @@ returns-in-None-clause-held g c = λ honest.
     (c.next_in_folder.ensures.held honest)
 
 pub returns-in-None-clause-refused : goal.returns-in-None-clause-refused
-returns-in-None-clause-refused g c = weaker _ c.next_in_folder.result c.next_in_folder.ensures.refused (λ fault why. folder_refused fault why)
+returns-in-None-clause-refused g c = weaker _ c.next_in_folder.result c.next_in_folder.ensures.refused (λ fault why. folder_not_seen fault why)

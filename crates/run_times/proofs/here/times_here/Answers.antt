@@ -57,6 +57,10 @@ pub returns-in_err-path-clause-refused : goal.returns-in_err-path-clause-refused
 returns-in_err-path-clause-refused g c =
     by-fault (IsTimesFault c.args.top.now) Memory (no_log _ refusing_had_no_memory) c.from_residual-in_err-path.result c.from_residual-in_err-path.ensures.1
 
+pub returns-in_err-limits-clause-refused : goal.returns-in_err-limits-clause-refused
+returns-in_err-limits-clause-refused g c =
+    by-fault (IsTimesFault c.args.top.now) Memory (no_log _ refusing_had_no_memory) c.from_residual-in_err-limits.result c.from_residual-in_err-limits.ensures.1
+
 pub returns-in_err-text_of-clause-refused : goal.returns-in_err-text_of-clause-refused
 returns-in_err-text_of-clause-refused g c =
     by-fault (IsTimesFault c.args.top.now) Memory (no_log _ refusing_had_no_memory) c.from_residual-in_err-text_of.result c.from_residual-in_err-text_of.ensures.1
@@ -68,7 +72,7 @@ returns-in_err-warning_text-clause-refused g c =
 pub returns-clause-told : goal.returns-clause-told
 returns-clause-told g c =
     let shown = shown-of c.in_ok-log.log.items _ c.in_ok-plan.plan.graph _ c.args.form _ c.in_ok-runs.runs.items _ _ c.in_ok-path.path.items _ c.as_slice.ensures.value c.in_ok-runs.ensures
-    c.graph-graph.ensures.is c.deref.ensures.value c.deref-2.ensures.value c.deref-3.ensures.value c.in_ok-path.ensures c.in_ok-text_of.ensures in
+    c.graph-graph.ensures.is c.deref.ensures.value c.deref-3.ensures.value c.deref-4.ensures.value c.in_ok-path.ensures c.in_ok-text_of.ensures in
     let warned = c.in_ok-warning_text.ensures ∙ ap warning_lines (c.warnings.ensures ∙ ap (λ (d : Dag). d.warnings) (c.flat.ensures ∙ ap (λ (n : Network). n.dag) c.graph-graph.ensures.is)) in
     record {
       log = c.in_ok-log.log.items;
@@ -81,7 +85,7 @@ returns-clause-told g c =
 pub returns-clause-held : goal.returns-clause-held
 returns-clause-held g c = λ honest.
     let shown = shown-of c.in_ok-log.log.items _ c.in_ok-plan.plan.graph _ c.args.form _ c.in_ok-runs.runs.items _ _ c.in_ok-path.path.items _ c.as_slice.ensures.value c.in_ok-runs.ensures
-    c.graph-graph.ensures.is c.deref.ensures.value c.deref-2.ensures.value c.deref-3.ensures.value c.in_ok-path.ensures c.in_ok-text_of.ensures in
+    c.graph-graph.ensures.is c.deref.ensures.value c.deref-3.ensures.value c.deref-4.ensures.value c.in_ok-path.ensures c.in_ok-text_of.ensures in
     let warned = c.in_ok-warning_text.ensures ∙ ap warning_lines (c.warnings.ensures ∙ ap (λ (d : Dag). d.warnings) (c.flat.ensures ∙ ap (λ (n : Network). n.dag) c.graph-graph.ensures.is)) in
     record {
       log = c.in_ok-log.log.items;
@@ -108,6 +112,10 @@ returns-in_err-runs-clause-refused_held g c = λ honest.
 pub returns-in_err-path-clause-refused_held : goal.returns-in_err-path-clause-refused_held
 returns-in_err-path-clause-refused_held g c = λ honest.
     by-fault (IsTimesFaultHeld (g.F.Folder.holds c.args.folder.now) c.args.top.now) Memory (held_no_log _ refusing_unheld_had_no_memory) c.from_residual-in_err-path.result c.from_residual-in_err-path.ensures.1
+
+pub returns-in_err-limits-clause-refused_held : goal.returns-in_err-limits-clause-refused_held
+returns-in_err-limits-clause-refused_held g c = λ honest.
+    by-fault (IsTimesFaultHeld (g.F.Folder.holds c.args.folder.now) c.args.top.now) Memory (held_no_log _ refusing_unheld_had_no_memory) c.from_residual-in_err-limits.result c.from_residual-in_err-limits.ensures.1
 
 pub returns-in_err-text_of-clause-refused_held : goal.returns-in_err-text_of-clause-refused_held
 returns-in_err-text_of-clause-refused_held g c = λ honest.

@@ -3,9 +3,8 @@ use Rattle.std.specs.Prelude.{max}
 use Rattle.std.proofs.lemmas.Option.{slice_get-get_or}
 use Rattle.run_times.specs.declared.runs.PhaseRun.{PhaseRun}
 use Rattle.run_times.specs.Slots.{run_end}
-use Rattle.run_times.specs.Load.{AreInOrder, count_until, running_at}
+use Rattle.run_times.specs.Load.{AreInOrder, count_until, most_running, running_at}
 use Rattle.run_times.specs.Parts.{begun_in}
-use Rattle.run_times.specs.Summary.{most_running}
 use Rattle.run_times.proofs.Levels.{until-same}
 use Rattle.run_times.proofs.load.most_running.Goals as goal
 

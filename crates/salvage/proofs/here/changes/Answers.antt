@@ -1,6 +1,5 @@
-use Rattle.std.proofs.Common.{◌<◌, [], length, arith, subst, sym, string_bytes}
+use Rattle.std.proofs.Common.{◌≡◌, ◌<◌, [], length, arith, refl, subst, sym, string_bytes}
 use Rattle.dag_main_check.specs.declared.fault.RunFault.TheVariants.{Memory}
-use Rattle.dag_main_files.specs.Beside.{IsFileFault, reading_had_no_memory}
 use Rattle.dag_main_files.proofs.RunFaults.{by-fault}
 use Rattle.salvage.specs.Salvaged.{AreChanges, no_files, any_change, IsChangeFrom}
 use Rattle.salvage.proofs.Changes.{more-changes}
@@ -25,7 +24,9 @@ loop-file-preserved g c =
     )
 
 pub returns-in_err-change-clause-refused : goal.returns-in_err-change-clause-refused
-returns-in_err-change-clause-refused g c = by-fault IsFileFault c.in_err-change.field-0.0 c.in_err-change.ensures.refused c.from_residual.result c.from_residual.ensures.1
+returns-in_err-change-clause-refused g c =
+    by-fault (λ fault. fault ≡ Memory) c.in_err-change.field-0.0 c.in_err-change.ensures.refused c.from_residual.result c.from_residual.ensures.1
 
 pub returns-in_err-push_change-clause-refused : goal.returns-in_err-push_change-clause-refused
-returns-in_err-push_change-clause-refused g c = by-fault IsFileFault Memory reading_had_no_memory c.from_residual-in_err-push_change.result c.from_residual-in_err-push_change.ensures.1
+returns-in_err-push_change-clause-refused g c =
+    by-fault (λ fault. fault ≡ Memory) Memory refl c.from_residual-in_err-push_change.result c.from_residual-in_err-push_change.ensures.1

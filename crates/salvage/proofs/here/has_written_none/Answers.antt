@@ -1,28 +1,34 @@
 use Rattle.std.proofs.Common.{◌∙◌, List, ℕ, ap, sym, subst}
 use Rattle.std.specs.Option.{option_map}
 use Rattle.rescue_file.specs.Numbered.{rescue_name_of}
+use Rattle.dag_main_check.specs.declared.fault.RunFault.{RunFault}
 use Rattle.dag_main_check.specs.declared.fault.RunFault.TheVariants.{Memory}
-use Rattle.dag_main_files.specs.Beside.{IsFileFault, reading_had_no_memory}
+use Rattle.dag_main_files.specs.Beside.{IsRefusalOf}
 use Rattle.salvage.specs.declared.fault.SalvageFault.TheVariants.{Refused, Ended}
-use Rattle.salvage.specs.Refused.{IsSalvageFault, rescue_is_written, system_refuses}
+use Rattle.salvage.specs.Refused.{IsSalvageFault, rescue_is_written, rescue_not_written, making_had_no_memory}
 use Rattle.salvage.specs.Sight.{held_files_if}
 use Rattle.salvage.proofs.Refusals.{told-as}
 use Rattle.salvage.proofs.here.has_written_none.Goals as goal
 
 pub returns-in_err-path-clause-refused : goal.returns-in_err-path-clause-refused
 returns-in_err-path-clause-refused g c =
-    told-as (IsSalvageFault c.args.too (held_files_if (g.F.Folder.honest c.args.folder.now) (g.F.Folder.holds c.args.folder.now) (g.F.Folder.has c.args.folder.now) c.args.top.now) c.args.top.now) (Refused c.in_err-path.field-0.0)
-    (system_refuses _ (subst IsFileFault (sym c.in_err-path.ensures.err) reading_had_no_memory)) c.from_residual.result c.from_residual.ensures.1
+    let sight = held_files_if (g.F.Folder.honest c.args.folder.now) (g.F.Folder.holds c.args.folder.now) (g.F.Folder.has c.args.folder.now) c.args.top.now in
+    told-as (IsSalvageFault c.args.too sight c.args.top.now) (Refused c.in_err-path.field-0.0)
+    (subst (λ (f : RunFault). IsSalvageFault c.args.too sight c.args.top.now (Refused f)) (sym c.in_err-path.ensures.err) making_had_no_memory)
+    c.from_residual.result c.from_residual.ensures.1
 
 pub returns-in_err-_bytes-clause-refused : goal.returns-in_err-_bytes-clause-refused
 returns-in_err-_bytes-clause-refused g c =
-    told-as (IsSalvageFault c.args.too (held_files_if (g.F.Folder.honest c.args.folder.now) (g.F.Folder.holds c.args.folder.now) (g.F.Folder.has c.args.folder.now) c.args.top.now) c.args.top.now) (Refused c.in_err-_bytes.field-0.0)
-    (system_refuses _ c.in_err-_bytes.ensures.refused) c.from_residual-in_err-_bytes.result c.from_residual-in_err-_bytes.ensures.1
+    let sight = held_files_if (g.F.Folder.honest c.args.folder.now) (g.F.Folder.holds c.args.folder.now) (g.F.Folder.has c.args.folder.now) c.args.top.now in
+    told-as (IsSalvageFault c.args.too sight c.args.top.now) (Refused c.in_err-_bytes.field-0.0)
+    (rescue_not_written _ _ _ _ _ _ _ c.requires.journal c.requires.left
+    (subst (λ (name : List ℕ). IsRefusalOf name c.in_err-_bytes.field-0.0) (c.as_str.ensures ∙ c.in_ok-path.ensures.name) c.in_err-_bytes.ensures.named))
+    c.from_residual-in_err-_bytes.result c.from_residual-in_err-_bytes.ensures.1
 
 pub returns-in_err-journal_path-in-Some-clause-refused : goal.returns-in_err-journal_path-in-Some-clause-refused
 returns-in_err-journal_path-in-Some-clause-refused g c =
-    told-as (IsSalvageFault c.args.too (held_files_if (g.F.Folder.honest c.args.folder.now) (g.F.Folder.holds c.args.folder.now) (g.F.Folder.has c.args.folder.now) c.args.top.now) c.args.top.now) (Refused Memory)
-    (system_refuses _ reading_had_no_memory) c.from_residual-in_err-journal_path-in-Some.result c.from_residual-in_err-journal_path-in-Some.ensures.1
+    told-as (IsSalvageFault c.args.too (held_files_if (g.F.Folder.honest c.args.folder.now) (g.F.Folder.holds c.args.folder.now) (g.F.Folder.has c.args.folder.now) c.args.top.now) c.args.top.now) (Refused Memory) making_had_no_memory
+    c.from_residual-in_err-journal_path-in-Some.result c.from_residual-in_err-journal_path-in-Some.ensures.1
 
 pub returns-in-Some-clause-refused : goal.returns-in-Some-clause-refused
 returns-in-Some-clause-refused g c =

@@ -1,8 +1,7 @@
 use Rattle.std.proofs.Common.{◌∙◌, List, ℕ, Some, ap}
 use Rattle.round_inputs.specs.Inputs.{inputs_text_of}
-use Rattle.dag_main_files.proofs.RunFaults.{input-is-file}
 use Rattle.salvage.specs.declared.fault.SalvageFault.TheVariants.{Refused}
-use Rattle.salvage.specs.Refused.{IsSalvageFault, no_round, round_refused, system_refuses, no_inputs}
+use Rattle.salvage.specs.Refused.{IsSalvageFault, no_round, round_refused, no_standard_input, no_inputs}
 use Rattle.salvage.specs.Sight.{held_files_if}
 use Rattle.salvage.proofs.Refusals.{told-as}
 use Rattle.salvage.proofs.here.read_round.Goals as goal
@@ -20,7 +19,7 @@ returns-in_err-inputs-clause-refused g c =
 pub returns-in_err-files-clause-refused : goal.returns-in_err-files-clause-refused
 returns-in_err-files-clause-refused g c =
     told-as (IsSalvageFault c.args.too (held_files_if (g.F.Folder.honest c.args.folder.now) (g.F.Folder.holds c.args.folder.now) (g.F.Folder.has c.args.folder.now) c.args.top.now) c.args.top.now) (Refused c.in_err-files.field-0.0)
-    (system_refuses _ (input-is-file _ _ c.in_err-files.ensures.refused))
+    (no_standard_input _ c.in_err-files.ensures.refused)
     c.from_residual-in_err-files.result c.from_residual-in_err-files.ensures.1
 
 pub returns-in_err-made-clause-refused : goal.returns-in_err-made-clause-refused

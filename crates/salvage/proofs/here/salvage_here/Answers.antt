@@ -1,20 +1,20 @@
 use Rattle.std.proofs.Common.{◌∙◌, inr, List, ℕ, ap, sym, subst}
 use Rattle.dag_main_check.specs.declared.fault.RunFault.TheVariants.{Memory}
-use Rattle.dag_main_files.specs.Beside.{IsFileFault, reading_had_no_memory}
+use Rattle.dag_main_check.specs.declared.fault.RunFault.{RunFault}
 use Rattle.salvage.specs.declared.fault.SalvageFault.TheVariants.{Refused, NoJournal}
-use Rattle.salvage.specs.Refused.{IsSalvageFault, no_round, has_no_journal, another_is_at_work, system_refuses}
+use Rattle.salvage.specs.Refused.{IsSalvageFault, no_round, has_no_journal, file_in_the_way, another_is_at_work, making_had_no_memory}
 use Rattle.salvage.specs.Sight.{held_files_if}
 use Rattle.salvage.proofs.Refusals.{told-as}
 use Rattle.salvage.proofs.here.salvage_here.Goals as goal
 
 pub returns-in_err-journal-clause-refused : goal.returns-in_err-journal-clause-refused
 returns-in_err-journal-clause-refused g c =
-    told-as (IsSalvageFault c.args.too (held_files_if (g.F.Folder.honest c.args.folder.now) (g.F.Folder.holds c.args.folder.now) (g.F.Folder.has c.args.folder.now) c.args.place.now.top.now) c.args.place.now.top.now) (Refused Memory) (system_refuses _ reading_had_no_memory) c.from_residual.result c.from_residual.ensures.1
+    told-as (IsSalvageFault c.args.too (held_files_if (g.F.Folder.honest c.args.folder.now) (g.F.Folder.holds c.args.folder.now) (g.F.Folder.has c.args.folder.now) c.args.place.now.top.now) c.args.place.now.top.now) (Refused Memory) making_had_no_memory c.from_residual.result c.from_residual.ensures.1
 
 pub returns-in_err-is_there-clause-refused : goal.returns-in_err-is_there-clause-refused
 returns-in_err-is_there-clause-refused g c =
     told-as (IsSalvageFault c.args.too (held_files_if (g.F.Folder.honest c.args.folder.now) (g.F.Folder.holds c.args.folder.now) (g.F.Folder.has c.args.folder.now) c.args.place.now.top.now) c.args.place.now.top.now) (Refused c.in_err-is_there.field-0.0)
-    (system_refuses _ (subst IsFileFault (sym c.in_err-is_there.ensures.refused) reading_had_no_memory))
+    (subst (λ (f : RunFault). IsSalvageFault c.args.too (held_files_if (g.F.Folder.honest c.args.folder.now) (g.F.Folder.holds c.args.folder.now) (g.F.Folder.has c.args.folder.now) c.args.place.now.top.now) c.args.place.now.top.now (Refused f)) (sym c.in_err-is_there.ensures.refused) making_had_no_memory)
     c.from_residual-in_err-is_there.result c.from_residual-in_err-is_there.ensures.1
 
 pub returns-then-not-branch-clause-refused : goal.returns-then-not-branch-clause-refused
@@ -25,7 +25,7 @@ returns-then-not-branch-clause-refused g c =
 
 pub returns-in_err-has_own_files-clause-refused : goal.returns-in_err-has_own_files-clause-refused
 returns-in_err-has_own_files-clause-refused g c =
-    told-as (IsSalvageFault c.args.too (held_files_if (g.F.Folder.honest c.args.folder.now) (g.F.Folder.holds c.args.folder.now) (g.F.Folder.has c.args.folder.now) c.args.place.now.top.now) c.args.place.now.top.now) (Refused c.in_err-has_own_files.field-0.0) (system_refuses _ c.in_err-has_own_files.ensures)
+    told-as (IsSalvageFault c.args.too (held_files_if (g.F.Folder.honest c.args.folder.now) (g.F.Folder.holds c.args.folder.now) (g.F.Folder.has c.args.folder.now) c.args.place.now.top.now) c.args.place.now.top.now) (Refused c.in_err-has_own_files.field-0.0) (file_in_the_way _ c.in_err-has_own_files.ensures)
     c.from_residual-in_err-has_own_files.result c.from_residual-in_err-has_own_files.ensures.1
 
 pub returns-in_err-lock-clause-refused : goal.returns-in_err-lock-clause-refused

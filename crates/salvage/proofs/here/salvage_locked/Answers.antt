@@ -1,10 +1,9 @@
-use Rattle.dag_main_files.proofs.RunFaults.{refusal-is-file}
 use Rattle.std.proofs.Common.{◌∙◌, ◌++◌, ℕ, List, refl, ap, sym, subst, string_bytes}
-use Rattle.dag_main_files.specs.Beside.{IsFileFault, reading_had_no_memory}
+use Rattle.dag_main_check.specs.declared.fault.RunFault.{RunFault}
 use Rattle.rescue_file.specs.Numbered.{rescue_name_of}
 use Rattle.salvage.specs.Salvaged.{report_line}
 use Rattle.salvage.specs.declared.fault.SalvageFault.TheVariants.{Refused}
-use Rattle.salvage.specs.Refused.{IsSalvageFault, system_refuses}
+use Rattle.salvage.specs.Refused.{IsSalvageFault, rescue_not_written, journal_not_put_away, making_had_no_memory}
 use Rattle.salvage.specs.Sight.{held_files_if}
 use Rattle.salvage.proofs.Refusals.{told-as}
 use Rattle.salvage.proofs.here.salvage_locked.Goals as goal
@@ -53,20 +52,28 @@ returns-in_err-found-clause-refused g c =
 
 pub returns-in_err-changes-clause-refused : goal.returns-in_err-changes-clause-refused
 returns-in_err-changes-clause-refused g c =
-    told-as (IsSalvageFault c.args.too (held_files_if (g.F.Folder.honest c.args.folder.now) (g.F.Folder.holds c.args.folder.now) (g.F.Folder.has c.args.folder.now) c.args.place.now.top.now) c.args.place.now.top.now) (Refused c.in_err-changes.field-0.0) (system_refuses _ c.in_err-changes.ensures.refused)
+    let sight = held_files_if (g.F.Folder.honest c.args.folder.now) (g.F.Folder.holds c.args.folder.now) (g.F.Folder.has c.args.folder.now) c.args.place.now.top.now in
+    told-as (IsSalvageFault c.args.too sight c.args.place.now.top.now) (Refused c.in_err-changes.field-0.0)
+    (subst (λ (f : RunFault). IsSalvageFault c.args.too sight c.args.place.now.top.now (Refused f)) (sym c.in_err-changes.ensures.refused) making_had_no_memory)
     c.from_residual-in_err-changes.result c.from_residual-in_err-changes.ensures.1
 
 pub returns-in_err-text-clause-refused : goal.returns-in_err-text-clause-refused
 returns-in_err-text-clause-refused g c =
-    told-as (IsSalvageFault c.args.too (held_files_if (g.F.Folder.honest c.args.folder.now) (g.F.Folder.holds c.args.folder.now) (g.F.Folder.has c.args.folder.now) c.args.place.now.top.now) c.args.place.now.top.now) (Refused c.in_err-text.field-0.0) (system_refuses _ (subst IsFileFault (sym c.in_err-text.ensures.err) reading_had_no_memory))
+    let sight = held_files_if (g.F.Folder.honest c.args.folder.now) (g.F.Folder.holds c.args.folder.now) (g.F.Folder.has c.args.folder.now) c.args.place.now.top.now in
+    told-as (IsSalvageFault c.args.too sight c.args.place.now.top.now) (Refused c.in_err-text.field-0.0)
+    (subst (λ (f : RunFault). IsSalvageFault c.args.too sight c.args.place.now.top.now (Refused f)) (sym c.in_err-text.ensures.err) making_had_no_memory)
     c.from_residual-in_err-text.result c.from_residual-in_err-text.ensures.1
 
 pub returns-in_err-write_rescue-clause-refused : goal.returns-in_err-write_rescue-clause-refused
 returns-in_err-write_rescue-clause-refused g c =
-    told-as (IsSalvageFault c.args.too (held_files_if (g.F.Folder.honest c.args.folder.now) (g.F.Folder.holds c.args.folder.now) (g.F.Folder.has c.args.folder.now) c.args.place.now.top.now) c.args.place.now.top.now) (Refused c.in_err-write_rescue.field-0.0) (system_refuses _ c.in_err-write_rescue.ensures)
+    let sight = held_files_if (g.F.Folder.honest c.args.folder.now) (g.F.Folder.holds c.args.folder.now) (g.F.Folder.has c.args.folder.now) c.args.place.now.top.now in
+    told-as (IsSalvageFault c.args.too sight c.args.place.now.top.now) (Refused c.in_err-write_rescue.field-0.0)
+    (rescue_not_written _ _ _ _ _ _ _ c.in_ok-found.ensures.journal c.in_ok-found.ensures.left c.in_err-write_rescue.ensures)
     c.from_residual-in_err-write_rescue.result c.from_residual-in_err-write_rescue.ensures.1
 
 pub returns-in_err-put_journal_away-clause-refused : goal.returns-in_err-put_journal_away-clause-refused
 returns-in_err-put_journal_away-clause-refused g c =
-    told-as (IsSalvageFault c.args.too (held_files_if (g.F.Folder.honest c.args.folder.now) (g.F.Folder.holds c.args.folder.now) (g.F.Folder.has c.args.folder.now) c.args.place.now.top.now) c.args.place.now.top.now) (Refused c.in_err-put_journal_away.field-0.0) (system_refuses _ (refusal-is-file _ _ c.in_err-put_journal_away.ensures))
+    let sight = held_files_if (g.F.Folder.honest c.args.folder.now) (g.F.Folder.holds c.args.folder.now) (g.F.Folder.has c.args.folder.now) c.args.place.now.top.now in
+    told-as (IsSalvageFault c.args.too sight c.args.place.now.top.now) (Refused c.in_err-put_journal_away.field-0.0)
+    (journal_not_put_away _ c.in_err-put_journal_away.ensures)
     c.from_residual-in_err-put_journal_away.result c.from_residual-in_err-put_journal_away.ensures.1

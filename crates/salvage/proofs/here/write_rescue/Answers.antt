@@ -1,19 +1,26 @@
-use Rattle.std.proofs.Common.{sym, subst}
+use Rattle.std.proofs.Common.{◌∙◌, sym, subst}
+use Rattle.rescue_file.specs.Numbered.{rescue_name_of}
 use Rattle.dag_main_check.specs.declared.fault.RunFault.TheVariants.{Memory}
-use Rattle.dag_main_files.specs.Beside.{IsFileFault, file_refused, reading_had_no_memory}
+use Rattle.dag_main_files.specs.Beside.{IsRefusalOf, path_refused, refusing_had_no_memory}
 use Rattle.dag_main_files.proofs.RunFaults.{by-fault}
 use Rattle.salvage.proofs.here.write_rescue.Goals as goal
 
 pub returns-in_err-disk : goal.returns-in_err-disk
-returns-in_err-disk g c = by-fault IsFileFault c.in_err-disk.field-0.0 (subst IsFileFault (sym c.in_err-disk.ensures.refused) reading_had_no_memory)
+returns-in_err-disk g c =
+    let name = rescue_name_of c.args.place.now.top.now c.args.number in
+    by-fault (IsRefusalOf name) c.in_err-disk.field-0.0 (subst (IsRefusalOf name) (sym c.in_err-disk.ensures.refused) refusing_had_no_memory)
     c.from_residual.result c.from_residual.ensures.1
 
 pub returns-in_err-path-in-Err : goal.returns-in_err-path-in-Err
-returns-in_err-path-in-Err g c = by-fault IsFileFault c.in_err-path-in-Err.field-0.0 (subst IsFileFault (sym c.in_err-path-in-Err.ensures.err) reading_had_no_memory)
+returns-in_err-path-in-Err g c =
+    let name = rescue_name_of c.args.place.now.top.now c.args.number in
+    by-fault (IsRefusalOf name) c.in_err-path-in-Err.field-0.0 (subst (IsRefusalOf name) (sym c.in_err-path-in-Err.ensures.err) refusing_had_no_memory)
     c.from_residual-in_err-path-in-Err.result c.from_residual-in_err-path-in-Err.ensures.1
 
 pub returns-in_err-from_str-in-Err : goal.returns-in_err-from_str-in-Err
-returns-in_err-from_str-in-Err g c = by-fault IsFileFault Memory reading_had_no_memory c.from_residual-in_err-from_str-in-Err.result c.from_residual-in_err-from_str-in-Err.ensures.1
+returns-in_err-from_str-in-Err g c =
+    by-fault (IsRefusalOf (rescue_name_of c.args.place.now.top.now c.args.number)) Memory refusing_had_no_memory
+    c.from_residual-in_err-from_str-in-Err.result c.from_residual-in_err-from_str-in-Err.ensures.1
 
 pub returns : goal.returns
-returns g c = file_refused c.in_ok-from_str-in-Err.field-0
+returns g c = path_refused c.in_ok-from_str-in-Err.field-0 (c.in_ok-from_str-in-Err.ensures.ok ∙ c.as_str.ensures ∙ c.in_ok-path-in-Err.ensures.name)

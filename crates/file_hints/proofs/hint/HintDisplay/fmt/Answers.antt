@@ -36,3 +36,12 @@ returns-in-WordsInProgram-clause-writes g c = λ plain ok. subst (λ (hint : Hin
 
 pub returns-in-MisspelledMacro-clause-writes : goal.returns-in-MisspelledMacro-clause-writes
 returns-in-MisspelledMacro-clause-writes g c = λ plain ok. subst (λ (hint : Hint). HasWritten g.W.Write.write_str_gives c.args.f.now (hint_text hint) c.write-in-MisspelledMacro.new.self) (sym c.in-MisspelledMacro.is) (c.write-in-MisspelledMacro.ensures.writes plain ok)
+
+pub returns-in-SpecialAsProgram-clause-writes : goal.returns-in-SpecialAsProgram-clause-writes
+returns-in-SpecialAsProgram-clause-writes g c = λ plain ok. subst (λ (hint : Hint). HasWritten g.W.Write.write_str_gives c.args.f.now (hint_text hint) c.write-in-SpecialAsProgram.new.self) (sym c.in-SpecialAsProgram.is) (c.write-in-SpecialAsProgram.ensures.writes plain ok)
+
+pub returns-in-MissingReader-clause-writes : goal.returns-in-MissingReader-clause-writes
+returns-in-MissingReader-clause-writes g c = λ plain ok. subst (λ (hint : Hint). HasWritten g.W.Write.write_str_gives c.args.f.now (hint_text hint) c.write-in-MissingReader.new.self) (sym c.in-MissingReader.is) (c.write-in-MissingReader.ensures.writes plain ok)
+
+pub returns-in-MissingFolder-clause-writes : goal.returns-in-MissingFolder-clause-writes
+returns-in-MissingFolder-clause-writes g c = λ plain ok. subst (λ (hint : Hint). HasWritten g.W.Write.write_str_gives c.args.f.now (hint_text hint) c.write-in-MissingFolder.new.self) (sym c.in-MissingFolder.is) (c.write-in-MissingFolder.ensures.writes plain ok)
