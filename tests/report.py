@@ -245,7 +245,7 @@ MEET = "#!/bin/sh\n: > here.$1.$$\nuntil [ $(ls here.$1.* | wc -l) -ge $2 ]; do 
 def limits(program):
     """Three jobs run at once, two of them of a category, and one PRE script; nothing more may, or could."""
     files = {
-        "x.dag": "JOB A a.sub\nJOB B a.sub\nJOB C a.sub\nJOB D b.sub\nJOB E b.sub\nPARENT A B C CHILD D E\nSCRIPT PRE A true\n"
+        "x.dag": "JOB A a.sub\nJOB B a.sub\nJOB C a.sub\nJOB D b.sub\nJOB E b.sub\nPARENT A B C CHILD D E\nSCRIPT PRE A /bin/true\n"
         "CATEGORY D <wide>\nCATEGORY E <wide>\nMAXJOBS <wide> 2\nCATEGORY A rare\nMAXJOBS rare 7\nMAXJOBS none 1\n",
         "a.sub": "executable = /bin/sh\narguments = meet.sh a 3\nqueue\n",
         "b.sub": "executable = /bin/sh\narguments = meet.sh b 2\nqueue\n",

@@ -860,7 +860,7 @@ def how_the_next_round_begins(folder):
     told = folder.on_terminal("status", "x.dag", columns=200)
     same(told.screen.told()[:2], ["dagrun: J5 OtherInputs", f"{front} a new round, dagrun salvage --ended x.dag keeps what is done for it, {shown}"])
     text, _, status = folder.call("salvage", "--ended", "x.dag")
-    same((text, status), ("2 of 2 nodes are done: x.dag.rescue002\n", 0))
+    same((text, status), ("2 of 2 nodes are done: x.dag.rescue002\nchanged since the round began: B.sub\n", 0))
     same(folder.call("run", "x.dag"), ("A DONE attempts=0 value=-\nB DONE attempts=0 value=-\nresult 0\n", "", 0))
     same(folder.read("a"), b"x\n")
 
