@@ -528,8 +528,11 @@ def waited_by_its_note(folder):
     """`--orphans wait` waits for such a child, too."""
     sleepers(folder, "A")
     sleep_file(folder, "s", 0, "/usr/bin/env", "-i /bin/sleep ")
-    kill_after_start(folder, 1)
-    [child] = sleeping()
+    manager = start(folder, "x.dag")
+    [child] = wait_for_sleeping(1)
+    # Killed before its note, the manager would leave a child that nothing tells from a stranger.
+    wait_until(lambda: started_in(folder) == [child] and str(child).encode() in folder.read("x.dag.children"), "no note is written")
+    kill(manager)
     second = start(folder, "--orphans", "wait", "x.dag")
     time.sleep(0.5)
     same((sleeping(), started_in(folder)), ([child], [child]))
