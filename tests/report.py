@@ -6,6 +6,7 @@ outputs are texts in it and never tags, that it loads nothing, and that its rows
 
 import os
 import re
+import shutil
 import subprocess
 import sys
 import tempfile
@@ -239,13 +240,13 @@ def cut_short(program):
 
 
 # Says that it is there, and waits until so many are.
-MEET = "#!/bin/sh\n: > here.$1.$$\nuntil [ $(ls here.$1.* | wc -l) -ge $2 ]; do sleep 0.05; done\n"
+MEET = "#!/bin/sh\n: > here.$1.$$\nuntil [ $(ls here.$1.* | wc -l) -ge $2 ]; do sleep 0.05; done\nsleep 0.1\n"
 
 
 def limits(program):
-    """Three jobs run at once, two of them of a category, and one PRE script; nothing more may, or could."""
+    """Three jobs run at once, two of them of a category, and one PRE script, each longer than the log's millisecond."""
     files = {
-        "x.dag": "JOB A a.sub\nJOB B a.sub\nJOB C a.sub\nJOB D b.sub\nJOB E b.sub\nPARENT A B C CHILD D E\nSCRIPT PRE A /bin/true\n"
+        "x.dag": "JOB A a.sub\nJOB B a.sub\nJOB C a.sub\nJOB D b.sub\nJOB E b.sub\nPARENT A B C CHILD D E\nSCRIPT PRE A /bin/sleep 0.1\n"
         "CATEGORY D <wide>\nCATEGORY E <wide>\nMAXJOBS <wide> 2\nCATEGORY A rare\nMAXJOBS rare 7\nMAXJOBS none 1\n",
         "a.sub": "executable = /bin/sh\narguments = meet.sh a 3\nqueue\n",
         "b.sub": "executable = /bin/sh\narguments = meet.sh b 2\nqueue\n",
@@ -292,7 +293,42 @@ def many(program):
     print(f"     {nodes} nodes: {len(text)} bytes in {took:.1f} s")
 
 
-ROWS = [("a round that ended", ended), ("an aborted round", aborted), ("no round", not_begun), ("a round that runs", runs), ("a round that was cut short", cut_short), ("limits", limits), ("a refusal", refused), ("5,000 nodes", many)]
+# The elements of SVG, which xmllint doesn't know: it reads HTML 4.
+OF_SVG = re.compile("Tag (svg|path|rect|text) invalid")
+
+
+READERS = [["xmllint", "--html", "--noout", "-"], ["tidy", "-q", "-e", "-utf8"]]
+
+
+def found_by(words, text):
+    """What one of READERS says of a page."""
+    done = subprocess.run(words, input=text.encode(), env=dict(os.environ, LC_ALL="C.UTF-8"), capture_output=True, timeout=PATIENCE)
+    lines = done.stderr.decode().splitlines()
+    # Of a fault xmllint says where it is, then the line, and where in it.
+    return lines if words[0] == "tidy" else [line for line in lines if re.match(r"-:\d+: ", line) and not OF_SVG.search(line)]
+
+
+def other_readers(program):
+    """They find no fault: in a page of odd names and outputs, in one of no round, and in one with folded boxes."""
+    folder = Folder(program, ODD)
+    pages = [folder.call("report", "x.dag")[1]]
+    folder.call("run", "x.dag")
+    pages += [folder.call("report", *words, "x.dag")[1] for words in ([], ["--reload"])]
+    sweep = "".join(f"JOB sample{place} a.sub\nPARENT sample{place} CHILD last\n" for place in range(300))
+    folder = Folder(program, {"x.dag": f"JOB last a.sub\n{sweep}", "a.sub": "executable = /bin/true\nqueue\n"})
+    folder.call("run", "--sync-output", "0", "x.dag")
+    pages.append(folder.call("report", "x.dag")[1])
+    has("the folded page", pages[-1], "300 nodes")
+    for words in READERS:
+        if not shutil.which(words[0]):
+            print(f"     {words[0]} is not installed, so it reads no page")
+            continue
+        same(f"whether {words[0]} finds a fault", bool(found_by(words, "<!DOCTYPE html><title>a</title><p></b>")), True)
+        for text in pages:
+            same(f"what {words[0]} finds", found_by(words, text), [])
+
+
+ROWS = [("a round that ended", ended), ("an aborted round", aborted), ("no round", not_begun), ("a round that runs", runs), ("a round that was cut short", cut_short), ("limits", limits), ("a refusal", refused), ("xmllint and tidy", other_readers), ("5,000 nodes", many)]
 
 
 def main():
