@@ -145,6 +145,10 @@ def times(program, folder):
     phases = object_in(data)["phases"]
     same([(p["node"], p["phase"], str(p["attempt"]), "*" if p["critical"] else "-") for p in phases], [(r[0], r[1], r[2], r[6]) for r in rows])
     same([(f"{p['begin_ms'] / 1000:.3f}", f"{p['ms'] / 1000:.3f}") for p in phases], [(r[3], r[4]) for r in rows])
+    # A table of rounds counts the same phases.
+    rounds, _, code = call(program, folder, "times", "--rounds", "x.dag")
+    failed = [row for row in rows if row[5] not in ("exit 0", "killed", "lost", "runs")]
+    same((code, [line.split("\t")[2:4] for line in rounds.splitlines()[1:]]), (0, [[str(len(rows)), str(len(failed))]]))
     summary, _, code = call(program, folder, "times", "--summary", "x.dag")
     same((code, summary.splitlines()[0] == "no phase was run"), (0, not rows))
 

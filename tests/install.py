@@ -347,7 +347,7 @@ def completion_of_bash(folder):
     same(completed(folder, "dagrun run --"), ["--always-run-post", "--autorescue", "--dorescuefrom", "--help", "--json", "--launcher", "--launcher-final", "--launcher-grace", "--log-limit", "--maxjobs", "--maxpost", "--maxpre", "--orphans", "--progress", "--resume", "--script-output", "--status-every", "--status-file", "--stop-at-first-error", "--sync-output", "--trust-owner"])
     same(completed(folder, "dagrun rehearse --max"), ["--maxjobs", "--maxpost", "--maxpre"])
     same(completed(folder, "dagrun status --m"), [])
-    same(completed(folder, "dagrun times --"), ["--as-begun", "--help", "--json", "--summary", "--svg", "--trust-owner"])
+    same(completed(folder, "dagrun times --"), ["--as-begun", "--help", "--json", "--rounds", "--summary", "--svg", "--trust-owner"])
     same(completed(folder, "dagrun report --"), ["--as-begun", "--help", "--reload", "--trust-owner"])
     same(completed(folder, "dagrun redo --"), ["--help", "--only", "--trust-owner"])
     same(completed(folder, "dagrun why --"), ["--all", "--as-begun", "--help", "--json", "--trust-owner"])

@@ -2,13 +2,13 @@
 """Refuses each allocation of a command in turn, the first, the second, .. until none is refused.
 
     tests/refused_memory.sh program PROGRAM [STEP]            STEP: every so manieth place alone (1)
-    tests/refused_memory.sh libraries WRITER CALLS [STEP]
+    tests/refused_memory.sh libraries CALLS [STEP]
 
 The commands run on tests/every, files with a line of each kind, and on the files of FOLDERS. Each time the command gives its
 answer, or prints nothing but one line that says that memory is out (X1, A1 for a child) and ends with 125; then the same command
-gives the whole answer, and of a journal no acknowledged record is lost. Then the same of a writer of a journal
-(crates/tests_writer), which ends with another status than 0; and of CALLS (crates/tests_memory), which makes calls of the
-libraries: each refused call says so by its own fault, and made once more gives what it gives else."""
+gives the whole answer, and of a journal no acknowledged record is lost. Then the same of CALLS (crates/tests_memory): as the
+writer of a journal it ends with another status than 0; and it makes calls of the libraries, of which each refused one says so
+by its own fault, and made once more gives what it gives else."""
 import concurrent.futures
 import ctypes
 import functools
@@ -152,16 +152,16 @@ class Salvaging:
 class Writing:
     """A writer that appends eight records."""
 
-    def __init__(self, folder, library, writer):
-        self.folder, self.library, self.writer = folder, library, writer
+    def __init__(self, folder, library, calls):
+        self.folder, self.library, self.words = folder, library, (calls, "write", "journal")
 
     def refuses(self, place):
         path = os.path.join(self.folder, "journal")
         if os.path.exists(path):
             os.remove(path)
-        told, _, status = call(self.folder, self.library, place, self.writer, "journal", "8")
+        told, _, status = call(self.folder, self.library, place, *self.words, "8")
         acknowledged = int((told.split() or ["0"])[-1])
-        found = int(call(self.folder, self.library, 0, self.writer, "journal", "0")[0])
+        found = int(call(self.folder, self.library, 0, *self.words, "0")[0])
         if not acknowledged <= found <= 8 or (status == 0 and found != 8):
             sys.exit(f"writer: allocation {place} was refused: {acknowledged} records acknowledged, {found} found, status {status}")
         return status != 0
@@ -386,9 +386,9 @@ def runs(library, work, program, step):
         each(f"run: {name}", step, tried)
 
 
-def writes(library, work, writer, step):
+def writes(library, work, calls, step):
     """The writer of a journal."""
-    each("writer", step, Writing(work, library, writer))
+    each("writer", step, Writing(work, library, calls))
 
 
 def calls_of(row, library, work, calls, step):
@@ -404,9 +404,9 @@ def of_program(step, program):
     return [(part, program, step) for part in (first_round, second_round, runs, readings, reads)]
 
 
-def of_libraries(step, writer, calls):
+def of_libraries(step, calls):
     """The writer of a journal, and calls of the libraries."""
-    return [(writes, writer, step), *((functools.partial(calls_of, row), calls, step) for row in FAULTS)]
+    return [(writes, calls, step), *((functools.partial(calls_of, row), calls, step) for row in FAULTS)]
 
 
 def try_part(part, program, step):

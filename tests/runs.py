@@ -4625,6 +4625,58 @@ def json_is_the_text(folder):
     same((text, "cannot be used with" in faults, status), ("", True, 125))
 
 
+def the_round_before(folder):
+    """A row for each of the last two rounds, by their logs; none of another one where that log is missing."""
+    folder.write("x.dag", "JOB A a.sub\nJOB B b.sub\nJOB C none.sub\nSCRIPT POST C /bin/true\nPARENT A CHILD B\n")
+    folder.echo("a")
+    folder.shell("b", "test -e ready\n")
+    folder.write("none.sub", "executable = /nowhere/at/all\nqueue\n")
+    rows = lambda: [line.split("\t") for line in folder.call("times", "--rounds", "x.dag")[0].splitlines()]
+    begun = lambda name: folder.read(name).decode().split("\t")[0]
+    head = ["began", "seconds", "phases", "failed", "ended"]
+    refused(folder, ("times", "--rounds", "x.dag"), "X2 FileRefused x.dag.log")
+    same(folder.call("run", "x.dag")[2], 1)
+    # A, B and C began and C's script, and B and C failed.
+    first = begun("x.dag.log")
+    same([[row[0], *row[2:]] for row in rows()], [[head[0], *head[2:]], [first, "4", "2", "exit 1"]])
+    folder.write("ready", "")
+    began = time.monotonic()
+    same(folder.call("run", "x.dag")[2], 0)
+    took = time.monotonic() - began
+    # Only B is left by the rescue file.
+    found = rows()
+    same([[row[0], *row[2:]] for row in found[1:]], [[first, "4", "2", "exit 1"], [begun("x.dag.log"), "1", "0", "exit 0"]])
+    same((found[0], 0 <= float(found[2][1]) <= round(took + 0.002, 3)), (head, True))
+    # It is the time from the first line of the log to its last one.
+    stamps = [datetime.datetime.fromisoformat(line.split("\t")[0].replace("Z", "+00:00")) for line in folder.read("x.dag.log").decode().splitlines()]
+    same(found[2][1], f"{(stamps[-1] - stamps[0]).total_seconds():.3f}")
+    # A round that runs, and one that was cut short.
+    folder.write("y.dag", "JOB E e.sub\n")
+    folder.shell("e", "echo $$ > process\nmv process begun\nexec sleep 1000\n")
+    manager = folder.start("run", "y.dag")
+    folder.wait_for("begun")
+    folder.wait_for_start("y.dag", "E")
+    ended = lambda: [line.split("\t")[2:] for line in folder.call("times", "--rounds", "y.dag")[0].splitlines()[1:]]
+    same(ended(), [["1", "0", "runs"]])
+    manager.terminate()
+    manager.wait(timeout=PATIENCE)
+    end_process(int(folder.read("begun")))
+    # Nobody wrote that it ended, until another round begins in its place.
+    same(ended(), [["1", "0", "runs"]])
+    os.rename(folder.at("y.dag.log"), folder.at("y.dag.log.old"))
+    folder.write("y.dag.log", "")
+    same(ended(), [["1", "0", "cut short"]])
+    # A log that is no file is refused by name where it is asked for, and by nothing else.
+    os.remove(folder.at("x.dag.log.old"))
+    same(len(rows()), 2)
+    os.mkdir(folder.at("x.dag.log.old"))
+    refused(folder, ("times", "--rounds", "x.dag"), "X2 FileRefused x.dag.log.old")
+    same(folder.call("times", "x.dag")[1:], ("", 0))
+    for other in ("--json", "--svg", "--summary"):
+        text, faults, status = folder.call("times", "--rounds", other, "x.dag")
+        same((text, "cannot be used with" in faults, status), ("", True, 125))
+
+
 def times_of_changed_files(folder):
     """The critical path of a round is by the files with which it began, where others are there now and they are kept; and without that by those."""
     folder.write("x.dag", "JOB A a.sub\nJOB B b.sub\nJOB C b.sub\nPARENT A CHILD B\n")
@@ -4921,6 +4973,7 @@ ROWS = [
     what_a_status_file_may_be,
     an_output_in_place_of_a_status,
     json_is_the_text,
+    the_round_before,
     times_of_changed_files,
     times_without_a_log,
     a_picture_of_many_steps,

@@ -19,7 +19,7 @@ PAGES = {
     "README.md": ["Your own"],
     "docs/FROM_DAGMAN.md": None,
     "docs/FROM_MAKE.md": None,
-    "docs/MANUAL.md": ["Stopping without killing", "A page to look at: report", "Data for other programs", "Why a node failed", "A picture of the graph", "One box for nodes of one shape", "A workflow that grows", "A round whose files were changed", "What a fault says", "What is odd in files"],
+    "docs/MANUAL.md": ["Stopping without killing", "Rounds before: --rounds", "A page to look at: report", "Data for other programs", "Why a node failed", "A picture of the graph", "One box for nodes of one shape", "A workflow that grows", "A round whose files were changed", "What a fault says", "What is odd in files"],
     "docs/TO_HTCONDOR.md": ["What check --condor reports"],
 }
 

@@ -15,7 +15,7 @@ use Rattle.clap.specs.declared.builder.ValueParser.{ValueParser}
 use Rattle.clap.specs.declared.builder.ValueParser.TheVariants.{Names}
 use Rattle.clap.proofs.WalkLemmas.{both}
 use Rattle.dag_main_args.specs.declared.commands.Kind.{Kind}
-use Rattle.dag_main_args.specs.declared.commands.Kind.TheVariants.{Needed, Optional, Many, Number, Switch, Flag, FlagWithout, Words, Path, Choice}
+use Rattle.dag_main_args.specs.declared.commands.Kind.TheVariants.{Needed, Optional, Many, Number, Switch, Flag, FlagWithout, FlagWithoutEach, Words, Path, Choice}
 use Rattle.dag_main_args.specs.declared.commands.ArgumentRow.{ArgumentRow}
 use Rattle.dag_main_args.specs.declared.commands.CommandRow.{CommandRow}
 use Rattle.dag_main_args.specs.Table.{IsDagrunApp, app_by, command, dagrun_app, program, rule_by, rule_of_kind, shape_by}
@@ -53,6 +53,7 @@ simple_kind is_tied name Number = refl
 simple_kind is_tied name Switch = refl
 simple_kind is_tied name Flag = refl
 simple_kind is_tied name (FlagWithout other) = refl
+simple_kind is_tied name (FlagWithoutEach one other third) = refl
 simple_kind is_tied name Words = refl
 simple_kind is_tied name Path = refl
 simple_kind is_tied name (Choice words) = refl

@@ -85,7 +85,7 @@ unshown command rows (Status json) other h = absurd (none_of_them _ _ other refl
 unshown command rows (Audit json) other h = absurd (none_of_them _ _ other refl h.0)
 unshown command rows (Graph fold as_is) other h = absurd (none_of_them _ _ other refl h.0)
 unshown command rows (Why nodes all json) other h = absurd (none_of_them _ _ other refl h.0)
-unshown command rows (Times svg json summary) other h = absurd (none_of_them _ _ other refl h.0)
+unshown command rows (Times svg json summary rounds) other h = absurd (none_of_them _ _ other refl h.0)
 unshown command rows (Report reload) other h = absurd (none_of_them _ _ other refl h.0)
 
 -- what `why` shows
@@ -95,7 +95,7 @@ why_shown rows nodes (Why names all json) h asks grouped plain = λ i. the_reaso
 why_shown rows nodes (Status json) h asks grouped plain = absurd (differ _ _ refl h.0)
 why_shown rows nodes (Audit json) h asks grouped plain = absurd (differ _ _ refl h.0)
 why_shown rows nodes (Graph fold as_is) h asks grouped plain = absurd (differ _ _ refl h.0)
-why_shown rows nodes (Times svg json summary) h asks grouped plain = absurd (differ _ _ refl h.0)
+why_shown rows nodes (Times svg json summary rounds) h asks grouped plain = absurd (differ _ _ refl h.0)
 why_shown rows nodes (Report reload) h asks grouped plain = absurd (differ _ _ refl h.0)
 
 run_alone : (rows : List Row) (dag : Text) (plain : RunOptions) (request : Request) → IsRequestOf (codes "run") rows request → dag_path rows ≡ dag

@@ -155,8 +155,8 @@ IsViewOf command rows (Audit json) = (command ≡ codes "audit") × (json ≡ is
 IsViewOf command rows (Graph fold as_is) = (command ≡ codes "graph") × (fold ≡ is_set (codes "fold") rows) × (as_is ≡ is_set (codes "as-is") rows)
 IsViewOf command rows (Why nodes all json) = (command ≡ codes "why") × (map (λ n. n.now) nodes.items ≡ nodes_asked rows)
     × (all ≡ is_set (codes "all") rows) × (json ≡ is_set (codes "json") rows)
-IsViewOf command rows (Times svg json summary) = (command ≡ codes "times") × (svg ≡ is_set (codes "svg") rows)
-    × (json ≡ is_set (codes "json") rows) × (summary ≡ is_set (codes "summary") rows)
+IsViewOf command rows (Times svg json summary rounds) = (command ≡ codes "times") × (svg ≡ is_set (codes "svg") rows)
+    × (json ≡ is_set (codes "json") rows) × (summary ≡ is_set (codes "summary") rows) × (rounds ≡ is_set (codes "rounds") rows)
 IsViewOf command rows (Report reload) = (command ≡ codes "report") × (reload ≡ is_set (codes "reload") rows)
 
 -- the request that a command asks for by what was matched to it: each kind of request by one command alone

@@ -10,13 +10,13 @@ use Rattle.dag_main_args.specs.declared.request.View.TheVariants.{Status, Audit,
 
 -- What of a round is shown: where each node is, what the nodes came to, its graph, why nodes are in error (those that are named, or all), when its phases ran,
 -- or a page. `json` is whether it is for other programs; of a graph it matters whether nodes that are alike have one box, and whether the files are drawn as
--- they are; of the reasons whether each node is shown by itself; of the times whether a picture or a summary is asked for; of a page whether it loads itself again.
+-- they are; of the reasons whether each node is shown by itself; of the times whether a picture, a summary or rounds are asked for; of a page whether it loads itself again.
 pub data Shown : Type 0 where
   the_status : (json : Bool) → Shown
   the_audit : (json : Bool) → Shown
   the_graph : (fold as_is : Bool) → Shown
   the_reasons : (nodes : List (List ℕ)) → (all json : Bool) → Shown
-  the_times : (svg json summary : Bool) → Shown
+  the_times : (svg json summary rounds : Bool) → Shown
   the_page : (reload : Bool) → Shown
 
 -- A command with its words: the path of the DAG file first; of a command that reads what is beside that file last whether its owner is trusted. Of a check also
@@ -37,7 +37,7 @@ shown_by (Status json) = the_status json
 shown_by (Audit json) = the_audit json
 shown_by (Graph fold as_is) = the_graph fold as_is
 shown_by (Why nodes all json) = the_reasons (map (λ n. n.now) nodes.items) all json
-shown_by (Times svg json summary) = the_times svg json summary
+shown_by (Times svg json summary rounds) = the_times svg json summary rounds
 shown_by (Report reload) = the_page reload
 
 -- what a request asks for

@@ -7,7 +7,7 @@ use Rattle.clap.specs.Simple.{App, Shape, new_rule, new_shape}
 use Rattle.clap.specs.declared.builder.action.ArgAction.TheVariants.{Set, Append, SetTrue}
 use Rattle.clap.specs.declared.builder.value_parser.ValueParser.TheVariants.{Names, Signed}
 use Rattle.dag_main_args.specs.declared.commands.Kind.{Kind}
-use Rattle.dag_main_args.specs.declared.commands.Kind.TheVariants.{Needed, Optional, Many, Number, Switch, Flag, FlagWithout, Words, Path, Choice}
+use Rattle.dag_main_args.specs.declared.commands.Kind.TheVariants.{Needed, Optional, Many, Number, Switch, Flag, FlagWithout, FlagWithoutEach, Words, Path, Choice}
 use Rattle.dag_main_args.specs.declared.commands.ArgumentRow.{ArgumentRow}
 use Rattle.dag_main_args.specs.declared.commands.CommandRow.{CommandRow}
 
@@ -88,7 +88,7 @@ abbrev pub commands : (is_tied : Bool) → (orphans progress : Bor (List (Bor Te
 commands is_tied orphans progress = command (codes "run") (run_rules is_tied orphans progress)
     ∷ command (codes "status") (dag ∷ json ∷ as_it_began ∷ trust_owner ∷ [])
     ∷ command (codes "why") (dag ∷ many (codes "NODE") ∷ flag (codes "all") ∷ json ∷ as_it_began ∷ trust_owner ∷ [])
-    ∷ command (codes "times") (dag ∷ tied_flag is_tied (codes "svg") ∷ tied_flag is_tied (codes "json") ∷ tied_flag is_tied (codes "summary") ∷ as_it_began ∷ trust_owner ∷ [])
+    ∷ command (codes "times") (dag ∷ tied_flag is_tied (codes "svg") ∷ tied_flag is_tied (codes "json") ∷ tied_flag is_tied (codes "summary") ∷ tied_flag is_tied (codes "rounds") ∷ as_it_began ∷ trust_owner ∷ [])
     ∷ command (codes "report") (dag ∷ flag (codes "reload") ∷ as_it_began ∷ trust_owner ∷ [])
     ∷ command (codes "salvage") (dag ∷ flag (codes "ended") ∷ trust_owner ∷ [])
     ∷ command (codes "redo") (dag ∷ many (codes "NODE") ∷ flag (codes "only") ∷ trust_owner ∷ [])
@@ -121,6 +121,7 @@ rule_of_kind is_tied name Number = number name
 rule_of_kind is_tied name Switch = switch name
 rule_of_kind is_tied name Flag = flag name
 rule_of_kind is_tied name (FlagWithout other) = tied_flag is_tied name
+rule_of_kind is_tied name (FlagWithoutEach one other third) = tied_flag is_tied name
 rule_of_kind is_tied name Words = named_text name
 rule_of_kind is_tied name Path = named_text name
 rule_of_kind is_tied name (Choice words) = choice name words

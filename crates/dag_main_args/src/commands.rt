@@ -28,6 +28,8 @@ enum Kind {
     Flag,
     /// The same, which can't stand beside this other option.
     FlagWithout(&'static str),
+    /// The same, which can't stand beside any of these three.
+    FlagWithoutEach(&'static str, &'static str, &'static str),
     /// An option with words of its own, in one.
     Words,
     /// An option with a path.
@@ -212,6 +214,12 @@ const SUMMARY: ArgumentRow = ArgumentRow {
     help: "Where the time went, in place of a table: the critical path, what it waited for, and what more at once could gain",
 };
 
+const ROUNDS: ArgumentRow = ArgumentRow {
+    name: "rounds",
+    kind: Kind::FlagWithoutEach("svg", "json", "summary"),
+    help: "A row for each round, in place of one for each phase: the last one, and the one before, by x.dag.log.old",
+};
+
 const FOLD: ArgumentRow = ArgumentRow {
     name: "fold",
     kind: Kind::Flag,
@@ -337,7 +345,15 @@ static COMMANDS: [CommandRow; 14] = [
     CommandRow {
         name: "times",
         about: "Says when each phase of a run began and how long it took, by its log",
-        arguments: &[FILE, SVG, TIMES_JSON, SUMMARY, AS_BEGUN, TRUST_OWNER],
+        arguments: &[
+            FILE,
+            SVG,
+            TIMES_JSON,
+            SUMMARY,
+            ROUNDS,
+            AS_BEGUN,
+            TRUST_OWNER,
+        ],
     },
     CommandRow {
         name: "report",
@@ -427,6 +443,7 @@ static EXAMPLES: [Examples; 14] = [
         text: "  dagrun times x.dag                  a table, for a spreadsheet
   dagrun times --svg x.dag > x.svg    a picture of the run over time
   dagrun times --summary x.dag        where the time went, and what could be faster
+  dagrun times --rounds x.dag         the last two rounds: whether it has become slower
   dagrun times --json x.dag | jq .    the phases for other programs
 ",
     },
@@ -520,6 +537,16 @@ fn argument_of<'a>(alloc: Global, row: &ArgumentRow, is_tied: bool) -> Result<Ar
             let flag = argument.long(row.name).action(ArgAction::SetTrue);
             if is_tied {
                 flag.conflicts_with(other)?
+            } else {
+                flag
+            }
+        }
+        Kind::FlagWithoutEach(one, other, third) => {
+            let flag = argument.long(row.name).action(ArgAction::SetTrue);
+            if is_tied {
+                flag.conflicts_with(one)?
+                    .conflicts_with(other)?
+                    .conflicts_with(third)?
             } else {
                 flag
             }

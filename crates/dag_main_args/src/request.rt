@@ -164,11 +164,12 @@ pub enum View<'a> {
         json: bool,
     },
 
-    /// `times`: when the phases ran; whether a picture, JSON or a summary is asked for, never two of them.
+    /// `times`: when the phases ran; whether a picture, JSON, a summary or rounds are asked for, never two of them.
     Times {
         svg: bool,
         json: bool,
         summary: bool,
+        rounds: bool,
     },
 
     /// `report`: a page; whether it loads itself again while the round runs.
@@ -557,6 +558,7 @@ fn drawn_of_round<'a>(
             svg: is_set(found, "svg"),
             json: is_set(found, "json"),
             summary: is_set(found, "summary"),
+            rounds: is_set(found, "rounds"),
         },
         "report" => View::Report {
             reload: is_set(found, "reload"),
@@ -636,26 +638,32 @@ fn request_of<'a>(alloc: Global, matches: &ArgMatches<'a>) -> Result<Request<'a>
 }
 
 /// Whether two of these flags are set.
-fn are_two(one: bool, other: bool, third: bool) -> bool
-    ensures { result ≡ answered.are_two one other third }
+fn are_two(one: bool, other: bool, third: bool, fourth: bool) -> bool
+    ensures { result ≡ answered.are_two one other third fourth }
 {
-    (one && other) || (one && third) || (other && third)
+    (one && other)
+        || (one && third)
+        || (one && fourth)
+        || (other && third)
+        || (other && fourth)
+        || (third && fourth)
 }
 
-/// Whether two options are given of which one can't be given with the other: `--resume` and `--dorescuefrom`, two of `--json`, `--svg`
-/// and `--summary`, or `--as-is` and `--as-begun`.
+/// Whether two options are given of which one can't be given with the other: `--resume` and `--dorescuefrom`, two of `--json`, `--svg`,
+/// `--summary` and `--rounds`, or `--as-is` and `--as-begun`.
 fn has_clash(found: &ArgMatches<'_>) -> bool
     ensures { result ≡ answered.has_clash (rows_of (found_of found.now)) }
 {
     if is_set(found, "resume") && value_of(found, "dorescuefrom").is_some() {
         return true;
     }
-    let (json, svg, summary) = (
+    let (json, svg, summary, rounds) = (
         is_set(found, "json"),
         is_set(found, "svg"),
         is_set(found, "summary"),
+        is_set(found, "rounds"),
     );
-    if are_two(json, svg, summary) {
+    if are_two(json, svg, summary, rounds) {
         return true;
     }
     is_set(found, "as-is") && is_set(found, "as-begun")

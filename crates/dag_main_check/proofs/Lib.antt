@@ -3,3 +3,4 @@ mod Checks
 pub mod Refusals
 mod Openings
 pub mod HeldFiles
+pub mod Lines

@@ -5,3 +5,4 @@ pub mod Planned
 pub mod ByPlan
 pub mod Displayed
 pub mod Missing
+pub mod Consoles

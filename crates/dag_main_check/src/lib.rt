@@ -1,8 +1,10 @@
-//! The commands of dagrun that look at texts alone, each as a call: what it answers, and why it is refused.
+//! The commands of dagrun that look at texts alone, each as a call: what it answers, why it is refused, and how either is displayed.
 #![tactic(auto)]
 
 mod check;
 mod check_data;
+mod console;
+mod display;
 mod fault;
 mod form;
 mod missing;
@@ -10,6 +12,8 @@ mod plans;
 mod warnings;
 
 pub use check::check_text;
+pub use console::{Console, MemConsole, SystemConsole};
+pub use display::display_reply;
 pub use fault::RunFault;
 pub use form::CheckForm;
 pub use missing::missing_in;

@@ -46,6 +46,19 @@ pub record IsHighestThere (has : List ℕ → Bool) (top : List ℕ) (highest : 
   pub there : 0 < highest → has (rescue_name_of top highest) ≡ true
   pub above : (number : ℕ) → highest < number → number ≤ 999 → has (rescue_name_of top number) ≡ false
 
+-- What may be known of the paths beside a DAG file: that one is missing, and that a number may be the highest of its rescue files.
+pub record Paths : Type 1 where
+  pub lacks : (path : List ℕ) → Type 0
+  pub highest : (top : List ℕ) → ℕ → Type 0
+
+-- nothing, where others may change them
+abbrev pub any_paths : Paths
+any_paths = record { lacks = λ path. Unit {0}; highest = λ top number. number ≤ 999 }
+
+-- they are those that are there
+abbrev pub these_paths : (has : List ℕ → Bool) → Paths
+these_paths has = record { lacks = λ path. has path ≡ false; highest = IsHighestThere has }
+
 -- The round that is found where these files are held and these paths are there: its numbers are those of the highest rescue file that is there,
 -- and it is a new one, or goes on, as the journal says that is held.
 pub record IsRoundFrom (holds : Files) (has : List ℕ → Bool) (top : List ℕ) (autorescue : Bool) (from : Option ℕ) (always_post : Bool) (round : Round) : Type 0 where

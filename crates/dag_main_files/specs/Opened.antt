@@ -1,4 +1,4 @@
--- What is said of the files of a path that a folder holds, and why nothing is.
+-- What is said of the files of a path, as a folder may hold them, and why nothing is.
 use Rattle.std.specs.Prelude.{◌≡◌, ℕ, Bool, List, Option, Some, None}
 use Rattle.splices_flat.specs.Opening.{Files}
 use Rattle.splices_flat.specs.FileSet.{entries_of}
@@ -8,7 +8,7 @@ use Rattle.dag_main_check.specs.Planned.{IsGraphFault, IsPlanOf, IsPlanWith, IsP
 use Rattle.dag_main_check.specs.declared.fault.RunFault.{RunFault}
 use Rattle.dag_main_check.specs.declared.fault.RunFault.TheVariants.{Memory}
 use Rattle.run_plan.specs.Plan.{Plan}
-use Rattle.dag_main_files.specs.Beside.{IsInputFault}
+use Rattle.dag_main_files.specs.Beside.{IsInputFault, IsRefusalHeld}
 use Rattle.dag_main_files.specs.Folder.{IsReadFrom}
 
 -- A fault stays where these files are held: the file of which it tells that it is missing is not held; or memory ran out as it was asked for.
@@ -16,24 +16,42 @@ pub data IsStill (holds : Files) (fault : RunFault) : RunFault → Type 0 where
   still_missing : ((path : List ℕ) → missing_in fault ≡ Some path → holds path ≡ None) → IsStill holds fault fault
   asking_had_no_memory : IsStill holds fault Memory
 
--- This is so of the files that are held, with those among them that were read: these count for the digest of a plan.
-pub record IsOfFiles (holds : Files) (path : List ℕ) (Says : Files → List (List ℕ × List ℕ) → Type 0) : Type 0 where
+-- Which files a folder may hold as one of them is read.
+abbrev pub Holding : Type 1
+Holding = Files → Type 0
+
+-- Any: others may change them between two readings.
+abbrev pub changing : Holding
+changing files = Unit {0}
+
+-- Those alone that it holds, which nobody changes.
+abbrev pub fixed : Files → Holding
+fixed holds files = files ≡ holds
+
+-- The file of this path, as it was read: its bytes, or that it is missing.
+pub record IsReadAs (may_hold : Holding) (path : List ℕ) (bytes : Option (List ℕ)) : Type 0 where
+  pub holds : Files
+  pub held : may_hold holds
+  pub bytes_are : bytes ≡ holds path
+
+-- Why it can't be read: a file that is refused is not held; or memory ran out.
+pub record IsUnreadable (may_hold : Holding) (path : List ℕ) (fault : RunFault) : Type 0 where
+  pub holds : Files
+  pub held : may_hold holds
+  pub refused : IsRefusalHeld holds path fault
+
+-- This is so of files that the folder may hold, with those among them that were read from this path on: these count for the digest of a plan.
+pub record IsOfFiles (may_hold : Holding) (path : List ℕ) (Says : Files → List (List ℕ × List ℕ) → Type 0) : Type 0 where
+  pub holds : Files
+  pub held : may_hold holds
   pub files : FileSet
   pub read : IsReadFrom holds path files
   pub says : Says holds (entries_of files)
 
--- the same of some files
-abbrev pub IsOfSome : (path : List ℕ) → (Files → List (List ℕ × List ℕ) → Type 0) → Type 0
-IsOfSome path Says = (holds : Files) × IsOfFiles holds path Says
-
--- Why nothing is said where these files are held: standard input is asked for and can't be read; or it is refused for what is held.
-pub data IsRefusedFor (holds : Files) (path : List ℕ) (Refused : Files → List (List ℕ × List ℕ) → RunFault → Type 0) : RunFault → Type 0 where
-  top_not_read : (fault : RunFault) → IsInputFault path fault → IsRefusedFor holds path Refused fault
-  for_files : (fault : RunFault) → IsOfFiles holds path (λ files entries. Refused files entries fault) → IsRefusedFor holds path Refused fault
-
--- the same of some files
-abbrev pub IsRefusedForSome : (path : List ℕ) → (Files → List (List ℕ × List ℕ) → RunFault → Type 0) → RunFault → Type 0
-IsRefusedForSome path Refused fault = (holds : Files) × IsRefusedFor holds path Refused fault
+-- Why nothing is said of them: standard input is asked for and can't be read; or it is refused for what is held.
+pub data IsRefusedFor (may_hold : Holding) (path : List ℕ) (Refused : Files → List (List ℕ × List ℕ) → RunFault → Type 0) : RunFault → Type 0 where
+  top_not_read : (fault : RunFault) → IsInputFault path fault → IsRefusedFor may_hold path Refused fault
+  for_files : (fault : RunFault) → IsOfFiles may_hold path (λ files entries. Refused files entries fault) → IsRefusedFor may_hold path Refused fault
 
 -- the plan of a path with no submit file read, whose POST scripts run after failed PRE scripts or not; no digest counts
 abbrev pub HasBarePlan : (always_post : Bool) → (path : List ℕ) → Plan → Files → List (List ℕ × List ℕ) → Type 0

@@ -4,7 +4,7 @@
 ghost use Rattle.std.specs.Prelude.{◌≡◌, ℕ, List, None, IfOk, IfErr, OnOk};
 ghost use Rattle.std.specs.Option.{option_map};
 ghost use Rattle.dag_main_files.specs.Folder.{IsReadFrom};
-ghost use Rattle.dag_main_files.specs.Opened.{IsStill, IsOfSome, IsOfFiles, IsRefusedFor, IsRefusedForSome, HasBarePlan, HasNoGraph, HasPlan, HasNoPlan};
+ghost use Rattle.dag_main_files.specs.Opened.{IsStill, changing, fixed, IsOfFiles, IsRefusedFor, HasBarePlan, HasNoGraph, HasPlan, HasNoPlan};
 
 use crate::folder::Folder;
 use crate::loading::{Reading, files_of};
@@ -55,11 +55,11 @@ pub fn bare_plan_here<F: Folder>(
     top: &str,
     always_post: bool,
 ) -> Result<Plan, RunFault>
-    ensures plan { IfOk result (λ plan. IsOfSome top.now (HasBarePlan always_post top.now plan)) }
+    ensures plan { IfOk result (λ plan. IsOfFiles changing top.now (HasBarePlan always_post top.now plan)) }
     // It is the plan of the files that the folder holds, and what is refused is refused for these.
-    ensures held { F.honest folder.now → IfOk result (λ plan. IsOfFiles (F.holds folder.now) top.now (HasBarePlan always_post top.now plan)) }
-    ensures refused { IfErr result (IsRefusedForSome top.now (HasNoGraph top.now)) }
-    ensures refused_held { F.honest folder.now → IfErr result (IsRefusedFor (F.holds folder.now) top.now (HasNoGraph top.now)) }
+    ensures held { F.honest folder.now → IfOk result (λ plan. IsOfFiles (fixed (F.holds folder.now)) top.now (HasBarePlan always_post top.now plan)) }
+    ensures refused { IfErr result (IsRefusedFor changing top.now (HasNoGraph top.now)) }
+    ensures refused_held { F.honest folder.now → IfErr result (IsRefusedFor (fixed (F.holds folder.now)) top.now (HasNoGraph top.now)) }
 {
     let mut files = files_of(alloc, folder, top, Reading::SplicesAlone)?;
     for _ in 0..MOST_COME {
@@ -83,13 +83,13 @@ pub fn plan_here<F: Folder>(
     rescue: Option<&[u8]>,
     always_post: bool,
 ) -> Result<Plan, RunFault>
-    ensures plan { IfOk result (λ plan. IsOfSome top.now (HasPlan always_post top.now (option_map (λ b. b.now) rescue.entry) plan)) }
+    ensures plan { IfOk result (λ plan. IsOfFiles changing top.now (HasPlan always_post top.now (option_map (λ b. b.now) rescue.entry) plan)) }
     // It is the plan of the files that the folder holds, and what is refused is refused for these.
     ensures held { F.honest folder.now → IfOk result (λ plan.
-        IsOfFiles (F.holds folder.now) top.now (HasPlan always_post top.now (option_map (λ b. b.now) rescue.entry) plan)) }
-    ensures refused { IfErr result (IsRefusedForSome top.now (HasNoPlan top.now (option_map (λ b. b.now) rescue.entry))) }
+        IsOfFiles (fixed (F.holds folder.now)) top.now (HasPlan always_post top.now (option_map (λ b. b.now) rescue.entry) plan)) }
+    ensures refused { IfErr result (IsRefusedFor changing top.now (HasNoPlan top.now (option_map (λ b. b.now) rescue.entry))) }
     ensures refused_held { F.honest folder.now
-        → IfErr result (IsRefusedFor (F.holds folder.now) top.now (HasNoPlan top.now (option_map (λ b. b.now) rescue.entry))) }
+        → IfErr result (IsRefusedFor (fixed (F.holds folder.now)) top.now (HasNoPlan top.now (option_map (λ b. b.now) rescue.entry))) }
 {
     let mut files = files_of(alloc, folder, top, Reading::SubmitFilesToo)?;
     for _ in 0..MOST_COME {

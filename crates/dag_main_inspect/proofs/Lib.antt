@@ -3,4 +3,3 @@ pub mod StatusTexts
 mod AuditTexts
 mod Pictures
 pub mod Rounds
-pub mod OfPlans

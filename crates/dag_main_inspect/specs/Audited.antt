@@ -1,6 +1,5 @@
 -- What `audit` prints.
-use Rattle.std.specs.Prelude.{◌≢◌, ℕ, List, ◌++◌, Option, Result, Ok, Err, codes}
-use Rattle.splices_flat.specs.Opening.{Files}
+use Rattle.std.specs.Prelude.{◌≢◌, ℕ, List, ◌++◌, Result, Ok, Err, codes}
 use Rattle.run_plan.specs.Plan.{Plan, count_of}
 use Rattle.sched_core.specs.Fate.{Fate}
 use Rattle.status_report.specs.Text.{fate_lines}
@@ -8,14 +7,9 @@ use Rattle.fate_audit.specs.Fates.{fate_at}
 use Rattle.fate_audit.specs.Audit.{IsAuditOf, IsAuditNo, no_text}
 use Rattle.fate_audit.specs.declared.fault.AuditNo.{AuditNo}
 use Rattle.fate_audit.specs.declared.fault.AuditNo.TheVariants as audit_no
-use Rattle.dag_main_check.specs.Planned.{IsPlanWithFault}
-use Rattle.dag_main_check.specs.ByPlan.{IsAnswerByPlan}
 use Rattle.dag_main_inspect.specs.AuditData.{audit_json_of}
-use Rattle.dag_main_inspect.specs.Statused.{journal_bytes, flag_by}
 use Rattle.dag_main_inspect.specs.declared.statuses.Form.{Form}
 use Rattle.dag_main_inspect.specs.declared.statuses.Form.TheVariants.{Lines, Json}
-use Rattle.dag_main_check.specs.declared.fault.RunFault.{RunFault}
-use Rattle.dag_main_check.specs.declared.fault.RunFault.TheVariants.{Memory}
 
 -- the lines of the fates of the ordinary nodes, and that the journal stands for them
 abbrev pub passed_text : Plan → List Fate → List ℕ
@@ -40,17 +34,3 @@ audit_form_text Json path = audit_json_of path
 pub data IsAuditText (text_of : Plan → Result (List Fate) AuditNo → List ℕ) (plan : Plan) (bytes : List ℕ) : List ℕ → ℕ → Type 0 where
   passed : (fates : List Fate) → IsAuditOf plan bytes fates → IsAuditText text_of plan bytes (text_of plan (Ok fates)) 0
   not_passed : (cause : AuditNo) → cause ≢ audit_no.Memory → IsAuditNo plan bytes cause → IsAuditText text_of plan bytes (text_of plan (Err cause)) 1
-
--- The text that is made so of the audit of a journal, by the plan of these files. One that is not there has no bytes, so none was begun.
-abbrev pub IsAuditedBy : (Plan → Result (List Fate) AuditNo → List ℕ) → Files → List (List ℕ × List ℕ) → List ℕ → Option (List ℕ) → Option (List ℕ) → List ℕ → List ℕ → ℕ → Type 0
-IsAuditedBy text_of files entries path rescue journal text warnings status =
-    IsAnswerByPlan (flag_by journal) files entries path rescue (λ plan. IsAuditText text_of plan (journal_bytes journal) text status) warnings
-
--- the lines of that audit
-abbrev pub IsAuditedAs : Files → List (List ℕ × List ℕ) → List ℕ → Option (List ℕ) → Option (List ℕ) → List ℕ → List ℕ → ℕ → Type 0
-IsAuditedAs = IsAuditedBy audit_text_of
-
--- why there is none: there is no plan, or memory ran out; a journal is no cause
-pub data IsAuditFault (files : Files) (entries : List (List ℕ × List ℕ)) (path : List ℕ) (rescue : Option (List ℕ)) : RunFault → Type 0 where
-  no_plan : (fault : RunFault) → IsPlanWithFault files entries path rescue fault → IsAuditFault files entries path rescue fault
-  auditing_had_no_memory : IsAuditFault files entries path rescue Memory

@@ -1,5 +1,5 @@
 -- What `graph` prints.
-use Rattle.std.specs.Prelude.{◌≡◌, ℕ, Bool, true, false, List, Option, Some, None, Err, IsTrue}
+use Rattle.std.specs.Prelude.{◌≡◌, ℕ, Bool, true, false, List, Option, Some, Err, IsTrue}
 use Rattle.splices_flat.specs.Opening.{Files}
 use Rattle.run_plan.specs.Plan.{Plan}
 use Rattle.node_machine.specs.declared.Record.{Record}
@@ -12,14 +12,13 @@ use Rattle.recovery_manager.specs.Inputs.{replay_by}
 use Rattle.status_report.specs.declared.status.Status.{Status}
 use Rattle.graph_text.specs.Picture.{unknown, known, dot_text_of}
 use Rattle.graph_text.specs.Folded.{IsFoldedText}
-use Rattle.dag_main_check.specs.Planned.{IsGraphFault, IsPlanOf, IsPlanWith, IsPlanWithFault}
-use Rattle.dag_main_check.specs.ByPlan.{IsAnswerByPlan}
+use Rattle.dag_main_check.specs.Planned.{IsPlanOf}
 use Rattle.dag_main_check.specs.Warnings.{warning_lines}
 use Rattle.dag_main_check.specs.declared.fault.RunFault.{RunFault}
 use Rattle.dag_main_check.specs.declared.fault.RunFault.TheVariants.{InFiles, Cycle, InPlan, InTable, InRescue, NotThere, Unfinished, InManager, StartMemory, WaitFault, Halted, FileRefused, Memory}
 use Rattle.dag_main_inspect.specs.declared.graphs.Shape.{Shape}
 use Rattle.dag_main_inspect.specs.declared.graphs.Shape.TheVariants.{Nodes, Boxes}
-use Rattle.dag_main_inspect.specs.Statused.{flag_by, records_in_bytes, IsRecordsFault}
+use Rattle.dag_main_inspect.specs.Statused.{records_in_bytes, IsRecordsFault}
 
 -- The text of a picture of a plan whose nodes stand so: of each node, or of boxes in which those of one shape are folded.
 abbrev pub IsDrawnText : Shape → Plan → (ℕ → Option Status) → List ℕ → Type 0
@@ -42,12 +41,6 @@ IsBarePicture shape files path text warnings =
 -- that is the answer where there is no journal, and the exit status is 0
 abbrev pub IsBareDrawn : Shape → Files → List ℕ → List ℕ → List ℕ → ℕ → Type 0
 IsBareDrawn shape files path text warnings status = IsBarePicture shape files path text warnings × (status ≡ 0)
-
--- the answer for the files of a path: by the journal, where there is one; the exit status is 0
-abbrev pub IsDrawnOf : Shape → Files → List (List ℕ × List ℕ) → List ℕ → Option (List ℕ) → Option (List ℕ) → List ℕ → List ℕ → ℕ → Type 0
-IsDrawnOf shape files entries path rescue None text warnings status = IsBareDrawn shape files path text warnings status
-IsDrawnOf shape files entries path rescue (Some bytes) text warnings status =
-    IsAnswerByPlan (flag_by (Some bytes)) files entries path rescue (λ plan. IsPicture shape plan bytes text) warnings × (status ≡ 0)
 
 -- a fault tells that a journal is that of other files (J5), or of a run with the other flag (J10)
 abbrev pub is_of_others : JournalFault → Bool
@@ -88,10 +81,3 @@ tells_of_others Memory = false
 pub data IsJournalDrawnFault (plan : Plan) (bytes : List ℕ) : RunFault → Type 0 where
   no_records : (fault : RunFault) → tells_of_others fault ≡ false → IsRecordsFault plan bytes fault → IsJournalDrawnFault plan bytes fault
   drawing_had_no_memory : IsJournalDrawnFault plan bytes Memory
-
--- Why there is no picture. Where there is no journal: the DAG files make no graph. Where there is one: there is no plan, or it is not drawn.
-pub data IsDrawnFault (files : Files) (entries : List (List ℕ × List ℕ)) (path : List ℕ) (rescue : Option (List ℕ)) : Option (List ℕ) → RunFault → Type 0 where
-  no_graph : (fault : RunFault) → IsGraphFault files path fault → IsDrawnFault files entries path rescue None fault
-  no_plan : (bytes : List ℕ) (fault : RunFault) → IsPlanWithFault files entries path rescue fault → IsDrawnFault files entries path rescue (Some bytes) fault
-  not_drawn : (plan : Plan) (bytes : List ℕ) (fault : RunFault) → IsPlanWith (flag_by (Some bytes)) files entries path rescue plan → IsJournalDrawnFault plan bytes fault →
-      IsDrawnFault files entries path rescue (Some bytes) fault

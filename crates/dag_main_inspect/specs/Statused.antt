@@ -1,6 +1,5 @@
 -- What `status` prints.
 use Rattle.std.specs.Prelude.{◌≡◌, ℕ, Bool, List, [], Option, Some, None, Result, Ok, Err, IsTrue}
-use Rattle.splices_flat.specs.Opening.{Files}
 use Rattle.run_plan.specs.Plan.{Plan}
 use Rattle.node_machine.specs.declared.Record.{Record}
 use Rattle.sched_core.specs.Run.{chronological, is_lawful}
@@ -12,8 +11,6 @@ use Rattle.recovery.specs.Replay.{IsForeignSlot}
 use Rattle.recovery_manager.specs.declared.fault.ManagerFault.TheVariants as manager
 use Rattle.recovery_manager.specs.Inputs.{replay_by}
 use Rattle.status_report.specs.Text.{status_text_of}
-use Rattle.dag_main_check.specs.Planned.{IsPlanWith, IsPlanWithFault}
-use Rattle.dag_main_check.specs.ByPlan.{IsAnswerByPlan}
 use Rattle.dag_main_check.specs.declared.fault.RunFault.{RunFault}
 use Rattle.dag_main_check.specs.declared.fault.RunFault.TheVariants.{InManager, Memory}
 use Rattle.dag_main_inspect.specs.StatusData.{status_json_of}
@@ -71,18 +68,3 @@ pub data IsRecordsFault (plan : Plan) (bytes : List ℕ) : RunFault → Type 0 w
   foreign_record : (slot : ℕ) → IsForeignSlot plan (replay_by plan bytes) (groups_in bytes) slot →
       IsRecordsFault plan bytes (InManager (manager.Foreign slot))
   reading_had_no_memory : IsRecordsFault plan bytes Memory
-
--- the text that is made so of the plan of these files, at the records of the journal
-abbrev pub IsStatusOf : (Plan → List Record → List ℕ) → Files → List (List ℕ × List ℕ) → List ℕ → Option (List ℕ) → Option (List ℕ) → List ℕ → List ℕ → ℕ → Type 0
-IsStatusOf text_of files entries path rescue journal text warnings status =
-    IsAnswerByPlan (flag_by journal) files entries path rescue (λ plan. IsStatusBy text_of plan (journal_bytes journal) text status) warnings
-
--- the status text of the plan of these files, at the records of the journal
-abbrev pub IsStatusTextOf : Files → List (List ℕ × List ℕ) → List ℕ → Option (List ℕ) → Option (List ℕ) → List ℕ → List ℕ → ℕ → Type 0
-IsStatusTextOf = IsStatusOf status_text_of
-
--- why it is refused: there is no plan, or its journal has no records of a run
-pub data IsStatusFault (files : Files) (entries : List (List ℕ × List ℕ)) (path : List ℕ) (rescue journal : Option (List ℕ)) : RunFault → Type 0 where
-  no_plan : (fault : RunFault) → IsPlanWithFault files entries path rescue fault → IsStatusFault files entries path rescue journal fault
-  no_records : (plan : Plan) (fault : RunFault) → IsPlanWith (flag_by journal) files entries path rescue plan → IsRecordsFault plan (journal_bytes journal) fault →
-      IsStatusFault files entries path rescue journal fault

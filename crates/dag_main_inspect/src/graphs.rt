@@ -1,15 +1,16 @@
 //! The picture of a DAG, with where the nodes of its last round stand.
 
 ghost use Rattle.std.specs.Prelude.{◌≡◌, Some, IfOk, IfErr, string_bytes};
-ghost use Rattle.std.specs.Option.{option_map};
 ghost use Rattle.dag_main_check.specs.declared.fault.RunFault.TheVariants.{Memory};
 ghost use Rattle.dag_main_check.specs.Warnings.{warning_lines};
 ghost use Rattle.graph_text.specs.Picture.{drawn_plan, states_of};
-ghost use Rattle.dag_main_files.specs.Opened.{IsOfFiles, IsOfSome, IsRefusedFor, IsRefusedForSome, HasNoGraph};
+ghost use Rattle.dag_main_files.specs.Opened.{changing, fixed, IsOfFiles, IsRefusedFor, HasNoGraph};
 ghost use Rattle.dag_main_inspect.specs.Statused.{records_in_bytes, IsRecordsFault};
-ghost use Rattle.dag_main_inspect.specs.Drawn.{IsDrawnText, IsPicture, IsBareDrawn, IsDrawnOf, IsDrawnFault, IsJournalDrawnFault, tells_of_others};
+ghost use Rattle.dag_main_inspect.specs.Drawn.{IsDrawnText, IsPicture, IsBareDrawn, IsJournalDrawnFault, tells_of_others};
+ghost use Rattle.dag_main_inspect.specs.Asked.{IsDrawn, IsNotDrawn};
 
-use crate::statuses::{core_of, plan_of_round, records_of};
+use crate::round::last_round;
+use crate::statuses::{core_of, records_of};
 use dag_main_check::{Answer, RunFault, warning_text};
 use dag_main_files::{Folder, bare_plan_here};
 use event_journal_log::JournalFault;
@@ -20,8 +21,8 @@ use run_plan::Plan;
 use std::alloc::{AllocError, Global};
 
 /// What is drawn of a plan.
-#[derive(Clone, Copy)]
-pub(crate) enum Shape {
+#[derive(Clone, Copy, Debug, PartialEq, Eq)]
+pub enum Shape {
     /// Each node, within the clusters of its splices.
     Nodes,
     /// Boxes, in which the nodes of one shape are folded.
@@ -29,35 +30,32 @@ pub(crate) enum Shape {
 }
 
 /// The picture of the DAG of the file of this path, as a graph in DOT. Where there is a journal of a
-/// run of these files, its nodes have the colours of where they are in it; `rescue` is the rescue file that the run read, if it
-/// read one. A journal of other files says nothing of the nodes. Without a journal the DAG files alone are looked at.
+/// run of these files, its nodes have the colours of where they are in it. A journal of other files says nothing of the nodes.
+/// Without a journal the DAG files alone are looked at.
 ///
 /// # Errors
-/// Those of `bare_plan_here`; where there is a journal, those of `plan_here`, and that of the journal, unless it is of other files, or
-/// its first record that may not follow (`InManager`).
+/// Those of `last_round`. Without a journal, those of `bare_plan_here`. With one, those of `LastRound::open`, and that of the journal, unless
+/// it is of other files, or its first record that may not follow (`InManager`).
 pub(crate) fn graph_here<F: Folder>(
     alloc: Global,
     folder: &F,
     top: &str,
-    rescue: Option<&[u8]>,
-    journal: Option<&[u8]>,
     shape: Shape,
 ) -> Result<Answer, RunFault>
-    ensures drawn { IfOk result (λ answer. IsOfSome top.now (λ files entries. IsDrawnOf shape files entries top.now
-        (option_map (λ b. b.now) rescue.entry) (option_map (λ b. b.now) journal.entry)
-        (string_bytes answer.text) (string_bytes answer.warnings) answer.status)) }
-    ensures held { F.honest folder.now → IfOk result (λ answer. IsOfFiles (F.holds folder.now) top.now (λ files entries. IsDrawnOf shape files entries top.now
-        (option_map (λ b. b.now) rescue.entry) (option_map (λ b. b.now) journal.entry)
-        (string_bytes answer.text) (string_bytes answer.warnings) answer.status)) }
-    ensures refused { IfErr result (IsRefusedForSome top.now (λ files entries. IsDrawnFault files entries top.now
-        (option_map (λ b. b.now) rescue.entry) (option_map (λ b. b.now) journal.entry))) }
-    ensures refused_held { F.honest folder.now → IfErr result (IsRefusedFor (F.holds folder.now) top.now (λ files entries. IsDrawnFault files entries top.now
-        (option_map (λ b. b.now) rescue.entry) (option_map (λ b. b.now) journal.entry))) }
+    ensures drawn { IfOk result (λ answer. IsDrawn changing shape top.now (string_bytes answer.text) (string_bytes answer.warnings) answer.status) }
+    // It is that of the files, the journal and the rescue file that the folder holds.
+    ensures held { F.honest folder.now → IfOk result (λ answer.
+        IsDrawn (fixed (F.holds folder.now)) shape top.now (string_bytes answer.text) (string_bytes answer.warnings) answer.status) }
+    ensures refused { IfErr result (IsNotDrawn changing top.now) }
+    // The refusal too is for what the folder holds.
+    ensures refused_held { F.honest folder.now → IfErr result (IsNotDrawn (fixed (F.holds folder.now)) top.now) }
 {
-    match journal {
-        Some(bytes) => graph_by(alloc, folder, top, rescue, bytes, shape),
-        None => bare_graph(alloc, folder, top, shape),
+    let round = last_round(alloc, folder, top)?;
+    if round.journal.is_none() {
+        return bare_graph(alloc, folder, top, shape);
     }
+    let opened = round.open(alloc, folder, top)?;
+    graph_plan(alloc, &opened.plan, opened.bytes(), shape)
 }
 
 /// The picture of the DAG files alone.
@@ -67,39 +65,15 @@ fn bare_graph<F: Folder>(
     top: &str,
     shape: Shape,
 ) -> Result<Answer, RunFault>
-    ensures drawn { IfOk result (λ answer. IsOfSome top.now (λ files entries.
+    ensures drawn { IfOk result (λ answer. IsOfFiles changing top.now (λ files entries.
         IsBareDrawn shape files top.now (string_bytes answer.text) (string_bytes answer.warnings) answer.status)) }
-    ensures held { F.honest folder.now → IfOk result (λ answer. IsOfFiles (F.holds folder.now) top.now (λ files entries.
+    ensures held { F.honest folder.now → IfOk result (λ answer. IsOfFiles (fixed (F.holds folder.now)) top.now (λ files entries.
         IsBareDrawn shape files top.now (string_bytes answer.text) (string_bytes answer.warnings) answer.status)) }
-    ensures refused { IfErr result (IsRefusedForSome top.now (HasNoGraph top.now)) }
-    ensures refused_held { F.honest folder.now → IfErr result (IsRefusedFor (F.holds folder.now) top.now (HasNoGraph top.now)) }
+    ensures refused { IfErr result (IsRefusedFor changing top.now (HasNoGraph top.now)) }
+    ensures refused_held { F.honest folder.now → IfErr result (IsRefusedFor (fixed (F.holds folder.now)) top.now (HasNoGraph top.now)) }
 {
     let plan = bare_plan_here(alloc, folder, top, false)?;
     answer_for(alloc, &Drawn::Bare(&plan), shape)
-}
-
-/// The picture of the plan of a round, by a journal of these bytes.
-fn graph_by<F: Folder>(
-    alloc: Global,
-    folder: &F,
-    top: &str,
-    rescue: Option<&[u8]>,
-    bytes: &[u8],
-    shape: Shape,
-) -> Result<Answer, RunFault>
-    ensures drawn { IfOk result (λ answer. IsOfSome top.now (λ files entries. IsDrawnOf shape files entries top.now
-        (option_map (λ b. b.now) rescue.entry) (Some bytes.now)
-        (string_bytes answer.text) (string_bytes answer.warnings) answer.status)) }
-    ensures held { F.honest folder.now → IfOk result (λ answer. IsOfFiles (F.holds folder.now) top.now (λ files entries. IsDrawnOf shape files entries top.now
-        (option_map (λ b. b.now) rescue.entry) (Some bytes.now)
-        (string_bytes answer.text) (string_bytes answer.warnings) answer.status)) }
-    ensures refused { IfErr result (IsRefusedForSome top.now (λ files entries. IsDrawnFault files entries top.now
-        (option_map (λ b. b.now) rescue.entry) (Some bytes.now))) }
-    ensures refused_held { F.honest folder.now → IfErr result (IsRefusedFor (F.holds folder.now) top.now (λ files entries. IsDrawnFault files entries top.now
-        (option_map (λ b. b.now) rescue.entry) (Some bytes.now))) }
-{
-    let plan = plan_of_round(alloc, folder, top, rescue, Some(bytes))?;
-    graph_plan(alloc, &plan, bytes, shape)
 }
 
 /// The text of a picture.

@@ -7,10 +7,12 @@ mod audits;
 mod by_journal;
 mod graphs;
 mod reports;
+mod round;
 mod status_data;
 mod statuses;
 
-pub use audits::audit_of;
-pub use by_journal::{LastRound, Question, answer_here, last_round, report_here};
+pub use by_journal::{Question, answer_here, report_here};
+pub use graphs::Shape;
+pub use round::{LastRound, OpenedRound, last_round, open_round};
 pub use status_data::{line_of as json_line, node_of as node_json, value_of as value_json};
-pub use statuses::{bytes_in, core_of, json_of_status, plan_of_round, records_of, status_of};
+pub use statuses::{Form, json_of_status};

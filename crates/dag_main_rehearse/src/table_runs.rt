@@ -15,8 +15,7 @@ ghost use Rattle.dag_main_check.specs.declared.fault.RunFault.TheVariants.{InMan
 use dag_main_check::RunFault;
 use event_journal::MemDisk;
 use event_journal_log::JournalFault;
-use job_starter_drive::DriveFault;
-use job_starter_table::{Script, ScriptedStarter};
+use job_starter_drive::{DriveFault, Script, ScriptedStarter};
 use node_machine::{Record, Table, Verdict};
 use recovery_manager::{Manager, ManagerFault};
 use run_plan::Plan;

@@ -7,12 +7,12 @@ ghost use Rattle.dag_main_run.specs.InTheWay.{IsOrphanFault};
 use crate::beginning::{
     children_name, children_path, forget_processes, forget_round, log_of, round_name, round_path,
 };
+use child_watcher::RoundIdentity;
 use dag_main_args::{OrphanRule, RunOptions};
 use dag_main_check::RunFault;
 use dag_main_files::{Journaled, Place, Round, journal_path};
 use dag_reader::Text;
 use event_journal_log::{JournalFault, read_journal};
-use round_identity::RoundIdentity;
 use run_log::{
     OrphanFault, Orphans, RunWatcher, Seat, keep_rounds, keeps_round, kept_rounds, new_round,
     orphans_of, seat_of,

@@ -11,18 +11,16 @@ ghost use Rattle.dag_main_run.specs.Sites.{Own, own_from, journal_found};
 ghost use Rattle.job_starter_drive.specs.Calls.{any_ending, running};
 
 use crate::beginning::{ignores_endings, make_journal};
-use child_watcher::ChildWatcher;
+use child_watcher::{ChildWatcher, RoundIdentity};
 use dag_main_check::RunFault;
 use dag_main_files::{
     Folder, Journaled, Lock, Place, Round, SystemFolder, journal_disk, rescue_disk,
 };
 use event_journal::FileDisk;
 use event_journal_log::Disk;
-use job_starter_drive::DriveFault;
+use job_starter_drive::{DriveFault, ProcessStarter};
 use job_starter_local::{Launcher, LocalSystem};
-use job_starter_poll::ProcessStarter;
 use recovery_manager::ManagerFault;
-use round_identity::RoundIdentity;
 use run_plan::Plan;
 use run_round::{RunToEnd, Start, run_round};
 use std::fs::File;

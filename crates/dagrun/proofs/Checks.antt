@@ -8,9 +8,7 @@ use Rattle.splices_flat.specs.FileSet.{bytes_of}
 use Rattle.splices_flat.specs.declared.file_set.FileSet.{FileSet}
 use Rattle.dag_main_files.specs.Folder.{IsReadFrom}
 use Rattle.dag_main_check.proofs.HeldFiles.{checked}
-use Rattle.dag_main_files.specs.Beside.{IsInputFault}
-use Rattle.folder_answers.specs.Answered.{held_not_read, held_refused}
-use Rattle.dagrun.specs.Answered.{Said, IsCheckWith, without_hints, with_hints, checks_in, checks_from, all_of_held_files, all_of_files_read_once, check_refused_some, check_refused_in}
+use Rattle.dagrun.specs.Answered.{Said, IsCheckWith, without_hints, with_hints, checks_in, checks_from, all_of_held_files, all_of_files_read_once}
 
 -- what is said of an answer
 abbrev pub IsAnswer : Said → Bool → Answer → Type 0
@@ -30,15 +28,6 @@ pub read_once : (all : Bool) (form : CheckForm) (files : FileSet) (holds : Files
     → checks_in all form (bytes_of files) path text warnings status → checks_from all form holds path text warnings status
 read_once false form files holds path read text warnings status is = checked (bytes_of files) holds read.held form path text warnings status is
 read_once true form files holds path read text warnings status is = all_of_files_read_once files read is
-
--- standard input can't be read
-pub not_read : (all : Bool) (holds : Files) (path : List ℕ) (fault : RunFault) → IsInputFault path fault → check_refused_in all holds path fault
-not_read false holds path fault why = held_not_read fault why
-not_read true holds path fault why = held_refused fault (held_not_read fault why)
-
-pub not_read_of_some : (all : Bool) (path : List ℕ) (fault : RunFault) → IsInputFault path fault → check_refused_some all path fault
-not_read_of_some false path fault why = ((λ file. None), held_not_read fault why)
-not_read_of_some true path fault why = ((λ file. None), held_refused fault (held_not_read fault why))
 
 -- without hints
 pub plain_check : (Checked : Said) (hinted : Bool) (r : Result Answer RunFault) → IfOk r (IsPlain Checked) → IfOk r (IsAnswer Checked hinted)

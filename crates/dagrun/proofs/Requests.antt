@@ -10,8 +10,8 @@ use Rattle.dag_main_args.specs.Answered.{IsAskedFor, IsRefused}
 use Rattle.dag_main_check.specs.declared.fault.RunFault.{RunFault}
 use Rattle.dag_main_check.specs.declared.fault.RunFault.TheVariants.{Memory as NoMemory}
 use Rattle.dag_main_check.specs.declared.warnings.Answer.{Answer}
-use Rattle.answer_console.specs.Display.{Streams, IsExitStatusOf, printed, not_printed}
-use Rattle.answer_console.proofs.Lines.{no-warning}
+use Rattle.dag_main_check.specs.Consoles.{Streams, IsExitStatusOf, printed, not_printed}
+use Rattle.dag_main_check.proofs.Lines.{no-warning}
 use Rattle.dagrun.specs.Answered.{AskFor, IsExit, of_no_memory, AreHints}
 
 -- the words as they are lent

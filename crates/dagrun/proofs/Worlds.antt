@@ -4,7 +4,9 @@ use Rattle.std.specs.Prelude.{IfErr, IsErrAnd, codes}
 use Rattle.std.proofs.lemmas.Bool.{false≢true}
 use Rattle.event_journal_log.specs.declared.disk.Disk.{Ghosts}
 use Rattle.splices_flat.specs.Opening.{Files}
+use Rattle.splices_flat.specs.FileSet.{bytes_of}
 use Rattle.splices_flat.specs.declared.file_set.FileSet.{FileSet}
+use Rattle.dag_main_files.specs.Folder.{IsReadFrom}
 use Rattle.throttles.specs.declared.Limits.{Limits}
 use Rattle.run_plan.specs.Plan.{Plan}
 use Rattle.job_starter_drive.specs.declared.Call.{Call}
@@ -16,8 +18,8 @@ use Rattle.dag_main_files.specs.Beside.{IsRefusalOf, path_refused, refusing_had_
 use Rattle.dag_main_check.specs.declared.fault.RunFault.{RunFault}
 use Rattle.dag_main_check.specs.declared.warnings.Answer.{Answer}
 use Rattle.dag_main_run.specs.Sites.{Own, IsKnownTo, IsAtSite, Rounds, rounds_at, journal_found}
-use Rattle.dag_main_run.specs.Runs.{RoundSight, IsRunWhere, IsStopFault, no_endings, orphans_in_the_way, no_status_file, not_readied, round_stopped, leading_had_no_memory, IsHeldFault, not_found_again, another_was_at_work, not_led, IsRunFaultWhere, no_graph, not_found, no_plan, no_launcher, no_room, not_alone, not_held, no_memory}
-use Rattle.dagrun.specs.Answered.{as_text, as_json, run_refused, not_stated, Said, World, files_for, is_beside, IsRunWith, led, reported_again, IsRunRefusal, not_run, not_reported, CommandContract, command_of_some, command_from, IsAnswerUnder, ComesTo, IsFolderFault, folder_refused, folder_had_no_memory, IsReply, of_command, of_no_folder, is_run}
+use Rattle.dag_main_run.specs.Runs.{any_round, held_round, RoundSight, IsRunWhere, IsStopFault, no_endings, orphans_in_the_way, no_status_file, not_readied, round_stopped, leading_had_no_memory, IsHeldFault, not_found_again, another_was_at_work, not_led, IsRunFaultWhere, no_graph, not_found, no_plan, no_launcher, no_room, not_alone, not_held, no_memory}
+use Rattle.dagrun.specs.Answered.{as_text, as_json, run_refused, not_stated, World, files_for, is_beside, led, reported_again, not_run, not_reported, CommandContract, Knowledge, changing_files, held_in, run_contract, command_contract, IsAnswerUnder, ComesTo, IsReply, of_command, of_no_folder, IsFolderFault, folder_refused, folder_had_no_memory, is_run}
 
 -- what a command comes to, by what is said of its answer and of its refusal
 pub comes-to : (command : CommandContract) (r : Result Answer RunFault) → IfOk r (IsAnswerUnder command) → IfErr r command.refused → ComesTo command r
@@ -25,17 +27,11 @@ comes-to command (Ok answer) is why = is
 comes-to command (Err fault) is why = why
 
 -- the same of the command of a request
-pub some-to : (rounds : Rounds) (request other : Request) → request ≡ other → (r : Result Answer RunFault)
-    → IfOk r (IsAnswerUnder (command_of_some rounds (asked_by other))) → IfErr r (command_of_some rounds (asked_by other)).refused
-    → ComesTo (command_of_some rounds (asked_by request)) r
-some-to rounds request other same r is why =
-    subst (λ (q : Request). ComesTo (command_of_some rounds (asked_by q)) r) (sym same) (comes-to (command_of_some rounds (asked_by other)) r is why)
-
-pub held-to : (holds : Files) (has : List ℕ → Bool) (rounds : Rounds) (request other : Request) → request ≡ other → (r : Result Answer RunFault)
-    → IfOk r (IsAnswerUnder (command_from holds has rounds (asked_by other))) → IfErr r (command_from holds has rounds (asked_by other)).refused
-    → ComesTo (command_from holds has rounds (asked_by request)) r
-held-to holds has rounds request other same r is why =
-    subst (λ (q : Request). ComesTo (command_from holds has rounds (asked_by q)) r) (sym same) (comes-to (command_from holds has rounds (asked_by other)) r is why)
+pub request-to : (known : Knowledge) (rounds : Rounds) (request other : Request) → request ≡ other → (r : Result Answer RunFault)
+    → IfOk r (IsAnswerUnder (command_contract known rounds (asked_by other))) → IfErr r (command_contract known rounds (asked_by other)).refused
+    → ComesTo (command_contract known rounds (asked_by request)) r
+request-to known rounds request other same r is why =
+    subst (λ (q : Request). ComesTo (command_contract known rounds (asked_by q)) r) (sym same) (comes-to (command_contract known rounds (asked_by other)) r is why)
 
 -- the same of a refusal that is handed on
 pub refused-to : (command : CommandContract) (given : RunFault) → command.refused given → (r : Result Answer RunFault) → IsErrAnd r (λ fault. fault ≡ given) → ComesTo command r
@@ -50,9 +46,14 @@ pub record AreToldAs (rounds known : Rounds) : Type 0 where
       → rounds.stopped top limits plan round fault → known.stopped top limits plan round fault
   pub deaf : rounds.is_deaf → known.is_deaf
 
-module _ (rounds known : Rounds) (told : AreToldAs rounds known) where
+-- what is known of these rounds is known of others, too
+record Keeps (rounds others : Rounds) (known : Knowledge) : Type 0 where
+  keeps_led : (path : List ℕ) (options : RunOptions) (text warnings : List ℕ) (status : ℕ) → known.led rounds path options text warnings status → known.led others path options text warnings status
+  keeps_not_led : (path : List ℕ) (options : RunOptions) (fault : RunFault) → known.not_led rounds path options fault → known.not_led others path options fault
+
+module _ (rounds told_rounds : Rounds) (told : AreToldAs rounds told_rounds) where
   run-by : (says : FileSet → Files) (IsRead : FileSet → Type 0) (sight : RoundSight) (path : List ℕ) (options : RunOptions) (text warnings : List ℕ) (status : ℕ)
-      → IsRunWhere says IsRead sight rounds path options text warnings status → IsRunWhere says IsRead sight known path options text warnings status
+      → IsRunWhere says IsRead sight rounds path options text warnings status → IsRunWhere says IsRead sight told_rounds path options text warnings status
   run-by says IsRead sight path options text warnings status run = record {
     files = run.files;
     read = run.read;
@@ -68,16 +69,9 @@ module _ (rounds known : Rounds) (told : AreToldAs rounds known) where
     };
   }
 
-  run-with : (says : FileSet → Files) (IsRead : FileSet → Type 0) (sight : RoundSight) (Again : Said) (NoReport : Type 0) (path : List ℕ) (options : RunOptions)
-      (text warnings : List ℕ) (status : ℕ) → IsRunWith (IsRunWhere says IsRead sight rounds path options) Again NoReport options text warnings status
-      → IsRunWith (IsRunWhere says IsRead sight known path options) Again NoReport options text warnings status
-  run-with says IsRead sight Again NoReport path options text warnings status (led none run) =
-      led none (run-by says IsRead sight path options text warnings status run)
-  run-with says IsRead sight Again NoReport path options text warnings status (reported_again asked again) = reported_again asked again
-
   stop-fault : (options : RunOptions) (path : List ℕ) (plan : Plan) (round : Round) (fault : RunFault)
       → IsStopFault path options round rounds.is_deaf (rounds.stopped path options.limits plan round) fault
-      → IsStopFault path options round known.is_deaf (known.stopped path options.limits plan round) fault
+      → IsStopFault path options round told_rounds.is_deaf (told_rounds.stopped path options.limits plan round) fault
   stop-fault options path plan round _ (no_endings deaf) = no_endings (told.deaf deaf)
   stop-fault options path plan round _ (orphans_in_the_way fault why) = orphans_in_the_way fault why
   stop-fault options path plan round _ (no_status_file name fault is why) = no_status_file name fault is why
@@ -87,13 +81,13 @@ module _ (rounds known : Rounds) (told : AreToldAs rounds known) where
 
   held-fault : (NotFound : RunFault → Type 0) (options : RunOptions) (path : List ℕ) (plan : Plan) (round : Round) (fault : RunFault)
       → IsHeldFault path options round NotFound rounds.is_deaf (rounds.stopped path options.limits plan round) fault
-      → IsHeldFault path options round NotFound known.is_deaf (known.stopped path options.limits plan round) fault
+      → IsHeldFault path options round NotFound told_rounds.is_deaf (told_rounds.stopped path options.limits plan round) fault
   held-fault NotFound options path plan round _ (not_found_again fault why) = not_found_again fault why
   held-fault NotFound options path plan round _ (another_was_at_work fault why) = another_was_at_work fault why
   held-fault NotFound options path plan round _ (not_led fault why) = not_led fault (stop-fault options path plan round fault why)
 
   run-fault : (says : FileSet → Files) (IsRead : FileSet → Type 0) (sight : RoundSight) (path : List ℕ) (options : RunOptions) (fault : RunFault)
-      → IsRunFaultWhere says IsRead sight rounds path options fault → IsRunFaultWhere says IsRead sight known path options fault
+      → IsRunFaultWhere says IsRead sight rounds path options fault → IsRunFaultWhere says IsRead sight told_rounds path options fault
   run-fault says IsRead sight path options _ (no_graph files fault read why) = no_graph files fault read why
   run-fault says IsRead sight path options _ (not_found files graph fault read is why) = not_found files graph fault read is why
   run-fault says IsRead sight path options _ (no_plan files graph round rescue fault read is is_round is_rescue why) = no_plan files graph round rescue fault read is is_round is_rescue why
@@ -103,50 +97,54 @@ module _ (rounds known : Rounds) (told : AreToldAs rounds known) where
   run-fault says IsRead sight path options _ (not_held planned fault why) = not_held planned fault (held-fault sight.not_found options path planned.plan planned.round fault why)
   run-fault says IsRead sight path options _ no_memory = no_memory
 
-  run-refusal : (says : FileSet → Files) (IsRead : FileSet → Type 0) (sight : RoundSight) (NotTold : RunFault → Type 0) (NoReport : Type 0) (path : List ℕ) (options : RunOptions) (fault : RunFault)
-      → IsRunRefusal (IsRunFaultWhere says IsRead sight rounds path options) NotTold NoReport options fault
-      → IsRunRefusal (IsRunFaultWhere says IsRead sight known path options) NotTold NoReport options fault
-  run-refusal says IsRead sight NotTold NoReport path options _ (not_run fault none why) = not_run fault none (run-fault says IsRead sight path options fault why)
-  run-refusal says IsRead sight NotTold NoReport path options _ (not_reported fault asked why) = not_reported fault asked why
+  keeps-nothing : Keeps rounds told_rounds changing_files
+  keeps-nothing = record {
+    keeps_led = λ path options text warnings status is. run-by bytes_of (λ files. Unit {0}) (any_round path options) path options text warnings status is;
+    keeps_not_led = λ path options fault why. run-fault bytes_of (λ files. Unit {0}) (any_round path options) path options fault why;
+  }
 
-  pub told-some : (asked : Asked) (r : Result Answer RunFault) → ComesTo (command_of_some rounds asked) r → ComesTo (command_of_some known asked) r
-  told-some (checks path all json hinted) r is = is
-  told-some (runs path options) (Ok answer) (as_text isnt is) = as_text isnt (run-with _ _ _ _ _ path options _ _ _ is)
-  told-some (runs path options) (Ok answer) (as_json report others other asked is states) = as_json report others other asked (run-with _ _ _ _ _ path options _ _ _ is) states
-  told-some (runs path options) (Err _) (run_refused fault why) = run_refused fault (run-refusal _ _ _ _ _ path options fault why)
-  told-some (runs path options) (Err _) (not_stated fault asked why) = not_stated fault asked why
-  told-some (views path shown begun owned) r is = is
-  told-some (rehearses path outcomes limits always_post) r is = is
-  told-some (salvages path ended owned) r is = is
-  told-some (redoes path nodes only owned) r is = is
-  told-some (shows page) r is = is
+  keeps-held : (holds : Files) (has : List ℕ → Bool) → Keeps rounds told_rounds (held_in holds has)
+  keeps-held holds has = record {
+    keeps_led = λ path options text warnings status is. run-by (λ files. holds) (IsReadFrom holds path) (held_round holds has path options) path options text warnings status is;
+    keeps_not_led = λ path options fault why. run-fault (λ files. holds) (IsReadFrom holds path) (held_round holds has path options) path options fault why;
+  }
 
-  pub told-from : (holds : Files) (has : List ℕ → Bool) (asked : Asked) (r : Result Answer RunFault) → ComesTo (command_from holds has rounds asked) r
-      → ComesTo (command_from holds has known asked) r
-  told-from holds has (checks path all json hinted) r is = is
-  told-from holds has (runs path options) (Ok answer) (as_text isnt is) = as_text isnt (run-with _ _ _ _ _ path options _ _ _ is)
-  told-from holds has (runs path options) (Ok answer) (as_json report others other asked is states) = as_json report others other asked (run-with _ _ _ _ _ path options _ _ _ is) states
-  told-from holds has (runs path options) (Err _) (run_refused fault why) = run_refused fault (run-refusal _ _ _ _ _ path options fault why)
-  told-from holds has (runs path options) (Err _) (not_stated fault asked why) = not_stated fault asked why
-  told-from holds has (views path shown begun owned) r is = is
-  told-from holds has (rehearses path outcomes limits always_post) r is = is
-  told-from holds has (salvages path ended owned) r is = is
-  told-from holds has (redoes path nodes only owned) r is = is
-  told-from holds has (shows page) r is = is
+  module _ (known : Knowledge) (keeps : Keeps rounds told_rounds known) where
+    run-with : (path : List ℕ) (options : RunOptions) (text warnings : List ℕ) (status : ℕ) → (run_contract known rounds path options).answers text warnings status
+        → (run_contract known told_rounds path options).answers text warnings status
+    run-with path options text warnings status (led none run) = led none (keeps.keeps_led path options text warnings status run)
+    run-with path options text warnings status (reported_again asked again) = reported_again asked again
 
-  -- a reply by what stands beside a DAG file
+    run-refusal : (path : List ℕ) (options : RunOptions) (fault : RunFault) → (run_contract known rounds path options).refused fault → (run_contract known told_rounds path options).refused fault
+    run-refusal path options _ (not_run fault none why) = not_run fault none (keeps.keeps_not_led path options fault why)
+    run-refusal path options _ (not_reported fault asked why) = not_reported fault asked why
+
+    told-by : (asked : Asked) (r : Result Answer RunFault) → ComesTo (command_contract known rounds asked) r → ComesTo (command_contract known told_rounds asked) r
+    told-by (checks path all json hinted) r is = is
+    told-by (runs path options) (Ok answer) (as_text asked is) = as_text asked (run-with path options _ _ _ is)
+    told-by (runs path options) (Ok answer) (as_json report others other asked is states) = as_json report others other asked (run-with path options _ _ _ is) states
+    told-by (runs path options) (Err _) (run_refused fault why) = run_refused fault (run-refusal path options fault why)
+    told-by (runs path options) (Err _) (not_stated fault asked why) = not_stated fault asked why
+    told-by (views path shown begun owned) r is = is
+    told-by (rehearses path outcomes limits always_post) r is = is
+    told-by (salvages path ended owned) r is = is
+    told-by (redoes path nodes only owned) r is = is
+    told-by (shows page) r is = is
+
+  -- a reply by what is beside a DAG file
   pub beside-reply : (Honest IsLost : Type 0) (world : World) (holds : Files) (has : List ℕ → Bool) (asked : Asked) → is_beside asked ≡ true → (reply : Result Answer RunFault)
-      → (Honest → holds ≡ world.holds) → (Honest → has ≡ world.has) → ComesTo (command_of_some rounds asked) reply
-      → (Honest → ComesTo (command_from holds has rounds asked) reply) → IsReply Honest IsLost world known asked reply
+      → (Honest → holds ≡ world.holds) → (Honest → has ≡ world.has) → ComesTo (command_contract changing_files rounds asked) reply
+      → (Honest → ComesTo (command_contract (held_in holds has) rounds asked) reply) → IsReply Honest IsLost world told_rounds asked reply
   beside-reply Honest IsLost world holds has asked beside reply same there some held =
-      of_command reply (told-some asked reply some)
-      (λ honest. subst (λ (b : Bool). ComesTo (command_from (files_for b world) world.has known asked) reply) (sym beside)
-      (subst (λ (f : Files). ComesTo (command_from f world.has known asked) reply) (same honest)
-      (subst (λ (h : List ℕ → Bool). ComesTo (command_from holds h known asked) reply) (there honest) (told-from holds has asked reply (held honest)))))
+      of_command reply (told-by changing_files keeps-nothing asked reply some)
+      (λ honest. subst (λ (b : Bool). ComesTo (command_contract (held_in (files_for b world) world.has) told_rounds asked) reply) (sym beside)
+      (subst (λ (f : Files). ComesTo (command_contract (held_in f world.has) told_rounds asked) reply) (same honest)
+      (subst (λ (h : List ℕ → Bool). ComesTo (command_contract (held_in holds h) told_rounds asked) reply) (there honest)
+      (told-by (held_in holds has) (keeps-held holds has) asked reply (held honest)))))
 
--- what isn't asked of what stands beside a DAG file, is asked of no round
-pub unbeside-some : (rounds known : Rounds) (asked : Asked) → is_beside asked ≡ false → (r : Result Answer RunFault) → ComesTo (command_of_some rounds asked) r
-    → ComesTo (command_of_some known asked) r
+-- what isn't asked of what is beside a DAG file, is asked of no round
+pub unbeside-some : (rounds known : Rounds) (asked : Asked) → is_beside asked ≡ false → (r : Result Answer RunFault) → ComesTo (command_contract changing_files rounds asked) r
+    → ComesTo (command_contract changing_files known asked) r
 unbeside-some rounds known (checks path all json hinted) isnt r is = is
 unbeside-some rounds known (runs path options) isnt r is = absurd (false≢true (sym isnt))
 unbeside-some rounds known (views path shown begun owned) isnt r is = is
@@ -156,10 +154,10 @@ unbeside-some rounds known (redoes path nodes only owned) isnt r is = is
 unbeside-some rounds known (shows page) isnt r is = is
 
 pub unbeside-from : (holds : Files) (has there : List ℕ → Bool) (rounds known : Rounds) (asked : Asked) → is_beside asked ≡ false → (r : Result Answer RunFault)
-    → ComesTo (command_from holds has rounds asked) r → ComesTo (command_from holds there known asked) r
+    → ComesTo (command_contract (held_in holds has) rounds asked) r → ComesTo (command_contract (held_in holds there) known asked) r
 unbeside-from holds has there rounds known (checks path all json hinted) isnt r is = is
 unbeside-from holds has there rounds known (runs path options) isnt r is = absurd (false≢true (sym isnt))
-unbeside-from holds has there rounds known (views path shown begun owned) isnt r is = is
+unbeside-from holds has there rounds known (views path shown begun owned) isnt r is = absurd (false≢true (sym isnt))
 unbeside-from holds has there rounds known (rehearses path outcomes limits always_post) isnt r is = is
 unbeside-from holds has there rounds known (salvages path ended owned) isnt r is = absurd (false≢true (sym isnt))
 unbeside-from holds has there rounds known (redoes path nodes only owned) isnt r is = absurd (false≢true (sym isnt))
@@ -167,12 +165,12 @@ unbeside-from holds has there rounds known (shows page) isnt r is = is
 
 -- a reply by what is read alone
 pub input-reply : (Honest IsLost : Type 0) (world : World) (rounds known : Rounds) (holds : Files) (has : List ℕ → Bool) (asked : Asked) → is_beside asked ≡ false
-    → (reply : Result Answer RunFault) → (Honest → holds ≡ world.inputs) → ComesTo (command_of_some rounds asked) reply
-    → (Honest → ComesTo (command_from holds has rounds asked) reply) → IsReply Honest IsLost world known asked reply
+    → (reply : Result Answer RunFault) → (Honest → holds ≡ world.inputs) → ComesTo (command_contract changing_files rounds asked) reply
+    → (Honest → ComesTo (command_contract (held_in holds has) rounds asked) reply) → IsReply Honest IsLost world known asked reply
 input-reply Honest IsLost world rounds known holds has asked isnt reply same some held =
     of_command reply (unbeside-some rounds known asked isnt reply some)
-    (λ honest. subst (λ (b : Bool). ComesTo (command_from (files_for b world) world.has known asked) reply) (sym isnt)
-    (subst (λ (f : Files). ComesTo (command_from f world.has known asked) reply) (same honest)
+    (λ honest. subst (λ (b : Bool). ComesTo (command_contract (held_in (files_for b world) world.has) known asked) reply) (sym isnt)
+    (subst (λ (f : Files). ComesTo (command_contract (held_in f world.has) known asked) reply) (same honest)
     (unbeside-from holds has world.has rounds known asked isnt reply (held honest))))
 
 -- no round is asked for where nothing is asked of what stands beside a DAG file

@@ -9,42 +9,47 @@ use Rattle.dag_main_args.specs.Answered.{IsAskedFor, IsRefused}
 use Rattle.dag_main_args.specs.Requests.{Asked, asked_by, checks, runs, views, rehearses, salvages, redoes, shows, Shown, the_status, the_audit, the_graph, the_reasons, the_times, the_page, no_limits, limits_in, AreLimits}
 use Rattle.dag_main_args.specs.declared.request.RunOptions.{RunOptions}
 use Rattle.dag_main_files.specs.Beside.{IsRefusalOf}
-use Rattle.dag_main_files.specs.Folder.{IsReadFrom}
+use Rattle.dag_main_files.specs.Folder.{IsReadFrom, Paths, any_paths, these_paths}
+use Rattle.dag_main_files.specs.Opened.{Holding, changing, fixed}
+use Rattle.throttles.specs.declared.Limits.{Limits}
 use Rattle.dag_main_check.specs.Checked.{IsCheckOf}
 use Rattle.dag_main_rehearse.specs.Rehearsed.{IsRehearsalOf}
-use Rattle.folder_answers.specs.Answered.{IsCheckOfSome, IsCheckOfAllSome, IsCheckOfAllFrom, IsCheckRefusal, IsCheckRefusalFrom, IsCheckOfAllRefusal, IsCheckOfAllRefusalFrom, IsRehearsalOfSome, IsRehearsalRefusal, IsRehearsalRefusalFrom}
+use Rattle.folder_answers.specs.Answered.{IsCheckOfSome, IsCheckOfAllSome, IsCheckOfAllFrom, IsCheckRefusal, IsCheckRefusalFrom, IsRehearsalOfSome, IsRehearsalRefusal, IsRehearsalRefusalFrom}
 use Rattle.dag_main_check.specs.declared.fault.RunFault.{RunFault}
 use Rattle.dag_main_check.specs.declared.fault.RunFault.TheVariants.{FileRefused, Memory}
 use Rattle.dag_main_check.specs.declared.warnings.Answer.{Answer}
-use Rattle.answer_console.specs.Display.{Streams, OnlyWarns, OnlyWarnsAtTerminal, IsDisplayedAs, IsExitStatusOf}
+use Rattle.dag_main_check.specs.Consoles.{Streams, OnlyWarns, OnlyWarnsAtTerminal, IsDisplayedAs, IsExitStatusOf}
 use Rattle.dag_main_run.specs.Sites.{Rounds}
 use Rattle.dag_main_run.specs.Runs.{IsRunOf, IsRunFrom, IsRunFault, IsRunFaultFrom}
-use Rattle.dag_main_inspect.specs.Asked.{IsAnswerOfRun, IsAnswerHeld, IsAnswerFault, IsAnswerFaultHeld}
-use Rattle.dag_main_inspect.specs.Reported.{IsReportHere, IsReportFrom, IsNoReportFrom}
-use Rattle.run_times.specs.Answered.{IsTimesOf, IsTimesFrom, IsTimesFault, IsTimesFaultHeld}
-use Rattle.dag_main_inspect.specs.declared.by_journal.Question.{Question}
-use Rattle.dag_main_inspect.specs.declared.by_journal.Question.TheVariants.{Status, StatusJson, Audit, AuditJson, Graph, FoldedGraph}
-use Rattle.run_times.specs.declared.form.Form.{Form}
-use Rattle.run_times.specs.declared.form.Form.TheVariants.{Table, Picture, Json, Summary}
+use Rattle.dag_main_inspect.specs.Asked.{IsAnswer, IsNotAnswered, IsNoStatus}
+use Rattle.dag_main_inspect.specs.Reported.{IsReported, IsNoReport}
+use Rattle.run_times.specs.Answered.{IsTimes, IsNoTimes}
+use Rattle.dag_main_inspect.specs.declared.by_journal.Question.TheVariants.{Status, Audit, Graph}
+use Rattle.dag_main_inspect.specs.declared.statuses.Form.{Form}
+use Rattle.dag_main_inspect.specs.declared.statuses.Form.TheVariants.{Lines, Json}
+use Rattle.dag_main_inspect.specs.declared.graphs.Shape.{Shape}
+use Rattle.dag_main_inspect.specs.declared.graphs.Shape.TheVariants.{Nodes, Boxes}
+use Rattle.run_times.specs.declared.form.Form.{Form as TimesForm}
+use Rattle.run_times.specs.declared.form.Form.TheVariants.{Table, Picture, Json as TimesJson, Summary, Rounds as RoundTable}
 use Rattle.salvage.specs.Answered.{IsSalvageOf, IsSalvageFrom}
 use Rattle.salvage.specs.Faults.{fault_text}
 use Rattle.salvage.specs.declared.fault.SalvageFault.{SalvageFault}
-use Rattle.salvage.specs.Sight.{any_files, held_files}
+use Rattle.salvage.specs.Sight.{Sight, any_files, held_files}
 use Rattle.salvage.specs.Refused.{IsSalvageFault}
 use Rattle.salvage.specs.declared.fault.SalvageFault.TheVariants.{Refused}
 use Rattle.failure_report.specs.declared.why.Grouping.TheVariants.{ByCause, Each}
 use Rattle.failure_answers.specs.declared.form.WhyForm.{WhyForm}
 use Rattle.failure_answers.specs.declared.form.WhyForm.TheVariants.{Text as WhyText, Json as WhyJson}
-use Rattle.failure_answers.specs.Answered.{IsWhyOf, IsWhyHeld, IsWhyFault, IsWhyFaultHeld}
+use Rattle.failure_answers.specs.Answered.{IsWhy, IsNoWhy}
 use Rattle.dag_main_check.specs.declared.form.CheckForm.{CheckForm}
 use Rattle.dag_main_check.specs.declared.form.CheckForm.TheVariants.{Line as CheckLine, Json as CheckJson}
 use Rattle.dag_main_args.specs.Matched.{version_text}
-use Rattle.report_answers.specs.Answered.{IsReportPageOf, IsReportPageHeld}
+use Rattle.report_answers.specs.Answered.{IsReportPage}
 use Rattle.round_inputs.specs.declared.begun.Begun.{Begun}
 use Rattle.round_inputs.specs.declared.as_begun.ByFiles.{ByFiles}
 use Rattle.round_inputs.specs.declared.as_begun.ByFiles.TheVariants.{AsTheyAre, AsItBegan, AsKept}
 use Rattle.round_inputs.specs.AsBegun.{as_begun, IsSeenBy, IsNotSeenBy, IsNotBegun}
-use Rattle.redo.specs.Answered.{IsRedoOf, IsRedoHeld, IsRedoFault, IsRedoFaultHeld}
+use Rattle.redo.specs.Answered.{IsRedo, IsNoRedo}
 
 -- what is said of the text, the warnings and the status of an answer
 abbrev pub Said : Type 1
@@ -154,21 +159,12 @@ pub data IsRehearsalRefusalWith (Refused : Option (List ℕ) → RunFault → Ty
   table_refused : (path : List ℕ) (fault : RunFault) → outcomes ≡ Some path → IsRefusalOf path fault → IsRehearsalRefusalWith Refused outcomes fault
   not_rehearsed : (table : Option (List ℕ)) (fault : RunFault) → is_some table ≡ is_some outcomes → Refused table fault → IsRehearsalRefusalWith Refused outcomes fault
 
--- Why a check is refused for some files, by whether all faults of lines are asked for; and for what these files say.
-abbrev pub check_refused_some : (all : Bool) → (path : List ℕ) → RunFault → Type 0
-check_refused_some false path = IsCheckRefusal path
-check_refused_some true path = IsCheckOfAllRefusal path
-
-abbrev pub check_refused_in : (all : Bool) → Files → (path : List ℕ) → RunFault → Type 0
-check_refused_in false holds path = IsCheckRefusalFrom holds path
-check_refused_in true holds path = IsCheckOfAllRefusalFrom holds path
-
 -- Why a check is refused where these files are held: for what they say; or, where hints are asked for, for what the files say that were read once
 -- for both.
-pub data IsCheckRefusalHeld (all hinted : Bool) (holds : Files) (path : List ℕ) : RunFault → Type 0 where
-  of_held_files : (fault : RunFault) → check_refused_in all holds path fault → IsCheckRefusalHeld all hinted holds path fault
-  of_files_read_once : (files : FileSet) (fault : RunFault) → hinted ≡ true → IsReadFrom holds path files → check_refused_in all (bytes_of files) path fault →
-      IsCheckRefusalHeld all hinted holds path fault
+pub data IsCheckRefusalHeld (hinted : Bool) (holds : Files) (path : List ℕ) : RunFault → Type 0 where
+  of_held_files : (fault : RunFault) → IsCheckRefusalFrom holds path fault → IsCheckRefusalHeld hinted holds path fault
+  of_files_read_once : (files : FileSet) (fault : RunFault) → hinted ≡ true → IsReadFrom holds path files → IsCheckRefusalFrom (bytes_of files) path fault →
+      IsCheckRefusalHeld hinted holds path fault
 
 -- By which files a round is shown: `status` and `audit` go by the files as they are, or by those with which it began where this is asked for;
 abbrev pub files_asked : (begun : Bool) → ByFiles
@@ -191,10 +187,6 @@ pub record IsByFiles (by : ByFiles) (holds : Files) (path : List ℕ) (Holds : F
   pub seen : IsSeenBy holds path by begun
   pub so : Holds (as_begun begun holds)
 
--- what is said of an answer by these files
-abbrev pub SaidByFiles : ByFiles → Files → (path : List ℕ) → (Files → Said) → Said
-SaidByFiles by holds path Answers text warnings status = IsByFiles by holds path (λ files. Answers files text warnings status)
-
 -- Why a command is refused that is about a round: for what these files say; or it isn't known by which files the round is to be shown.
 pub data IsRefusedByFiles (by : ByFiles) (holds : Files) (path : List ℕ) (Refused : Files → RunFault → Type 0) : RunFault → Type 0 where
   refused_by_files : (fault : RunFault) → IsByFiles by holds path (λ files. Refused files fault) → IsRefusedByFiles by holds path Refused fault
@@ -205,27 +197,23 @@ pub data IsRefusedBySome (by : ByFiles) (path : List ℕ) (Refused : RunFault �
   refused_by_some : (fault : RunFault) → Refused fault → IsRefusedBySome by path Refused fault
   not_seen_by_some : (fault : RunFault) → by ≢ AsTheyAre → IsNotBegun path fault → IsRefusedBySome by path Refused fault
 
--- what `status` asks: where each node is, as lines or as JSON
-abbrev pub status_question : (json : Bool) → Question
-status_question false = Status
-status_question true = StatusJson
+-- `status` and `audit` answer in lines, or as JSON
+abbrev pub form_asked : (json : Bool) → Form
+form_asked false = Lines
+form_asked true = Json
 
--- what `audit` asks, and for what it is asked as JSON
-abbrev pub audit_question : (json : Bool) → Question
-audit_question false = Audit
-audit_question true = AuditJson
+-- `graph` draws a box for each node, or one for those that are alike
+abbrev pub shape_asked : (fold : Bool) → Shape
+shape_asked false = Nodes
+shape_asked true = Boxes
 
--- what `graph` asks: a box for each node, or one for those that are alike
-abbrev pub graph_question : (fold : Bool) → Question
-graph_question false = Graph
-graph_question true = FoldedGraph
-
--- how `times` shows the phases; no two of a picture, JSON and a summary are ever asked for together
-abbrev pub times_form : (svg json summary : Bool) → Form
-times_form true json summary = Picture
-times_form false true summary = Json
-times_form false false true = Summary
-times_form false false false = Table
+-- how `times` shows the phases; no two of a picture, JSON, a summary and rounds are ever asked for together
+abbrev pub times_form : (svg json summary rounds : Bool) → TimesForm
+times_form true json summary rounds = Picture
+times_form false true summary rounds = TimesJson
+times_form false false true rounds = Summary
+times_form false false false true = RoundTable
+times_form false false false false = Table
 
 -- how `why` shows nodes in error: those with one cause once, or each by itself; or as JSON
 abbrev pub why_form : (all json : Bool) → WhyForm
@@ -241,117 +229,125 @@ pub record CommandContract : Type 1 where
 abbrev pub IsPage : (page text warnings : List ℕ) → (status : ℕ) → Type 0
 IsPage page text warnings status = (text ≡ page) × (warnings ≡ []) × (status ≡ 0)
 
--- A run of some files, where this is said of its rounds; and where these files are held and these paths are there.
-abbrev pub run_of_some : Rounds → (path : List ℕ) → RunOptions → CommandContract
-run_of_some rounds path options = record {
-  answers = IsRunWith (IsRunOf rounds path options) (IsReportHere path) (Unit {0}) options;
-  refused = IsRunRefusal (IsRunFault rounds path options) (IsAnswerFault Status path) (Unit {0}) options;
+-- By which files a round is shown.
+abbrev pub files_for_view : Shown → (begun : Bool) → ByFiles
+files_for_view (the_status json) begun = files_asked begun
+files_for_view (the_audit json) begun = files_asked begun
+files_for_view (the_graph fold as_is) begun = graph_asked as_is begun
+files_for_view (the_reasons nodes all json) begun = round_asked begun
+files_for_view (the_times svg json summary rounds) begun = round_asked begun
+files_for_view (the_page reload) begun = round_asked begun
+
+-- What is shown of the last round of a path.
+abbrev pub IsView : Holding → (path : List ℕ) → Shown → Said
+IsView may_hold path (the_status json) = IsAnswer may_hold (Status (form_asked json)) path
+IsView may_hold path (the_audit json) = IsAnswer may_hold (Audit (form_asked json)) path
+IsView may_hold path (the_graph fold as_is) = IsAnswer may_hold (Graph (shape_asked fold)) path
+IsView may_hold path (the_reasons nodes all json) = IsWhy may_hold (why_form all json) path nodes
+IsView may_hold path (the_times svg json summary rounds) = IsTimes may_hold path (times_form svg json summary rounds)
+IsView may_hold path (the_page reload) = IsReportPage may_hold path version_text reload
+
+-- Why it is not.
+abbrev pub IsNoView : Holding → (path : List ℕ) → Shown → RunFault → Type 0
+IsNoView may_hold path (the_status json) = IsNotAnswered may_hold (Status (form_asked json)) path
+IsNoView may_hold path (the_audit json) = IsNotAnswered may_hold (Audit (form_asked json)) path
+IsNoView may_hold path (the_graph fold as_is) = IsNotAnswered may_hold (Graph (shape_asked fold)) path
+IsNoView may_hold path (the_reasons nodes all json) = IsNoWhy may_hold path
+IsNoView may_hold path (the_times svg json summary rounds) = IsNoTimes may_hold path (times_form svg json summary rounds)
+IsNoView may_hold path (the_page reload) = IsNoWhy may_hold path
+
+-- What is known of the files that a request is answered by: which of them may be held as one is read, and which paths may be there; by which a round is shown, and why
+-- it is not; and what is said of the commands that read files in ways of their own.
+pub record Knowledge : Type 1 where
+  pub may_hold : Holding
+  pub paths : Paths
+  pub shown : ByFiles → (path : List ℕ) → (Holding → Said) → Said
+  pub not_shown : ByFiles → (path : List ℕ) → (Holding → RunFault → Type 0) → RunFault → Type 0
+  pub checked : (all : Bool) → CheckForm → (path : List ℕ) → Said
+  pub not_checked : (hinted : Bool) → (path : List ℕ) → RunFault → Type 0
+  pub led : Rounds → (path : List ℕ) → RunOptions → Said
+  pub not_led : Rounds → (path : List ℕ) → RunOptions → RunFault → Type 0
+  pub rehearsed : (always_post : Bool) → (path : List ℕ) → Limits → (table : Option (List ℕ)) → Said
+  pub not_rehearsed : (always_post : Bool) → (path : List ℕ) → Limits → (table : Option (List ℕ)) → RunFault → Type 0
+  pub salvaged : (ended : Bool) → (path : List ℕ) → Said
+  pub sight : (path : List ℕ) → Sight
+
+-- Nothing is known: others may change the files between two readings. Each reading is of some files.
+abbrev pub changing_files : Knowledge
+changing_files = record {
+  may_hold = changing;
+  paths = any_paths;
+  shown = λ by path Answers. Answers changing;
+  not_shown = λ by path Refused. IsRefusedBySome by path (Refused changing);
+  checked = checks_some;
+  not_checked = λ hinted. IsCheckRefusal;
+  led = IsRunOf;
+  not_led = IsRunFault;
+  rehearsed = λ always_post path limits table. IsRehearsalOfSome always_post path table limits;
+  not_rehearsed = λ always_post path limits table. IsRehearsalRefusal always_post path table limits;
+  salvaged = IsSalvageOf;
+  sight = λ path. any_files;
 }
 
-abbrev pub run_from : Files → (List ℕ → Bool) → Rounds → (path : List ℕ) → RunOptions → CommandContract
-run_from holds has rounds path options = record {
-  answers = IsRunWith (IsRunFrom holds has rounds path options) (IsReportFrom holds path) (IsNoReportFrom holds path) options;
-  refused = IsRunRefusal (IsRunFaultFrom holds has rounds path options) (IsAnswerFaultHeld holds Status path) (IsNoReportFrom holds path) options;
+-- The files are those that are held, and the paths those that are there, which nobody changes.
+abbrev pub held_in : Files → (List ℕ → Bool) → Knowledge
+held_in holds has = record {
+  may_hold = fixed holds;
+  paths = these_paths has;
+  shown = λ by path Answers text warnings status. IsByFiles by holds path (λ files. Answers (fixed files) text warnings status);
+  not_shown = λ by path Refused. IsRefusedByFiles by holds path (λ files. Refused (fixed files));
+  checked = λ all form path. checks_from all form holds path;
+  not_checked = λ hinted path. IsCheckRefusalHeld hinted holds path;
+  led = IsRunFrom holds has;
+  not_led = IsRunFaultFrom holds has;
+  rehearsed = λ always_post path limits table. IsRehearsalOf always_post holds path table limits;
+  not_rehearsed = λ always_post path limits table. IsRehearsalRefusalFrom always_post holds path table limits;
+  salvaged = λ ended path. IsSalvageFrom ended holds path;
+  sight = held_files holds has;
 }
 
--- what it prints, as JSON where that is asked for
+-- A run, where this is said of its rounds: what is printed of the round that was led to its end, or was printed of the last one.
+abbrev pub run_contract : Knowledge → Rounds → (path : List ℕ) → RunOptions → CommandContract
+run_contract known rounds path options = record {
+  answers = IsRunWith (known.led rounds path options) (IsReported known.may_hold path) (IsNoReport known.may_hold path) options;
+  refused = IsRunRefusal (known.not_led rounds path options) (IsNoStatus known.may_hold path) (IsNoReport known.may_hold path) options;
+}
+
+-- what it prints, as JSON where that is asked for: by the journal that it leaves
 abbrev pub printed_run : (path : List ℕ) → RunOptions → CommandContract → CommandContract
 printed_run path options run = record {
-  answers = IsPrintedAs options.json run.answers (IsAnswerOfRun StatusJson path);
-  refused = IsPrintFault options.json run.refused (IsAnswerFault StatusJson path);
+  answers = IsPrintedAs options.json run.answers (IsAnswer changing (Status Json) path);
+  refused = IsPrintFault options.json run.refused (IsNotAnswered changing (Status Json) path);
 }
 
--- a question about the last round of a path, by its journal, which is shown by these files; of some files, and where these are held
-abbrev pub question_of_some : Question → (path : List ℕ) → ByFiles → CommandContract
-question_of_some question path by = record {
-  answers = IsAnswerOfRun question path;
-  refused = IsRefusedBySome by path (IsAnswerFault question path);
+-- What is shown of a round, by the files by which it is shown.
+abbrev pub view_contract : Knowledge → (path : List ℕ) → (begun : Bool) → Shown → CommandContract
+view_contract known path begun view = record {
+  answers = known.shown (files_for_view view begun) path (λ may_hold. IsView may_hold path view);
+  refused = known.not_shown (files_for_view view begun) path (λ may_hold. IsNoView may_hold path view);
 }
 
-abbrev pub question_from : Question → Files → (path : List ℕ) → ByFiles → CommandContract
-question_from question holds path by = record {
-  answers = SaidByFiles by holds path (λ files. IsAnswerHeld files question path);
-  refused = IsRefusedByFiles by holds path (λ files. IsAnswerFaultHeld files question path);
+-- The command that a request is for, where this is known of the files and this is said of the rounds of a run.
+abbrev pub command_contract : Knowledge → Rounds → Asked → CommandContract
+command_contract known rounds (checks path all json hinted) = record {
+  answers = IsCheckWith (known.checked all (check_form json) path) hinted;
+  refused = known.not_checked hinted path;
 }
-
--- why nodes of that round are in error
-abbrev pub why_of_some : WhyForm → (path : List ℕ) → (nodes : List (List ℕ)) → ByFiles → CommandContract
-why_of_some form path nodes by = record { answers = IsWhyOf form path nodes; refused = IsRefusedBySome by path (IsWhyFault path) }
-
-abbrev pub why_from : WhyForm → Files → (path : List ℕ) → (nodes : List (List ℕ)) → ByFiles → CommandContract
-why_from form holds path nodes by = record {
-  answers = SaidByFiles by holds path (λ files. IsWhyHeld form files path nodes);
-  refused = IsRefusedByFiles by holds path (λ files. IsWhyFaultHeld files path);
+command_contract known rounds (runs path options) = printed_run path options (run_contract known rounds path options)
+command_contract known rounds (views path shown begun trust_owner) = view_contract known path begun shown
+command_contract known rounds (rehearses path outcomes limits always_post) = record {
+  answers = IsRehearsalWith (known.rehearsed always_post path limits) outcomes;
+  refused = IsRehearsalRefusalWith (known.not_rehearsed always_post path limits) outcomes;
 }
-
--- when its phases ran
-abbrev pub times_of_some : Form → (path : List ℕ) → ByFiles → CommandContract
-times_of_some form path by = record { answers = IsTimesOf path form; refused = IsRefusedBySome by path (IsTimesFault path) }
-
-abbrev pub times_from : Form → Files → (path : List ℕ) → ByFiles → CommandContract
-times_from form holds path by = record {
-  answers = SaidByFiles by holds path (λ files. IsTimesFrom files path form);
-  refused = IsRefusedByFiles by holds path (λ files. IsTimesFaultHeld files path);
+command_contract known rounds (salvages path ended trust_owner) = record {
+  answers = IsSalvageWith (known.salvaged ended path) (IsSalvageFault ended (known.sight path) path);
+  refused = λ fault. IsSalvageFault ended (known.sight path) path (Refused fault);
 }
-
--- a page of it
-abbrev pub page_of_some : (reload : Bool) → (path : List ℕ) → ByFiles → CommandContract
-page_of_some reload path by = record { answers = IsReportPageOf path version_text reload; refused = IsRefusedBySome by path (IsWhyFault path) }
-
-abbrev pub page_from : (reload : Bool) → Files → (path : List ℕ) → ByFiles → CommandContract
-page_from reload holds path by = record {
-  answers = SaidByFiles by holds path (λ files. IsReportPageHeld files path version_text reload);
-  refused = IsRefusedByFiles by holds path (λ files. IsWhyFaultHeld files path);
+command_contract known rounds (redoes path nodes only trust_owner) = record {
+  answers = IsRedo known.may_hold known.paths path nodes only;
+  refused = IsNoRedo known.may_hold path;
 }
-
--- What is shown of a round, of some files of its path; and where these files are held.
-abbrev pub view_of_some : (path : List ℕ) → (begun : Bool) → Shown → CommandContract
-view_of_some path begun (the_status json) = question_of_some (status_question json) path (files_asked begun)
-view_of_some path begun (the_audit json) = question_of_some (audit_question json) path (files_asked begun)
-view_of_some path begun (the_graph fold as_is) = question_of_some (graph_question fold) path (graph_asked as_is begun)
-view_of_some path begun (the_reasons nodes all json) = why_of_some (why_form all json) path nodes (round_asked begun)
-view_of_some path begun (the_times svg json summary) = times_of_some (times_form svg json summary) path (round_asked begun)
-view_of_some path begun (the_page reload) = page_of_some reload path (round_asked begun)
-
-abbrev pub view_from : Files → (path : List ℕ) → (begun : Bool) → Shown → CommandContract
-view_from holds path begun (the_status json) = question_from (status_question json) holds path (files_asked begun)
-view_from holds path begun (the_audit json) = question_from (audit_question json) holds path (files_asked begun)
-view_from holds path begun (the_graph fold as_is) = question_from (graph_question fold) holds path (graph_asked as_is begun)
-view_from holds path begun (the_reasons nodes all json) = why_from (why_form all json) holds path nodes (round_asked begun)
-view_from holds path begun (the_times svg json summary) = times_from (times_form svg json summary) holds path (round_asked begun)
-view_from holds path begun (the_page reload) = page_from reload holds path (round_asked begun)
-
--- The command that a request is for, of some files of its path, where this is said of the rounds of a run.
-abbrev pub command_of_some : Rounds → Asked → CommandContract
-command_of_some rounds (checks path all json hinted) = record { answers = IsCheckWith (checks_some all (check_form json) path) hinted; refused = check_refused_some all path }
-command_of_some rounds (runs path options) = printed_run path options (run_of_some rounds path options)
-command_of_some rounds (views path shown begun trust_owner) = view_of_some path begun shown
-command_of_some rounds (rehearses path outcomes limits always_post) = record {
-  answers = IsRehearsalWith (λ table. IsRehearsalOfSome always_post path table limits) outcomes;
-  refused = IsRehearsalRefusalWith (λ table. IsRehearsalRefusal always_post path table limits) outcomes;
-}
-command_of_some rounds (salvages path ended trust_owner) = record {
-  answers = IsSalvageWith (IsSalvageOf ended path) (IsSalvageFault ended any_files path);
-  refused = λ fault. IsSalvageFault ended any_files path (Refused fault);
-}
-command_of_some rounds (redoes path nodes only trust_owner) = record { answers = IsRedoOf path nodes only; refused = IsRedoFault path }
-command_of_some rounds (shows page) = record { answers = IsPage page; refused = λ fault. ⊥ }
-
--- The same where these files are held and these paths are there: of the files that are held.
-abbrev pub command_from : Files → (List ℕ → Bool) → Rounds → Asked → CommandContract
-command_from holds has rounds (checks path all json hinted) = record { answers = IsCheckWith (checks_from all (check_form json) holds path) hinted; refused = IsCheckRefusalHeld all hinted holds path }
-command_from holds has rounds (runs path options) = printed_run path options (run_from holds has rounds path options)
-command_from holds has rounds (views path shown begun trust_owner) = view_from holds path begun shown
-command_from holds has rounds (rehearses path outcomes limits always_post) = record {
-  answers = IsRehearsalWith (λ table. IsRehearsalOf always_post holds path table limits) outcomes;
-  refused = IsRehearsalRefusalWith (λ table. IsRehearsalRefusalFrom always_post holds path table limits) outcomes;
-}
-command_from holds has rounds (salvages path ended trust_owner) = record {
-  answers = IsSalvageWith (IsSalvageFrom ended holds path) (IsSalvageFault ended (held_files holds has path) path);
-  refused = λ fault. IsSalvageFault ended (held_files holds has path) path (Refused fault);
-}
-command_from holds has rounds (redoes path nodes only trust_owner) = record { answers = IsRedoHeld holds has path nodes only; refused = IsRedoFaultHeld holds path }
-command_from holds has rounds (shows page) = record { answers = IsPage page; refused = λ fault. ⊥ }
+command_contract known rounds (shows page) = record { answers = IsPage page; refused = λ fault. ⊥ }
 
 -- what is said of the answer of a command
 abbrev pub IsAnswerUnder : CommandContract → Answer → Type 0
@@ -367,11 +363,11 @@ pub data IsFolderFault (IsLost : Type 0) : RunFault → Type 0 where
   folder_refused : IsLost → (file : String Global) → string_bytes file ≡ codes "." → IsFolderFault IsLost (FileRefused file)
   folder_had_no_memory : IsFolderFault IsLost Memory
 
--- What comes of a request: what the command comes to that it is for, of some files, and, where the host is honest, of the files of this world; or it is
+-- What comes of a request: what the command comes to that it is for, whatever is known, and, where the host is honest, by the files of this world; or it is
 -- for what stands beside a DAG file, and it isn't known in which folder the program was called.
 pub data IsReply (Honest IsLost : Type 0) (world : World) (rounds : Rounds) (asked : Asked) : Result Answer RunFault → Type 0 where
-  of_command : (reply : Result Answer RunFault) → ComesTo (command_of_some rounds asked) reply →
-      (Honest → ComesTo (command_from (files_for (is_beside asked) world) world.has rounds asked) reply) → IsReply Honest IsLost world rounds asked reply
+  of_command : (reply : Result Answer RunFault) → ComesTo (command_contract changing_files rounds asked) reply →
+      (Honest → ComesTo (command_contract (held_in (files_for (is_beside asked) world) world.has) rounds asked) reply) → IsReply Honest IsLost world rounds asked reply
   of_no_folder : (fault : RunFault) → is_beside asked ≡ true → IsFolderFault IsLost fault → IsReply Honest IsLost world rounds asked (Err fault)
 
 -- What the words of a command line ask for, the program's name among them: without others it is `rehearse -`; others ask for what the manual says of

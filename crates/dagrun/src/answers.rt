@@ -12,17 +12,18 @@ ghost use Rattle.salvage.specs.Answered.{IsSalvageOf, IsSalvageFrom};
 ghost use Rattle.salvage.specs.Refused.{IsSalvageFault};
 ghost use Rattle.salvage.specs.Sight.{any_files, held_files};
 ghost use Rattle.salvage.specs.declared.fault.SalvageFault.TheVariants.{Refused};
-ghost use Rattle.redo.specs.Answered.{IsRedoOf, IsRedoHeld, IsRedoFault, IsRedoFaultHeld};
+ghost use Rattle.dag_main_files.specs.Folder.{any_paths, these_paths};
+ghost use Rattle.dag_main_files.specs.Opened.{changing, fixed};
+ghost use Rattle.redo.specs.Answered.{IsRedo, IsNoRedo};
 ghost use Rattle.dag_main_run.specs.Sites.{rounds_at};
-ghost use Rattle.dagrun.specs.Answered.{is_run, run_of_some, run_from, command_of_some, command_from, ComesTo, IsPage, IsRehearsalWith, IsRehearsalRefusalWith, IsSalvageWith, AreHints};
+ghost use Rattle.dagrun.specs.Answered.{is_run, changing_files, held_in, run_contract, command_contract, ComesTo, IsPage, IsRehearsalWith, IsRehearsalRefusalWith, IsSalvageWith, AreHints};
 
 use crate::checking::{check, check_form};
 use crate::of_round::show;
-use answer_console::Console;
 use dag_main_args::{Request, RunOptions};
-use dag_main_check::{Answer, RunFault};
+use dag_main_check::{Answer, Console, RunFault};
 use dag_main_files::{Folder, Place, read_input, refused};
-use dag_main_inspect::{Question, answer_here, report_here};
+use dag_main_inspect::{Form, Question, answer_here, report_here};
 use dag_main_run::{Screen, Site, run_dag};
 use file_hints::Wanted;
 use folder_answers::rehearse_here;
@@ -49,12 +50,12 @@ pub(crate) fn answer_in<
     C: Console,
     F: Site,
 >(rt: &R, console: &mut C, folder: &F, request: Request<'_>) -> Result<Answer, RunFault>
-    ensures some { (is_run (asked_by request.entry) ≡ true → ¬ (F.streams folder.now)) → ComesTo (command_of_some
+    ensures some { (is_run (asked_by request.entry) ≡ true → ¬ (F.streams folder.now)) → ComesTo (command_contract changing_files
         (rounds_at F.Journal.Disk F.Rescue.Disk (F.own folder.now) (F.honest folder.now) (F.holds folder.now))
         (asked_by request.entry)) result }
     // It is that of the files that the folder holds; `run` does not read standard input.
-    ensures held { F.honest folder.now → (is_run (asked_by request.entry) ≡ true → ¬ (F.streams folder.now)) → ComesTo (command_from
-        (F.holds folder.now) (F.has folder.now)
+    ensures held { F.honest folder.now → (is_run (asked_by request.entry) ≡ true → ¬ (F.streams folder.now)) → ComesTo (command_contract
+        (held_in (F.holds folder.now) (F.has folder.now))
         (rounds_at F.Journal.Disk F.Rescue.Disk (F.own folder.now) (F.honest folder.now) (F.holds folder.now))
         (asked_by request.entry)) result }
     ensures hinted { C.honest console.new → AreHints (asked_by request.entry) result (C.shown console.old) (C.shown console.new) }
@@ -116,10 +117,10 @@ fn run_in<R: Files<File = File> + Processes + Clock + Screen + AllocGlobal + Cop
     dag: &str,
     options: &RunOptions,
 ) -> Result<Answer, RunFault>
-    ensures some { ¬ (F.streams folder.now) → ComesTo (command_of_some
+    ensures some { ¬ (F.streams folder.now) → ComesTo (command_contract changing_files
         (rounds_at F.Journal.Disk F.Rescue.Disk (F.own folder.now) (F.honest folder.now) (F.holds folder.now))
         (runs dag.now options.now)) result }
-    ensures held { F.honest folder.now → ¬ (F.streams folder.now) → ComesTo (command_from (F.holds folder.now) (F.has folder.now)
+    ensures held { F.honest folder.now → ¬ (F.streams folder.now) → ComesTo (command_contract (held_in (F.holds folder.now) (F.has folder.now))
         (rounds_at F.Journal.Disk F.Rescue.Disk (F.own folder.now) (F.honest folder.now) (F.holds folder.now))
         (runs dag.now options.now)) result }
 {
@@ -127,7 +128,7 @@ fn run_in<R: Files<File = File> + Processes + Clock + Screen + AllocGlobal + Cop
     if !options.json {
         return Ok(answer);
     }
-    let states = answer_here(rt.alloc(), folder, dag, Question::StatusJson)?;
+    let states = answer_here(rt.alloc(), folder, dag, Question::Status(Form::Json))?;
     Ok(Answer {
         text: states.text,
         warnings: answer.warnings,
@@ -141,10 +142,10 @@ fn run_or_report<
     R: Files<File = File> + Processes + Clock + Screen + AllocGlobal + Copy + Drop,
     F: Site,
 >(rt: &R, folder: &F, dag: &str, options: &RunOptions) -> Result<Answer, RunFault>
-    ensures some { ¬ (F.streams folder.now) → ComesTo (run_of_some
+    ensures some { ¬ (F.streams folder.now) → ComesTo (run_contract changing_files
         (rounds_at F.Journal.Disk F.Rescue.Disk (F.own folder.now) (F.honest folder.now) (F.holds folder.now))
         dag.now options.now) result }
-    ensures held { F.honest folder.now → ¬ (F.streams folder.now) → ComesTo (run_from (F.holds folder.now) (F.has folder.now)
+    ensures held { F.honest folder.now → ¬ (F.streams folder.now) → ComesTo (run_contract (held_in (F.holds folder.now) (F.has folder.now))
         (rounds_at F.Journal.Disk F.Rescue.Disk (F.own folder.now) (F.honest folder.now) (F.holds folder.now))
         dag.now options.now) result }
 {
@@ -220,12 +221,12 @@ fn redo_in<R: Files<File = File> + Clock + AllocGlobal + Copy + Drop, F: Site>(
     only: bool,
     trust_owner: bool,
 ) -> Result<Answer, RunFault>
-    ensures redone { IfOk result (λ answer. IsRedoOf dag.now (map (λ n. n.now) nodes.now) only
+    ensures redone { IfOk result (λ answer. IsRedo changing any_paths dag.now (map (λ n. n.now) nodes.now) only
         (string_bytes answer.text) (string_bytes answer.warnings) answer.status) }
-    ensures held { F.honest folder.now → IfOk result (λ answer. IsRedoHeld (F.holds folder.now) (F.has folder.now) dag.now (map (λ n. n.now) nodes.now) only
+    ensures held { F.honest folder.now → IfOk result (λ answer. IsRedo (fixed (F.holds folder.now)) (these_paths (F.has folder.now)) dag.now (map (λ n. n.now) nodes.now) only
         (string_bytes answer.text) (string_bytes answer.warnings) answer.status) }
-    ensures refused { IfErr result (IsRedoFault dag.now) }
-    ensures refused_held { F.honest folder.now → IfErr result (IsRedoFaultHeld (F.holds folder.now) dag.now) }
+    ensures refused { IfErr result (IsNoRedo changing dag.now) }
+    ensures refused_held { F.honest folder.now → IfErr result (IsNoRedo (fixed (F.holds folder.now)) dag.now) }
 {
     let place = Place {
         folder: folder.seat(),

@@ -2,10 +2,10 @@
 
 ghost use Rattle.std.specs.Prelude.{◌≡◌, ◌⊎◌, ◌||◌, ◌++◌, Bool, true, IfOk, IfErr, string_bytes};
 ghost use Rattle.dag_main_args.specs.Requests.{checks};
-ghost use Rattle.dagrun.specs.Answered.{check_form, checks_some, checks_in, checks_from, check_refused_some, check_refused_in, IsCheckWith, IsCheckRefusalHeld, AreHints};
+ghost use Rattle.folder_answers.specs.Answered.{IsCheckRefusal, IsCheckRefusalFrom};
+ghost use Rattle.dagrun.specs.Answered.{check_form, checks_some, checks_in, checks_from, IsCheckWith, IsCheckRefusalHeld, AreHints};
 
-use answer_console::Console;
-use dag_main_check::{Answer, CheckForm, RunFault};
+use dag_main_check::{Answer, CheckForm, Console, RunFault};
 use dag_main_files::{Folder, Reading, files_of};
 use dag_main_run::Screen;
 use file_hints::{Wanted, hints_of};
@@ -37,8 +37,8 @@ fn checked<F: Folder>(
         (string_bytes answer.text) (string_bytes answer.warnings) answer.status) }
     ensures held { F.honest folder.now → IfOk result (λ answer. checks_in all form (F.holds folder.now) dag.now
         (string_bytes answer.text) (string_bytes answer.warnings) answer.status) }
-    ensures refused { IfErr result (check_refused_some all dag.now) }
-    ensures refused_held { F.honest folder.now → IfErr result (check_refused_in all (F.holds folder.now) dag.now) }
+    ensures refused { IfErr result (IsCheckRefusal dag.now) }
+    ensures refused_held { F.honest folder.now → IfErr result (IsCheckRefusalFrom (F.holds folder.now) dag.now) }
 {
     if all {
         check_all_here(alloc, folder, dag, form)
@@ -64,8 +64,8 @@ pub(crate) fn check<R: Files<File = File> + Screen + AllocGlobal, C: Console, F:
         (string_bytes answer.text) (string_bytes answer.warnings) answer.status) }
     ensures held { F.honest folder.now → IfOk result (λ answer. IsCheckWith (checks_from all form (F.holds folder.now) dag.now) (wanted.hints || wanted.condor)
         (string_bytes answer.text) (string_bytes answer.warnings) answer.status) }
-    ensures refused { IfErr result (check_refused_some all dag.now) }
-    ensures refused_held { F.honest folder.now → IfErr result (IsCheckRefusalHeld all (wanted.hints || wanted.condor) (F.holds folder.now) dag.now) }
+    ensures refused { IfErr result (IsCheckRefusal dag.now) }
+    ensures refused_held { F.honest folder.now → IfErr result (IsCheckRefusalHeld (wanted.hints || wanted.condor) (F.holds folder.now) dag.now) }
     ensures hinted { (json : Bool) → C.honest console.new → AreHints (checks dag.now all json (wanted.hints || wanted.condor)) result (C.shown console.old) (C.shown console.new) }
     ensures back { C.honest console.new → C.honest console.old }
 {
@@ -91,8 +91,8 @@ fn check_with_hints<R: Files<File = File> + Screen + AllocGlobal, C: Console, F:
         (string_bytes answer.text) (string_bytes answer.warnings) answer.status) }
     ensures held { F.honest folder.now → IfOk result (λ answer. IsCheckWith (checks_from all form (F.holds folder.now) dag.now) true
         (string_bytes answer.text) (string_bytes answer.warnings) answer.status) }
-    ensures refused { IfErr result (check_refused_some all dag.now) }
-    ensures refused_held { F.honest folder.now → IfErr result (IsCheckRefusalHeld all true (F.holds folder.now) dag.now) }
+    ensures refused { IfErr result (IsCheckRefusal dag.now) }
+    ensures refused_held { F.honest folder.now → IfErr result (IsCheckRefusalHeld true (F.holds folder.now) dag.now) }
     ensures hinted { (json : Bool) → C.honest console.new → AreHints (checks dag.now all json true) result (C.shown console.old) (C.shown console.new) }
     ensures back { C.honest console.new → C.honest console.old }
 {

@@ -2,16 +2,15 @@
 
 ghost use Rattle.std.specs.Prelude.{◌≡◌, map};
 ghost use Rattle.dag_main_args.specs.Requests.{asked_by};
-ghost use Rattle.answer_console.specs.Display.{IsExitStatusOf};
+ghost use Rattle.dag_main_check.specs.Consoles.{IsExitStatusOf};
 ghost use Rattle.dag_main_run.specs.Sites.{rounds_at};
 ghost use Rattle.dagrun.specs.Answered.{is_beside, is_owner_trusted, IsReply, IsExit, AreHints, IsDisplayedThen, IsCall};
 
 use crate::answers::{REFUSED, answer_in};
 use crate::host::Host;
 use crate::terminal::{Postscript, display_hint, display_hint_of_answer, display_postscript};
-use answer_console::{Console, display_reply};
 use dag_main_args::{ProgressRule, Request, ShownRound, View, WordsFault, read_words};
-use dag_main_check::{Answer, RunFault};
+use dag_main_check::{Answer, Console, RunFault, display_reply};
 use dag_main_run::Screen;
 use std::fs::File;
 use std::process::Processes;

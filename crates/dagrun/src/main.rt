@@ -10,9 +10,9 @@ mod of_round;
 mod shorthand;
 mod terminal;
 
-use answer_console::SystemConsole;
 use answers::REFUSED;
 use commands::run;
+use dag_main_check::SystemConsole;
 use dag_main_run::Screen;
 use host::SystemHost;
 use shorthand::spelled_out;

@@ -1,20 +1,20 @@
 //! What is answered of the last round of a DAG file: by the files as they are, or as they were when the round began.
 
-ghost use Rattle.std.specs.Prelude.{◌≡◌, map};
+ghost use Rattle.std.specs.Prelude.{◌≡◌, IfOk, IfErr, string_bytes};
 ghost use Rattle.dag_main_args.specs.Requests.{shown_by};
-ghost use Rattle.dagrun.specs.Answered.{why_form, status_question, audit_question, graph_question, times_form, files_asked, round_asked, graph_asked, ComesTo, question_of_some, question_from, why_of_some, why_from, times_of_some, times_from, page_of_some, page_from, view_of_some, view_from};
+ghost use Rattle.dag_main_files.specs.Opened.{changing, fixed};
+ghost use Rattle.dagrun.specs.Answered.{why_form, form_asked, shape_asked, times_form, files_asked, round_asked, graph_asked, files_for_view, IsView, IsNoView, changing_files, held_in, view_contract, ComesTo};
 
 use dag_main_args::{ShownRound, VERSION, View};
 use dag_main_check::{Answer, RunFault};
 use dag_main_files::{Folder, Place};
-use dag_main_inspect::{Question, answer_here};
+use dag_main_inspect::{Form, Question, Shape, answer_here};
 use dag_main_run::Site;
 use failure_answers::{WhyForm, why_here};
 use failure_report::Grouping;
 use report_answers::{Wanted, page_here};
 use round_inputs::{ByFiles, seen_by};
-use run_times::{Form, times_here};
-use std::alloc::Global;
+use run_times::{Form as TimesForm, times_here};
 use std::fs::File;
 use std::rt::Files;
 
@@ -29,48 +29,30 @@ fn why_form(all: bool, json: bool) -> WhyForm
     }
 }
 
-/// The question of `status`: where each node is, as lines or as JSON.
-fn status_question(json: bool) -> Question
-    ensures { result ≡ status_question json }
+/// The form in which `status` and `audit` answer: lines or JSON.
+fn form_asked(json: bool) -> Form
+    ensures { result ≡ form_asked json }
 {
-    if json {
-        Question::StatusJson
-    } else {
-        Question::Status
-    }
+    if json { Form::Json } else { Form::Lines }
 }
 
-/// The question of `audit`: what the nodes came to, as lines or as JSON.
-fn audit_question(json: bool) -> Question
-    ensures { result ≡ audit_question json }
+/// What `graph` draws: a box for each node, or one for those that are alike.
+fn shape_asked(fold: bool) -> Shape
+    ensures { result ≡ shape_asked fold }
 {
-    if json {
-        Question::AuditJson
-    } else {
-        Question::Audit
-    }
+    if fold { Shape::Boxes } else { Shape::Nodes }
 }
 
-/// The question of `graph`: a picture with a box for each node, or one for those that are alike.
-fn graph_question(fold: bool) -> Question
-    ensures { result ≡ graph_question fold }
+/// How `times` shows the phases; no two of a picture, JSON, a summary and rounds are ever asked for together.
+fn times_form(svg: bool, json: bool, summary: bool, rounds: bool) -> TimesForm
+    ensures { result ≡ times_form svg json summary rounds }
 {
-    if fold {
-        Question::FoldedGraph
-    } else {
-        Question::Graph
-    }
-}
-
-/// How `times` shows the phases; no two of a picture, JSON and a summary are ever asked for together.
-fn times_form(svg: bool, json: bool, summary: bool) -> Form
-    ensures { result ≡ times_form svg json summary }
-{
-    match (svg, json, summary) {
-        (true, _, _) => Form::Picture,
-        (false, true, _) => Form::Json,
-        (false, false, true) => Form::Summary,
-        (false, false, false) => Form::Table,
+    match (svg, json, summary, rounds) {
+        (true, _, _, _) => TimesForm::Picture,
+        (false, true, _, _) => TimesForm::Json,
+        (false, false, true, _) => TimesForm::Summary,
+        (false, false, false, true) => TimesForm::Rounds,
+        (false, false, false, false) => TimesForm::Table,
     }
 }
 
@@ -108,91 +90,67 @@ fn graph_asked(as_is: bool, as_begun: bool) -> ByFiles
     }
 }
 
-/// The answer to a question for the DAG file of this path, by the journal of its last round, which is shown by these files.
-///
-/// # Errors
-/// Those of `seen_by`; then those of `answer_here`.
-fn answer_by<F: Folder>(
-    alloc: Global,
-    folder: &F,
-    dag: &str,
-    question: Question,
-    by: ByFiles,
-) -> Result<Answer, RunFault>
-    ensures some { ComesTo (question_of_some question dag.now by) result }
-    // It is that of the files by which the round is to be shown.
-    ensures held { F.honest folder.now → ComesTo (question_from question (F.holds folder.now) dag.now by) result }
+/// By which files a round is shown.
+fn files_for_view(view: &View<'_>, as_begun: bool) -> ByFiles
+    ensures { result ≡ files_for_view (shown_by view.now) as_begun }
 {
-    let seen = seen_by(alloc, folder, dag, by)?;
-    answer_here(alloc, &seen, dag, question)
+    match view {
+        View::Status { .. } | View::Audit { .. } => files_asked(as_begun),
+        View::Graph { as_is, .. } => graph_asked(*as_is, as_begun),
+        View::Why { .. } | View::Times { .. } | View::Report { .. } => round_asked(as_begun),
+    }
 }
 
-/// Why nodes of the last round of a DAG file are in error.
+/// What is shown of the last round of a DAG file, by the files of this folder.
 ///
 /// # Errors
-/// Those of `seen_by`; then those of `why_here`.
-fn why_of_round<R: Files<File = File> + AllocGlobal, F: Site>(
+/// Those of the call that shows it.
+fn view_of<R: Files<File = File> + AllocGlobal, F: Folder>(
     rt: &R,
     folder: &F,
-    round: &ShownRound<'_>,
-    names: &[&str],
-    form: WhyForm,
+    place: &Place<'_>,
+    view: View<'_>,
+    trust_owner: bool,
 ) -> Result<Answer, RunFault>
-    ensures some { ComesTo (why_of_some form round.now.dag.now (map (λ n. n.now) names.now) (round_asked round.now.as_begun)) result }
-    ensures held { F.honest folder.now
-        → ComesTo (why_from form (F.holds folder.now) round.now.dag.now (map (λ n. n.now) names.now) (round_asked round.now.as_begun)) result }
+    ensures answered { IfOk result (λ answer. IsView changing place.now.top.now (shown_by view.entry)
+        (string_bytes answer.text) (string_bytes answer.warnings) answer.status) }
+    ensures held { F.honest folder.now → IfOk result (λ answer. IsView (fixed (F.holds folder.now)) place.now.top.now (shown_by view.entry)
+        (string_bytes answer.text) (string_bytes answer.warnings) answer.status) }
+    ensures refused { IfErr result (IsNoView changing place.now.top.now (shown_by view.entry)) }
+    ensures refused_held { F.honest folder.now → IfErr result (IsNoView (fixed (F.holds folder.now)) place.now.top.now (shown_by view.entry)) }
 {
-    let place = Place {
-        folder: folder.seat(),
-        top: round.dag,
-    };
-    let seen = seen_by(rt.alloc(), folder, round.dag, round_asked(round.as_begun))?;
-    why_here(rt, &seen, &place, names, round.trust_owner, form)
+    let (alloc, dag) = (rt.alloc(), place.top);
+    match view {
+        View::Status { json } => {
+            answer_here(alloc, folder, dag, Question::Status(form_asked(json)))
+        }
+        View::Audit { json } => answer_here(alloc, folder, dag, Question::Audit(form_asked(json))),
+        View::Graph { fold, .. } => {
+            answer_here(alloc, folder, dag, Question::Graph(shape_asked(fold)))
+        }
+        View::Why { nodes, all, json } => {
+            why_here(rt, folder, place, &nodes, trust_owner, why_form(all, json))
+        }
+        View::Times {
+            svg,
+            json,
+            summary,
+            rounds,
+        } => {
+            let form = times_form(svg, json, summary, rounds);
+            times_here(alloc, folder, dag, form)
+        }
+        View::Report { reload } => {
+            let wanted = Wanted {
+                version: VERSION,
+                reloads: reload,
+            };
+            page_here(rt, folder, place, &wanted, trust_owner)
+        }
+    }
 }
 
-/// When the phases of the last round of a DAG file ran.
-///
-/// # Errors
-/// Those of `seen_by`; then those of `times_here`.
-fn times_of_round<F: Folder>(
-    alloc: Global,
-    folder: &F,
-    round: &ShownRound<'_>,
-    form: Form,
-) -> Result<Answer, RunFault>
-    ensures some { ComesTo (times_of_some form round.now.dag.now (round_asked round.now.as_begun)) result }
-    ensures held { F.honest folder.now → ComesTo (times_from form (F.holds folder.now) round.now.dag.now (round_asked round.now.as_begun)) result }
-{
-    let seen = seen_by(alloc, folder, round.dag, round_asked(round.as_begun))?;
-    times_here(alloc, &seen, round.dag, form)
-}
-
-/// A page of the last round of a DAG file.
-///
-/// # Errors
-/// Those of `seen_by`; then those of `page_here`.
-fn page_of_round<R: Files<File = File> + AllocGlobal, F: Site>(
-    rt: &R,
-    folder: &F,
-    round: &ShownRound<'_>,
-    reloads: bool,
-) -> Result<Answer, RunFault>
-    ensures some { ComesTo (page_of_some reloads round.now.dag.now (round_asked round.now.as_begun)) result }
-    ensures held { F.honest folder.now → ComesTo (page_from reloads (F.holds folder.now) round.now.dag.now (round_asked round.now.as_begun)) result }
-{
-    let wanted = Wanted {
-        version: VERSION,
-        reloads,
-    };
-    let place = Place {
-        folder: folder.seat(),
-        top: round.dag,
-    };
-    let seen = seen_by(rt.alloc(), folder, round.dag, round_asked(round.as_begun))?;
-    page_here(rt, &seen, &place, &wanted, round.trust_owner)
-}
-
-/// What is shown of the last round of a DAG file.
+/// What is shown of the last round of a DAG file, by the files by which it is to be shown.
 ///
 /// # Errors
 /// Those of `seen_by`; then those of the call that shows it.
@@ -202,30 +160,16 @@ pub(crate) fn show<R: Files<File = File> + AllocGlobal, F: Site>(
     round: &ShownRound<'_>,
     view: View<'_>,
 ) -> Result<Answer, RunFault>
-    ensures some { ComesTo (view_of_some round.now.dag.now round.now.as_begun (shown_by view.entry)) result }
-    ensures held { F.honest folder.now → ComesTo (view_from (F.holds folder.now) round.now.dag.now round.now.as_begun (shown_by view.entry)) result }
+    ensures some { ComesTo (view_contract changing_files round.now.dag.now round.now.as_begun (shown_by view.entry)) result }
+    // It is that of the files that the folder holds.
+    ensures held { F.honest folder.now
+        → ComesTo (view_contract (held_in (F.holds folder.now) (F.has folder.now)) round.now.dag.now round.now.as_begun (shown_by view.entry)) result }
 {
-    let alloc = rt.alloc();
-    let (dag, as_begun) = (round.dag, round.as_begun);
-    match view {
-        View::Status { json } => {
-            let by = files_asked(as_begun);
-            answer_by(alloc, folder, dag, status_question(json), by)
-        }
-        View::Audit { json } => {
-            let by = files_asked(as_begun);
-            answer_by(alloc, folder, dag, audit_question(json), by)
-        }
-        View::Graph { fold, as_is } => {
-            let by = graph_asked(as_is, as_begun);
-            answer_by(alloc, folder, dag, graph_question(fold), by)
-        }
-        View::Why { nodes, all, json } => {
-            why_of_round(rt, folder, round, &nodes, why_form(all, json))
-        }
-        View::Times { svg, json, summary } => {
-            times_of_round(alloc, folder, round, times_form(svg, json, summary))
-        }
-        View::Report { reload } => page_of_round(rt, folder, round, reload),
-    }
+    let by = files_for_view(&view, round.as_begun);
+    let seen = seen_by(rt.alloc(), folder, round.dag, by)?;
+    let place = Place {
+        folder: folder.seat(),
+        top: round.dag,
+    };
+    view_of(rt, &seen, &place, view, round.trust_owner)
 }

@@ -1,10 +1,10 @@
 //! What is displayed at a terminal behind the line of a refusal, and behind a status.
 
-ghost use Rattle.answer_console.specs.Display.{OnlyWarnsAtTerminal};
+ghost use Rattle.dag_main_check.specs.Consoles.{OnlyWarnsAtTerminal};
 
 use crate::answers::REFUSED;
 use crate::declared::{Declared, declaration_of, declared_with};
-use answer_console::Console;
+use dag_main_check::Console;
 use dag_main_files::{
     Folder, LAST_NUMBER, Place, Reading, SystemFolder, files_of, read_input, rescue_path,
 };

@@ -1,18 +1,13 @@
 -- What `why` answers.
-use Rattle.std.specs.Prelude.{◌≡◌, ◌≢◌, ℕ, List, [], ◌++◌, codes, length, Option, Some, IsTrue, string_bytes}
-use Rattle.splices_flat.specs.Opening.{Files}
+use Rattle.std.specs.Prelude.{◌≡◌, ◌≢◌, ℕ, List, [], ◌++◌, codes, length, string_bytes}
 use Rattle.node_machine.specs.declared.Record.{Record}
 use Rattle.run_plan.specs.Plan.{Plan}
-use Rattle.sched_core.specs.Run.{chronological, is_lawful}
-use Rattle.dag_main_check.specs.Planned.{IsPlanWith}
 use Rattle.dag_main_check.specs.Warnings.{warning_lines}
 use Rattle.dag_main_check.specs.declared.fault.RunFault.{RunFault}
 use Rattle.dag_main_files.specs.Beside.{IsRefusalOf}
-use Rattle.dag_main_files.specs.Opened.{IsOfFiles, IsOfSome}
-use Rattle.dag_main_inspect.specs.Asked.{IsAnswerFault, IsAnswerFaultHeld}
-use Rattle.dag_main_inspect.specs.LastRound.{IsLastRound}
-use Rattle.dag_main_inspect.specs.declared.by_journal.Question.TheVariants.{Status}
-use Rattle.dag_main_inspect.specs.Statused.{journal_bytes, flag_by, records_in_bytes}
+use Rattle.dag_main_files.specs.Opened.{Holding}
+use Rattle.dag_main_inspect.specs.Asked.{IsOfRecords, IsNoStatus}
+use Rattle.dag_main_inspect.specs.LastRound.{IsOfLastRound}
 use Rattle.failure_report.specs.declared.found.FoundNode.{FoundNode}
 use Rattle.failure_report.specs.declared.why.Why.{Why}
 use Rattle.failure_report.specs.declared.why.Why.TheVariants.{Reported, Unknown}
@@ -63,36 +58,12 @@ pub data IsAnswerOf (form : WhyForm) (plan : Plan) (past : List Record) (path : 
   reported_of_named : (text : List ℕ) → length names ≢ 0 → HasNamedIn form plan past path names text → IsAnswerOf form plan past path names text (warning_lines plan.graph.dag.warnings) 0
   unknown_name : (line : List ℕ) → length names ≢ 0 → IsUnknownName plan path names line → IsAnswerOf form plan past path names [] line 125
 
--- That is the answer of the plan of these files, with a rescue file or none, where the records of a journal or none are lawful.
-pub record IsWhyFrom (form : WhyForm) (path : List ℕ) (rescue journal : Option (List ℕ)) (names : List (List ℕ)) (text warnings : List ℕ) (status : ℕ) (files : Files) (entries : List (List ℕ × List ℕ)) : Type 0 where
-  pub plan : Plan
-  pub planned : IsPlanWith (flag_by journal) files entries path rescue plan
-  pub past : List Record
-  pub are_records : records_in_bytes plan (journal_bytes journal) ≡ Some (chronological past)
-  pub lawful : IsTrue (is_lawful plan past)
-  pub answer : IsAnswerOf form plan past path names text warnings status
+-- That is the answer of the last round of a path: of its plan and the records of its journal.
+abbrev pub IsWhy : Holding → WhyForm → (path : List ℕ) → (names : List (List ℕ)) → (text warnings : List ℕ) → (status : ℕ) → Type 0
+IsWhy may_hold form path names text warnings status =
+    IsOfLastRound may_hold path (λ plan journal. IsOfRecords plan journal (λ past. IsAnswerOf form plan past path names text warnings status))
 
--- That is the answer for the DAG file of a path: of some files, with a rescue file or none and a journal or none.
-pub record IsWhyOf (form : WhyForm) (path : List ℕ) (names : List (List ℕ)) (text warnings : List ℕ) (status : ℕ) : Type 0 where
-  pub rescue : Option (List ℕ)
-  pub journal : Option (List ℕ)
-  pub answered : IsOfSome path (IsWhyFrom form path rescue journal names text warnings status)
-
--- The same where these files are held: of the DAG file and all that it names, the journal, and the rescue file that the journal's header names.
-pub record IsWhyHeld (form : WhyForm) (holds : Files) (path : List ℕ) (names : List (List ℕ)) (text warnings : List ℕ) (status : ℕ) : Type 0 where
-  pub rescue : Option (List ℕ)
-  pub journal : Option (List ℕ)
-  pub beside : IsLastRound holds path journal rescue
-  pub answered : IsOfFiles holds path (IsWhyFrom form path rescue journal names text warnings status)
-
--- Why `why` gives no answer, of some files: for a cause for which `status` is refused; or the log may be another user's, or memory runs out before it is known whose
--- it is.
-pub data IsWhyFault (path : List ℕ) : RunFault → Type 0 where
-  some_no_status : (fault : RunFault) → IsAnswerFault Status path fault → IsWhyFault path fault
-  some_log_refused : (fault : RunFault) → IsRefusalOf (path ++ codes ".log") fault → IsWhyFault path fault
-
--- The same where these files are held: for a cause for which `status` is refused; or the log may be another user's, or memory
--- runs out before it is known whose it is.
-pub data IsWhyFaultHeld (holds : Files) (path : List ℕ) : RunFault → Type 0 where
-  held_no_status : (fault : RunFault) → IsAnswerFaultHeld holds Status path fault → IsWhyFaultHeld holds path fault
-  held_log_refused : (fault : RunFault) → IsRefusalOf (path ++ codes ".log") fault → IsWhyFaultHeld holds path fault
+-- Why there is none: for a cause for which `status` is refused; or the log may be another user's, or memory runs out before it is known whose it is.
+pub data IsNoWhy (may_hold : Holding) (path : List ℕ) : RunFault → Type 0 where
+  has_no_status : (fault : RunFault) → IsNoStatus may_hold path fault → IsNoWhy may_hold path fault
+  log_refused : (fault : RunFault) → IsRefusalOf (path ++ codes ".log") fault → IsNoWhy may_hold path fault

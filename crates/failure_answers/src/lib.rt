@@ -1,21 +1,19 @@
 //! Why nodes of the last round of a DAG file are in error, from the files that stand beside it.
 #![tactic(auto)]
 
-ghost use Rattle.std.specs.Prelude.{◌≡◌, ◌≢◌, ◌++◌, codes, length, map, IfOk, IfErr, option_map, string_bytes};
+ghost use Rattle.std.specs.Prelude.{◌≡◌, ◌≢◌, ◌++◌, codes, length, map, IfOk, IfErr, string_bytes};
 ghost use Rattle.dag_main_check.specs.declared.fault.RunFault.TheVariants.{Memory};
 ghost use Rattle.dag_main_files.specs.Beside.{IsFileFault, IsRefusalOf};
-ghost use Rattle.dag_main_files.specs.Opened.{IsOfFiles, IsOfSome, IsRefusedFor, IsRefusedForSome};
-ghost use Rattle.dag_main_inspect.specs.Asked.{IsNotAnsweredBy};
-ghost use Rattle.dag_main_inspect.specs.declared.by_journal.Question.TheVariants.{Status};
-ghost use Rattle.failure_answers.specs.Answered.{IsAnswerOf, IsWhyOfAllIn, IsWhyOfNamedIn, IsWhyFrom, IsWhyOf, IsWhyHeld, IsWhyFault, IsWhyFaultHeld};
+ghost use Rattle.dag_main_files.specs.Opened.{changing, fixed};
+ghost use Rattle.failure_answers.specs.Answered.{IsAnswerOf, IsWhyOfAllIn, IsWhyOfNamedIn, IsWhy, IsNoWhy};
 
 mod form;
 mod why_data;
 
 use crate::why_data::nodes_json;
 use dag_main_check::{Answer, RunFault, warning_text};
-use dag_main_files::{Folder, Place, named};
-use dag_main_inspect::{bytes_in, core_of, last_round, plan_of_round, records_of};
+use dag_main_files::{Folder, Place};
+use dag_main_inspect::last_round;
 use dag_reader::Text;
 use event_journal::require_regular;
 use failure_report::{Found, Surroundings, Why, why_found, why_text};
@@ -147,39 +145,6 @@ fn answer_of<R: Files<File = File> + AllocGlobal>(
     }
 }
 
-/// What is answered for the DAG file of this path by these bytes of a rescue file and of a journal.
-///
-/// # Errors
-/// Those of `plan_of_round`, then that of the journal or its first record that may not follow (`InManager`).
-fn why_of<R: Files<File = File> + AllocGlobal, F: Folder>(
-    rt: &R,
-    folder: &F,
-    place: &Place<'_>,
-    rescue: Option<&[u8]>,
-    journal: Option<&[u8]>,
-    names: &[&str],
-    form: WhyForm,
-) -> Result<Answer, RunFault>
-    ensures answered { IfOk result (λ answer. IsOfSome place.now.top.now (IsWhyFrom form place.now.top.now
-        (option_map (λ b. b.now) rescue.entry) (option_map (λ b. b.now) journal.entry) (map (λ n. n.now) names.now)
-        (string_bytes answer.text) (string_bytes answer.warnings) answer.status)) }
-    ensures held { F.honest folder.now → IfOk result (λ answer. IsOfFiles (F.holds folder.now) place.now.top.now (IsWhyFrom form place.now.top.now
-        (option_map (λ b. b.now) rescue.entry) (option_map (λ b. b.now) journal.entry) (map (λ n. n.now) names.now)
-        (string_bytes answer.text) (string_bytes answer.warnings) answer.status)) }
-    ensures refused { IfErr result (IsRefusedForSome place.now.top.now (IsNotAnsweredBy Status place.now.top.now
-        (option_map (λ b. b.now) rescue.entry) (option_map (λ b. b.now) journal.entry))) }
-    ensures refused_held { F.honest folder.now → IfErr result (IsRefusedFor (F.holds folder.now) place.now.top.now (IsNotAnsweredBy Status place.now.top.now
-        (option_map (λ b. b.now) rescue.entry) (option_map (λ b. b.now) journal.entry))) }
-{
-    let alloc = rt.alloc();
-    let plan = plan_of_round(alloc, folder, place.top, rescue, journal)?;
-    let bytes = bytes_in(journal);
-    let records = records_of(alloc, &plan, bytes)?;
-    let core = core_of(alloc, &plan, bytes, &records)?;
-    core.keeps_the_law();
-    answer_of(rt, place, &core, names, form)
-}
-
 /// Why nodes of a DAG file are in error, and for whom others wait: by the files and the journal of this folder, and by
 /// the log and the files of jobs that the system has at its place. Of the nodes of these names in their order; where
 /// there is no name, of all that are in error, those first for which most nodes wait, and of as many in
@@ -190,7 +155,7 @@ fn why_of<R: Files<File = File> + AllocGlobal, F: Folder>(
 /// # Errors
 /// As `answer_here` for the status: in this order a journal that the system refuses to read, a number of a
 /// rescue file above 999 in its header, a rescue file that the system refuses to read; then a log that may be another
-/// user's (`FileRefused`, as `Place::trusts` tells it); then those of `status_of`, a fault in a line of the rescue file
+/// user's (`FileRefused`, as `Place::trusts` tells it); then those of `answer_here` for the status, a fault in a line of the rescue file
 /// with its path. Want of memory may stand before any.
 pub fn why_here<R: Files<File = File> + AllocGlobal, F: Folder>(
     rt: &R,
@@ -200,23 +165,20 @@ pub fn why_here<R: Files<File = File> + AllocGlobal, F: Folder>(
     trust_owner: bool,
     form: WhyForm,
 ) -> Result<Answer, RunFault>
-    ensures answered { IfOk result (λ answer. IsWhyOf form place.now.top.now (map (λ n. n.now) names.now)
+    ensures answered { IfOk result (λ answer. IsWhy changing form place.now.top.now (map (λ n. n.now) names.now)
         (string_bytes answer.text) (string_bytes answer.warnings) answer.status) }
     // It is that of the files, the journal and the rescue file that the folder holds.
     ensures held { F.honest folder.now → IfOk result (λ answer.
-        IsWhyHeld form (F.holds folder.now) place.now.top.now (map (λ n. n.now) names.now)
+        IsWhy (fixed (F.holds folder.now)) form place.now.top.now (map (λ n. n.now) names.now)
         (string_bytes answer.text) (string_bytes answer.warnings) answer.status) }
-    ensures refused { IfErr result (IsWhyFault place.now.top.now) }
+    ensures refused { IfErr result (IsNoWhy changing place.now.top.now) }
     // The refusal too is for what the folder holds.
-    ensures refused_held { F.honest folder.now → IfErr result (IsWhyFaultHeld (F.holds folder.now) place.now.top.now) }
+    ensures refused_held { F.honest folder.now → IfErr result (IsNoWhy (fixed (F.holds folder.now)) place.now.top.now) }
 {
     let alloc = rt.alloc();
     let round = last_round(alloc, folder, place.top)?;
     has_own_log(rt, place, trust_owner)?;
-    let rescue = round.rescue.as_deref();
-    let journal = round.journal.as_deref();
-    match why_of(rt, folder, place, rescue, journal, names, form) {
-        Ok(answer) => Ok(answer),
-        Err(fault) => Err(named(fault, round.name)),
-    }
+    let opened = round.open(alloc, folder, place.top)?;
+    let core = opened.core(alloc)?;
+    answer_of(rt, place, &core, names, form)
 }

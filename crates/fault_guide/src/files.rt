@@ -101,7 +101,7 @@ static FILES: [Fault; 11] = [
     $ dagrun check x.dag
     dagrun: S8 FinalInSplice inner.dag:1:7
 ",
-        advice: "    Write FINAL in the top file. What is to run behind a splice is a JOB and a
+        advice: "    Write FINAL in the top file. What is to run after a splice is a JOB and a
     line PARENT splice CHILD job.
 ",
     },

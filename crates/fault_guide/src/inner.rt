@@ -9,7 +9,7 @@ static OF_FILES: [Fault; 11] = [
         when: "memory was refused to the reader of a DAG file",
         detail: "",
         example: "",
-        advice: "    It is told as X1.
+        advice: "    It is reported as X1.
 ",
     },
     Fault {
@@ -18,7 +18,7 @@ static OF_FILES: [Fault; 11] = [
         when: "a line of a DAG file is refused",
         detail: "",
         example: "",
-        advice: "    It is told as the fault of that line, L1 to L9, with the file's path.
+        advice: "    It is reported as the fault of that line, L1 to L9, with the file's path.
 ",
     },
     Fault {
@@ -27,7 +27,7 @@ static OF_FILES: [Fault; 11] = [
         when: "memory was refused as files were opened",
         detail: "",
         example: "",
-        advice: "    It is told as X1.
+        advice: "    It is reported as X1.
 ",
     },
     Fault {
@@ -36,7 +36,7 @@ static OF_FILES: [Fault; 11] = [
         when: "memory was refused to the graph",
         detail: "",
         example: "",
-        advice: "    It is told as X1.
+        advice: "    It is reported as X1.
 ",
     },
     Fault {
@@ -45,7 +45,7 @@ static OF_FILES: [Fault; 11] = [
         when: "memory was refused to the reader of a submit file",
         detail: "",
         example: "",
-        advice: "    It is told as X1.
+        advice: "    It is reported as X1.
 ",
     },
     Fault {
@@ -54,7 +54,7 @@ static OF_FILES: [Fault; 11] = [
         when: "memory was refused to an expansion",
         detail: "",
         example: "",
-        advice: "    It is told as X1.
+        advice: "    It is reported as X1.
 ",
     },
     Fault {
@@ -63,7 +63,7 @@ static OF_FILES: [Fault; 11] = [
         when: "a submit file is refused",
         detail: "",
         example: "",
-        advice: "    It is told as the fault of that file, U1 to U5, with its path.
+        advice: "    It is reported as the fault of that file, U1 to U5, with its path.
 ",
     },
     Fault {
@@ -72,7 +72,7 @@ static OF_FILES: [Fault; 11] = [
         when: "a text of a job can't be expanded",
         detail: "",
         example: "",
-        advice: "    It is told as the fault of that text, V1 to V5, with the node.
+        advice: "    It is reported as the fault of that text, V1 to V5, with the node.
 ",
     },
     Fault {
@@ -81,7 +81,7 @@ static OF_FILES: [Fault; 11] = [
         when: "a line of the rescue file is refused",
         detail: "",
         example: "",
-        advice: "    It is told as the fault of that line, E1 to E3, with the file's path.
+        advice: "    It is reported as the fault of that line, E1 to E3, with the file's path.
 ",
     },
     Fault {
@@ -90,7 +90,7 @@ static OF_FILES: [Fault; 11] = [
         when: "memory was refused to the plan",
         detail: "",
         example: "",
-        advice: "    It is told as X1.
+        advice: "    It is reported as X1.
 ",
     },
     Fault {
@@ -124,7 +124,7 @@ static OF_PARTS: [Fault; 10] = [
         when: "memory was refused to the table of outcomes",
         detail: "",
         example: "",
-        advice: "    It is told as X1.
+        advice: "    It is reported as X1.
 ",
     },
     Fault {
@@ -133,7 +133,7 @@ static OF_PARTS: [Fault; 10] = [
         when: "memory was refused to a rescue text",
         detail: "",
         example: "",
-        advice: "    It is told as X1.
+        advice: "    It is reported as X1.
 ",
     },
     Fault {
@@ -160,7 +160,7 @@ static OF_PARTS: [Fault; 10] = [
         when: "memory was refused to a queue",
         detail: "",
         example: "",
-        advice: "    It is told as X1.
+        advice: "    It is reported as X1.
 ",
     },
     Fault {
@@ -178,7 +178,7 @@ static OF_PARTS: [Fault; 10] = [
         when: "memory was refused to the limits",
         detail: "",
         example: "",
-        advice: "    It is told as X1.
+        advice: "    It is reported as X1.
 ",
     },
     Fault {
@@ -187,16 +187,16 @@ static OF_PARTS: [Fault; 10] = [
         when: "a record may not follow those before it",
         detail: "",
         example: "",
-        advice: "    It is told as M2 where a journal has such a record.
+        advice: "    It is reported as M2 where a journal has such a record.
 ",
     },
     Fault {
         code: "C2",
         name: "Finished",
-        when: "a record comes behind the end of a run",
+        when: "a record comes after the end of a run",
         detail: "",
         example: "",
-        advice: "    It is told as M2 where a journal has such a record.
+        advice: "    It is reported as M2 where a journal has such a record.
 ",
     },
 ];
@@ -212,7 +212,7 @@ static OF_RUNS: [Fault; 12] = [
         when: "memory was refused to a run",
         detail: "",
         example: "",
-        advice: "    It is told as X1.
+        advice: "    It is reported as X1.
 ",
     },
     Fault {
@@ -227,7 +227,7 @@ static OF_RUNS: [Fault; 12] = [
     Fault {
         code: "J7",
         name: "Broken",
-        when: "a journal is written to behind a failure",
+        when: "a journal is written to after a failure",
         detail: "",
         example: "",
         advice: "    It is a fault within the program, and no command tells it.
@@ -239,7 +239,7 @@ static OF_RUNS: [Fault; 12] = [
         when: "memory was refused to the journal",
         detail: "",
         example: "",
-        advice: "    It is told as X1.
+        advice: "    It is reported as X1.
 ",
     },
     Fault {
@@ -248,7 +248,7 @@ static OF_RUNS: [Fault; 12] = [
         when: "the journal is refused",
         detail: "",
         example: "",
-        advice: "    It is told as the fault of the journal, J1 to J9.
+        advice: "    It is reported as the fault of the journal, J1 to J9.
 ",
     },
     Fault {
@@ -266,7 +266,7 @@ static OF_RUNS: [Fault; 12] = [
         when: "memory was refused to the manager of a run",
         detail: "",
         example: "",
-        advice: "    It is told as X1.
+        advice: "    It is reported as X1.
 ",
     },
     Fault {
@@ -284,7 +284,7 @@ static OF_RUNS: [Fault; 12] = [
         when: "the manager of a run refuses a record",
         detail: "",
         example: "",
-        advice: "    It is told as the fault of the journal, J1 to J9.
+        advice: "    It is reported as the fault of the journal, J1 to J9.
 ",
     },
     Fault {
@@ -302,7 +302,7 @@ static OF_RUNS: [Fault; 12] = [
         when: "memory was refused to the log of a starter",
         detail: "",
         example: "",
-        advice: "    It is told as X1.
+        advice: "    It is reported as X1.
 ",
     },
     Fault {
@@ -311,7 +311,7 @@ static OF_RUNS: [Fault; 12] = [
         when: "memory was refused to an audit",
         detail: "",
         example: "",
-        advice: "    It is told as X1.
+        advice: "    It is reported as X1.
 ",
     },
 ];

@@ -96,7 +96,7 @@ static JOBS: [Fault; 13] = [
     dagrun: V1 Unclosed A
 ",
         advice: "    Close the reference: $(name). A default within it has balanced parentheses.
-    A dollar sign by itself, as in `a$b`, stands as it is.
+    A dollar sign by itself, as in `a$b`, stays as it is.
 ",
     },
     Fault {

@@ -45,7 +45,7 @@ static LINES: [Fault; 9] = [
 ",
         advice: "    This is DAGMan's language, but dagrun does not do it. Write SPLICE in place
     of SUBDAG EXTERNAL and INCLUDE, an option of `dagrun run` in place of
-    CONFIG, a file of its own in place of a submit description that stands in
+    CONFIG, a file of its own in place of a submit description in
     the DAG file, and one long line in place of one that ends with a backslash.
     docs/FROM_DAGMAN.md has each with an example.
 ",
@@ -60,8 +60,8 @@ static LINES: [Fault; 9] = [
     $ dagrun check x.dag
     dagrun: L4 MissingWord x.dag:1:6
 ",
-        advice: "    Add the word that is missing: behind JOB and FINAL stand a name and a submit
-    file, behind SPLICE a name and a DAG file, behind PARENT names, CHILD and
+        advice: "    Add the word that is missing: after JOB and FINAL come a name and a submit
+    file, after SPLICE a name and a DAG file, after PARENT names, CHILD and
     names.
 ",
     },
@@ -76,7 +76,7 @@ static LINES: [Fault; 9] = [
     dagrun: L5 UnexpectedWord x.dag:1:18
 ",
         advice: "    Take the word at this column away. A comment has a line of its own; each
-    option stands once; a path with a blank in it can't be written in a DAG
+    option is given once; a path with a blank in it can't be written in a DAG
     file.
 ",
     },

@@ -79,7 +79,7 @@ static ROUNDS: [Fault; 21] = [
     Fault {
         code: "E4",
         name: "NotThere",
-        when: "a number of a rescue file that is not one of 1 to 999, in the header of a journal or behind `--dorescuefrom`; one behind `--dorescuefrom` whose file is missing",
+        when: "a number of a rescue file that is not one of 1 to 999, in the header of a journal or after `--dorescuefrom`; one after `--dorescuefrom` whose file is missing",
         detail: "NUMBER",
         example: "    $ cat x.dag
     JOB A a.sub
@@ -205,9 +205,9 @@ static ROUNDS: [Fault; 21] = [
         when: "a journal of a round that runs POST scripts otherwise",
         detail: "",
         example: "",
-        advice: "    The journal's header says whether POST scripts run behind PRE scripts that
-    failed (`run --always-run-post`), and each command goes by it. This is told
-    where the records behind the header can't be read: the journal's bytes were
+        advice: "    The journal's header says whether POST scripts run after PRE scripts that
+    failed (`run --always-run-post`), and each command goes by it. This is reported
+    where the records after the header can't be read: the journal's bytes were
     changed. Put it back from a copy, or remove x.dag.journal to begin a new round.
 ",
     },
@@ -271,7 +271,7 @@ static ROUNDS: [Fault; 21] = [
         when: "`salvage`: the file that says what the round was begun with is not as it was written",
         detail: "PATH",
         example: "",
-        advice: "    Its bytes were changed: put it back, or go on as behind R3.
+        advice: "    Its bytes were changed: put it back, or go on as after R3.
 ",
     },
     Fault {

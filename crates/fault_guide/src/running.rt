@@ -37,7 +37,7 @@ static RUNNING: [Fault; 9] = [
     $ dagrun audit x.dag
     audit no F1 NotAJournal
 ",
-        advice: "    Audit a journal in a folder where the files of its round stand as they were:
+        advice: "    Audit a journal in a folder where the files of its round are as they were:
     the DAG file, its splices, the submit files and the rescue file that it
     read.
 ",
@@ -48,7 +48,7 @@ static RUNNING: [Fault; 9] = [
         when: "`audit`: a record that may not follow those before it",
         detail: "PLACE",
         example: "",
-        advice: "    The journal's bytes were changed: it stands for no run.
+        advice: "    The journal's bytes were changed: it is that of no run.
 ",
     },
     Fault {
@@ -77,7 +77,7 @@ static RUNNING: [Fault; 9] = [
     audit no F5 Aborted
 ",
         advice: "    Nothing: how far nodes came in a run that a node aborted depends on when it
-    did, so an audit stands for none. `dagrun status` says where they stand.
+    did, so an audit confirms none. `dagrun status` says where they are.
 ",
     },
     Fault {

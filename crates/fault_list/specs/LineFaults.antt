@@ -10,7 +10,7 @@ use Rattle.dag_main_check.specs.declared.fault.RunFault.{RunFault}
 use Rattle.dag_main_check.specs.declared.fault.RunFault.TheVariants.{Memory}
 use Rattle.dag_main_check.specs.declared.form.CheckForm.{CheckForm}
 use Rattle.dag_main_check.specs.declared.form.CheckForm.TheVariants.{Line}
-use Rattle.answer_console.specs.Display.{refusal_line}
+use Rattle.dag_main_check.specs.Consoles.{refusal_line}
 use Rattle.fault_list.specs.Emptied.{without_line}
 use Rattle.fault_list.specs.FaultPlaces.{fault_place, listed_place, is_of_names}
 

@@ -3,7 +3,7 @@
 ghost use Rattle.std.specs.Prelude.{◌≡◌, ◌++◌, ◌<◌, Some, true, is_some, length, IfOk, IfErr, OnOk, string_bytes};
 ghost use Rattle.splices_flat.specs.FileSet.{bytes_of};
 ghost use Rattle.dag_main_check.specs.declared.fault.RunFault.TheVariants.{Memory};
-ghost use Rattle.answer_console.specs.Display.{refusal_line};
+ghost use Rattle.dag_main_check.specs.Consoles.{refusal_line};
 ghost use Rattle.fault_list.specs.FaultPlaces.{fault_place};
 ghost use Rattle.fault_list.specs.LineFaults.{AreLineFaults, IsCheckedTo, IsEmptiedAt, fault_lines, most_faults};
 

@@ -12,10 +12,11 @@ use Rattle.dag_main_check.specs.declared.fault.RunFault.{RunFault}
 use Rattle.dag_main_check.specs.declared.fault.RunFault.TheVariants.{InFiles, InPlan}
 use Rattle.dag_main_files.specs.Beside.{IsInputFault, input_refused, input_had_no_memory}
 use Rattle.dag_main_files.specs.Folder.{IsReadFrom}
+use Rattle.dag_main_files.specs.Opened.{IsStill, still_missing, asking_had_no_memory}
 use Rattle.fault_list.specs.FaultPlaces.{dag_place, plan_place, fault_place}
 use Rattle.fault_list.specs.LineFaults.{IsCheckOfAll, nothing_wrong, lines_wrong}
 use Rattle.fault_list.proofs.Answers.{first-fault}
-use Rattle.folder_answers.specs.Answered.{IsConfirmed, stays, came_meanwhile, asking_had_no_memory, IsCheckOfAllFrom, held_nothing_wrong, held_lines_wrong}
+use Rattle.folder_answers.specs.Answered.{IsCheckOfAllFrom, held_nothing_wrong, held_lines_wrong}
 use Rattle.dag_main_check.specs.declared.form.CheckForm.{CheckForm}
 use Rattle.dag_main_check.specs.Missing.{missing_file, missing_submit, missing_in}
 use Rattle.dag_main_check.proofs.HeldFiles.{checked, refused}
@@ -48,7 +49,6 @@ pub input-has-no-line : (path : List ℕ) (fault : RunFault) → IsInputFault pa
 input-has-no-line path fault (input_refused file asked is) = refl
 input-has-no-line path fault input_had_no_memory = refl
 
-pub confirmed-has-no-line : (holds : Files) (fault told : RunFault) → fault_place fault ≡ None → IsConfirmed holds fault told → fault_place told ≡ None
-confirmed-has-no-line holds fault told none (stays missing) = none
-confirmed-has-no-line holds fault told none (came_meanwhile file is) = refl
-confirmed-has-no-line holds fault told none asking_had_no_memory = refl
+pub still-has-no-line : (holds : Files) (fault told : RunFault) → fault_place fault ≡ None → IsStill holds fault told → fault_place told ≡ None
+still-has-no-line holds fault told none (still_missing missing) = none
+still-has-no-line holds fault told none asking_had_no_memory = refl

@@ -12,7 +12,7 @@ use Rattle.dag_main_check.proofs.HeldFiles.{found-dag, graph-refused, refused}
 use Rattle.dag_main_files.specs.Folder.{IsReadFrom}
 use Rattle.dag_main_files.specs.Opened.{IsStill, still_missing, asking_had_no_memory}
 use Rattle.dag_main_rehearse.specs.Rehearsed.{IsRehearsalOf, IsRehearsalFault, has_no_graph, has_no_table, is_too_long, rehearsing_had_no_memory}
-use Rattle.folder_answers.specs.Answered.{IsConfirmed, stays, came_meanwhile, asking_had_no_memory as asking_had_none, IsCheckRefusalFrom, held_not_checked, IsCheckOfAllRefusal, IsCheckOfAllRefusalFrom, held_refused, held_file_came, IsRehearsalRefusalFrom, held_not_rehearsed}
+use Rattle.folder_answers.specs.Answered.{IsCheckRefusalFrom, held_not_checked, IsRehearsalRefusalFrom, held_not_rehearsed}
 
 module _ (set holds : Files) (held : (path bytes : List ℕ) → set path ≡ Some bytes → holds path ≡ Some bytes) where
   pub rehearsed : (always_post : Bool) (top : List ℕ) (table : Option (List ℕ)) (limits : Limits) (text warnings : List ℕ) (status : ℕ)
@@ -60,16 +60,3 @@ pub not-rehearsed-of-some : (always_post : Bool) (top : List ℕ) (table : Optio
     → (holds : Files) × IsRehearsalRefusalFrom always_post holds top table limits told
 not-rehearsed-of-some always_post top table limits files fault told why (still_missing none) = (bytes_of files, held_not_rehearsed fault why)
 not-rehearsed-of-some always_post top table limits files fault told why asking_had_no_memory = (bytes_of files, held_not_rehearsed Memory rehearsing_had_no_memory)
-
--- a refusal whose fault is confirmed, for some files and for those that are held
-pub by-some : (top : List ℕ) (files : FileSet) → IsReadFrom (bytes_of files) top files → (fault told : RunFault) → IsCheckFault (bytes_of files) top fault → IsConfirmed (λ _. None) fault told
-    → IsCheckOfAllRefusal top told
-by-some top files read fault told why (stays none) = (bytes_of files, held_refused fault (held_not_checked fault why))
-by-some top files read fault told why (came_meanwhile file is) = (bytes_of files, held_file_came files fault file read why is)
-by-some top files read fault told why asking_had_none = (bytes_of files, held_refused Memory (held_not_checked Memory checking_had_no_memory))
-
-pub by-held : (holds : Files) (top : List ℕ) (files : FileSet) (fault told : RunFault) → IsReadFrom holds top files → IsCheckFault (bytes_of files) top fault
-    → IsConfirmed holds fault told → IsCheckOfAllRefusalFrom holds top told
-by-held holds top files fault told read why (stays none) = held_refused fault (held_not_checked fault (refused (bytes_of files) holds read.held top fault none why))
-by-held holds top files fault told read why (came_meanwhile file is) = held_file_came files fault file read why is
-by-held holds top files fault told read why asking_had_none = held_refused Memory (held_not_checked Memory checking_had_no_memory)

@@ -1,32 +1,22 @@
 -- What `check`, `check --all` and `rehearse` answer of the files of a folder, and why they are refused.
-use Rattle.std.specs.Prelude.{◌≡◌, ℕ, Bool, List, Option, Some, None, String, string_bytes}
-use Rattle.std.specs.Global.{Global}
+use Rattle.std.specs.Prelude.{ℕ, Bool, List, Option}
 use Rattle.splices_flat.specs.Opening.{Files}
 use Rattle.splices_flat.specs.FileSet.{bytes_of}
 use Rattle.splices_flat.specs.declared.file_set.FileSet.{FileSet}
 use Rattle.throttles.specs.declared.Limits.{Limits}
 use Rattle.dag_main_check.specs.declared.fault.RunFault.{RunFault}
-use Rattle.dag_main_check.specs.declared.fault.RunFault.TheVariants.{FileRefused, Memory}
 use Rattle.dag_main_check.specs.declared.form.CheckForm.{CheckForm}
-use Rattle.dag_main_check.specs.Missing.{missing_in}
 use Rattle.dag_main_check.specs.Checked.{IsCheckOf, IsCheckFault}
 use Rattle.dag_main_files.specs.Beside.{IsInputFault}
 use Rattle.dag_main_files.specs.Folder.{IsReadFrom}
 use Rattle.dag_main_rehearse.specs.Rehearsed.{IsRehearsalOf, IsRehearsalFault}
 use Rattle.fault_list.specs.LineFaults.{IsCheckOfAll, ListsLineFaults}
 
--- What becomes of a fault where these files are held: it stays, where the file that it tells of as missing is not held; the path of that file is
--- returned, where it came meanwhile; memory ran out.
-pub data IsConfirmed (holds : Files) (fault : RunFault) : RunFault → Type 0 where
-  stays : ((path : List ℕ) → missing_in fault ≡ Some path → holds path ≡ None) → IsConfirmed holds fault fault
-  came_meanwhile : (file : String Global) → missing_in fault ≡ Some (string_bytes file) → IsConfirmed holds fault (FileRefused file)
-  asking_had_no_memory : IsConfirmed holds fault Memory
-
 -- what `check` answers in a form, of some files of the path
 abbrev pub IsCheckOfSome : (form : CheckForm) → (path text warnings : List ℕ) → (status : ℕ) → Type 0
 IsCheckOfSome form path text warnings status = (files : FileSet) × IsCheckOf form (bytes_of files) path text warnings status
 
--- Why it is refused where these files are held: standard input can't be read, or memory ran out; or for what the files say.
+-- Why it is refused where these files are held, with `--all` too: standard input can't be read, or memory ran out; or for what the files say.
 pub data IsCheckRefusalFrom (holds : Files) (path : List ℕ) : RunFault → Type 0 where
   held_not_read : (fault : RunFault) → IsInputFault path fault → IsCheckRefusalFrom holds path fault
   held_not_checked : (fault : RunFault) → IsCheckFault holds path fault → IsCheckRefusalFrom holds path fault
@@ -34,16 +24,6 @@ pub data IsCheckRefusalFrom (holds : Files) (path : List ℕ) : RunFault → Typ
 -- the same of some files
 abbrev pub IsCheckRefusal : (path : List ℕ) → RunFault → Type 0
 IsCheckRefusal path fault = (holds : Files) × IsCheckRefusalFrom holds path fault
-
--- Why `check --all` is refused where these files are held: for what they say; or a file that is missing by those that were read came meanwhile.
-pub data IsCheckOfAllRefusalFrom (holds : Files) (path : List ℕ) : RunFault → Type 0 where
-  held_refused : (fault : RunFault) → IsCheckRefusalFrom holds path fault → IsCheckOfAllRefusalFrom holds path fault
-  held_file_came : (files : FileSet) (missing : RunFault) (file : String Global) → IsReadFrom holds path files →
-      IsCheckFault (bytes_of files) path missing → missing_in missing ≡ Some (string_bytes file) → IsCheckOfAllRefusalFrom holds path (FileRefused file)
-
--- the same of some files
-abbrev pub IsCheckOfAllRefusal : (path : List ℕ) → RunFault → Type 0
-IsCheckOfAllRefusal path fault = (holds : Files) × IsCheckOfAllRefusalFrom holds path fault
 
 -- what `check --all` answers in a form, of some files of the path
 abbrev pub IsCheckOfAllSome : (form : CheckForm) → (path text warnings : List ℕ) → (status : ℕ) → Type 0

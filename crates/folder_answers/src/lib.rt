@@ -5,16 +5,17 @@ ghost use Rattle.std.specs.Prelude.{◌≡◌, None, Some, IfOk, IfErr, string_b
 ghost use Rattle.std.specs.Option.{option_map};
 ghost use Rattle.dag_main_check.specs.Checked.{IsCheckOf};
 ghost use Rattle.fault_list.specs.FaultPlaces.{fault_place};
-ghost use Rattle.folder_answers.specs.Answered.{IsCheckOfAllSome, IsCheckOfAllFrom, IsCheckOfAllRefusal, IsCheckOfAllRefusalFrom, IsCheckOfSome, IsCheckRefusal, IsCheckRefusalFrom, IsConfirmed, IsRehearsalOfSome, IsRehearsalRefusal, IsRehearsalRefusalFrom};
+ghost use Rattle.folder_answers.specs.Answered.{IsCheckOfAllSome, IsCheckOfAllFrom, IsCheckOfSome, IsCheckRefusal, IsCheckRefusalFrom, IsRehearsalOfSome, IsRehearsalRefusal, IsRehearsalRefusalFrom};
 ghost use Rattle.dag_main_rehearse.specs.Rehearsed.{IsRehearsalOf};
 
 mod reading;
 
 use crate::reading::all_files_of;
-use dag_main_check::{Answer, CheckForm, RunFault, check_text, missing_in};
+use dag_main_check::{Answer, CheckForm, RunFault, check_text};
 use dag_main_files::{Folder, Reading, files_of, read_missing};
 use dag_main_rehearse::rehearse_text;
 use fault_list::check_all;
+use splices_flat::FileSet;
 use std::alloc::Global;
 use throttles::Limits;
 
@@ -57,8 +58,7 @@ pub fn check_here<F: Folder>(
 /// it are empty, in memory alone; at most 100 are.
 ///
 /// # Errors
-/// Those of `check_here` that name no line; `FileRefused` with the path of a file that was missing as the files were read, and is there
-/// now.
+/// Those of `check_here` that name no line.
 pub fn check_all_here<F: Folder>(
     alloc: Global,
     folder: &F,
@@ -67,36 +67,25 @@ pub fn check_all_here<F: Folder>(
 ) -> Result<Answer, RunFault>
     ensures checked { IfOk result (λ answer. IsCheckOfAllSome form top.now
         (string_bytes answer.text) (string_bytes answer.warnings) answer.status) }
-    ensures refused { IfErr result (IsCheckOfAllRefusal top.now) }
+    ensures refused { IfErr result (IsCheckRefusal top.now) }
     ensures has_no_line { IfErr result (λ fault. fault_place fault ≡ None) }
     // It is the answer for what the folder holds, and the refusal too.
     ensures held { F.honest folder.now → IfOk result (λ answer. IsCheckOfAllFrom form (F.holds folder.now) top.now
         (string_bytes answer.text) (string_bytes answer.warnings) answer.status) }
-    ensures refused_held { F.honest folder.now → IfErr result (IsCheckOfAllRefusalFrom (F.holds folder.now) top.now) }
+    ensures refused_held { F.honest folder.now → IfErr result (IsCheckRefusalFrom (F.holds folder.now) top.now) }
 {
-    let files = all_files_of(alloc, folder, top)?;
-    match check_all(alloc, files, top, form) {
-        Ok(answer) => Ok(answer),
-        Err(refusal) => Err(confirmed(alloc, folder, refusal)),
+    let mut found = folder.top(alloc, top)?;
+    for _ in 0..MOST_COME {
+        let files = all_files_of(alloc, folder, top, found.as_deref())?;
+        match check_all(alloc, files, top, form) {
+            Ok(answer) => return Ok(answer),
+            Err(refusal) => read_missing(alloc, folder, &mut FileSet::new(alloc), refusal)?,
+        }
+        if found.is_none() {
+            found = folder.top(alloc, top)?;
+        }
     }
-}
-
-/// A fault, where the file that it tells of as missing is missing still; else `FileRefused` with its path, or `Memory`.
-fn confirmed<F: Folder>(alloc: Global, folder: &F, fault: RunFault) -> RunFault
-    ensures said { IsConfirmed (λ _. None) fault result }
-    ensures held { F.honest folder.now → IsConfirmed (F.holds folder.now) fault result }
-{
-    let Some(path) = missing_in(&fault) else {
-        return fault;
-    };
-    match folder.input(alloc, path) {
-        Ok(None) => fault,
-        Ok(Some(_)) => match String::from_str(alloc, path) {
-            Ok(path) => RunFault::FileRefused(path),
-            Err(_) => RunFault::Memory,
-        },
-        Err(_) => RunFault::Memory,
-    }
+    Err(RunFault::Memory)
 }
 
 /// What `rehearse` answers of the DAG file of this path: the report of a run at the outcomes of a table, where

@@ -1,8 +1,8 @@
 //! All files that lines name which can be read, also where other lines can't.
 
 ghost use Rattle.std.specs.Prelude.{◌≡◌, false, None, IfOk, IfErr, OnOk};
+ghost use Rattle.std.specs.Option.{option_map};
 ghost use Rattle.dag_main_check.specs.declared.fault.RunFault.TheVariants.{Memory};
-ghost use Rattle.dag_main_files.specs.Beside.{IsInputFault};
 ghost use Rattle.dag_main_files.specs.Folder.{AreHeld, IsReadFrom};
 
 use dag_main_check::RunFault;
@@ -73,24 +73,26 @@ fn readable_lines(alloc: Global, text: &[u8]) -> Result<Vec<u8>, RunFault>
     Ok(kept)
 }
 
-/// The DAG file of this path with the files of its splices and of theirs, and the submit files of all nodes but NOOPs: those
-/// that are named by lines which can be read. A file that can't be read stays missing.
+/// The DAG file of this path and of these bytes, if it could be read, with the files of its splices and of theirs, and the submit files of all
+/// nodes but NOOPs: those that are named by lines which can be read. A file that can't be read stays missing.
 ///
 /// # Errors
-/// Those of `files_of`.
+/// `Memory` alone.
 pub(crate) fn all_files_of<F: Folder>(
     alloc: Global,
     folder: &F,
     top: &str,
+    bytes: Option<&[u8]>,
 ) -> Result<FileSet, RunFault>
-    ensures read { F.honest folder.now → IfOk result (IsReadFrom (F.holds folder.now) top.now) }
-    ensures refused { IfErr result (IsInputFault top.now) }
+    ensures read { F.honest folder.now → option_map (λ b. b.now) bytes.entry ≡ F.holds folder.now top.now
+        → IfOk result (IsReadFrom (F.holds folder.now) top.now) }
+    ensures err { IfErr result (λ fault. fault ≡ Memory) }
 {
-    let Some(bytes) = folder.top(alloc, top)? else {
+    let Some(bytes) = bytes else {
         return Ok(FileSet::new(alloc));
     };
-    let mut files = named_in(alloc, folder, top, bytes.as_slice())?;
-    files.add_owned(alloc, top, bytes)?;
+    let mut files = named_in(alloc, folder, top, bytes)?;
+    files.add(alloc, top, bytes)?;
     Ok(files)
 }
 

@@ -8,6 +8,7 @@ use Rattle.throttles.specs.declared.Limits.{Limits}
 use Rattle.run_plan.specs.Plan.{Plan}
 use Rattle.recovery_manager.specs.Managed.{Managed, plan_of, past_of, KeepsDisk}
 use Rattle.job_starter_drive.specs.declared.Call.{Call}
+use Rattle.job_starter_drive.specs.declared.starter.Starter.{Ghosts as Starters}
 use Rattle.job_starter_drive.specs.declared.driving.DriveFault.{DriveFault}
 use Rattle.job_starter_drive.specs.Calls.{AllowsNoMore, Telling}
 use Rattle.job_starter_drive.specs.Drives.{Standing, At, drive_records, calls_of, limits_of, Goes, IsStoppedAt}
@@ -47,3 +48,13 @@ pub record IsCutShort {D : Type 0} (disks : Ghosts D) (limits : Limits) (plan : 
   pub later : before ≤ now
   pub cause : IsDriveFault disks before now old new refused fault
   pub allows_no_more : AllowsNoMore may may_now
+
+-- A call led a run on from one standing to another: the manager and the starter, each as it was before the call and as it is after it.
+abbrev pub WentOn : {D S : Type 0} → Ghosts D → Starters S → Managed D → Managed D → S → S → Standing → Standing → Type 0
+WentOn disks starters old new first last from to = IsStretch disks (limits_of old) (plan_of old) (starters.may_return first) (starters.may_return last)
+    (starters.faults first) (starters.faults last) old new from to
+
+-- A fault cut such a call short.
+abbrev pub WasCutShort : {D S : Type 0} → Ghosts D → Starters S → Managed D → Managed D → S → S → Standing → DriveFault → Type 0
+WasCutShort disks starters old new first last from fault = IsCutShort disks (limits_of old) (plan_of old) (starters.may_return first) (starters.may_return last)
+    (starters.faults first) (starters.faults last) old new from (starters.call_log last) fault

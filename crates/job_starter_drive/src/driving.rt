@@ -11,7 +11,7 @@ ghost use Rattle.job_starter_drive.specs.Calls.{running, AllowsNoMore};
 ghost use Rattle.job_starter_drive.specs.Drives.{limits_of, most_at_once, At, at_rest, Goes, AreInStep, AreUnderWay, IsHeld, IsNearerEnd, IsTurn, final_verdict, Drives, Kills};
 ghost use Rattle.job_starter_drive.specs.Causes.{IsStoppedFor};
 ghost use Rattle.job_starter_drive.specs.Moments.{fault_in, IsMomentOfRun, IsLastMoment, AtAnyMoment, AtTheEnd, UnlessDiskFault, StaysAcknowledged, CountsOn};
-ghost use Rattle.job_starter_drive.specs.Stretches.{IsStretch, IsCutShort};
+ghost use Rattle.job_starter_drive.specs.Stretches.{WentOn, WasCutShort};
 
 use crate::Starter;
 use crate::keys::key_at;
@@ -120,14 +120,10 @@ fn end_some<D: Disk + Drop, S: Starter>(
     ensures room { vec_capacity owed.old ≤ vec_capacity owed.new }
     ensures nearer { OnOk result (IsNearerEnd (plan_of manager.old) (past_of manager.old) (past_of manager.new)) }
     ensures turn { OnOk result (IsTurn (plan_of manager.old) (past_of manager.old) (past_of manager.new) (S.call_log starter.new)) }
-    ensures went { OnOk result (IsStretch D.Disk
-        (limits_of manager.old) (plan_of manager.old) (S.may_return starter.old) (S.may_return starter.new)
-        (S.faults starter.old) (S.faults starter.new) manager.old manager.new
+    ensures went { OnOk result (WentOn D.Disk S.Starter manager.old manager.new starter.old starter.new
         (at_rest (past_of manager.old) (S.call_log starter.old)) (at_rest (past_of manager.new) (S.call_log starter.new))) }
-    ensures cut { IfErr result (IsCutShort D.Disk
-        (limits_of manager.old) (plan_of manager.old) (S.may_return starter.old) (S.may_return starter.new)
-        (S.faults starter.old) (S.faults starter.new) manager.old manager.new
-        (at_rest (past_of manager.old) (S.call_log starter.old)) (S.call_log starter.new)) }
+    ensures cut { IfErr result (WasCutShort D.Disk S.Starter manager.old manager.new starter.old starter.new
+        (at_rest (past_of manager.old) (S.call_log starter.old))) }
 {
     keeps_the_law(manager);
     let end = match starter.wait_any() {
@@ -165,14 +161,10 @@ fn launch_or_hold<D: Disk + Drop, S: Starter>(
     ensures nearer { (key : Key) → IsChoice (limits_of manager.old) (plan_of manager.old) (past_of manager.old) (Start key)
         → OnOk result (IsNearerEnd (plan_of manager.old) (past_of manager.old) (past_of manager.new)) }
     ensures turn { OnOk result (IsTurn (plan_of manager.old) (past_of manager.old) (past_of manager.new) (S.call_log starter.new)) }
-    ensures went { OnOk result (IsStretch D.Disk
-        (limits_of manager.old) (plan_of manager.old) (S.may_return starter.old) (S.may_return starter.new)
-        (S.faults starter.old) (S.faults starter.new) manager.old manager.new
+    ensures went { OnOk result (WentOn D.Disk S.Starter manager.old manager.new starter.old starter.new
         (at_rest (past_of manager.old) (S.call_log starter.old)) (at_rest (past_of manager.new) (S.call_log starter.new))) }
-    ensures cut { IfErr result (IsCutShort D.Disk
-        (limits_of manager.old) (plan_of manager.old) (S.may_return starter.old) (S.may_return starter.new)
-        (S.faults starter.old) (S.faults starter.new) manager.old manager.new
-        (at_rest (past_of manager.old) (S.call_log starter.old)) (S.call_log starter.new)) }
+    ensures cut { IfErr result (WasCutShort D.Disk S.Starter manager.old manager.new starter.old starter.new
+        (at_rest (past_of manager.old) (S.call_log starter.old))) }
 {
     keeps_the_law(manager);
     if !starter.sees_halt() {
@@ -200,14 +192,10 @@ fn act<D: Disk + Drop, S: Starter>(
     ensures room { vec_capacity owed.old ≤ vec_capacity owed.new }
     ensures nearer { OnOk result (IsNearerEnd (plan_of manager.old) (past_of manager.old) (past_of manager.new)) }
     ensures turn { OnOk result (IsTurn (plan_of manager.old) (past_of manager.old) (past_of manager.new) (S.call_log starter.new)) }
-    ensures went { OnOk result (IsStretch D.Disk
-        (limits_of manager.old) (plan_of manager.old) (S.may_return starter.old) (S.may_return starter.new)
-        (S.faults starter.old) (S.faults starter.new) manager.old manager.new
+    ensures went { OnOk result (WentOn D.Disk S.Starter manager.old manager.new starter.old starter.new
         (at_rest (past_of manager.old) (S.call_log starter.old)) (at_rest (past_of manager.new) (S.call_log starter.new))) }
-    ensures cut { IfErr result (IsCutShort D.Disk
-        (limits_of manager.old) (plan_of manager.old) (S.may_return starter.old) (S.may_return starter.new)
-        (S.faults starter.old) (S.faults starter.new) manager.old manager.new
-        (at_rest (past_of manager.old) (S.call_log starter.old)) (S.call_log starter.new)) }
+    ensures cut { IfErr result (WasCutShort D.Disk S.Starter manager.old manager.new starter.old starter.new
+        (at_rest (past_of manager.old) (S.call_log starter.old))) }
 {
     match choice {
         Choice::Start(_) => launch_or_hold(alloc, manager, starter, owed),
@@ -235,14 +223,10 @@ fn turn<D: Disk + Drop, S: Starter>(
     ensures still { IfOk result (λ end. IfSome end (λ verdict. IsTrue (is_open (past_of manager.new)))) }
     ensures nearer { IfOk result (λ end. IfNone end (
         IsNearerEnd (plan_of manager.old) (past_of manager.old) (past_of manager.new))) }
-    ensures went { OnOk result (IsStretch D.Disk
-        (limits_of manager.old) (plan_of manager.old) (S.may_return starter.old) (S.may_return starter.new)
-        (S.faults starter.old) (S.faults starter.new) manager.old manager.new
+    ensures went { OnOk result (WentOn D.Disk S.Starter manager.old manager.new starter.old starter.new
         (at_rest (past_of manager.old) (S.call_log starter.old)) (at_rest (past_of manager.new) (S.call_log starter.new))) }
-    ensures cut { IfErr result (IsCutShort D.Disk
-        (limits_of manager.old) (plan_of manager.old) (S.may_return starter.old) (S.may_return starter.new)
-        (S.faults starter.old) (S.faults starter.new) manager.old manager.new
-        (at_rest (past_of manager.old) (S.call_log starter.old)) (S.call_log starter.new)) }
+    ensures cut { IfErr result (WasCutShort D.Disk S.Starter manager.old manager.new starter.old starter.new
+        (at_rest (past_of manager.old) (S.call_log starter.old))) }
 {
     keeps_the_law(manager);
     let before = is_aborted(manager);
@@ -272,14 +256,10 @@ fn run<D: Disk + Drop, S: Starter>(
     ensures over { IfOk result (λ verdict.
         IsChoice (limits_of manager.old) (plan_of manager.old) (past_of manager.new) (Choice.Finish verdict)) }
     ensures still { OnOk result (IsTrue (is_open (past_of manager.new))) }
-    ensures went { OnOk result (IsStretch D.Disk
-        (limits_of manager.old) (plan_of manager.old) (S.may_return starter.old) (S.may_return starter.new)
-        (S.faults starter.old) (S.faults starter.new) manager.old manager.new
+    ensures went { OnOk result (WentOn D.Disk S.Starter manager.old manager.new starter.old starter.new
         (at_rest (past_of manager.old) (S.call_log starter.old)) (at_rest (past_of manager.new) (S.call_log starter.new))) }
-    ensures cut { IfErr result (IsCutShort D.Disk
-        (limits_of manager.old) (plan_of manager.old) (S.may_return starter.old) (S.may_return starter.new)
-        (S.faults starter.old) (S.faults starter.new) manager.old manager.new
-        (at_rest (past_of manager.old) (S.call_log starter.old)) (S.call_log starter.new)) }
+    ensures cut { IfErr result (WasCutShort D.Disk S.Starter manager.old manager.new starter.old starter.new
+        (at_rest (past_of manager.old) (S.call_log starter.old))) }
 {
     keeps_the_law(manager);
     let Ok(mut owed) = Vec::with_capacity(alloc, MOST_AT_ONCE) else {

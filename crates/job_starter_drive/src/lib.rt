@@ -1,5 +1,6 @@
 //! The children of a run: started, waited for, killed; and the run itself, each launch handed over
-//! to a starter and each ending recorded as the starter reported it.
+//! to a starter and each ending recorded as the starter reported it. Two starters are here: one whose children end as a table says,
+//! and one over a system that starts them, which it asks for each of them in turn.
 //!
 //! The rules are those of the HTCondor manual, DAGMan workflows, as docs/MANUAL.md states them.
 #![tactic(auto)]
@@ -9,9 +10,11 @@ pub mod examples;
 mod keys;
 pub mod laws;
 mod log;
+mod polling;
 mod records;
 mod refusals;
 mod rounds;
+mod scripted;
 mod starter;
 
 pub use child_watcher::Killed;
@@ -19,9 +22,11 @@ pub use driving::{DriveFault, RunEnd, drive};
 pub use keys::{are_same, key_at};
 pub use log::CallLog;
 use node_machine::{Key, Outcome};
+pub use polling::ProcessStarter;
 pub use refusals::{no_answer, no_memory, raise};
 pub use rounds::launch_round;
 use run_plan_node::ChildCommand;
+pub use scripted::{Script, ScriptedStarter};
 pub use starter::{Starter, System};
 use std::snapshot::Snapshot;
 use thiserror::Error;

@@ -10,7 +10,7 @@ ghost use Rattle.recovery_manager.specs.Managed.{plan_of, past_of};
 ghost use Rattle.recovery_manager.specs.declared.fault.ManagerFault.TheVariants.{Memory};
 ghost use Rattle.job_starter_drive.specs.Calls.{is_halt_seen};
 ghost use Rattle.job_starter_drive.specs.Drives.{limits_of, most_at_once, At, at_rest, AreInStep, MayEndAll, IsRoundOf, IsNearerEnd};
-ghost use Rattle.job_starter_drive.specs.Stretches.{IsStretch, IsCutShort};
+ghost use Rattle.job_starter_drive.specs.Stretches.{WentOn, WasCutShort};
 
 use crate::{DriveFault, Starter};
 use event_journal_log::Disk;
@@ -103,15 +103,11 @@ pub fn record_launches<D: Disk + Drop, S: Starter>(
     requires going { IsTrue (is_open (past_of manager.old)) }
     requires in_step { AreInStep (plan_of manager.old) (past_of manager.old) (S.call_log starter.now) }
     ensures nearer { OnOk result (IsNearerEnd (plan_of manager.old) (past_of manager.old) (past_of manager.new)) }
-    ensures went { OnOk result (IsStretch D.Disk
-        (limits_of manager.old) (plan_of manager.old) (S.may_return starter.now) (S.may_return starter.now)
-        (S.faults starter.now) (S.faults starter.now) manager.old manager.new
+    ensures went { OnOk result (WentOn D.Disk S.Starter manager.old manager.new starter.now starter.now
         (at_rest (past_of manager.old) (S.call_log starter.now))
         (At (launched (past_of manager.old) keys.now) (S.call_log starter.now) keys.now [])) }
-    ensures cut { IfErr result (IsCutShort D.Disk
-        (limits_of manager.old) (plan_of manager.old) (S.may_return starter.now) (S.may_return starter.now)
-        (S.faults starter.now) (S.faults starter.now) manager.old manager.new
-        (at_rest (past_of manager.old) (S.call_log starter.now)) (S.call_log starter.now)) }
+    ensures cut { IfErr result (WasCutShort D.Disk S.Starter manager.old manager.new starter.now starter.now
+        (at_rest (past_of manager.old) (S.call_log starter.now))) }
 {
     let _starter = starter;
     keeps_the_law(manager);
@@ -136,15 +132,11 @@ pub fn record_ends<D: Disk + Drop, S: Starter>(
     ensures nearer { OnOk result (IsNearerEnd (plan_of manager.old) (past_of manager.old) (past_of manager.new)) }
     ensures past { OnOk result (past_of manager.new ≡ added (past_of manager.old)
         (up_to_abort (plan_of manager.old) (past_of manager.old) (ends_of ends.now))) }
-    ensures went { OnOk result (IsStretch D.Disk
-        (limits_of manager.old) (plan_of manager.old) (S.may_return starter.now) (S.may_return starter.now)
-        (S.faults starter.now) (S.faults starter.now) manager.old manager.new
+    ensures went { OnOk result (WentOn D.Disk S.Starter manager.old manager.new starter.now starter.now
         (At (past_of manager.old) (S.call_log starter.now) [] ends.now)
         (at_rest (past_of manager.new) (S.call_log starter.now))) }
-    ensures cut { IfErr result (IsCutShort D.Disk
-        (limits_of manager.old) (plan_of manager.old) (S.may_return starter.now) (S.may_return starter.now)
-        (S.faults starter.now) (S.faults starter.now) manager.old manager.new
-        (At (past_of manager.old) (S.call_log starter.now) [] ends.now) (S.call_log starter.now)) }
+    ensures cut { IfErr result (WasCutShort D.Disk S.Starter manager.old manager.new starter.now starter.now
+        (At (past_of manager.old) (S.call_log starter.now) [] ends.now)) }
 {
     let _starter = starter;
     keeps_the_law(manager);
@@ -170,15 +162,11 @@ pub fn record_reported<D: Disk + Drop, S: Starter>(
     ensures nearer { OnOk result (IsNearerEnd (plan_of manager.old) (past_of manager.old) (past_of manager.new)) }
     ensures past { OnOk result (past_of manager.new ≡ added (past_of manager.old)
         (up_to_abort (plan_of manager.old) (past_of manager.old) (ends_of ends.now))) }
-    ensures went { OnOk result (IsStretch D.Disk
-        (limits_of manager.old) (plan_of manager.old) (S.may_return starter.now) (S.may_return starter.now)
-        (S.faults starter.now) (S.faults starter.now) manager.old manager.new
+    ensures went { OnOk result (WentOn D.Disk S.Starter manager.old manager.new starter.now starter.now
         (At (past_of manager.old) (S.call_log starter.now) [] ends.now)
         (at_rest (past_of manager.new) (S.call_log starter.now))) }
-    ensures cut { IfErr result (IsCutShort D.Disk
-        (limits_of manager.old) (plan_of manager.old) (S.may_return starter.now) (S.may_return starter.now)
-        (S.faults starter.now) (S.faults starter.now) manager.old manager.new
-        (At (past_of manager.old) (S.call_log starter.now) [] ends.now) (S.call_log starter.now)) }
+    ensures cut { IfErr result (WasCutShort D.Disk S.Starter manager.old manager.new starter.now starter.now
+        (At (past_of manager.old) (S.call_log starter.now) [] ends.now)) }
 {
     record_ends(alloc, manager, starter, ends)
 }

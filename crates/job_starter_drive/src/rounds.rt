@@ -12,7 +12,7 @@ ghost use Rattle.recovery_manager.specs.Managed.{Managed, plan_of, past_of};
 ghost use Rattle.job_starter_drive.specs.Calls.{running, is_halt_seen, MayRun, AllowsNoMore};
 ghost use Rattle.job_starter_drive.specs.Drives.{limits_of, At, at_rest, AreInStep, AreUnderWay, IsRoundOf, IsNearerEnd, IsSpawned, IsTurn, Starts, IsLaunched};
 ghost use Rattle.job_starter_drive.specs.Causes.{IsDriveFault, IsUnspawned};
-ghost use Rattle.job_starter_drive.specs.Stretches.{IsStretch, IsCutShort};
+ghost use Rattle.job_starter_drive.specs.Stretches.{WentOn, WasCutShort};
 
 use crate::records::{
     goes_on, is_aborted, keeps_the_law, next_round, record_ends, record_launches, starts_child,
@@ -77,15 +77,11 @@ fn hand_one<D: Disk + Drop, S: Starter>(
         (drop place keys.now) owed.old.items }
     ensures under_way { OnOk result (AreUnderWay (plan_of manager.now) (past_of manager.now) (S.call_log starter.new)
         (drop (place + 1) keys.now) owed.new.items) }
-    ensures went { OnOk result (IsStretch D.Disk
-        (limits_of manager.now) (plan_of manager.now) (S.may_return starter.old) (S.may_return starter.new)
-        (S.faults starter.old) (S.faults starter.new) manager.now manager.now
+    ensures went { OnOk result (WentOn D.Disk S.Starter manager.now manager.now starter.old starter.new
         (At (past_of manager.now) (S.call_log starter.old) (drop place keys.now) owed.old.items)
         (At (past_of manager.now) (S.call_log starter.new) (drop (place + 1) keys.now) owed.new.items)) }
-    ensures cut { IfErr result (IsCutShort D.Disk
-        (limits_of manager.now) (plan_of manager.now) (S.may_return starter.old) (S.may_return starter.new)
-        (S.faults starter.old) (S.faults starter.new) manager.now manager.now
-        (At (past_of manager.now) (S.call_log starter.old) (drop place keys.now) owed.old.items) (S.call_log starter.new)) }
+    ensures cut { IfErr result (WasCutShort D.Disk S.Starter manager.now manager.now starter.old starter.new
+        (At (past_of manager.now) (S.call_log starter.old) (drop place keys.now) owed.old.items)) }
     ensures waits_for_none { Starts (S.call_log starter.old) (S.call_log starter.new) }
     ensures room { vec_capacity owed.old ≤ vec_capacity owed.new }
     ensures more { OnOk result (length owed.new.items ≤ length owed.old.items + 1) }
@@ -120,15 +116,11 @@ fn hand_all<D: Disk + Drop, S: Starter>(
     requires under_way { AreUnderWay (plan_of manager.now) (past_of manager.now) (S.call_log starter.old) keys.now [] }
     ensures under_way { OnOk result (AreUnderWay (plan_of manager.now) (past_of manager.now) (S.call_log starter.new)
         [] owed.new.items) }
-    ensures went { OnOk result (IsStretch D.Disk
-        (limits_of manager.now) (plan_of manager.now) (S.may_return starter.old) (S.may_return starter.new)
-        (S.faults starter.old) (S.faults starter.new) manager.now manager.now
+    ensures went { OnOk result (WentOn D.Disk S.Starter manager.now manager.now starter.old starter.new
         (At (past_of manager.now) (S.call_log starter.old) keys.now [])
         (At (past_of manager.now) (S.call_log starter.new) [] owed.new.items)) }
-    ensures cut { IfErr result (IsCutShort D.Disk
-        (limits_of manager.now) (plan_of manager.now) (S.may_return starter.old) (S.may_return starter.new)
-        (S.faults starter.old) (S.faults starter.new) manager.now manager.now
-        (At (past_of manager.now) (S.call_log starter.old) keys.now []) (S.call_log starter.new)) }
+    ensures cut { IfErr result (WasCutShort D.Disk S.Starter manager.now manager.now starter.old starter.new
+        (At (past_of manager.now) (S.call_log starter.old) keys.now [])) }
     ensures waits_for_none { Starts (S.call_log starter.old) (S.call_log starter.new) }
 {
     keeps_the_law(manager);
@@ -155,14 +147,10 @@ fn start_round<D: Disk + Drop, S: Starter>(
     requires round { IsRoundOf (limits_of manager.old) (plan_of manager.old) (past_of manager.old) keys.now }
     ensures nearer { OnOk result (IsNearerEnd (plan_of manager.old) (past_of manager.old) (past_of manager.new)) }
     ensures turn { OnOk result (IsTurn (plan_of manager.old) (past_of manager.old) (past_of manager.new) (S.call_log starter.new)) }
-    ensures went { OnOk result (IsStretch D.Disk
-        (limits_of manager.old) (plan_of manager.old) (S.may_return starter.old) (S.may_return starter.new)
-        (S.faults starter.old) (S.faults starter.new) manager.old manager.new
+    ensures went { OnOk result (WentOn D.Disk S.Starter manager.old manager.new starter.old starter.new
         (at_rest (past_of manager.old) (S.call_log starter.old)) (at_rest (past_of manager.new) (S.call_log starter.new))) }
-    ensures cut { IfErr result (IsCutShort D.Disk
-        (limits_of manager.old) (plan_of manager.old) (S.may_return starter.old) (S.may_return starter.new)
-        (S.faults starter.old) (S.faults starter.new) manager.old manager.new
-        (at_rest (past_of manager.old) (S.call_log starter.old)) (S.call_log starter.new)) }
+    ensures cut { IfErr result (WasCutShort D.Disk S.Starter manager.old manager.new starter.old starter.new
+        (at_rest (past_of manager.old) (S.call_log starter.old))) }
     ensures waits_for_none { Starts (S.call_log starter.old) (S.call_log starter.new) }
 {
     keeps_the_law(manager);
@@ -193,19 +181,15 @@ pub(crate) fn launch_rounds<D: Disk + Drop, S: Starter>(
     requires unhalted { IsFalse (is_halt_seen (S.call_log starter.old)) }
     ensures plan { plan_of manager.new ≡ plan_of manager.old }
     ensures limits { limits_of manager.new ≡ limits_of manager.old }
-    ensures went { OnOk result (IsStretch D.Disk
-        (limits_of manager.old) (plan_of manager.old) (S.may_return starter.old) (S.may_return starter.new)
-        (S.faults starter.old) (S.faults starter.new) manager.old manager.new
+    ensures went { OnOk result (WentOn D.Disk S.Starter manager.old manager.new starter.old starter.new
         (at_rest (past_of manager.old) (S.call_log starter.old)) (at_rest (past_of manager.new) (S.call_log starter.new))) }
     ensures done { OnOk result (IsLaunched (limits_of manager.old) (plan_of manager.old)
         (past_of manager.old) (past_of manager.new) (S.call_log starter.new)) }
     ensures turn { OnOk result (IsTurn (plan_of manager.old) (past_of manager.old) (past_of manager.new) (S.call_log starter.new)) }
     ensures nearer { (key : Key) → IsChoice (limits_of manager.old) (plan_of manager.old) (past_of manager.old) (Start key)
         → OnOk result (IsNearerEnd (plan_of manager.old) (past_of manager.old) (past_of manager.new)) }
-    ensures cut { IfErr result (IsCutShort D.Disk
-        (limits_of manager.old) (plan_of manager.old) (S.may_return starter.old) (S.may_return starter.new)
-        (S.faults starter.old) (S.faults starter.new) manager.old manager.new
-        (at_rest (past_of manager.old) (S.call_log starter.old)) (S.call_log starter.new)) }
+    ensures cut { IfErr result (WasCutShort D.Disk S.Starter manager.old manager.new starter.old starter.new
+        (at_rest (past_of manager.old) (S.call_log starter.old))) }
     ensures waits_for_none { Starts (S.call_log starter.old) (S.call_log starter.new) }
 {
     goes_on(manager);
@@ -253,9 +237,7 @@ pub fn launch_round<D: Disk + Drop, S: Starter>(
     ensures plan { plan_of manager.new ≡ plan_of manager.old }
     ensures limits { limits_of manager.new ≡ limits_of manager.old }
     // A stretch of the run from rest to rest.
-    ensures went { OnOk result (IsStretch D.Disk
-        (limits_of manager.old) (plan_of manager.old) (S.may_return starter.old) (S.may_return starter.new)
-        (S.faults starter.old) (S.faults starter.new) manager.old manager.new
+    ensures went { OnOk result (WentOn D.Disk S.Starter manager.old manager.new starter.old starter.new
         (at_rest (past_of manager.old) (S.call_log starter.old)) (at_rest (past_of manager.new) (S.call_log starter.new))) }
     // Nothing more is let in, a halt was seen, or the newest record aborts the run, which was not aborted before.
     ensures done { OnOk result (IsLaunched (limits_of manager.old) (plan_of manager.old)
@@ -266,10 +248,8 @@ pub fn launch_round<D: Disk + Drop, S: Starter>(
     ensures nearer { (key : Key) → IsChoice (limits_of manager.old) (plan_of manager.old) (past_of manager.old) (Start key)
         → OnOk result (IsNearerEnd (plan_of manager.old) (past_of manager.old) (past_of manager.new) ⊎ IsTrue (is_halt_seen (S.call_log starter.new))) }
     // Behind a fault: a stretch that this fault cut short.
-    ensures cut { IfErr result (IsCutShort D.Disk
-        (limits_of manager.old) (plan_of manager.old) (S.may_return starter.old) (S.may_return starter.new)
-        (S.faults starter.old) (S.faults starter.new) manager.old manager.new
-        (at_rest (past_of manager.old) (S.call_log starter.old)) (S.call_log starter.new)) }
+    ensures cut { IfErr result (WasCutShort D.Disk S.Starter manager.old manager.new starter.old starter.new
+        (at_rest (past_of manager.old) (S.call_log starter.old))) }
     ensures waits_for_none { Starts (S.call_log starter.old) (S.call_log starter.new) }
 {
     let _plan = plan;

@@ -4,10 +4,11 @@ ghost use Rattle.std.specs.Prelude.{◌≡◌, map, vec_len};
 
 use crate::launching::Launcher;
 use crate::{RunningChild, Seen, look_at_all};
+use child_watcher::run_shell;
 use std::alloc::{AllocError, Global};
-use std::process::{Command, Processes, Stdio};
+use std::process::Processes;
+use std::thread;
 use std::time::{Clock, Duration};
-use std::{io, thread};
 
 /// The pause between two looks whether they have ended, in microseconds, and how many pauses make a second.
 const PAUSE: u64 = 10_000;
@@ -34,18 +35,6 @@ fn asking_words<R: Processes>(
         }
     }
     Ok(if some { Some(words) } else { None })
-}
-
-/// Has a shell run these words, since each system has one.
-fn run_shell<R: Processes>(alloc: Global, rt: &R, words: &str) -> io::Result<()> {
-    let mut command = Command::new(alloc, "/bin/sh")?;
-    command.arg("-c")?.arg(words)?;
-    command
-        .stdin(Stdio::null())
-        .stdout(Stdio::null())
-        .stderr(Stdio::null());
-    command.status(rt)?;
-    Ok(())
 }
 
 /// Waits until no launcher runs, at most for as many seconds as they have.

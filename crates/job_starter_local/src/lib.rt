@@ -15,7 +15,7 @@ mod launching;
 mod scripts;
 mod starting;
 
-use child_watcher::ChildWatcher;
+use child_watcher::{ChildWatcher, RoundIdentity};
 use dag_reader::{Text, Texts};
 use ending::ask_launchers;
 use job_starter_drive::{
@@ -23,7 +23,6 @@ use job_starter_drive::{
 };
 pub use launching::Launcher;
 use node_machine::{Key, Outcome};
-use round_identity::RoundIdentity;
 use run_plan::Plan;
 use run_plan_node::{ChildCommand, NodeSpec};
 use scripts::{kept_command, settle_kept};

@@ -1,26 +1,23 @@
 -- What `redo` answers, and why it is refused.
-use Rattle.std.specs.Prelude.{◌≡◌, ℕ, Bool, false, List, [], ◌++◌, Option, Some, IsTrue, codes, string_bytes}
-use Rattle.splices_flat.specs.Opening.{Files}
+use Rattle.std.specs.Prelude.{◌≡◌, ℕ, Bool, List, [], ◌++◌, Option, codes, string_bytes}
 use Rattle.node_machine.specs.declared.Record.{Record}
 use Rattle.rescue_file.specs.Numbered.{rescue_name_of}
 use Rattle.run_plan.specs.Plan.{Plan, count_of}
-use Rattle.sched_core.specs.Run.{chronological, is_lawful}
 use Rattle.log_lines.specs.Words.{word_text}
-use Rattle.dag_main_check.specs.Planned.{IsPlanWith}
 use Rattle.dag_main_check.specs.Warnings.{warning_lines}
 use Rattle.dag_main_check.specs.declared.fault.RunFault.{RunFault}
 use Rattle.dag_main_check.specs.declared.fault.RunFault.TheVariants.{Memory}
 use Rattle.dag_main_files.specs.Beside.{journal_name_of, lock_name_of, IsRefusalOf}
-use Rattle.dag_main_files.specs.Opened.{IsOfFiles, IsOfSome}
-use Rattle.dag_main_inspect.specs.Asked.{IsAnswerFault, IsAnswerFaultHeld}
-use Rattle.dag_main_inspect.specs.LastRound.{IsLastRound}
-use Rattle.dag_main_inspect.specs.Statused.{journal_bytes, flag_by, records_in_bytes}
-use Rattle.dag_main_inspect.specs.declared.by_journal.Question.TheVariants.{Status}
+use Rattle.dag_main_files.specs.Folder.{Paths, any_paths}
+use Rattle.dag_main_files.specs.Opened.{Holding, IsReadAs}
+use Rattle.dag_main_inspect.specs.Asked.{IsOfRecords, IsNoStatus}
+use Rattle.dag_main_inspect.specs.LastRound.{IsOfLastRound}
+use Rattle.dag_main_inspect.specs.Statused.{journal_bytes}
 use Rattle.failure_report.specs.Named.{AreNumbers, IsUnknownName}
 use Rattle.salvage.specs.Refused.{IsNotOwn}
 use Rattle.salvage.specs.Salvaged.{report_line}
 use Rattle.redo.specs.Redone.{IsRedone}
-use Rattle.redo.specs.Numbers.{IsNextNumber, IsNextNumberIn, IsNoNextNumber}
+use Rattle.redo.specs.Numbers.{IsNextNumber, IsNoNextNumber}
 use Rattle.redo.specs.declared.here.Found.{Found}
 use Rattle.redo.specs.declared.here.Found.TheVariants.{Marked, Unknown}
 
@@ -40,15 +37,6 @@ IsFoundOfNames plan past path names only (Marked marked) = (numbers : List ℕ) 
     × IsMarkedOf plan past only numbers (string_bytes marked.redone.text) marked.redone.done marked.total (string_bytes marked.warnings)
 IsFoundOfNames plan past path names only (Unknown line) = IsUnknownName plan path names (string_bytes line)
 
--- that is found in the plan of these files, with a rescue file or none, where the records of a journal or none are lawful
-pub record IsFoundBy (path : List ℕ) (rescue journal : Option (List ℕ)) (names : List (List ℕ)) (only : Bool) (found : Found) (files : Files) (entries : List (List ℕ × List ℕ)) : Type 0 where
-  pub plan : Plan
-  pub planned : IsPlanWith (flag_by journal) files entries path rescue plan
-  pub past : List Record
-  pub are_records : records_in_bytes plan (journal_bytes journal) ≡ Some (chronological past)
-  pub lawful : IsTrue (is_lawful plan past)
-  pub found_is : IsFoundOfNames plan past path names only found
-
 -- What is printed of a rescue file that marks so many nodes of so many, where it has this number: that, with its name.
 pub record IsRedoReport (IsNumber : ℕ → Type 0) (path : List ℕ) (done total : ℕ) (file_warnings text warnings : List ℕ) (status : ℕ) : Type 0 where
   pub number : ℕ
@@ -65,35 +53,17 @@ pub data IsRedoAnswer (IsNumber : ℕ → Type 0) (plan : Plan) (past : List Rec
       IsRedoAnswer IsNumber plan past path names only text warnings status
   unknown_name : IsUnknownName plan path names warnings → text ≡ [] → status ≡ 125 → IsRedoAnswer IsNumber plan past path names only text warnings status
 
--- that is the answer of the plan of these files, with a rescue file or none, where the records of a journal or none are lawful and the journal has this next
--- number
-pub record IsRedoFrom (IsNumber : (journal : List ℕ) → ℕ → Type 0) (path : List ℕ) (rescue journal : Option (List ℕ)) (names : List (List ℕ)) (only : Bool) (text warnings : List ℕ) (status : ℕ)
-    (files : Files) (entries : List (List ℕ × List ℕ)) : Type 0 where
-  pub plan : Plan
-  pub planned : IsPlanWith (flag_by journal) files entries path rescue plan
-  pub past : List Record
-  pub are_records : records_in_bytes plan (journal_bytes journal) ≡ Some (chronological past)
-  pub lawful : IsTrue (is_lawful plan past)
-  pub answer : IsRedoAnswer (IsNumber (journal_bytes journal)) plan past path names only text warnings status
-
--- That is the answer for the DAG file of a path: of some files, with a rescue file or none and a journal or none; or there is no round.
-pub data IsRedoOf (path : List ℕ) (names : List (List ℕ)) (only : Bool) (text warnings : List ℕ) (status : ℕ) : Type 0 where
-  has_no_round : text ≡ [] → warnings ≡ no_round_line path → status ≡ 125 → IsRedoOf path names only text warnings status
-  of_round : (rescue journal : Option (List ℕ)) → IsOfSome path (IsRedoFrom IsNextNumber path rescue journal names only text warnings status) →
-      IsRedoOf path names only text warnings status
-
--- The same where these files are held and these paths are there: of the DAG file and all that it names, the journal, and the rescue file that the
--- journal's header names; or there is no journal.
-pub data IsRedoHeld (holds : Files) (has : List ℕ → Bool) (path : List ℕ) (names : List (List ℕ)) (only : Bool) (text warnings : List ℕ) (status : ℕ) : Type 0 where
-  held_no_round : has (journal_name_of path) ≡ false → text ≡ [] → warnings ≡ no_round_line path → status ≡ 125 → IsRedoHeld holds has path names only text warnings status
-  of_held : (rescue journal : Option (List ℕ)) → IsLastRound holds path journal rescue →
-      IsOfFiles holds path (IsRedoFrom (IsNextNumberIn has path) path rescue journal names only text warnings status) → IsRedoHeld holds has path names only text warnings status
+-- That is the answer for the DAG file of a path: of the plan of its last round and the records of the journal; or there is no journal.
+pub data IsRedo (may_hold : Holding) (paths : Paths) (path : List ℕ) (names : List (List ℕ)) (only : Bool) (text warnings : List ℕ) (status : ℕ) : Type 0 where
+  has_no_round : paths.lacks (journal_name_of path) → text ≡ [] → warnings ≡ no_round_line path → status ≡ 125 → IsRedo may_hold paths path names only text warnings status
+  redone : IsOfLastRound may_hold path (λ plan journal. IsOfRecords plan journal
+      (λ past. IsRedoAnswer (IsNextNumber paths path (journal_bytes journal)) plan past path names only text warnings status)) → IsRedo may_hold paths path names only text warnings status
 
 -- Why no rescue file of the DAG file of this path is written after a journal of these bytes: it has no number; the system refuses the rescue file of its
 -- number, or to put the journal away; or memory ran out.
 pub data IsNotWritten (path journal : List ℕ) : RunFault → Type 0 where
   unnumbered : (fault : RunFault) → IsNoNextNumber path journal fault → IsNotWritten path journal fault
-  numbered_refused : (number : ℕ) (fault : RunFault) → IsNextNumber journal number → IsRefusalOf (rescue_name_of path number) fault → IsNotWritten path journal fault
+  numbered_refused : (number : ℕ) (fault : RunFault) → IsNextNumber any_paths path journal number → IsRefusalOf (rescue_name_of path number) fault → IsNotWritten path journal fault
   journal_stays : (fault : RunFault) → IsRefusalOf (journal_name_of path) fault → IsNotWritten path journal fault
   writing_had_no_memory : IsNotWritten path journal Memory
 
@@ -103,15 +73,9 @@ pub data IsKeptOut (path : List ℕ) : RunFault → Type 0 where
   by_another_manager : (fault : RunFault) → IsRefusalOf (lock_name_of path) fault → IsKeptOut path fault
   looking_had_no_memory : IsKeptOut path Memory
 
--- Why nothing is answered: nothing may be written there; or for a cause for which `status` is refused; or the rescue file is not written after some journal.
-pub data IsRedoFault (path : List ℕ) : RunFault → Type 0 where
-  kept_out : (fault : RunFault) → IsKeptOut path fault → IsRedoFault path fault
-  not_answered : (fault : RunFault) → IsAnswerFault Status path fault → IsRedoFault path fault
-  not_written : (journal : List ℕ) (fault : RunFault) → IsNotWritten path journal fault → IsRedoFault path fault
-
--- The same where these files are held: for a cause for which `status` is refused there; or the rescue file is not written after the journal that is held.
-pub data IsRedoFaultHeld (holds : Files) (path : List ℕ) : RunFault → Type 0 where
-  held_kept_out : (fault : RunFault) → IsKeptOut path fault → IsRedoFaultHeld holds path fault
-  held_not_answered : (fault : RunFault) → IsAnswerFaultHeld holds Status path fault → IsRedoFaultHeld holds path fault
-  held_not_written : (rescue journal : Option (List ℕ)) (fault : RunFault) → IsLastRound holds path journal rescue → IsNotWritten path (journal_bytes journal) fault →
-      IsRedoFaultHeld holds path fault
+-- Why nothing is answered: nothing may be written there; or for a cause for which `status` is refused; or the rescue file is not written after the journal.
+pub data IsNoRedo (may_hold : Holding) (path : List ℕ) : RunFault → Type 0 where
+  kept_out : (fault : RunFault) → IsKeptOut path fault → IsNoRedo may_hold path fault
+  not_answered : (fault : RunFault) → IsNoStatus may_hold path fault → IsNoRedo may_hold path fault
+  not_written : (journal : Option (List ℕ)) (fault : RunFault) → IsReadAs may_hold (journal_name_of path) journal → IsNotWritten path (journal_bytes journal) fault →
+      IsNoRedo may_hold path fault

@@ -1,5 +1,5 @@
 -- The number of the next rescue file of a round.
-use Rattle.std.specs.Prelude.{◌≡◌, ◌≤◌, ℕ, Bool, false, not, List, Option, Some, None, Result, Ok, Err}
+use Rattle.std.specs.Prelude.{◌≡◌, ℕ, Bool, false, not, List, Option, Some, None, Result, Ok, Err}
 use Rattle.rescue_file.specs.Numbered.{IsFileNumber}
 use Rattle.event_journal_log.specs.declared.fault.JournalFault.{JournalFault}
 use Rattle.event_journal_log.specs.Image.{Found, replay_of}
@@ -7,7 +7,7 @@ use Rattle.event_journal_log.specs.Peeks.{ends_with_finish}
 use Rattle.dag_main_check.specs.declared.fault.RunFault.{RunFault}
 use Rattle.dag_main_check.specs.declared.fault.RunFault.TheVariants.{NotThere}
 use Rattle.dag_main_files.specs.Beside.{number_behind, folder_name_of, IsRefusalOf}
-use Rattle.dag_main_files.specs.Folder.{IsHighestThere}
+use Rattle.dag_main_files.specs.Folder.{Paths}
 use Rattle.dag_main_files.specs.Journals.{IsUnread}
 
 -- whether reading gives a round that was cut short
@@ -22,13 +22,9 @@ pub data IsNumberWith (Counts : ℕ → Type 0) (journal : List ℕ) (number : �
   by_header : (found : Found) → replay_of journal ≡ Ok (Some found) → ends_with_finish found.records ≡ false → number ≡ found.header.next → IsNumberWith Counts journal number
   after_highest : (highest : ℕ) → Counts highest → is_cut_short (replay_of journal) ≡ false → number ≡ number_behind highest → IsNumberWith Counts journal number
 
--- the same whatever rescue files there are
-abbrev pub IsNextNumber : (journal : List ℕ) → ℕ → Type 0
-IsNextNumber journal number = IsNumberWith (λ highest. highest ≤ 999) journal number
-
--- the same where these paths are there: the highest is the highest number of a rescue file that is there
-abbrev pub IsNextNumberIn : (has : List ℕ → Bool) → (path journal : List ℕ) → ℕ → Type 0
-IsNextNumberIn has path journal number = IsNumberWith (IsHighestThere has path) journal number
+-- the same, where this is known of the paths beside the DAG file
+abbrev pub IsNextNumber : Paths → (path journal : List ℕ) → ℕ → Type 0
+IsNextNumber paths path journal number = IsNumberWith (paths.highest path) journal number
 
 -- Why there is no such number where the journal of a round of the DAG file of this path has these bytes: it can't be read; the round was cut short, and its header has a number that no
 -- rescue file has; or the system refuses the folder. Or memory ran out.

@@ -1,20 +1,19 @@
 //! Nodes of the last round that are to run again, from the files that are beside its DAG file.
 
-ghost use Rattle.std.specs.Prelude.{◌≡◌, [], map, IfOk, IfErr, option_map, string_bytes};
+ghost use Rattle.std.specs.Prelude.{◌≡◌, [], map, IfOk, IfErr, string_bytes};
 ghost use Rattle.rescue_file.specs.Numbered.{IsFileNumber, rescue_name_of};
 ghost use Rattle.dag_main_check.specs.declared.fault.RunFault.TheVariants.{Memory};
 ghost use Rattle.salvage.specs.Salvaged.{report_line};
-ghost use Rattle.dag_main_files.specs.Opened.{IsOfFiles, IsOfSome, IsRefusedFor, IsRefusedForSome};
-ghost use Rattle.dag_main_inspect.specs.Asked.{IsNotAnsweredBy};
-ghost use Rattle.dag_main_inspect.specs.declared.by_journal.Question.TheVariants.{Status};
-ghost use Rattle.redo.specs.Answered.{no_round_line, IsMarkedOf, IsFoundOfNames, IsFoundBy, IsRedoReport, IsRedoOf, IsRedoHeld, IsNotWritten, IsRedoFault, IsRedoFaultHeld};
-ghost use Rattle.redo.specs.Numbers.{IsNextNumber, IsNextNumberIn};
+ghost use Rattle.dag_main_files.specs.Folder.{any_paths, these_paths};
+ghost use Rattle.dag_main_files.specs.Opened.{changing, fixed};
+ghost use Rattle.redo.specs.Answered.{no_round_line, IsMarkedOf, IsFoundOfNames, IsRedoReport, IsRedo, IsNotWritten, IsNoRedo};
+ghost use Rattle.redo.specs.Numbers.{IsNextNumber};
 
 use crate::marks::{Redone, redone_text};
 use crate::numbers::next_number;
 use dag_main_check::{Answer, RunFault, warning_text};
-use dag_main_files::{Folder, Place, journal_path, named, rescue_path};
-use dag_main_inspect::{bytes_in, core_of, last_round, plan_of_round, records_of};
+use dag_main_files::{Folder, Place, journal_path, rescue_path};
+use dag_main_inspect::open_round;
 use failure_report::{Named, numbers_of};
 use log_lines::push_word;
 use salvage::{has_own_files, write_rescue};
@@ -86,36 +85,6 @@ fn found_in(
     }
 }
 
-/// What is found of them for the DAG file of this path by these bytes of a rescue file and of a journal.
-///
-/// # Errors
-/// Those of `plan_of_round`, then that of the journal or its first record that may not follow (`InManager`).
-fn found_by<F: Folder>(
-    alloc: Global,
-    folder: &F,
-    top: &str,
-    rescue: Option<&[u8]>,
-    journal: Option<&[u8]>,
-    names: &[&str],
-    only: bool,
-) -> Result<Found, RunFault>
-    ensures found { IfOk result (λ found. IsOfSome top.now (IsFoundBy top.now
-        (option_map (λ b. b.now) rescue.entry) (option_map (λ b. b.now) journal.entry) (map (λ n. n.now) names.now) only found)) }
-    ensures held { F.honest folder.now → IfOk result (λ found. IsOfFiles (F.holds folder.now) top.now (IsFoundBy top.now
-        (option_map (λ b. b.now) rescue.entry) (option_map (λ b. b.now) journal.entry) (map (λ n. n.now) names.now) only found)) }
-    ensures refused { IfErr result (IsRefusedForSome top.now (IsNotAnsweredBy Status top.now
-        (option_map (λ b. b.now) rescue.entry) (option_map (λ b. b.now) journal.entry))) }
-    ensures refused_held { F.honest folder.now → IfErr result (IsRefusedFor (F.holds folder.now) top.now (IsNotAnsweredBy Status top.now
-        (option_map (λ b. b.now) rescue.entry) (option_map (λ b. b.now) journal.entry))) }
-{
-    let plan = plan_of_round(alloc, folder, top, rescue, journal)?;
-    let bytes = bytes_in(journal);
-    let records = records_of(alloc, &plan, bytes)?;
-    let core = core_of(alloc, &plan, bytes, &records)?;
-    core.keeps_the_law();
-    found_in(alloc, &core, top, names, only)
-}
-
 /// The line of a rescue file of this number that marks so many nodes.
 fn report_of(
     alloc: Global,
@@ -146,10 +115,10 @@ fn write_marked<R: Files<File = File> + AllocGlobal + Copy + Drop, F: Folder>(
     journal: &[u8],
     marked: Marked,
 ) -> Result<Answer, RunFault>
-    ensures report { IfOk result (λ answer. IsRedoReport (IsNextNumber journal.now) place.now.top.now marked.redone.done marked.total (string_bytes marked.warnings)
+    ensures report { IfOk result (λ answer. IsRedoReport (IsNextNumber any_paths place.now.top.now journal.now) place.now.top.now marked.redone.done marked.total (string_bytes marked.warnings)
         (string_bytes answer.text) (string_bytes answer.warnings) answer.status) }
     ensures held { F.honest folder.now → IfOk result (λ answer.
-        IsRedoReport (IsNextNumberIn (F.has folder.now) place.now.top.now journal.now) place.now.top.now marked.redone.done marked.total (string_bytes marked.warnings)
+        IsRedoReport (IsNextNumber (these_paths (F.has folder.now)) place.now.top.now journal.now) place.now.top.now marked.redone.done marked.total (string_bytes marked.warnings)
         (string_bytes answer.text) (string_bytes answer.warnings) answer.status) }
     ensures refused { IfErr result (IsNotWritten place.now.top.now journal.now) }
 {
@@ -184,26 +153,27 @@ fn redo_locked<R: Files<File = File> + AllocGlobal + Copy + Drop, F: Folder>(
     names: &[&str],
     only: bool,
 ) -> Result<Answer, RunFault>
-    ensures redone { IfOk result (λ answer. IsRedoOf place.now.top.now (map (λ n. n.now) names.now) only
+    ensures redone { IfOk result (λ answer. IsRedo changing any_paths place.now.top.now (map (λ n. n.now) names.now) only
         (string_bytes answer.text) (string_bytes answer.warnings) answer.status) }
+    // It is that of the files, the journal and the rescue file that the folder holds.
     ensures held { F.honest folder.now → IfOk result (λ answer.
-        IsRedoHeld (F.holds folder.now) (F.has folder.now) place.now.top.now (map (λ n. n.now) names.now) only
+        IsRedo (fixed (F.holds folder.now)) (these_paths (F.has folder.now)) place.now.top.now (map (λ n. n.now) names.now) only
         (string_bytes answer.text) (string_bytes answer.warnings) answer.status) }
-    ensures refused { IfErr result (IsRedoFault place.now.top.now) }
-    ensures refused_held { F.honest folder.now → IfErr result (IsRedoFaultHeld (F.holds folder.now) place.now.top.now) }
+    ensures refused { IfErr result (IsNoRedo changing place.now.top.now) }
+    // The refusal too is for what the folder holds.
+    ensures refused_held { F.honest folder.now → IfErr result (IsNoRedo (fixed (F.holds folder.now)) place.now.top.now) }
 {
     let alloc = rt.alloc();
-    let round = last_round(alloc, folder, place.top)?;
-    let rescue = round.rescue.as_deref();
-    let journal = round.journal.as_deref();
-    match found_by(alloc, folder, place.top, rescue, journal, names, only) {
-        Ok(Found::Marked(marked)) => write_marked(rt, folder, place, bytes_in(journal), marked),
-        Ok(Found::Unknown(line)) => Ok(Answer {
+    let round = open_round(alloc, folder, place.top)?;
+    let core = round.core(alloc)?;
+    let found = found_in(alloc, &core, place.top, names, only)?;
+    match found {
+        Found::Marked(marked) => write_marked(rt, folder, place, round.bytes(), marked),
+        Found::Unknown(line) => Ok(Answer {
             text: String::new(alloc),
             warnings: line,
             status: REFUSED,
         }),
-        Err(fault) => Err(named(fault, round.name)),
     }
 }
 
@@ -261,15 +231,15 @@ pub fn redo_here<R: Files<File = File> + Clock + AllocGlobal + Copy + Drop, F: F
     only: bool,
     trust_owner: bool,
 ) -> Result<Answer, RunFault>
-    ensures redone { IfOk result (λ answer. IsRedoOf place.now.top.now (map (λ n. n.now) names.now) only
+    ensures redone { IfOk result (λ answer. IsRedo changing any_paths place.now.top.now (map (λ n. n.now) names.now) only
         (string_bytes answer.text) (string_bytes answer.warnings) answer.status) }
     // It is that of the files, the journal and the rescue file that the folder holds.
     ensures held { F.honest folder.now → IfOk result (λ answer.
-        IsRedoHeld (F.holds folder.now) (F.has folder.now) place.now.top.now (map (λ n. n.now) names.now) only
+        IsRedo (fixed (F.holds folder.now)) (these_paths (F.has folder.now)) place.now.top.now (map (λ n. n.now) names.now) only
         (string_bytes answer.text) (string_bytes answer.warnings) answer.status) }
-    ensures refused { IfErr result (IsRedoFault place.now.top.now) }
+    ensures refused { IfErr result (IsNoRedo changing place.now.top.now) }
     // The refusal too is for what the folder holds.
-    ensures refused_held { F.honest folder.now → IfErr result (IsRedoFaultHeld (F.holds folder.now) place.now.top.now) }
+    ensures refused_held { F.honest folder.now → IfErr result (IsNoRedo (fixed (F.holds folder.now)) place.now.top.now) }
 {
     let alloc = rt.alloc();
     let journal = journal_path(alloc, place.top)?;

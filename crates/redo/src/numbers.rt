@@ -6,8 +6,8 @@ ghost use Rattle.event_journal_log.specs.Peeks.{ReadsPeek};
 ghost use Rattle.rescue_file.specs.Numbered.{IsFileNumber};
 ghost use Rattle.dag_main_check.specs.declared.fault.RunFault.TheVariants.{NotThere};
 ghost use Rattle.dag_main_files.specs.Beside.{folder_name_of, IsRefusalOf, number_behind};
-ghost use Rattle.dag_main_files.specs.Folder.{IsHighestThere};
-ghost use Rattle.redo.specs.Numbers.{IsNextNumber, IsNextNumberIn, IsNoNextNumber};
+ghost use Rattle.dag_main_files.specs.Folder.{IsHighestThere, any_paths, these_paths};
+ghost use Rattle.redo.specs.Numbers.{IsNextNumber, IsNoNextNumber};
 
 use dag_main_check::RunFault;
 use dag_main_files::{Folder, LAST_NUMBER, peek_in};
@@ -75,9 +75,9 @@ fn next_in_folder<F: Folder>(alloc: Global, folder: &F, top: &str) -> Result<Nex
 /// As `next_number` has them but for the first.
 fn next_by<F: Folder>(alloc: Global, folder: &F, top: &str, peek: &Peek) -> Result<Next, RunFault>
     ensures number { IfOk result (λ next. IsFileNumber next.number) }
-    ensures next { IfOk result (λ next. (journal : List ℕ) → ReadsPeek (Some peek.now) (replay_of journal) → IsNextNumber journal next.number) }
+    ensures next { IfOk result (λ next. (journal : List ℕ) → ReadsPeek (Some peek.now) (replay_of journal) → IsNextNumber any_paths top.now journal next.number) }
     ensures held { F.honest folder.now → IfOk result (λ next. (journal : List ℕ) → ReadsPeek (Some peek.now) (replay_of journal)
-        → IsNextNumberIn (F.has folder.now) top.now journal next.number) }
+        → IsNextNumber (these_paths (F.has folder.now)) top.now journal next.number) }
     ensures refused { IfErr result (λ fault. (journal : List ℕ) → ReadsPeek (Some peek.now) (replay_of journal) → IsNoNextNumber top.now journal fault) }
 {
     if peek.finished {
@@ -99,8 +99,8 @@ pub(crate) fn next_number<F: Folder>(
     journal: &[u8],
 ) -> Result<Next, RunFault>
     ensures number { IfOk result (λ next. IsFileNumber next.number) }
-    ensures next { IfOk result (λ next. IsNextNumber journal.now next.number) }
-    ensures held { F.honest folder.now → IfOk result (λ next. IsNextNumberIn (F.has folder.now) top.now journal.now next.number) }
+    ensures next { IfOk result (λ next. IsNextNumber any_paths top.now journal.now next.number) }
+    ensures held { F.honest folder.now → IfOk result (λ next. IsNextNumber (these_paths (F.has folder.now)) top.now journal.now next.number) }
     ensures refused { IfErr result (IsNoNextNumber top.now journal.now) }
 {
     match peek_in(alloc, journal)? {

@@ -1,15 +1,13 @@
 -- What `report` answers.
-use Rattle.std.specs.Prelude.{◌≡◌, ◌&&◌, not, ℕ, Bool, List, Option, Some, None, is_some, IsTrue, if◌then◌else◌}
-use Rattle.splices_flat.specs.Opening.{Files}
+use Rattle.std.specs.Prelude.{◌≡◌, ◌&&◌, not, ℕ, Bool, List, Option, Some, None, is_some, if◌then◌else◌}
 use Rattle.node_machine.specs.declared.Record.{Record}
 use Rattle.run_plan.specs.Plan.{Plan}
 use Rattle.hex.specs.Hex.{encode_lower}
-use Rattle.sched_core.specs.Run.{chronological, is_aborted, is_lawful, is_over}
-use Rattle.dag_main_check.specs.Planned.{IsPlanWith}
+use Rattle.sched_core.specs.Run.{is_aborted, is_over}
 use Rattle.dag_main_check.specs.Warnings.{warning_lines}
-use Rattle.dag_main_files.specs.Opened.{IsOfFiles, IsOfSome}
-use Rattle.dag_main_inspect.specs.LastRound.{IsLastRound}
-use Rattle.dag_main_inspect.specs.Statused.{journal_bytes, flag_by, records_in_bytes}
+use Rattle.dag_main_files.specs.Opened.{Holding}
+use Rattle.dag_main_inspect.specs.LastRound.{IsOfLastRound}
+use Rattle.dag_main_inspect.specs.Asked.{IsOfRecords}
 use Rattle.failure_report.specs.declared.why.Grouping.TheVariants.{ByCause}
 use Rattle.failure_report.specs.Grouped.{HasAllBy}
 use Rattle.report_page.specs.declared.values.Page.{Page}
@@ -47,25 +45,7 @@ pub record IsPageAnswer (plan : Plan) (past : List Record) (path version : List 
   pub warnings_are : warnings ≡ warning_lines plan.graph.dag.warnings
   pub status_is : status ≡ 0
 
--- That is the answer of the plan of these files, with a rescue file or none, where the records of a journal or none are lawful.
-pub record IsReportPageFrom (path : List ℕ) (rescue journal : Option (List ℕ)) (version : List ℕ) (reloads : Bool) (text warnings : List ℕ) (status : ℕ)
-    (files : Files) (entries : List (List ℕ × List ℕ)) : Type 0 where
-  pub plan : Plan
-  pub planned : IsPlanWith (flag_by journal) files entries path rescue plan
-  pub past : List Record
-  pub are_records : records_in_bytes plan (journal_bytes journal) ≡ Some (chronological past)
-  pub lawful : IsTrue (is_lawful plan past)
-  pub answer : IsPageAnswer plan past path version (is_some journal) reloads text warnings status
-
--- That is the answer for the DAG file of a path: of some files, with a rescue file or none and a journal or none.
-pub record IsReportPageOf (path version : List ℕ) (reloads : Bool) (text warnings : List ℕ) (status : ℕ) : Type 0 where
-  pub rescue : Option (List ℕ)
-  pub journal : Option (List ℕ)
-  pub answered : IsOfSome path (IsReportPageFrom path rescue journal version reloads text warnings status)
-
--- The same where these files are held: of the DAG file and all that it names, the journal, and the rescue file that the journal's header names.
-pub record IsReportPageHeld (holds : Files) (path version : List ℕ) (reloads : Bool) (text warnings : List ℕ) (status : ℕ) : Type 0 where
-  pub rescue : Option (List ℕ)
-  pub journal : Option (List ℕ)
-  pub beside : IsLastRound holds path journal rescue
-  pub answered : IsOfFiles holds path (IsReportPageFrom path rescue journal version reloads text warnings status)
+-- That is the answer of the last round of a path: of its plan and the records of its journal.
+abbrev pub IsReportPage : Holding → (path version : List ℕ) → (reloads : Bool) → (text warnings : List ℕ) → (status : ℕ) → Type 0
+IsReportPage may_hold path version reloads text warnings status =
+    IsOfLastRound may_hold path (λ plan journal. IsOfRecords plan journal (λ past. IsPageAnswer plan past path version (is_some journal) reloads text warnings status))

@@ -11,13 +11,13 @@ use crate::processes::{
     Program, Standing, all_numbers, asked_of, boot_of, environment_of, has_own_program,
     is_wordless, own_number, standing_of, user_of,
 };
+use child_watcher::{is_of_round, run_shell, value_of};
 use dag_main_args::OrphanRule;
 use event_journal::require_regular;
-use round_identity::{is_of_round, value_of};
 use std::alloc::{AllocError, AllocFailed, Global};
 use std::fs::{self, File};
 use std::io::{self, ErrorKind};
-use std::process::{Command, Processes, Stdio};
+use std::process::Processes;
 use std::rt::Files;
 use std::thread;
 use std::time::{Clock, Duration};
@@ -398,18 +398,6 @@ fn kill_words<R: Files + Clock + AllocGlobal + Clone + Drop>(
     Ok(if some { Some(words) } else { None })
 }
 
-/// Kills processes, which need not be children of this one, by one call of a shell, since each system has one.
-fn kill<R: Processes>(alloc: Global, rt: &R, words: &str) -> io::Result<()> {
-    let mut command = Command::new(alloc, "/bin/sh")?;
-    command.arg("-c")?.arg(words)?;
-    command
-        .stdin(Stdio::null())
-        .stdout(Stdio::null())
-        .stderr(Stdio::null());
-    command.status(rt)?;
-    Ok(())
-}
-
 /// Writes in the log what was done with a process.
 fn tell<R: Clock + AllocGlobal>(
     rt: &R,
@@ -560,7 +548,7 @@ impl Orphans {
         first_alone: bool,
     ) -> Result<(), OrphanFault> {
         if let Some(words) = kill_words(rt, running, self.sought(rt)?, first_alone)? {
-            let _ = kill(rt.alloc(), rt, words.as_str());
+            let _ = run_shell(rt.alloc(), rt, words.as_str());
         }
         Ok(())
     }

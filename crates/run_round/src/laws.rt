@@ -17,7 +17,7 @@ use job_starter_drive::Starter;
 
 /// A run that a manager began or went on with stopped while its end was recorded, by a crash or behind
 /// a fault: it is a life of the run, of the bytes that the manager found, as at each other moment
-/// (job_starter's law `stops`).
+/// (job_starter_drive's law `stops`).
 pub fn stops_at_end<S: Starter, R: Disk + Drop>()
     ensures life { (rescue : Option R) (limits : Limits) (plan : Plan) (starter : S) (past : List Record)
         (call_log : List Call) (fault : Option DriveFault) (kept : List Record) (last : List Call)

@@ -85,7 +85,7 @@ pub fn run_to_end<D: Disk + Drop, R: Disk + Drop, S: Starter>(
     ensures hands_over_err { OnErr result (SpawnsAllButSome (plan_of manager.old) (past_of manager.old)
         (past_of manager.new) (S.call_log starter.old) (S.call_log starter.new)) }
     ensures none_left { running (S.call_log starter.new) ≡ [] }
-    // A crash at any moment of the call leaves what makes it a life of the run (job_starter's law
+    // A crash at any moment of the call leaves what makes it a life of the run (job_starter_drive's law
     // `stops`, and `stops_at_end`), and behind it none of the records that are kept is missing.
     ensures any_moment { AtAnyMoment D.Disk
         manager.old manager.new (IsMomentOfLead R.Disk (rescue_behind result) (limits_of manager.old) (plan_of manager.old)

@@ -6,6 +6,7 @@ mod Kept
 mod Levels
 mod LongestKinds
 mod OnePath
+mod RoundLines
 mod TimesPhases
 mod Waiting
 mod Whole

@@ -16,4 +16,5 @@ pub mod Names
 pub mod Bars
 pub mod Picture
 pub mod TimesData
+pub mod Rounds
 pub mod Answered

@@ -11,4 +11,6 @@ pub enum Form {
     Json,
     /// A text for a person: where the time went, and what would make it shorter.
     Summary,
+    /// A table with a row for each round of which there is a log.
+    Rounds,
 }

@@ -3,7 +3,8 @@
 use crate::same::same;
 use crate::statuses::{DAG, ENDED, NO_LIMITS, WARNING, ends, files_of, round_of};
 use dag_main_check::{Answer, RunFault};
-use dag_main_inspect::{Question, answer_here, plan_of_round};
+use dag_main_files::plan_here;
+use dag_main_inspect::{Form, Question, answer_here};
 use event_journal::{Journal, MemDisk, Opened};
 use node_machine::{Key, Phase, Record};
 use recovery::{Manager, begin};
@@ -47,7 +48,7 @@ fn ended(rt: &impl Abort, alloc: Global, plan: &Plan) -> Result<MemDisk, Fail> {
 /// The files of the DAG, and the journal of the round that has ended.
 fn ended_round(rt: &impl Abort, alloc: Global) -> Result<FileSet, Fail> {
     let mut files = files_of(alloc, "x.dag", DAG)?;
-    let plan = plan_of_round(alloc, &files, "x.dag", None, None)?;
+    let plan = plan_here(alloc, &files, "x.dag", None, false)?;
     let journal = ended(rt, alloc, &plan);
     drop(plan);
     files.add(alloc, "x.dag.journal", journal?.bytes())?;
@@ -107,9 +108,9 @@ fn both_come_to(
     warnings: &str,
     status: u8,
 ) -> Result<(), Fail> {
-    let lines = answer_here(alloc, files, "x.dag", Question::Audit);
+    let lines = answer_here(alloc, files, "x.dag", Question::Audit(Form::Lines));
     comes_to(rt, alloc, lines, (texts.0, warnings, status))?;
-    let json = answer_here(alloc, files, "x.dag", Question::AuditJson);
+    let json = answer_here(alloc, files, "x.dag", Question::Audit(Form::Json));
     comes_to(rt, alloc, json, (texts.1, warnings, status))
 }
 
@@ -138,7 +139,7 @@ fn a_round_that_has_not_ended(rt: HostRuntime) -> Result<(), Fail> {
 fn a_round_that_is_none(rt: HostRuntime) -> Result<(), Fail> {
     let alloc = rt.alloc();
     let mut files = files_of(alloc, "x.dag", "JOB A a.sub\n")?;
-    let plan = plan_of_round(alloc, &files, "x.dag", None, None)?;
+    let plan = plan_here(alloc, &files, "x.dag", None, false)?;
     let journal = launched_twice(&rt, alloc, &plan);
     drop(plan);
     files.add(alloc, "x.dag.journal", journal?.bytes())?;

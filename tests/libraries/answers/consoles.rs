@@ -1,8 +1,7 @@
 //! What stands on a console behind an answer and behind a refusal.
 
 use crate::same::same;
-use answer_console::{Console, MemConsole, display_reply};
-use dag_main_check::{Answer, RunFault};
+use dag_main_check::{Answer, Console, MemConsole, RunFault, display_reply};
 use std::alloc::Global;
 use std::process::Abort;
 use std::test::Fail;

@@ -5,7 +5,7 @@ ghost use Rattle.std.specs.Prelude.{None, false};
 use crate::same::same;
 use dag_main_check::{Answer, CheckForm, RunFault};
 use dag_main_files::{Folder, round_of};
-use dag_main_inspect::{Question, answer_here, report_here};
+use dag_main_inspect::{Form, Question, answer_here, report_here};
 use event_journal_log::Peek;
 use folder_answers::{check_all_here, check_here, rehearse_here};
 use splices_flat::FileSet;
@@ -298,18 +298,18 @@ fn came_meanwhile(rt: HostRuntime) -> Result<(), Fail> {
     let answer = rehearse_here(alloc, &changing, "x.dag", None, NO_LIMITS, false);
     comes_to(&rt, alloc, answer, REHEARSED);
     let changing = coming(alloc, &[], 2)?;
-    let answer = answer_here(alloc, &changing, "x.dag", Question::Status);
+    let answer = answer_here(alloc, &changing, "x.dag", Question::Status(Form::Lines));
     comes_to(&rt, alloc, answer, FRESH);
     Ok(())
 }
 
-// `check --all` refuses such a file.
+// So does `check --all`, which then reads all files again.
 #[test]
 fn came_while_all_were_checked(rt: HostRuntime) -> Result<(), Fail> {
     let alloc = rt.alloc();
     let changing = coming(alloc, &[DAG, SPLICE, SUBMITS[0]], 7)?;
     let answer = check_all_here(alloc, &changing, "x.dag", CheckForm::Line);
-    comes_to(&rt, alloc, answer, "X2 FileRefused b.sub");
+    comes_to(&rt, alloc, answer, CHECKED);
     Ok(())
 }
 
@@ -328,7 +328,7 @@ fn journals_that_grow(rt: HostRuntime) -> Result<(), Fail> {
             asked: Cell::new(0),
             after: 1,
         };
-        let answer = answer_here(alloc, &changing, "x.dag", Question::Status);
+        let answer = answer_here(alloc, &changing, "x.dag", Question::Status(Form::Lines));
         comes_to(&rt, alloc, answer, wanted);
     }
     Ok(())

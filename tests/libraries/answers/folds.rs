@@ -2,7 +2,8 @@
 
 use crate::same::same;
 use dag_main_check::{Answer, RunFault};
-use dag_main_inspect::{Question, answer_here, plan_of_round};
+use dag_main_files::plan_here;
+use dag_main_inspect::{Question, Shape, answer_here};
 use event_journal::MemDisk;
 use node_machine::{Key, Outcome, Phase};
 use recovery::{Manager, begin};
@@ -153,7 +154,7 @@ fn folded_without_a_run(rt: HostRuntime) -> Result<(), Fail> {
     let alloc = rt.alloc();
     for row in &BARE {
         let files = files_of(alloc, row.dag, row.splice)?;
-        let answer = answer_here(alloc, &files, "x.dag", Question::FoldedGraph);
+        let answer = answer_here(alloc, &files, "x.dag", Question::Graph(Shape::Boxes));
         comes_to(&rt, alloc, answer, row.wanted)?;
     }
     Ok(())
@@ -224,11 +225,11 @@ fn journal_of(rt: &impl Abort, alloc: Global, plan: &Plan) -> Result<MemDisk, Fa
 fn folded_by_a_run(rt: HostRuntime) -> Result<(), Fail> {
     let alloc = rt.alloc();
     let mut files = files_of(alloc, STANDING, "")?;
-    let plan = plan_of_round(alloc, &files, "x.dag", None, None)?;
+    let plan = plan_here(alloc, &files, "x.dag", None, false)?;
     let journal = journal_of(&rt, alloc, &plan);
     drop(plan);
     files.add(alloc, "x.dag.journal", journal?.bytes())?;
-    let answer = answer_here(alloc, &files, "x.dag", Question::FoldedGraph);
+    let answer = answer_here(alloc, &files, "x.dag", Question::Graph(Shape::Boxes));
     comes_to(&rt, alloc, answer, STANDS)
 }
 
@@ -237,11 +238,11 @@ fn folded_by_a_run(rt: HostRuntime) -> Result<(), Fail> {
 fn folded_of_no_graph(rt: HostRuntime) -> Result<(), Fail> {
     let alloc = rt.alloc();
     let files = files_of(alloc, "JOB A a\nPARENT A CHILD A\n", "")?;
-    let fault = match answer_here(alloc, &files, "x.dag", Question::FoldedGraph) {
+    let fault = match answer_here(alloc, &files, "x.dag", Question::Graph(Shape::Boxes)) {
         Ok(answer) => answer.text,
         Err(fault) => format!(in alloc; "{fault}")?,
     };
-    let wanted = match answer_here(alloc, &files, "x.dag", Question::Graph) {
+    let wanted = match answer_here(alloc, &files, "x.dag", Question::Graph(Shape::Nodes)) {
         Ok(answer) => answer.text,
         Err(fault) => format!(in alloc; "{fault}")?,
     };

@@ -2,7 +2,8 @@
 
 use crate::same::same;
 use dag_main_check::{Answer, RunFault};
-use dag_main_inspect::{Question, answer_here, plan_of_round};
+use dag_main_files::plan_here;
+use dag_main_inspect::{Form, Question, answer_here};
 use event_journal::MemDisk;
 use node_machine::{Key, Outcome, Phase};
 use recovery::{Manager, begin};
@@ -87,7 +88,7 @@ fn journal_of(rt: &impl Abort, alloc: Global, plan: &Plan, most: usize) -> Resul
 /// The files of the DAG, and the journal of a round in which the first `most` ended.
 pub fn round_of(rt: &impl Abort, alloc: Global, most: usize) -> Result<FileSet, Fail> {
     let mut files = files_of(alloc, "x.dag", DAG)?;
-    let plan = plan_of_round(alloc, &files, "x.dag", None, None)?;
+    let plan = plan_here(alloc, &files, "x.dag", None, false)?;
     let journal = journal_of(rt, alloc, &plan, most);
     drop(plan);
     files.add(alloc, "x.dag.journal", journal?.bytes())?;
@@ -120,7 +121,10 @@ fn both_come_to(
     lines: &str,
     json: &str,
 ) -> Result<(), Fail> {
-    for (question, wanted) in [(Question::Status, lines), (Question::StatusJson, json)] {
+    for (question, wanted) in [
+        (Question::Status(Form::Lines), lines),
+        (Question::Status(Form::Json), json),
+    ] {
         comes_to(rt, alloc, answer_here(alloc, files, path, question), wanted)?;
     }
     Ok(())
@@ -132,7 +136,7 @@ fn a_round_as_json(rt: HostRuntime) -> Result<(), Fail> {
     let alloc = rt.alloc();
     let files = round_of(&rt, alloc, 4)?;
     both_come_to(&rt, alloc, &files, "x.dag", LINES, JSON)?;
-    match answer_here(alloc, &files, "x.dag", Question::StatusJson) {
+    match answer_here(alloc, &files, "x.dag", Question::Status(Form::Json)) {
         Ok(answer) => same(&rt, answer.warnings.as_str(), WARNING),
         Err(fault) => comes_to(&rt, alloc, Err(fault), JSON)?,
     }

@@ -251,3 +251,94 @@ longest kinds
     shows(&rt, alloc, dag, life, Form::Summary, "no phase was run\n")?;
     shows(&rt, alloc, dag, "", Form::Summary, "no phase was run\n")
 }
+
+/// Compares the table of the rounds of two logs with a text.
+fn shows_rounds(
+    rt: &impl Abort,
+    alloc: Global,
+    before: Option<&str>,
+    log: &str,
+    wanted: &str,
+) -> Result<(), Fail> {
+    let mut files = FileSet::new(alloc);
+    files.add(alloc, "x.dag", DAG.as_bytes())?;
+    files.add(alloc, "x.dag.log", log.as_bytes())?;
+    if let Some(before) = before {
+        files.add(alloc, "x.dag.log.old", before.as_bytes())?;
+    }
+    match times_here(alloc, &files, "x.dag", Form::Rounds) {
+        Ok(answer) => same(rt, answer.text.as_str(), wanted),
+        Err(RunFault::Memory) => same(rt, "no memory", wanted),
+        Err(_) => same(rt, "another fault", wanted),
+    }
+    Ok(())
+}
+
+/// A round that failed, and one that runs: which phases begin, which fail, and that the first line with a time counts, also one of an orphan.
+#[test]
+fn rounds_of_two_logs(rt: HostRuntime) -> Result<(), Fail> {
+    let before = "2026-11-25T23:40:00.000Z\tlife\t-\t-\t-\t9\tstart=begin
+2026-11-25T23:40:00.002Z\tstart\tA\tJOB\t0\t10\tcommand=/bin/true
+2026-11-25T23:40:01.002Z\tend\tA\tJOB\t0\t10\texit=0\tseconds=1.000
+2026-11-25T23:40:01.003Z\tnotstarted\tB\tJOB\t0\t-\twhat=program
+2026-11-25T23:40:01.004Z\tstart\tC\tJOB\t0\t11\tcommand=/bin/true
+2026-11-25T23:40:02.504Z\tend\tC\tJOB\t0\t11\tsignal=9\tname=SIGKILL\tseconds=1.500
+2026-11-25T23:40:02.505Z\tstart\tD\tJOB\t0\t12\tcommand=/bin/true
+2026-11-25T23:40:02.506Z\tend\tD\tJOB\t0\t12\texit=10\tseconds=0.001
+2026-11-25T23:40:02.510Z\tfinish\t-\t-\t-\t9\tstatus=1\tdone=1\terror=3
+";
+    let log = "no line
+2026-11-26T08:00:00.250Z\torphan\tA\tJOB\t0\t8\tdone=killed
+2026-11-26T08:00:00.300Z\tlife\t-\t-\t-\t9\tstart=begin
+2026-11-26T08:00:00.400Z\tstart\tA\tJOB\t0\t10\tcommand=/bin/true
+2026-11-26T08:00:03.251Z\thold\tB\tJOB\t0\t-\treason=process
+2026-11-26T08:00:09.000Z\tend\tA\tJOB\t0\t10\texit=1";
+    let wanted = "began\tseconds\tphases\tfailed\tended
+2026-11-25T23:40:00.000Z\t2.510\t4\t3\texit 1
+2026-11-26T08:00:00.250Z\t3.001\t1\t0\truns
+";
+    shows_rounds(&rt, rt.alloc(), Some(before), log, wanted)
+}
+
+/// How rounds are that have not ended: of the one before another one came, so it was cut short. A kill is no failure, a clock does not go back, and
+/// the last line that tells it counts.
+#[test]
+fn rounds_without_an_end(rt: HostRuntime) -> Result<(), Fail> {
+    let alloc = rt.alloc();
+    let killed = "2026-11-25T23:40:00.000Z\tlife\t-\t-\t-\t9\tstart=begin
+2026-11-25T23:40:05.000Z\tstart\tA\tJOB\t0\t10\tcommand=/bin/true
+2026-11-25T23:39:00.000Z\tkilled\tA\tJOB\t0\t10\tseconds=1.000
+";
+    let stopped = "2026-11-25T23:40:00.000Z\tlife\t-\t-\t-\t9\tstart=begin
+2026-11-25T23:40:05.000Z\tstop\t-\t-\t-\t9\tfault='J1 Device'
+";
+    let again = "2026-11-25T23:40:00.000Z\tlife\t-\t-\t-\t9\tstart=begin
+2026-11-25T23:40:05.000Z\tstop\t-\t-\t-\t9\tfault='J1 Device'
+2026-11-25T23:40:06.500Z\tlife\t-\t-\t-\t19\tstart=go_on
+";
+    let full = "2026-11-25T23:40:00.000Z\tlife\t-\t-\t-\t9\tstart=begin
+2026-11-25T23:40:00.001Z\tfull\t-\t-\t-\t9
+";
+    let rows = "began\tseconds\tphases\tfailed\tended
+2026-11-25T23:40:00.000Z\t5.000\t1\t0\tcut short
+2026-11-25T23:40:00.000Z\t5.000\t0\t0\tcut short
+";
+    shows_rounds(&rt, alloc, Some(killed), stopped, rows)?;
+    let rows = "began\tseconds\tphases\tfailed\tended
+2026-11-25T23:40:00.000Z\t0.001\t0\t0\tunknown
+2026-11-25T23:40:00.000Z\t6.500\t0\t0\truns
+";
+    shows_rounds(&rt, alloc, Some(full), again, rows)?;
+    let rows = "began\tseconds\tphases\tfailed\tended
+2026-11-25T23:40:00.000Z\t5.000\t1\t0\truns
+";
+    shows_rounds(&rt, alloc, None, killed, rows)?;
+    shows_rounds(&rt, alloc, Some("no line\n"), killed, rows)?;
+    shows_rounds(
+        &rt,
+        alloc,
+        None,
+        "",
+        "began\tseconds\tphases\tfailed\tended\n",
+    )
+}

@@ -3,8 +3,7 @@
 use crate::same::same;
 use crate::statuses::{NO_LIMITS, ends};
 use dag_main_check::{Answer, RunFault};
-use dag_main_files::Place;
-use dag_main_inspect::plan_of_round;
+use dag_main_files::{Place, plan_here};
 use event_journal::MemDisk;
 use failure_answers::{WhyForm, why_here};
 use failure_report::Grouping;
@@ -103,7 +102,7 @@ fn journal_of(rt: &impl Abort, alloc: Global, plan: &Plan) -> Result<MemDisk, Fa
 /// The files of the DAG, and the journal of the round.
 fn round_of(rt: &impl Abort, alloc: Global) -> Result<FileSet, Fail> {
     let mut files = files_of(alloc)?;
-    let plan = plan_of_round(alloc, &files, "x.dag", None, None)?;
+    let plan = plan_here(alloc, &files, "x.dag", None, false)?;
     let journal = journal_of(rt, alloc, &plan);
     drop(plan);
     files.add(alloc, "x.dag.journal", journal?.bytes())?;

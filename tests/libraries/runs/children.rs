@@ -2,12 +2,14 @@
 use crate::first_lives::{DIAMOND, SUBMITS};
 use crate::plans::plan_of;
 use crate::same::same;
+use child_watcher::{RoundIdentity, Unwatched, run_shell};
 use dag_reader::{Text, Texts};
-use job_starter::{Killed, Launcher, LocalSystem, Started, System, Unwatched};
+use job_starter_drive::{Killed, Started, System};
+use job_starter_local::{Launcher, LocalSystem};
 use node_machine::{Key, Outcome, Phase};
-use round_identity::RoundIdentity;
 use run_plan_node::ChildCommand;
 use std::alloc::{AllocError, Global};
+use std::fs;
 use std::test::Fail;
 
 const A: Key = Key {
@@ -143,5 +145,15 @@ fn children_inherit_their_round(rt: HostRuntime) -> Result<(), Fail> {
         };
         same(&rt, system.wait(key), Ok(Outcome::Exit(0)));
     }
+    Ok(())
+}
+
+/// A shell runs all the words, finds no input, and how they end is not asked.
+#[test]
+fn shell_runs_words(rt: HostRuntime) -> Result<(), Fail> {
+    let alloc = rt.alloc();
+    assert!(rt; run_shell(alloc, &rt, "cat; printf heard > shell.out; exit 3").is_ok());
+    let heard = fs::read(&rt, "shell.out")?;
+    same(&rt, heard.as_slice(), b"heard".as_slice());
     Ok(())
 }

@@ -7,7 +7,7 @@ ghost use Rattle.recovery.specs.Recovery.{IsNewLife};
 use crate::plans::{File, NO_LIMITS, plan_of};
 use crate::same::same;
 use event_journal::{Fuse, FuseDisk, Journal, MemDisk, Opened};
-use job_starter::{Script, ScriptedStarter};
+use job_starter_drive::{Script, ScriptedStarter};
 use node_machine::{Record, Table, read_table};
 use recovery::{Manager, ManagerFault, begin, recover, replay};
 use run_plan::Plan;

@@ -2,8 +2,10 @@
 use crate::children::ROUND;
 use crate::plans::{File, NO_LIMITS, plan_of};
 use crate::same::same;
+use child_watcher::Unwatched;
 use event_journal::FileDisk;
-use job_starter::{Call, Launcher, LocalSystem, ProcessStarter, Starter, Unwatched};
+use job_starter_drive::{Call, ProcessStarter, Starter};
+use job_starter_local::{Launcher, LocalSystem};
 use node_machine::{Key, Outcome, Phase};
 use run_plan::Plan;
 use run_round::{Start, open_round, run_round};

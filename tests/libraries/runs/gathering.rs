@@ -6,10 +6,9 @@ ghost use Rattle.job_starter_drive.specs.Calls.{any_ending};
 use crate::plans::{File, NO_LIMITS, driven, plan_of};
 use crate::same::same;
 use crate::scripts::{add_calls, add_end};
-use job_starter::{
-    Call, CallLog, Killed, ProcessStarter, StartFault, Started, Starter, System, no_memory,
+use job_starter_drive::{
+    Call, CallLog, Killed, ProcessStarter, StartFault, Started, Starter, System, key_at, no_memory,
 };
-use job_starter_drive::key_at;
 use node_machine::{Key, Outcome};
 use run_plan::Plan;
 use run_plan_node::ChildCommand;

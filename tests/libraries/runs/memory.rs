@@ -3,7 +3,7 @@ ghost use Rattle.job_starter_drive.specs.Calls.{any_ending};
 
 use crate::children::shell;
 use crate::same::same;
-use job_starter::{
+use job_starter_drive::{
     Call, CallLog, Killed, ProcessStarter, StartFault, Started, Starter, System, no_memory,
 };
 use node_machine::{Key, Outcome, Phase};

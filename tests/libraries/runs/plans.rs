@@ -5,7 +5,7 @@ ghost use Rattle.job_starter_drive.specs.Calls.{running};
 
 use dag_graph::Graph;
 use event_journal::MemDisk;
-use job_starter::{DriveFault, RunEnd, Script, ScriptedStarter, Starter, drive};
+use job_starter_drive::{DriveFault, RunEnd, Script, ScriptedStarter, Starter, drive};
 use node_machine::Table;
 use recovery::{Manager, begin};
 use run_plan::{Plan, PlanFault};

@@ -6,7 +6,7 @@ use crate::plans::{File, NO_LIMITS, in_order, plan_behind};
 use crate::same::same;
 use crate::scripts::add_calls;
 use event_journal::MemDisk;
-use job_starter::{ScriptedStarter, Starter};
+use job_starter_drive::{ScriptedStarter, Starter};
 use node_machine::{Table, Verdict, read_table};
 use run_plan::Plan;
 use run_round::{RunToEnd, Start, run_round};

@@ -3,7 +3,7 @@ ghost use Rattle.node_machine.specs.OutcomeTable.{HasPossibleOutcomes};
 
 use crate::plans::{File, NO_LIMITS, in_order, plan_behind, plan_of, run};
 use crate::same::same;
-use job_starter::{
+use job_starter_drive::{
     Call, DriveFault, RunEnd, Script, ScriptedStarter, StartFault, Started, Starter,
 };
 use node_machine::{Table, read_table};

@@ -1,36 +1,51 @@
-use Rattle.std.proofs.Common.{ℕ, List, Option, None, Bor, IfOk, IfErr, string_bytes, sym, subst}
+use Rattle.std.proofs.Common.{◌≡◌, ℕ, List, rules, subst}
 use Rattle.std.specs.Option.{option_map}
-use Rattle.dag_main_check.specs.declared.warnings.Answer.{Answer}
 use Rattle.dag_main_check.proofs.Refusals.{weaker}
-use Rattle.dag_main_files.specs.Opened.{IsOfFiles, IsOfSome, IsRefusedFor, IsRefusedForSome}
-use Rattle.dag_main_inspect.specs.Drawn.{IsDrawnOf, IsDrawnFault}
-use Rattle.dag_main_inspect.proofs.OfPlans.{no-graph-no-picture}
+use Rattle.dag_main_files.specs.Opened.{changing, fixed}
+use Rattle.dag_main_files.proofs.RunFaults.{by-fault}
+use Rattle.dag_main_inspect.specs.Drawn.{IsJournalDrawnFault}
+use Rattle.dag_main_inspect.specs.Statused.{journal_bytes}
+use Rattle.dag_main_inspect.specs.LastRound.{not_opened}
+use Rattle.dag_main_inspect.specs.Asked.{IsNotDrawn, no_round_to_draw, no_graph_alone, not_by_journal}
+use Rattle.dag_main_inspect.proofs.Rounds.{refused-of-round, without-journal}
 use Rattle.dag_main_inspect.proofs.graphs.graph_here.Goals as goal
 
-pub returns-in-None-clause-drawn : goal.returns-in-None-clause-drawn
-returns-in-None-clause-drawn g c = subst (λ (j : Option (Bor (List ℕ))). IfOk c.bare_graph.result (λ (a : Answer). IsOfSome c.args.top.now (λ files entries. IsDrawnOf c.args.shape files entries c.args.top.now (option_map (λ b. b.now) c.args.rescue) (option_map (λ b. b.now) j) (string_bytes a.text) (string_bytes a.warnings) a.status))) (sym c.in-None.is) c.bare_graph.ensures.drawn
+pub returns-in_err-round-clause-refused : goal.returns-in_err-round-clause-refused
+returns-in_err-round-clause-refused g c =
+    by-fault (IsNotDrawn changing c.args.top.now) c.in_err-round.field-0.0 (no_round_to_draw _ c.in_err-round.ensures.refused) c.from_residual.result c.from_residual.ensures.1
 
-pub returns-in-None-clause-held : goal.returns-in-None-clause-held
-returns-in-None-clause-held g c = λ honest. subst (λ (j : Option (Bor (List ℕ))). IfOk c.bare_graph.result (λ (a : Answer). IsOfFiles (g.F.Folder.holds c.args.folder.now) c.args.top.now (λ files entries. IsDrawnOf c.args.shape files entries c.args.top.now (option_map (λ b. b.now) c.args.rescue) (option_map (λ b. b.now) j) (string_bytes a.text) (string_bytes a.warnings) a.status))) (sym c.in-None.is) (c.bare_graph.ensures.held honest)
+pub returns-in_err-opened-clause-refused : goal.returns-in_err-opened-clause-refused
+returns-in_err-opened-clause-refused g c =
+    by-fault (IsNotDrawn changing c.args.top.now) c.in_err-opened.field-0.0 (not_by_journal _ (not_opened _ (c.in_err-opened.ensures.refused c.in_ok-round.ensures.round)))
+    c.from_residual-in_err-opened.result c.from_residual-in_err-opened.ensures.1
 
-pub returns-in-None-clause-refused : goal.returns-in-None-clause-refused
-returns-in-None-clause-refused g c = subst (λ (j : Option (Bor (List ℕ))). IfErr c.bare_graph.result (IsRefusedForSome c.args.top.now (λ files entries. IsDrawnFault files entries c.args.top.now (option_map (λ b. b.now) c.args.rescue) (option_map (λ b. b.now) j)))) (sym c.in-None.is)
-    (weaker (IsRefusedForSome c.args.top.now (λ files entries. IsDrawnFault files entries c.args.top.now (option_map (λ b. b.now) c.args.rescue) None)) c.bare_graph.result c.bare_graph.ensures.refused
-    (λ fault why. (why.0, no-graph-no-picture why.0 c.args.top.now (option_map (λ b. b.now) c.args.rescue) fault why.1)))
+pub returns-clause-refused : goal.returns-clause-refused
+returns-clause-refused g c =
+    weaker (IsNotDrawn changing c.args.top.now) c.graph_plan.result c.graph_plan.ensures.refused
+    (λ fault why. not_by_journal fault (refused-of-round changing c.args.top.now c.in_ok-opened.opened.plan (option_map (λ b. b.items) c.in_ok-opened.opened.journal) (c.in_ok-opened.ensures.opened c.in_ok-round.ensures.round)
+    (λ plan journal. IsJournalDrawnFault plan (journal_bytes journal)) fault (subst (λ (b : List ℕ). IsJournalDrawnFault c.in_ok-opened.opened.plan b fault) c.bytes.ensures why)))
 
-pub returns-in-None-clause-refused_held : goal.returns-in-None-clause-refused_held
-returns-in-None-clause-refused_held g c = λ honest. subst (λ (j : Option (Bor (List ℕ))). IfErr c.bare_graph.result (IsRefusedFor (g.F.Folder.holds c.args.folder.now) c.args.top.now (λ files entries. IsDrawnFault files entries c.args.top.now (option_map (λ b. b.now) c.args.rescue) (option_map (λ b. b.now) j)))) (sym c.in-None.is)
-    (weaker (IsRefusedFor (g.F.Folder.holds c.args.folder.now) c.args.top.now (λ files entries. IsDrawnFault files entries c.args.top.now (option_map (λ b. b.now) c.args.rescue) None)) c.bare_graph.result (c.bare_graph.ensures.refused_held honest)
-    (λ fault why. no-graph-no-picture (g.F.Folder.holds c.args.folder.now) c.args.top.now (option_map (λ b. b.now) c.args.rescue) fault why))
+pub returns-then-is_none-clause-refused : goal.returns-then-is_none-clause-refused
+returns-then-is_none-clause-refused g c =
+    weaker (IsNotDrawn changing c.args.top.now) c.bare_graph.result c.bare_graph.ensures.refused
+    (λ fault why. no_graph_alone fault (without-journal changing c.args.top.now _ _ c.in_ok-round.ensures.round (search rules)) why)
 
-pub returns-in-Some-clause-drawn : goal.returns-in-Some-clause-drawn
-returns-in-Some-clause-drawn g c = subst (λ (j : Option (Bor (List ℕ))). IfOk c.graph_by.result (λ (a : Answer). IsOfSome c.args.top.now (λ files entries. IsDrawnOf c.args.shape files entries c.args.top.now (option_map (λ b. b.now) c.args.rescue) (option_map (λ b. b.now) j) (string_bytes a.text) (string_bytes a.warnings) a.status))) (sym c.in-Some.is) c.graph_by.ensures.drawn
+pub returns-in_err-round-clause-refused_held : goal.returns-in_err-round-clause-refused_held
+returns-in_err-round-clause-refused_held g c = λ honest.
+    by-fault (IsNotDrawn (fixed (g.F.Folder.holds c.args.folder.now)) c.args.top.now) c.in_err-round.field-0.0 (no_round_to_draw _ (c.in_err-round.ensures.refused_held honest)) c.from_residual.result c.from_residual.ensures.1
 
-pub returns-in-Some-clause-held : goal.returns-in-Some-clause-held
-returns-in-Some-clause-held g c = λ honest. subst (λ (j : Option (Bor (List ℕ))). IfOk c.graph_by.result (λ (a : Answer). IsOfFiles (g.F.Folder.holds c.args.folder.now) c.args.top.now (λ files entries. IsDrawnOf c.args.shape files entries c.args.top.now (option_map (λ b. b.now) c.args.rescue) (option_map (λ b. b.now) j) (string_bytes a.text) (string_bytes a.warnings) a.status))) (sym c.in-Some.is) (c.graph_by.ensures.held honest)
+pub returns-in_err-opened-clause-refused_held : goal.returns-in_err-opened-clause-refused_held
+returns-in_err-opened-clause-refused_held g c = λ honest.
+    by-fault (IsNotDrawn (fixed (g.F.Folder.holds c.args.folder.now)) c.args.top.now) c.in_err-opened.field-0.0 (not_by_journal _ (not_opened _ (c.in_err-opened.ensures.refused_held honest (c.in_ok-round.ensures.held honest))))
+    c.from_residual-in_err-opened.result c.from_residual-in_err-opened.ensures.1
 
-pub returns-in-Some-clause-refused : goal.returns-in-Some-clause-refused
-returns-in-Some-clause-refused g c = subst (λ (j : Option (Bor (List ℕ))). IfErr c.graph_by.result (IsRefusedForSome c.args.top.now (λ files entries. IsDrawnFault files entries c.args.top.now (option_map (λ b. b.now) c.args.rescue) (option_map (λ b. b.now) j)))) (sym c.in-Some.is) c.graph_by.ensures.refused
+pub returns-clause-refused_held : goal.returns-clause-refused_held
+returns-clause-refused_held g c = λ honest.
+    weaker (IsNotDrawn (fixed (g.F.Folder.holds c.args.folder.now)) c.args.top.now) c.graph_plan.result c.graph_plan.ensures.refused
+    (λ fault why. not_by_journal fault (refused-of-round (fixed (g.F.Folder.holds c.args.folder.now)) c.args.top.now c.in_ok-opened.opened.plan (option_map (λ b. b.items) c.in_ok-opened.opened.journal) (c.in_ok-opened.ensures.held honest (c.in_ok-round.ensures.held honest))
+    (λ plan journal. IsJournalDrawnFault plan (journal_bytes journal)) fault (subst (λ (b : List ℕ). IsJournalDrawnFault c.in_ok-opened.opened.plan b fault) c.bytes.ensures why)))
 
-pub returns-in-Some-clause-refused_held : goal.returns-in-Some-clause-refused_held
-returns-in-Some-clause-refused_held g c = λ honest. subst (λ (j : Option (Bor (List ℕ))). IfErr c.graph_by.result (IsRefusedFor (g.F.Folder.holds c.args.folder.now) c.args.top.now (λ files entries. IsDrawnFault files entries c.args.top.now (option_map (λ b. b.now) c.args.rescue) (option_map (λ b. b.now) j)))) (sym c.in-Some.is) (c.graph_by.ensures.refused_held honest)
+pub returns-then-is_none-clause-refused_held : goal.returns-then-is_none-clause-refused_held
+returns-then-is_none-clause-refused_held g c = λ honest.
+    weaker (IsNotDrawn (fixed (g.F.Folder.holds c.args.folder.now)) c.args.top.now) c.bare_graph.result (c.bare_graph.ensures.refused_held honest)
+    (λ fault why. no_graph_alone fault (without-journal (fixed (g.F.Folder.holds c.args.folder.now)) c.args.top.now _ _ (c.in_ok-round.ensures.held honest) (search rules)) why)

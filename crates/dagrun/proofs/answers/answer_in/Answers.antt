@@ -1,55 +1,57 @@
 use Rattle.std.proofs.Common.{rules, ◌≡◌, ◌||◌, ℕ, List, Bor, IfOk, map, string_bytes, subst, sym}
-use Rattle.redo.specs.Answered.{IsRedoOf, IsRedoHeld}
+use Rattle.dag_main_files.specs.Folder.{any_paths, these_paths}
+use Rattle.dag_main_files.specs.Opened.{changing, fixed}
+use Rattle.redo.specs.Answered.{IsRedo}
 use Rattle.dag_main_run.specs.Sites.{rounds_at}
 use Rattle.dag_main_args.specs.declared.request.Request.{Request}
 use Rattle.dag_main_args.specs.Requests.{asked_by}
 use Rattle.dag_main_check.specs.declared.form.CheckForm.{CheckForm}
-use Rattle.dagrun.specs.Answered.{AreHints, ComesTo, command_of_some, command_from, checks_some, checks_from, IsCheckWith}
-use Rattle.dagrun.proofs.Worlds.{some-to, held-to}
+use Rattle.dagrun.specs.Answered.{AreHints, ComesTo, changing_files, held_in, command_contract, checks_some, checks_from, IsCheckWith}
+use Rattle.dagrun.proofs.Worlds.{request-to}
 use Rattle.dagrun.proofs.answers.answer_in.Goals as goal
 
 pub returns-in-Show-clause-some : goal.returns-in-Show-clause-some
 returns-in-Show-clause-some g c = λ run.
-    subst (λ (request : Request). ComesTo (command_of_some (rounds_at g.F.Journal.Disk g.F.Rescue.Disk (g.F.Site.own c.args.folder.now) (g.F.Folder.honest c.args.folder.now) (g.F.Folder.holds c.args.folder.now)) (asked_by request)) c.show.result)
+    subst (λ (request : Request). ComesTo (command_contract changing_files (rounds_at g.F.Journal.Disk g.F.Rescue.Disk (g.F.Site.own c.args.folder.now) (g.F.Folder.honest c.args.folder.now) (g.F.Folder.holds c.args.folder.now)) (asked_by request)) c.show.result)
     (sym c.in-Show.is) c.show.ensures.some
 
 pub returns-in-Show-clause-held : goal.returns-in-Show-clause-held
 returns-in-Show-clause-held g c = λ honest run.
-    subst (λ (request : Request). ComesTo (command_from (g.F.Folder.holds c.args.folder.now) (g.F.Folder.has c.args.folder.now) (rounds_at g.F.Journal.Disk g.F.Rescue.Disk (g.F.Site.own c.args.folder.now) (g.F.Folder.honest c.args.folder.now) (g.F.Folder.holds c.args.folder.now)) (asked_by request)) c.show.result)
+    subst (λ (request : Request). ComesTo (command_contract (held_in (g.F.Folder.holds c.args.folder.now) (g.F.Folder.has c.args.folder.now)) (rounds_at g.F.Journal.Disk g.F.Rescue.Disk (g.F.Site.own c.args.folder.now) (g.F.Folder.honest c.args.folder.now) (g.F.Folder.holds c.args.folder.now)) (asked_by request)) c.show.result)
     (sym c.in-Show.is) (c.show.ensures.held honest)
 
 pub returns-in-Salvage-clause-some : goal.returns-in-Salvage-clause-some
 returns-in-Salvage-clause-some g c = λ run.
-    some-to (rounds_at g.F.Journal.Disk g.F.Rescue.Disk (g.F.Site.own c.args.folder.now) (g.F.Folder.honest c.args.folder.now) (g.F.Folder.holds c.args.folder.now))
+    request-to changing_files (rounds_at g.F.Journal.Disk g.F.Rescue.Disk (g.F.Site.own c.args.folder.now) (g.F.Folder.honest c.args.folder.now) (g.F.Folder.holds c.args.folder.now))
     c.args.request _ c.in-Salvage.is c.salvage_in.result c.salvage_in.ensures.answered c.salvage_in.ensures.refused
 
 pub returns-in-Salvage-clause-held : goal.returns-in-Salvage-clause-held
 returns-in-Salvage-clause-held g c = λ honest run.
-    held-to (g.F.Folder.holds c.args.folder.now) (g.F.Folder.has c.args.folder.now) (rounds_at g.F.Journal.Disk g.F.Rescue.Disk (g.F.Site.own c.args.folder.now) (g.F.Folder.honest c.args.folder.now) (g.F.Folder.holds c.args.folder.now))
+    request-to (held_in (g.F.Folder.holds c.args.folder.now) (g.F.Folder.has c.args.folder.now)) (rounds_at g.F.Journal.Disk g.F.Rescue.Disk (g.F.Site.own c.args.folder.now) (g.F.Folder.honest c.args.folder.now) (g.F.Folder.holds c.args.folder.now))
     c.args.request _ c.in-Salvage.is c.salvage_in.result (c.salvage_in.ensures.held honest) (c.salvage_in.ensures.refused_held honest)
 
 pub returns-in-Redo-clause-some : goal.returns-in-Redo-clause-some
 returns-in-Redo-clause-some g c = λ run.
     let same : c.deref.result.now ≡ c.in-Redo.nodes.items = search rules in
-    some-to (rounds_at g.F.Journal.Disk g.F.Rescue.Disk (g.F.Site.own c.args.folder.now) (g.F.Folder.honest c.args.folder.now) (g.F.Folder.holds c.args.folder.now))
-    c.args.request _ c.in-Redo.is c.redo_in.result (subst (λ (ns : List (Bor (List ℕ))). IfOk c.redo_in.result (λ answer. IsRedoOf c.in-Redo.dag.now (map (λ (n : Bor (List ℕ)). n.now) ns) c.in-Redo.only (string_bytes answer.text) (string_bytes answer.warnings) answer.status)) same c.redo_in.ensures.redone) c.redo_in.ensures.refused
+    request-to changing_files (rounds_at g.F.Journal.Disk g.F.Rescue.Disk (g.F.Site.own c.args.folder.now) (g.F.Folder.honest c.args.folder.now) (g.F.Folder.holds c.args.folder.now))
+    c.args.request _ c.in-Redo.is c.redo_in.result (subst (λ (ns : List (Bor (List ℕ))). IfOk c.redo_in.result (λ answer. IsRedo changing any_paths c.in-Redo.dag.now (map (λ (n : Bor (List ℕ)). n.now) ns) c.in-Redo.only (string_bytes answer.text) (string_bytes answer.warnings) answer.status)) same c.redo_in.ensures.redone) c.redo_in.ensures.refused
 
 pub returns-in-Redo-clause-held : goal.returns-in-Redo-clause-held
 returns-in-Redo-clause-held g c = λ honest run.
     let same : c.deref.result.now ≡ c.in-Redo.nodes.items = search rules in
-    held-to (g.F.Folder.holds c.args.folder.now) (g.F.Folder.has c.args.folder.now) (rounds_at g.F.Journal.Disk g.F.Rescue.Disk (g.F.Site.own c.args.folder.now) (g.F.Folder.honest c.args.folder.now) (g.F.Folder.holds c.args.folder.now))
-    c.args.request _ c.in-Redo.is c.redo_in.result (subst (λ (ns : List (Bor (List ℕ))). IfOk c.redo_in.result (λ answer. IsRedoHeld (g.F.Folder.holds c.args.folder.now) (g.F.Folder.has c.args.folder.now) c.in-Redo.dag.now (map (λ (n : Bor (List ℕ)). n.now) ns) c.in-Redo.only (string_bytes answer.text) (string_bytes answer.warnings) answer.status)) same (c.redo_in.ensures.held honest)) (c.redo_in.ensures.refused_held honest)
+    request-to (held_in (g.F.Folder.holds c.args.folder.now) (g.F.Folder.has c.args.folder.now)) (rounds_at g.F.Journal.Disk g.F.Rescue.Disk (g.F.Site.own c.args.folder.now) (g.F.Folder.honest c.args.folder.now) (g.F.Folder.holds c.args.folder.now))
+    c.args.request _ c.in-Redo.is c.redo_in.result (subst (λ (ns : List (Bor (List ℕ))). IfOk c.redo_in.result (λ answer. IsRedo (fixed (g.F.Folder.holds c.args.folder.now)) (these_paths (g.F.Folder.has c.args.folder.now)) c.in-Redo.dag.now (map (λ (n : Bor (List ℕ)). n.now) ns) c.in-Redo.only (string_bytes answer.text) (string_bytes answer.warnings) answer.status)) same (c.redo_in.ensures.held honest)) (c.redo_in.ensures.refused_held honest)
 
 pub returns-in-Check-clause-some : goal.returns-in-Check-clause-some
 returns-in-Check-clause-some g c = λ run.
-    some-to (rounds_at g.F.Journal.Disk g.F.Rescue.Disk (g.F.Site.own c.args.folder.now) (g.F.Folder.honest c.args.folder.now) (g.F.Folder.holds c.args.folder.now))
+    request-to changing_files (rounds_at g.F.Journal.Disk g.F.Rescue.Disk (g.F.Site.own c.args.folder.now) (g.F.Folder.honest c.args.folder.now) (g.F.Folder.holds c.args.folder.now))
     c.args.request _ c.in-Check.is c.check.result
     (subst (λ (form : CheckForm). IfOk c.check.result (λ answer. IsCheckWith (checks_some c.in-Check.all form c.in-Check.dag.now) (c.in-Check.hints || c.in-Check.condor)
     (string_bytes answer.text) (string_bytes answer.warnings) answer.status)) c.check_form.ensures c.check.ensures.answered) c.check.ensures.refused
 
 pub returns-in-Check-clause-held : goal.returns-in-Check-clause-held
 returns-in-Check-clause-held g c = λ honest run.
-    held-to (g.F.Folder.holds c.args.folder.now) (g.F.Folder.has c.args.folder.now) (rounds_at g.F.Journal.Disk g.F.Rescue.Disk (g.F.Site.own c.args.folder.now) (g.F.Folder.honest c.args.folder.now) (g.F.Folder.holds c.args.folder.now))
+    request-to (held_in (g.F.Folder.holds c.args.folder.now) (g.F.Folder.has c.args.folder.now)) (rounds_at g.F.Journal.Disk g.F.Rescue.Disk (g.F.Site.own c.args.folder.now) (g.F.Folder.honest c.args.folder.now) (g.F.Folder.holds c.args.folder.now))
     c.args.request _ c.in-Check.is c.check.result
     (subst (λ (form : CheckForm). IfOk c.check.result (λ answer. IsCheckWith (checks_from c.in-Check.all form (g.F.Folder.holds c.args.folder.now) c.in-Check.dag.now) (c.in-Check.hints || c.in-Check.condor)
     (string_bytes answer.text) (string_bytes answer.warnings) answer.status)) c.check_form.ensures (c.check.ensures.held honest)) (c.check.ensures.refused_held honest)
@@ -61,10 +63,10 @@ returns-in-Check-clause-hinted g c = λ honest.
 
 pub returns-in-Rehearse-clause-some : goal.returns-in-Rehearse-clause-some
 returns-in-Rehearse-clause-some g c = λ run.
-    some-to (rounds_at g.F.Journal.Disk g.F.Rescue.Disk (g.F.Site.own c.args.folder.now) (g.F.Folder.honest c.args.folder.now) (g.F.Folder.holds c.args.folder.now))
+    request-to changing_files (rounds_at g.F.Journal.Disk g.F.Rescue.Disk (g.F.Site.own c.args.folder.now) (g.F.Folder.honest c.args.folder.now) (g.F.Folder.holds c.args.folder.now))
     c.args.request _ c.in-Rehearse.is c.rehearse.result c.rehearse.ensures.answered c.rehearse.ensures.refused
 
 pub returns-in-Rehearse-clause-held : goal.returns-in-Rehearse-clause-held
 returns-in-Rehearse-clause-held g c = λ honest run.
-    held-to (g.F.Folder.holds c.args.folder.now) (g.F.Folder.has c.args.folder.now) (rounds_at g.F.Journal.Disk g.F.Rescue.Disk (g.F.Site.own c.args.folder.now) (g.F.Folder.honest c.args.folder.now) (g.F.Folder.holds c.args.folder.now))
+    request-to (held_in (g.F.Folder.holds c.args.folder.now) (g.F.Folder.has c.args.folder.now)) (rounds_at g.F.Journal.Disk g.F.Rescue.Disk (g.F.Site.own c.args.folder.now) (g.F.Folder.honest c.args.folder.now) (g.F.Folder.holds c.args.folder.now))
     c.args.request _ c.in-Rehearse.is c.rehearse.result (c.rehearse.ensures.held honest) (c.rehearse.ensures.refused_held honest)

@@ -1,17 +1,17 @@
 use Rattle.dag_main_run.specs.Sites.{rounds_at}
-use Rattle.dagrun.specs.Answered.{as_text, as_json, run_refused, not_stated, printed_run, run_of_some, run_from}
+use Rattle.dagrun.specs.Answered.{as_text, as_json, run_refused, not_stated, printed_run, changing_files, held_in, run_contract}
 use Rattle.dagrun.proofs.Worlds.{refused-to}
 use Rattle.dagrun.proofs.answers.run_in.Goals as goal
 
 pub returns-in_err-answer-clause-some : goal.returns-in_err-answer-clause-some
 returns-in_err-answer-clause-some g c = λ unstreamed.
-    let run = run_of_some (rounds_at g.F.Journal.Disk g.F.Rescue.Disk (g.F.Site.own c.args.folder.now) (g.F.Folder.honest c.args.folder.now) (g.F.Folder.holds c.args.folder.now)) c.args.dag.now c.args.options.now in
+    let run = run_contract changing_files (rounds_at g.F.Journal.Disk g.F.Rescue.Disk (g.F.Site.own c.args.folder.now) (g.F.Folder.honest c.args.folder.now) (g.F.Folder.holds c.args.folder.now)) c.args.dag.now c.args.options.now in
     refused-to (printed_run c.args.dag.now c.args.options.now run) c.in_err-answer.field-0.0 (run_refused _ (c.in_err-answer.ensures.some unstreamed)) c.from_residual.result
     c.from_residual.ensures.1
 
 pub returns-in_err-answer-clause-held : goal.returns-in_err-answer-clause-held
 returns-in_err-answer-clause-held g c = λ honest unstreamed.
-    let run = run_from (g.F.Folder.holds c.args.folder.now) (g.F.Folder.has c.args.folder.now) (rounds_at g.F.Journal.Disk g.F.Rescue.Disk (g.F.Site.own c.args.folder.now) (g.F.Folder.honest c.args.folder.now) (g.F.Folder.holds c.args.folder.now)) c.args.dag.now c.args.options.now in
+    let run = run_contract (held_in (g.F.Folder.holds c.args.folder.now) (g.F.Folder.has c.args.folder.now)) (rounds_at g.F.Journal.Disk g.F.Rescue.Disk (g.F.Site.own c.args.folder.now) (g.F.Folder.honest c.args.folder.now) (g.F.Folder.holds c.args.folder.now)) c.args.dag.now c.args.options.now in
     refused-to (printed_run c.args.dag.now c.args.options.now run) c.in_err-answer.field-0.0 (run_refused _ (c.in_err-answer.ensures.held honest unstreamed)) c.from_residual.result
     c.from_residual.ensures.1
 
@@ -20,13 +20,13 @@ returns-then-not-options-clause-held g c = λ honest unstreamed. as_text c.if-no
 
 pub returns-in_err-states-clause-some : goal.returns-in_err-states-clause-some
 returns-in_err-states-clause-some g c = λ unstreamed.
-    let run = run_of_some (rounds_at g.F.Journal.Disk g.F.Rescue.Disk (g.F.Site.own c.args.folder.now) (g.F.Folder.honest c.args.folder.now) (g.F.Folder.holds c.args.folder.now)) c.args.dag.now c.args.options.now in
+    let run = run_contract changing_files (rounds_at g.F.Journal.Disk g.F.Rescue.Disk (g.F.Site.own c.args.folder.now) (g.F.Folder.honest c.args.folder.now) (g.F.Folder.holds c.args.folder.now)) c.args.dag.now c.args.options.now in
     refused-to (printed_run c.args.dag.now c.args.options.now run) c.in_err-states.field-0.0 (not_stated _ c.if-not-options.false c.in_err-states.ensures.refused)
     c.from_residual-in_err-states.result c.from_residual-in_err-states.ensures.1
 
 pub returns-in_err-states-clause-held : goal.returns-in_err-states-clause-held
 returns-in_err-states-clause-held g c = λ honest unstreamed.
-    let run = run_from (g.F.Folder.holds c.args.folder.now) (g.F.Folder.has c.args.folder.now) (rounds_at g.F.Journal.Disk g.F.Rescue.Disk (g.F.Site.own c.args.folder.now) (g.F.Folder.honest c.args.folder.now) (g.F.Folder.holds c.args.folder.now)) c.args.dag.now c.args.options.now in
+    let run = run_contract (held_in (g.F.Folder.holds c.args.folder.now) (g.F.Folder.has c.args.folder.now)) (rounds_at g.F.Journal.Disk g.F.Rescue.Disk (g.F.Site.own c.args.folder.now) (g.F.Folder.honest c.args.folder.now) (g.F.Folder.holds c.args.folder.now)) c.args.dag.now c.args.options.now in
     refused-to (printed_run c.args.dag.now c.args.options.now run) c.in_err-states.field-0.0 (not_stated _ c.if-not-options.false c.in_err-states.ensures.refused)
     c.from_residual-in_err-states.result c.from_residual-in_err-states.ensures.1
 

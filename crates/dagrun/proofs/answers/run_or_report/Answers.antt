@@ -3,7 +3,7 @@ use Rattle.std.specs.Prelude.{IfSome, IfNone}
 use Rattle.std.proofs.lemmas.Bool.{false≢true}
 use Rattle.std.proofs.lemmas.Result.{IfOk-weaker, IfErr-weaker}
 use Rattle.dag_main_run.specs.Sites.{rounds_at}
-use Rattle.dagrun.specs.Answered.{run_of_some, run_from, not_run, not_reported, led, reported_again}
+use Rattle.dagrun.specs.Answered.{changing_files, held_in, run_contract, not_run, not_reported, led, reported_again}
 use Rattle.dagrun.proofs.Worlds.{comes-to, refused-to}
 use Rattle.dagrun.proofs.answers.run_or_report.Goals as goal
 
@@ -18,24 +18,24 @@ not-both b P isnt is = absurd (false≢true (sym isnt ∙ is))
 
 pub returns-then-not-options-clause-some : goal.returns-then-not-options-clause-some
 returns-then-not-options-clause-some g c = λ unstreamed.
-    comes-to (run_of_some (rounds_at g.F.Journal.Disk g.F.Rescue.Disk (g.F.Site.own c.args.folder.now) (g.F.Folder.honest c.args.folder.now) (g.F.Folder.holds c.args.folder.now)) c.args.dag.now c.args.options.now) c.run_dag.result
-    (IfOk-weaker c.run_dag.result _ _ (λ answer is. led (λ asked. tt) is) c.run_dag.ensures.run)
-    (IfErr-weaker c.run_dag.result _ _ (λ fault why. not_run fault (λ asked. tt) why) (c.run_dag.ensures.refused unstreamed))
+    comes-to (run_contract changing_files (rounds_at g.F.Journal.Disk g.F.Rescue.Disk (g.F.Site.own c.args.folder.now) (g.F.Folder.honest c.args.folder.now) (g.F.Folder.holds c.args.folder.now)) c.args.dag.now c.args.options.now) c.run_dag.result
+    (IfOk-weaker c.run_dag.result _ _ (λ answer is. led (not-both _ _ c.if-not-options.true) is) c.run_dag.ensures.run)
+    (IfErr-weaker c.run_dag.result _ _ (λ fault why. not_run fault (not-both _ _ c.if-not-options.true) why) (c.run_dag.ensures.refused unstreamed))
 
 pub returns-then-not-options-clause-held : goal.returns-then-not-options-clause-held
 returns-then-not-options-clause-held g c = λ honest unstreamed.
-    comes-to (run_from (g.F.Folder.holds c.args.folder.now) (g.F.Folder.has c.args.folder.now) (rounds_at g.F.Journal.Disk g.F.Rescue.Disk (g.F.Site.own c.args.folder.now) (g.F.Folder.honest c.args.folder.now) (g.F.Folder.holds c.args.folder.now)) c.args.dag.now c.args.options.now) c.run_dag.result
+    comes-to (run_contract (held_in (g.F.Folder.holds c.args.folder.now) (g.F.Folder.has c.args.folder.now)) (rounds_at g.F.Journal.Disk g.F.Rescue.Disk (g.F.Site.own c.args.folder.now) (g.F.Folder.honest c.args.folder.now) (g.F.Folder.holds c.args.folder.now)) c.args.dag.now c.args.options.now) c.run_dag.result
     (IfOk-weaker c.run_dag.result _ _ (λ answer is. led (not-both _ _ c.if-not-options.true) is) (c.run_dag.ensures.held honest))
     (IfErr-weaker c.run_dag.result _ _ (λ fault why. not_run fault (not-both _ _ c.if-not-options.true) why) (c.run_dag.ensures.refused_held unstreamed honest))
 
 pub returns-in_err-told-clause-some : goal.returns-in_err-told-clause-some
 returns-in_err-told-clause-some g c = λ unstreamed.
-    refused-to (run_of_some (rounds_at g.F.Journal.Disk g.F.Rescue.Disk (g.F.Site.own c.args.folder.now) (g.F.Folder.honest c.args.folder.now) (g.F.Folder.holds c.args.folder.now)) c.args.dag.now c.args.options.now)
+    refused-to (run_contract changing_files (rounds_at g.F.Journal.Disk g.F.Rescue.Disk (g.F.Site.own c.args.folder.now) (g.F.Folder.honest c.args.folder.now) (g.F.Folder.holds c.args.folder.now)) c.args.dag.now c.args.options.now)
     c.in_err-told.field-0.0 (not_reported _ c.if-not-options.false c.in_err-told.ensures.refused) c.from_residual.result c.from_residual.ensures.1
 
 pub returns-in_err-told-clause-held : goal.returns-in_err-told-clause-held
 returns-in_err-told-clause-held g c = λ honest unstreamed.
-    refused-to (run_from (g.F.Folder.holds c.args.folder.now) (g.F.Folder.has c.args.folder.now) (rounds_at g.F.Journal.Disk g.F.Rescue.Disk (g.F.Site.own c.args.folder.now) (g.F.Folder.honest c.args.folder.now) (g.F.Folder.holds c.args.folder.now)) c.args.dag.now c.args.options.now)
+    refused-to (run_contract (held_in (g.F.Folder.holds c.args.folder.now) (g.F.Folder.has c.args.folder.now)) (rounds_at g.F.Journal.Disk g.F.Rescue.Disk (g.F.Site.own c.args.folder.now) (g.F.Folder.honest c.args.folder.now) (g.F.Folder.holds c.args.folder.now)) c.args.dag.now c.args.options.now)
     c.in_err-told.field-0.0 (not_reported _ c.if-not-options.false (c.in_err-told.ensures.refused_held honest)) c.from_residual.result c.from_residual.ensures.1
 
 pub returns-in-Some-clause-some : goal.returns-in-Some-clause-some
@@ -46,13 +46,13 @@ returns-in-Some-clause-held g c = λ honest unstreamed. reported_again c.if-not-
 
 pub returns-in-None-clause-some : goal.returns-in-None-clause-some
 returns-in-None-clause-some g c = λ unstreamed.
-    comes-to (run_of_some (rounds_at g.F.Journal.Disk g.F.Rescue.Disk (g.F.Site.own c.args.folder.now) (g.F.Folder.honest c.args.folder.now) (g.F.Folder.holds c.args.folder.now)) c.args.dag.now c.args.options.now) c.run_dag-in-None.result
-    (IfOk-weaker c.run_dag-in-None.result _ _ (λ answer is. led (λ asked. tt) is) c.run_dag-in-None.ensures.run)
-    (IfErr-weaker c.run_dag-in-None.result _ _ (λ fault why. not_run fault (λ asked. tt) why) (c.run_dag-in-None.ensures.refused unstreamed))
+    comes-to (run_contract changing_files (rounds_at g.F.Journal.Disk g.F.Rescue.Disk (g.F.Site.own c.args.folder.now) (g.F.Folder.honest c.args.folder.now) (g.F.Folder.holds c.args.folder.now)) c.args.dag.now c.args.options.now) c.run_dag-in-None.result
+    (IfOk-weaker c.run_dag-in-None.result _ _ (λ answer is. led (λ asked. at-none _ _ c.in-None.is c.in_ok-told.ensures.none) is) c.run_dag-in-None.ensures.run)
+    (IfErr-weaker c.run_dag-in-None.result _ _ (λ fault why. not_run fault (λ asked. at-none _ _ c.in-None.is c.in_ok-told.ensures.none) why) (c.run_dag-in-None.ensures.refused unstreamed))
 
 pub returns-in-None-clause-held : goal.returns-in-None-clause-held
 returns-in-None-clause-held g c = λ honest unstreamed.
-    comes-to (run_from (g.F.Folder.holds c.args.folder.now) (g.F.Folder.has c.args.folder.now) (rounds_at g.F.Journal.Disk g.F.Rescue.Disk (g.F.Site.own c.args.folder.now) (g.F.Folder.honest c.args.folder.now) (g.F.Folder.holds c.args.folder.now)) c.args.dag.now c.args.options.now) c.run_dag-in-None.result
-    (IfOk-weaker c.run_dag-in-None.result _ _ (λ answer is. led (λ asked. at-none _ _ c.in-None.is (c.in_ok-told.ensures.none honest)) is) (c.run_dag-in-None.ensures.held honest))
-    (IfErr-weaker c.run_dag-in-None.result _ _ (λ fault why. not_run fault (λ asked. at-none _ _ c.in-None.is (c.in_ok-told.ensures.none honest)) why)
+    comes-to (run_contract (held_in (g.F.Folder.holds c.args.folder.now) (g.F.Folder.has c.args.folder.now)) (rounds_at g.F.Journal.Disk g.F.Rescue.Disk (g.F.Site.own c.args.folder.now) (g.F.Folder.honest c.args.folder.now) (g.F.Folder.holds c.args.folder.now)) c.args.dag.now c.args.options.now) c.run_dag-in-None.result
+    (IfOk-weaker c.run_dag-in-None.result _ _ (λ answer is. led (λ asked. at-none _ _ c.in-None.is (c.in_ok-told.ensures.none_held honest)) is) (c.run_dag-in-None.ensures.held honest))
+    (IfErr-weaker c.run_dag-in-None.result _ _ (λ fault why. not_run fault (λ asked. at-none _ _ c.in-None.is (c.in_ok-told.ensures.none_held honest)) why)
     (c.run_dag-in-None.ensures.refused_held unstreamed honest))

@@ -1,5 +1,5 @@
-use Rattle.std.proofs.Common.{Bool, IfOk, IfErr, string_bytes, sym, subst}
-use Rattle.dagrun.specs.Answered.{checks_in, check_refused_some, check_refused_in}
+use Rattle.std.proofs.Common.{Bool, IfOk, string_bytes, sym, subst}
+use Rattle.dagrun.specs.Answered.{checks_in}
 use Rattle.dagrun.proofs.checking.checked.Goals as goal
 
 pub returns-then-all-clause-held : goal.returns-then-all-clause-held
@@ -11,19 +11,3 @@ pub returns-else-all-clause-held : goal.returns-else-all-clause-held
 returns-else-all-clause-held g c = λ honest.
     subst (λ (all : Bool). IfOk c.check_here.result (λ answer. checks_in all c.args.form (g.F.Folder.holds c.args.folder.now) c.args.dag.now
     (string_bytes answer.text) (string_bytes answer.warnings) answer.status)) (sym c.if-all.false) (c.check_here.ensures.held honest)
-
-pub returns-then-all-clause-refused : goal.returns-then-all-clause-refused
-returns-then-all-clause-refused g c =
-    subst (λ (all : Bool). IfErr c.check_all_here.result (check_refused_some all c.args.dag.now)) (sym c.if-all.true) c.check_all_here.ensures.refused
-
-pub returns-else-all-clause-refused : goal.returns-else-all-clause-refused
-returns-else-all-clause-refused g c =
-    subst (λ (all : Bool). IfErr c.check_here.result (check_refused_some all c.args.dag.now)) (sym c.if-all.false) c.check_here.ensures.refused
-
-pub returns-then-all-clause-refused_held : goal.returns-then-all-clause-refused_held
-returns-then-all-clause-refused_held g c = λ honest.
-    subst (λ (all : Bool). IfErr c.check_all_here.result (check_refused_in all (g.F.Folder.holds c.args.folder.now) c.args.dag.now)) (sym c.if-all.true) (c.check_all_here.ensures.refused_held honest)
-
-pub returns-else-all-clause-refused_held : goal.returns-else-all-clause-refused_held
-returns-else-all-clause-refused_held g c = λ honest.
-    subst (λ (all : Bool). IfErr c.check_here.result (check_refused_in all (g.F.Folder.holds c.args.folder.now) c.args.dag.now)) (sym c.if-all.false) (c.check_here.ensures.refused_held honest)

@@ -1,61 +1,63 @@
 use Rattle.std.proofs.Common.{ℕ, List, ◌∙◌, ap, sym, subst}
 use Rattle.std.proofs.lemmas.Result.{IfOk-weaker}
 use Rattle.dag_main_check.specs.declared.fault.RunFault.TheVariants.{Memory}
+use Rattle.dag_main_files.specs.Opened.{changing, fixed}
 use Rattle.dag_main_files.proofs.RunFaults.{by-fault, memory-alone}
-use Rattle.redo.specs.Answered.{IsRedoFault, kept_out, has_no_round, held_no_round, IsRedoFaultHeld, held_kept_out, IsKeptOut, by_other_files, by_another_manager, looking_had_no_memory}
+use Rattle.redo.specs.Answered.{IsNoRedo, kept_out, has_no_round, IsKeptOut, by_other_files, by_another_manager, looking_had_no_memory}
 use Rattle.redo.proofs.here.redo_here.Goals as goal
 
 pub returns-in_err-journal-clause-refused : goal.returns-in_err-journal-clause-refused
 returns-in_err-journal-clause-refused g c =
-    by-fault (IsRedoFault c.args.place.now.top.now) Memory (kept_out _ looking_had_no_memory) c.from_residual.result c.from_residual.ensures.1
+    by-fault (IsNoRedo changing c.args.place.now.top.now) Memory (kept_out _ looking_had_no_memory) c.from_residual.result c.from_residual.ensures.1
+
+pub returns-in_err-journal-clause-refused_held : goal.returns-in_err-journal-clause-refused_held
+returns-in_err-journal-clause-refused_held g c = λ honest.
+    by-fault (IsNoRedo (fixed (g.F.Folder.holds c.args.folder.now)) c.args.place.now.top.now) Memory (kept_out _ looking_had_no_memory) c.from_residual.result c.from_residual.ensures.1
 
 pub returns-in_err-is_there-clause-refused : goal.returns-in_err-is_there-clause-refused
 returns-in_err-is_there-clause-refused g c =
-    by-fault (IsRedoFault c.args.place.now.top.now) c.in_err-is_there.field-0.0
+    by-fault (IsNoRedo changing c.args.place.now.top.now) c.in_err-is_there.field-0.0
+    (kept_out _ (subst (IsKeptOut c.args.place.now.top.now) (sym c.in_err-is_there.ensures.refused) looking_had_no_memory))
+    c.from_residual-in_err-is_there.result c.from_residual-in_err-is_there.ensures.1
+
+pub returns-in_err-is_there-clause-refused_held : goal.returns-in_err-is_there-clause-refused_held
+returns-in_err-is_there-clause-refused_held g c = λ honest.
+    by-fault (IsNoRedo (fixed (g.F.Folder.holds c.args.folder.now)) c.args.place.now.top.now) c.in_err-is_there.field-0.0
     (kept_out _ (subst (IsKeptOut c.args.place.now.top.now) (sym c.in_err-is_there.ensures.refused) looking_had_no_memory))
     c.from_residual-in_err-is_there.result c.from_residual-in_err-is_there.ensures.1
 
 pub returns-in_err-has_own_files-clause-refused : goal.returns-in_err-has_own_files-clause-refused
 returns-in_err-has_own_files-clause-refused g c =
-    by-fault (IsRedoFault c.args.place.now.top.now) c.in_err-has_own_files.field-0.0 (kept_out _ (by_other_files _ c.in_err-has_own_files.ensures))
+    by-fault (IsNoRedo changing c.args.place.now.top.now) c.in_err-has_own_files.field-0.0 (kept_out _ (by_other_files _ c.in_err-has_own_files.ensures))
+    c.from_residual-in_err-has_own_files.result c.from_residual-in_err-has_own_files.ensures.1
+
+pub returns-in_err-has_own_files-clause-refused_held : goal.returns-in_err-has_own_files-clause-refused_held
+returns-in_err-has_own_files-clause-refused_held g c = λ honest.
+    by-fault (IsNoRedo (fixed (g.F.Folder.holds c.args.folder.now)) c.args.place.now.top.now) c.in_err-has_own_files.field-0.0 (kept_out _ (by_other_files _ c.in_err-has_own_files.ensures))
     c.from_residual-in_err-has_own_files.result c.from_residual-in_err-has_own_files.ensures.1
 
 pub returns-in_err-lock-clause-refused : goal.returns-in_err-lock-clause-refused
 returns-in_err-lock-clause-refused g c =
-    by-fault (IsRedoFault c.args.place.now.top.now) c.in_err-lock.field-0.0 (kept_out _ (by_another_manager _ c.in_err-lock.ensures))
+    by-fault (IsNoRedo changing c.args.place.now.top.now) c.in_err-lock.field-0.0 (kept_out _ (by_another_manager _ c.in_err-lock.ensures))
+    c.from_residual-in_err-lock.result c.from_residual-in_err-lock.ensures.1
+
+pub returns-in_err-lock-clause-refused_held : goal.returns-in_err-lock-clause-refused_held
+returns-in_err-lock-clause-refused_held g c = λ honest.
+    by-fault (IsNoRedo (fixed (g.F.Folder.holds c.args.folder.now)) c.args.place.now.top.now) c.in_err-lock.field-0.0 (kept_out _ (by_another_manager _ c.in_err-lock.ensures))
     c.from_residual-in_err-lock.result c.from_residual-in_err-lock.ensures.1
 
 pub returns-then-not-is_there-clause-redone : goal.returns-then-not-is_there-clause-redone
-returns-then-not-is_there-clause-redone g c = IfOk-weaker c.no_round.result _ _ (λ answer h. has_no_round h.0 h.1 h.2) c.no_round.ensures.answer
+returns-then-not-is_there-clause-redone g c = IfOk-weaker c.no_round.result _ _ (λ answer h. has_no_round tt h.0 h.1 h.2) c.no_round.ensures.answer
 
 pub returns-then-not-is_there-clause-held : goal.returns-then-not-is_there-clause-held
 returns-then-not-is_there-clause-held g c = λ honest.
     let missing = ap (λ (p : List ℕ). g.F.Folder.has c.args.folder.now p) (sym (c.as_str.ensures ∙ c.in_ok-journal.ensures)) ∙ sym (c.in_ok-is_there.ensures.there honest) ∙ c.if-not-is_there.true in
-    IfOk-weaker c.no_round.result _ _ (λ answer h. held_no_round missing h.0 h.1 h.2) c.no_round.ensures.answer
+    IfOk-weaker c.no_round.result _ _ (λ answer h. has_no_round missing h.0 h.1 h.2) c.no_round.ensures.answer
 
 pub returns-then-not-is_there-clause-refused : goal.returns-then-not-is_there-clause-refused
-returns-then-not-is_there-clause-refused g c = memory-alone (IsRedoFault c.args.place.now.top.now) (kept_out _ looking_had_no_memory) c.no_round.result c.no_round.ensures.err
-
-pub returns-in_err-journal-clause-refused_held : goal.returns-in_err-journal-clause-refused_held
-returns-in_err-journal-clause-refused_held g c = λ honest.
-    by-fault (IsRedoFaultHeld (g.F.Folder.holds c.args.folder.now) c.args.place.now.top.now) Memory (held_kept_out _ looking_had_no_memory) c.from_residual.result c.from_residual.ensures.1
-
-pub returns-in_err-is_there-clause-refused_held : goal.returns-in_err-is_there-clause-refused_held
-returns-in_err-is_there-clause-refused_held g c = λ honest.
-    by-fault (IsRedoFaultHeld (g.F.Folder.holds c.args.folder.now) c.args.place.now.top.now) c.in_err-is_there.field-0.0
-    (held_kept_out _ (subst (IsKeptOut c.args.place.now.top.now) (sym c.in_err-is_there.ensures.refused) looking_had_no_memory))
-    c.from_residual-in_err-is_there.result c.from_residual-in_err-is_there.ensures.1
-
-pub returns-in_err-has_own_files-clause-refused_held : goal.returns-in_err-has_own_files-clause-refused_held
-returns-in_err-has_own_files-clause-refused_held g c = λ honest.
-    by-fault (IsRedoFaultHeld (g.F.Folder.holds c.args.folder.now) c.args.place.now.top.now) c.in_err-has_own_files.field-0.0 (held_kept_out _ (by_other_files _ c.in_err-has_own_files.ensures))
-    c.from_residual-in_err-has_own_files.result c.from_residual-in_err-has_own_files.ensures.1
-
-pub returns-in_err-lock-clause-refused_held : goal.returns-in_err-lock-clause-refused_held
-returns-in_err-lock-clause-refused_held g c = λ honest.
-    by-fault (IsRedoFaultHeld (g.F.Folder.holds c.args.folder.now) c.args.place.now.top.now) c.in_err-lock.field-0.0 (held_kept_out _ (by_another_manager _ c.in_err-lock.ensures))
-    c.from_residual-in_err-lock.result c.from_residual-in_err-lock.ensures.1
+returns-then-not-is_there-clause-refused g c =
+    memory-alone (IsNoRedo changing c.args.place.now.top.now) (kept_out _ looking_had_no_memory) c.no_round.result c.no_round.ensures.err
 
 pub returns-then-not-is_there-clause-refused_held : goal.returns-then-not-is_there-clause-refused_held
 returns-then-not-is_there-clause-refused_held g c = λ honest.
-    memory-alone (IsRedoFaultHeld (g.F.Folder.holds c.args.folder.now) c.args.place.now.top.now) (held_kept_out _ looking_had_no_memory) c.no_round.result c.no_round.ensures.err
+    memory-alone (IsNoRedo (fixed (g.F.Folder.holds c.args.folder.now)) c.args.place.now.top.now) (kept_out _ looking_had_no_memory) c.no_round.result c.no_round.ensures.err

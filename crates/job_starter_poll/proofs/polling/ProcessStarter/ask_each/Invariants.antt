@@ -1,9 +1,0 @@
-use Rattle.std.proofs.Common.{◌≡◌, length}
-use Rattle.job_starter_drive.specs.Calls.{running, AllowsNoMore}
-use Rattle.job_starter_poll.proofs.polling.ProcessStarter.ask_each.Given as goal
-
-abbrev pub invariant-loop-place : goal.invariant-loop-place
-invariant-loop-place g l = (g.S.System.call_log l.self.system ≡ g.S.System.call_log l.initial.self.system)
-    × (g.S.System.faults l.self.system ≡ g.S.System.faults l.initial.self.system)
-    × AllowsNoMore (g.S.System.may_return l.initial.self.system) (g.S.System.may_return l.self.system)
-    × (l.place-end ≡ length (running (g.S.System.call_log l.initial.self.system)))
