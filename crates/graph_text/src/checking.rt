@@ -109,9 +109,12 @@ fn unfolded(alloc: Global, count: u32) -> Result<Vec<u32>, AllocError>
     (0..count).collect(alloc)
 }
 
-/// The classes by which the nodes of a plan are folded: the coarsest, or, where these were not found in
-/// few rounds, those by which each node is alone.
-pub(crate) fn folding_of(alloc: Global, plan: &Plan) -> Result<Vec<u32>, AllocError>
+/// The classes by which the nodes of a plan are folded, of each node the number of the first node of its class: the coarsest, or, where
+/// these were not found in few rounds, those by which each node is alone.
+///
+/// # Errors
+/// Want of memory, and nothing else.
+pub fn folding_of(alloc: Global, plan: &Plan) -> Result<Vec<u32>, AllocError>
     ensures { IfOk result (λ classes. IsFolding plan.now (slice_index classes.items)) }
 {
     let classes = refined(alloc, plan)?;

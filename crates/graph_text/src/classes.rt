@@ -47,8 +47,8 @@ impl Members {
     }
 }
 
-/// The class of a node; 0 where it has none.
-pub(crate) fn class_at(classes: &[u32], node: u32) -> u32
+/// The class of a node, by the classes of all, in plan order; 0 where it has none.
+pub fn class_at(classes: &[u32], node: u32) -> u32
     ensures { result ≡ slice_index classes.now node }
 {
     match classes.get(node as usize) {

@@ -13,4 +13,6 @@ mod refining;
 mod tally;
 
 pub use boxes::folded_text;
+pub use checking::folding_of;
+pub use classes::class_at;
 pub use picture::{Drawn, dot_text};

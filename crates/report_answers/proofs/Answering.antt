@@ -17,12 +17,12 @@ answered-with plan past path version begun reloads page text warnings is of_run 
     record { page = page; of_run = of_run; text_is = is; warnings_are = are; status_is = refl }
 
 -- the rows, one by one
-pub next-row : (plan : Plan) (past : List Record) (rows now : List Row) (row : Row) (node : ℕ) → HasRows plan past rows → length rows ≡ node → IsRowOf plan past node row
-    → now ≡ rows ++ row ∷ [] → HasRows plan past now × (length now ≡ node + 1)
-next-row plan past rows now row node so_far counted is added =
+pub next-row : (plan : Plan) (past : List Record) (class_of : ℕ → ℕ) (rows now : List Row) (row : Row) (node : ℕ) → HasRows plan past class_of rows → length rows ≡ node
+    → IsRowOf plan past class_of node row → now ≡ rows ++ row ∷ [] → HasRows plan past class_of now × (length now ≡ node + 1)
+next-row plan past class_of rows now row node so_far counted is added =
     let grown = ap length added in
     let one_more = length-append rows (row ∷ []) in (
-      subst (HasRows plan past) (sym added) (one_more_row rows row so_far (subst (λ (place : ℕ). IsRowOf plan past place row) (sym counted) is)),
+      subst (HasRows plan past class_of) (sym added) (one_more_row rows row so_far (subst (λ (place : ℕ). IsRowOf plan past class_of place row) (sym counted) is)),
       omega (arith, grown, one_more, counted),
     )
 

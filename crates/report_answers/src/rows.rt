@@ -1,11 +1,12 @@
 //! The rows of a page.
 
-ghost use Rattle.std.specs.Prelude.{◌≡◌, ◌≤◌, ◌+◌, IfOk};
+ghost use Rattle.std.specs.Prelude.{◌≡◌, ◌≤◌, ◌+◌, IfOk, slice_index};
 ghost use Rattle.run_plan.specs.Plan.{count_of};
 ghost use Rattle.status_report.specs.Text.{reported};
 ghost use Rattle.report_answers.specs.Rows.{page_state_of, IsRowOf, AreRows, round_state_of};
 
 use crate::jobs::Seen;
+use graph_text::{class_at, folding_of};
 use indexmap::IndexMap;
 use report_page::{NodeState, RoundState, Row};
 use run_plan::Plan;
@@ -28,10 +29,15 @@ fn state_of(status: Status) -> NodeState
     }
 }
 
-/// The row of a node, of which a log may say something.
-fn row_of<'a>(core: &Core<'a>, node: u32, seen: Option<&Seen<'a>>) -> Row<'a>
+/// The row of a node, of which a log may say something, where nodes are folded by these classes.
+fn row_of<'a>(
+    core: &Core<'a>,
+    classes: &[u32],
+    node: u32,
+    seen: Option<&Seen<'a>>,
+) -> Row<'a>
     requires { node ≤ count_of core.now.plan }
-    ensures { IsRowOf core.now.plan core.now.past node result }
+    ensures { IsRowOf core.now.plan core.now.past (slice_index classes.now) node result }
 {
     let plan = core.plan();
     let spec = plan.spec(node);
@@ -48,6 +54,7 @@ fn row_of<'a>(core: &Core<'a>, node: u32, seen: Option<&Seen<'a>>) -> Row<'a>
         error: seen.and_then(|seen| seen.error),
         parents: spec.parents(),
         is_final: node == plan.count(),
+        alike: class_at(classes, node),
     }
 }
 
@@ -71,10 +78,11 @@ pub(crate) fn rows_of<'a>(
 ) -> Result<Vec<Row<'a>>, AllocError>
     ensures { IfOk result (λ rows. AreRows core.now.plan core.now.past rows.items) }
 {
+    let classes = folding_of(alloc, core.plan())?;
     let mut rows = Vec::new(alloc);
     for node in 0..reported(core.plan()) {
         let name = core.plan().spec(node).name();
-        rows.push(row_of(core, node, seen.get(name)))?;
+        rows.push(row_of(core, &classes, node, seen.get(name)))?;
     }
     Ok(rows)
 }

@@ -108,7 +108,7 @@ all_shapes_text drawing = shapes_text drawing.shapes.items (length drawing.shape
 -- what a drawing leaves out
 unfoldable pub omission_text : Omission → List ℕ
 omission_text omission.Nothing = []
-omission_text omission.Groups = codes "<p>Each box has all nodes that have the same parents and the same children.</p>\n"
+omission_text omission.Groups = codes "<p>Each box has all nodes of one shape: they have the same submit file and folder, their parents are in the same boxes, and so are their children.</p>\n"
 omission_text (omission.Layers count) = codes "<p>Layers in each box: " ++ (decimal count ++ codes ". A layer has all nodes that are equally far from the first ones.</p>\n")
 omission_text (omission.Longest shown all) = codes "<p>These are the " ++ (decimal shown ++ (codes " longest of " ++ (decimal all ++ codes " phases, in the order in which they began.</p>\n")))
 

@@ -241,7 +241,7 @@ fn push_omission(text: &mut String, omission: Omission) -> Result<(), AllocError
     match omission {
         Omission::Nothing => Ok(()),
         Omission::Groups => text.push_str(
-            "<p>Each box has all nodes that have the same parents and the same children.</p>\n",
+            "<p>Each box has all nodes of one shape: they have the same submit file and folder, their parents are in the same boxes, and so are their children.</p>\n",
         ),
         Omission::Layers(count) => writeln!(
             text,

@@ -182,7 +182,7 @@ fn draw_all_texts<'a>(
 }
 
 /// The graph of these nodes, by the longest path that leads to each: up to some hundreds have a box of their own, and of
-/// more those share one that have the same parents and children, or the same level.
+/// more those share one that are of one shape, or have the same level.
 ///
 /// # Errors
 /// Want of memory.
@@ -192,7 +192,7 @@ pub(crate) fn graph_drawing<'a>(
 ) -> Result<Drawing<'a>, AllocError> {
     let children = children_of(alloc, rows)?;
     let levels = levels_of(alloc, rows, &children)?;
-    let groups = groups_of(alloc, rows, &levels, &children)?;
+    let groups = groups_of(alloc, rows, &levels)?;
     let layout = layout_of(alloc, rows, &groups)?;
     let mut shapes = Vec::new(alloc);
     draw_boxes(&mut shapes, &layout, &groups.groups, rows)?;

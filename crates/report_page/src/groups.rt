@@ -31,41 +31,17 @@ pub(crate) struct Groups {
     pub(crate) omission: Omission,
 }
 
-/// What two nodes of one family have in common: the level, the parents and the children.
-type Family<'a> = (u64, &'a [u32], &'a [u32]);
-
-/// The family of each node, with the node, those of one family together.
-fn families<'a>(
-    alloc: Global,
-    rows: &[Row<'a>],
-    levels: &[u64],
-    children: &'a [Vec<u32>],
-) -> Result<Vec<(Family<'a>, usize)>, AllocError> {
-    let mut families = Vec::new(alloc);
-    for (node, ((row, level), family)) in rows.iter().zip(levels).zip(children).enumerate() {
-        families.push(((*level, row.parents, family.as_slice()), node))?;
-    }
-    families.sort()?;
-    Ok(families)
-}
-
-/// A number for each node, at first 0.
-fn zeros(alloc: Global, nodes: usize) -> Result<Vec<usize>, AllocError> {
-    vec![in alloc; 0; nodes]
-}
-
-/// The number of the family of each node.
-fn numbers_of(alloc: Global, families: &[(Family<'_>, usize)]) -> Result<Vec<usize>, AllocError> {
-    let mut numbers = zeros(alloc, families.len())?;
-    let mut number: usize = 0;
-    let mut before: Option<Family<'_>> = None;
-    for (family, node) in families {
-        if before.is_some_and(|before| before != *family) {
-            number = number.saturating_add(1);
-        }
-        before = Some(*family);
-        if let Some(place) = numbers.get_mut(*node) {
-            *place = number;
+/// The number of the shape of each node, the shapes in the order of their first nodes.
+fn shape_numbers(alloc: Global, rows: &[Row<'_>]) -> Result<Vec<usize>, AllocError> {
+    let mut numbers: Vec<usize> = Vec::new(alloc);
+    let mut next: usize = 0;
+    for row in rows {
+        match numbers.get(row.alike as usize).copied() {
+            Some(number) => numbers.push(number)?,
+            None => {
+                numbers.push(next)?;
+                next = next.saturating_add(1);
+            }
         }
     }
     Ok(numbers)
@@ -99,13 +75,11 @@ fn grouping(
     alloc: Global,
     rows: &[Row<'_>],
     levels: &[u64],
-    children: &[Vec<u32>],
 ) -> Result<(Vec<usize>, Omission), AllocError> {
     if rows.len() <= MOST {
         return Ok(((0..rows.len()).collect(alloc)?, Omission::Nothing));
     }
-    let families = families(alloc, rows, levels, children)?;
-    let numbers = numbers_of(alloc, &families)?;
+    let numbers = shape_numbers(alloc, rows)?;
     if count_of(&numbers) <= MOST {
         return Ok((numbers, Omission::Groups));
     }
@@ -142,15 +116,14 @@ impl Group {
     }
 }
 
-/// All nodes in groups: each by itself; or, where there are very many, those with the same parents and children; or,
-/// where these are still too many groups, those of a level.
+/// All nodes in groups: each by itself; or, where there are very many, those of one shape; or, where these are still too many
+/// groups, those of a level.
 pub(crate) fn groups_of(
     alloc: Global,
     rows: &[Row<'_>],
     levels: &[u64],
-    children: &[Vec<u32>],
 ) -> Result<Groups, AllocError> {
-    let (of_node, omission) = grouping(alloc, rows, levels, children)?;
+    let (of_node, omission) = grouping(alloc, rows, levels)?;
     let mut groups = empty_groups(alloc, count_of(&of_node))?;
     for (node, (row, (number, level))) in rows.iter().zip(of_node.iter().zip(levels)).enumerate() {
         if let Some(group) = groups.get_mut(*number) {

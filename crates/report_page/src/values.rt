@@ -173,6 +173,8 @@ pub struct Row<'a> {
     pub parents: &'a [u32],
     /// Whether it is the FINAL node, which comes after all others.
     pub is_final: bool,
+    /// The place among all rows of the first node of its shape, at most its own. Nodes of one shape have one box, where there are many nodes.
+    pub alike: u32,
 }
 
 /// A phase of a node that was run.

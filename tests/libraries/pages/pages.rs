@@ -3,8 +3,8 @@
 use report_page::{LimitRow, NodeState, Page, PhaseBar, PhaseEnd, RoundState, Row, page_text};
 use std::alloc::{AllocError, Global};
 
-/// A node that is done, of which no log says anything.
-fn row<'a>(name: &'a str, parents: &'a [u32]) -> Row<'a> {
+/// A node that is done, of which no log says anything, and whose shape the node at this place has.
+fn row<'a>(name: &'a str, parents: &'a [u32], alike: u32) -> Row<'a> {
     Row {
         name,
         state: NodeState::Done,
@@ -18,6 +18,7 @@ fn row<'a>(name: &'a str, parents: &'a [u32]) -> Row<'a> {
         error: None,
         parents,
         is_final: false,
+        alike,
     }
 }
 
@@ -40,24 +41,33 @@ fn page<'a>(rows: &'a [Row<'a>], phases: &'a [PhaseBar<'a>]) -> Page<'a> {
     }
 }
 
-/// Nodes of which each but the first is a child of the one before it.
+/// Nodes of which each but the first is a child of the one before it, each of a shape of its own.
 fn chain<'a>(alloc: Global, parents: &'a [u32]) -> Result<Vec<Row<'a>>, AllocError> {
     let mut rows = Vec::new(alloc);
-    rows.push(row("N", &[]))?;
+    rows.push(row("N", &[], 0))?;
     for place in 0..parents.len() {
-        rows.push(row(
-            "N",
-            parents.get(place..place.saturating_add(1)).unwrap_or(&[]),
-        ))?;
+        let own = place.saturating_add(1);
+        let parent = parents.get(place..own).unwrap_or(&[]);
+        rows.push(row("N", parent, own as u32))?;
     }
     Ok(rows)
 }
 
-/// Nodes without a parent, as many.
+/// Nodes without a parent and of one shape, as many.
 fn alone(alloc: Global, count: usize) -> Result<Vec<Row<'static>>, AllocError> {
     let mut rows = Vec::new(alloc);
     for _ in 0..count {
-        rows.push(row("N", &[]))?;
+        rows.push(row("N", &[], 0))?;
+    }
+    Ok(rows)
+}
+
+/// First all parents and then a child of each, all parents of one shape and all children of another.
+fn pairs<'a>(alloc: Global, numbers: &'a [u32]) -> Result<Vec<Row<'a>>, AllocError> {
+    let mut rows = alone(alloc, numbers.len())?;
+    for place in 0..numbers.len() {
+        let parent = numbers.get(place..place.saturating_add(1)).unwrap_or(&[]);
+        rows.push(row("N", parent, numbers.len() as u32))?;
     }
     Ok(rows)
 }
@@ -72,7 +82,7 @@ fn a_row_is_escaped(rt: HostRuntime) -> Result<(), AllocError> {
         took: Some(61_250),
         command: Some("/bin/echo '<script>'"),
         folder: Some("/a&b"),
-        ..row("<b>&\"'\x1b", &[])
+        ..row("<b>&\"'\x1b", &[], 0)
     }];
     let text = page_text(rt.alloc(), &page(&rows, &[]))?;
     let wanted =
@@ -149,10 +159,14 @@ fn many_nodes_are_folded(rt: HostRuntime) -> Result<(), AllocError> {
     let text = page_text(alloc, &page(&many, &[]))?;
     assert!(rt;
         text.as_str().contains(
-            "<p>Each box has all nodes that have the same parents and the same children.</p>"
+            "<p>Each box has all nodes of one shape: they have the same submit file and folder, their parents are in the same boxes, and so are their children.</p>"
         )
     );
     assert!(rt; text.as_str().contains(">and 200 more</text>"));
+    let numbers: Vec<u32> = (0..150).collect(alloc)?;
+    let pairs = pairs(alloc, &numbers)?;
+    let text = page_text(alloc, &page(&pairs, &[]))?;
+    assert!(rt; text.as_str().matches(">and 149 more</text>").count() == 2);
     let parents: Vec<u32> = (0..1_000).collect(alloc)?;
     let long = chain(alloc, &parents)?;
     let text = page_text(alloc, &page(&long, &[]))?;

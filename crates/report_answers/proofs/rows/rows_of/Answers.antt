@@ -1,13 +1,15 @@
-use Rattle.std.proofs.Common.{length, ap, sym, subst}
+use Rattle.std.proofs.Common.{length, slice_index, ap, sym, subst}
+use Rattle.graph_text.specs.Folding.{IsFolding}
+use Rattle.run_plan.specs.Plan.{Plan}
 use Rattle.report_answers.specs.Rows.{HasRows, no_row}
 use Rattle.report_answers.proofs.Answering.{next-row}
 use Rattle.report_answers.proofs.rows.rows_of.Goals as goal
 
 pub loop-node-init : goal.loop-node-init
 loop-node-init c =
-    (subst (HasRows c.args.core.now.plan c.args.core.now.past) (sym c.new-rows.ensures.items) no_row, ap length c.new-rows.ensures.items)
+    (subst (HasRows c.args.core.now.plan c.args.core.now.past (slice_index c.in_ok-classes.classes.items)) (sym c.new-rows.ensures.items) no_row, ap length c.new-rows.ensures.items)
 
 pub loop-node-preserved : goal.loop-node-preserved
 loop-node-preserved c =
-    next-row c.args.core.now.plan c.args.core.now.past c.loop-node.rows.items _ c.row_of.result c.loop-node.node c.loop-node.invariant.0 c.loop-node.invariant.1
-    c.row_of.ensures c.in_ok-push.ensures.items
+    next-row c.args.core.now.plan c.args.core.now.past (slice_index c.in_ok-classes.classes.items) c.loop-node.rows.items _ c.row_of.result c.loop-node.node
+    c.loop-node.invariant.0 c.loop-node.invariant.1 c.row_of.ensures c.in_ok-push.ensures.items
